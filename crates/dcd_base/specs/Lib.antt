@@ -1,0 +1,4 @@
+pub mod Ends
+pub mod Layouts
+pub mod Streams
+pub mod Words

@@ -1,0 +1,62 @@
+//! Lists of items that are copied and of items that are not.
+
+use crate::{Bytes, Duplicate, NoMemory, Seq};
+use std::alloc::Global;
+use std::test::Fail;
+
+/// An item that is not `Copy`, as an effect of the journal is.
+#[derive(Debug, Drop)]
+struct Boxed {
+    text: Bytes,
+}
+
+impl Duplicate for Boxed {
+    fn duplicate_all(alloc: Global, items: &[Boxed]) -> Result<Vec<Boxed>, NoMemory> {
+        let mut copy = Vec::new(alloc);
+        for item in items {
+            copy.push(Boxed {
+                text: item.text.copy()?,
+            })?;
+        }
+        Ok(copy)
+    }
+}
+
+#[test]
+fn a_list_of_bytes(rt: HostRuntime) -> Result<(), Fail> {
+    let alloc = rt.alloc();
+    let mut list = Bytes::new(alloc);
+    assert!(rt; list.is_empty());
+    list.push(7)?;
+    list.extend_from_slice(&[8, 9])?;
+    assert_eq!(rt; list.len(), 3);
+    assert_eq!(rt; list.get(2).copied(), Some(9));
+    assert_eq!(rt; list.get(3).copied(), None);
+    assert_eq!(rt; list.iter().filter(|b| **b > 7).count(), 2);
+    let copy = list.copy()?;
+    list.clear();
+    assert!(rt; list.is_empty());
+    assert_eq!(rt; copy.as_slice(), [7, 8, 9].as_slice());
+    let same = Bytes::from_slice(copy.allocator(), copy.as_slice())?;
+    assert_eq!(rt;
+        Bytes::from_vec(alloc, same.into_vec()).as_slice(),
+        [7, 8, 9].as_slice()
+    );
+    Ok(())
+}
+
+#[test]
+fn a_list_of_items_that_own_memory(rt: HostRuntime) -> Result<(), Fail> {
+    let alloc = rt.alloc();
+    let mut list: Seq<Boxed> = Seq::new(alloc);
+    for byte in 0..3u8 {
+        list.push(Boxed {
+            text: Bytes::from_slice(alloc, &[byte; 2])?,
+        })?;
+    }
+    let copy = list.copy()?;
+    list.clear();
+    assert_eq!(rt; copy.len(), 3);
+    assert_eq!(rt; copy.iter().filter(|item| item.text.len() == 2).count(), 3);
+    Ok(())
+}
