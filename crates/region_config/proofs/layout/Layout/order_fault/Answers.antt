@@ -1,0 +1,9 @@
+use Rattle.std.proofs.Common.{sym}
+use Rattle.region_config.specs.declared.faults.ConfigFault.{ConfigFault}
+use Rattle.region_config.specs.Setups.{bad_order, each_region, faults}
+use Rattle.region_config.proofs.Searches.{first_found}
+use Rattle.region_config.proofs.layout.Layout.order_fault.Goals as goal
+
+pub returns-in-Some : goal.returns-in-Some
+returns-in-Some c =
+    sym (first_found (λ h. each_region c.args.self.now (λ r. faults (bad_order c.args.self.now h r) (ConfigFault.Overlap h r))) _ _ _ (rw c.hosts-host-end.ensures at c.loop-host-test.true) c.loop-host.invariant (sym c.in-Some.ensures))

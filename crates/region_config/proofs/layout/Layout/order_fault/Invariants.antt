@@ -1,0 +1,7 @@
+use Rattle.std.proofs.Common.{◌≡◌, None}
+use Rattle.region_config.specs.declared.faults.ConfigFault.{ConfigFault}
+use Rattle.region_config.specs.Setups.{bad_order, each_region, faults, first_below}
+use Rattle.region_config.proofs.layout.Layout.order_fault.Given as goal
+
+abbrev pub invariant-loop-host : goal.invariant-loop-host
+invariant-loop-host l = first_below (λ h. each_region l.self (λ r. faults (bad_order l.self h r) (ConfigFault.Overlap h r))) l.host ≡ None

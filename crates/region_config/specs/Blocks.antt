@@ -1,0 +1,20 @@
+-- How the block size of a region is changed.
+use Rattle.dcd_base.specs.Layouts.{flag_of}
+use Rattle.dcd_base.specs.Words.{◌or◌}
+use Rattle.std.specs.Prelude.{ℕ, Bool, not, ◌==◌, Option, slice_set}
+use Rattle.region_config.specs.Configurations.{Configuration}
+use Rattle.region_config.specs.declared.faults.BlockFault.{BlockFault}
+use Rattle.region_config.specs.declared.region_spec.RegionSpec.{RegionSpec}
+use Rattle.region_config.specs.Granules.{is_supported, region_spec}
+use Rattle.region_config.specs.Setups.{faults}
+
+-- why a block size is refused
+abbrev pub block_fault : RegionSpec → ℕ → Bool → ℕ → Option BlockFault
+block_fault spec size sanitize in_use =
+    faults (not (is_supported spec size)) (BlockFault.NotSupportedSize size)
+    or faults (not (flag_of sanitize == flag_of spec.sanitize)) BlockFault.SanitizeDiffers
+    or faults (not (in_use == 0)) (BlockFault.InUse in_use)
+
+-- the configuration with this block in one region
+abbrev pub with_block : Configuration → ℕ → ℕ → Configuration
+with_block c r size = record c { regions = slice_set c.regions r (record (region_spec c r) { block = size }) }

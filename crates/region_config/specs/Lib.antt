@@ -1,0 +1,5 @@
+pub mod Blocks
+pub mod Configurations
+pub mod Granules
+pub mod Setups
+pub mod Soundness
