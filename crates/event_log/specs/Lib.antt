@@ -1,0 +1,2 @@
+pub mod LogStates
+pub mod Logs

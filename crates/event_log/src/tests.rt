@@ -1,0 +1,85 @@
+//! What a log does when it is full, when records are cleared, and when its handles begin again.
+
+use crate::{ClearFault, EventLog, LogFull};
+use dcd_base::{Extent, Tag};
+use event_records::{Event, EventKind};
+use std::test::Fail;
+
+/// A record of an offer of the first MiB to the host.
+fn offer(host: u16) -> Event {
+    Event {
+        handle: 0,
+        kind: EventKind::Add,
+        host,
+        region: 0,
+        more: false,
+        extent: Extent {
+            start: 0,
+            length: 0x10_0000,
+            tag: Tag([0; 16]),
+            sequence: 0,
+        },
+        extents_available: 63,
+        tags_available: 32,
+    }
+}
+
+#[test]
+fn records_are_cleared_oldest_first(rt: HostRuntime) -> Result<(), Fail> {
+    let mut log = EventLog::new(rt.alloc(), 64)?;
+    assert_eq!(rt; log.put(offer(5)), Ok(1));
+    assert_eq!(rt; log.put(offer(6)), Ok(2));
+    assert_eq!(rt; log.put(offer(7)), Ok(3));
+    assert_eq!(rt; log.clear(&[1, 3]), Err(ClearFault::OlderLeft(2)));
+    assert_eq!(rt; log.clear(&[2, 1]), Err(ClearFault::OlderLeft(1)));
+    assert_eq!(rt; log.clear(&[1, 1]), Err(ClearFault::UnknownHandle(1)));
+    assert_eq!(rt; log.clear(&[1, 2, 3, 4]), Err(ClearFault::UnknownHandle(4)));
+    assert_eq!(rt; log.clear_all(), Err(ClearFault::NotOverflowed));
+    assert_eq!(rt; log.len(), 3);
+    assert_eq!(rt; log.clear(&[1, 2]), Ok(()));
+    assert_eq!(rt; log.len(), 1);
+    let left = log.at(0);
+    assert_eq!(rt; (left.handle, left.host), (3, 7));
+    assert_eq!(rt; log.room(), 63);
+    assert_eq!(rt; log.put(offer(8)), Ok(4));
+    Ok(())
+}
+
+#[test]
+fn a_full_log_refuses_or_counts(rt: HostRuntime) -> Result<(), Fail> {
+    let mut log = EventLog::new(rt.alloc(), 2)?;
+    assert_eq!(rt; log.put_or_count(offer(0)), Some(1));
+    assert_eq!(rt; log.put_or_count(offer(0)), Some(2));
+    assert_eq!(rt; log.put(offer(0)), Err(LogFull(2)));
+    assert_eq!(rt; log.missed(), 0);
+    assert_eq!(rt; log.put_or_count(offer(0)), None);
+    assert_eq!(rt; log.put_or_count(offer(0)), None);
+    assert_eq!(rt; log.missed(), 2);
+    assert_eq!(rt; log.clear_all(), Ok(()));
+    assert_eq!(rt; log.missed(), 0);
+    assert!(rt; log.is_empty());
+    assert_eq!(rt; log.put_or_count(offer(0)), Some(3));
+    Ok(())
+}
+
+#[test]
+fn handles_begin_again_after_65535(rt: HostRuntime) -> Result<(), Fail> {
+    let mut log = EventLog::new(rt.alloc(), 1)?;
+    for handle in 1..=65_535 {
+        assert_eq!(rt; log.put(offer(0)), Ok(handle));
+        assert_eq!(rt; log.clear(&[handle]), Ok(()));
+    }
+    assert_eq!(rt; log.put(offer(0)), Ok(1));
+    Ok(())
+}
+
+#[test]
+fn the_count_of_missed_records_stays_at_65535(rt: HostRuntime) -> Result<(), Fail> {
+    let mut log = EventLog::new(rt.alloc(), 1)?;
+    assert_eq!(rt; log.put_or_count(offer(0)), Some(1));
+    for _ in 0..65_540 {
+        assert_eq!(rt; log.put_or_count(offer(0)), None);
+    }
+    assert_eq!(rt; log.missed(), 65_535);
+    Ok(())
+}

@@ -1,0 +1,22 @@
+//! Event records: what the device tells a host and the Fabric Manager about capacity, in 128 bytes each.
+#![tactic(auto)]
+
+mod events;
+mod faults;
+mod identifier;
+mod kinds;
+mod laws;
+mod numbers;
+mod pieces;
+mod ranges;
+mod reading;
+mod writing;
+
+pub use events::{Event, EventKind};
+pub use faults::RecordFault;
+pub use laws::{decoded_again, law_event_is_spelled, law_spelling_reads};
+pub use reading::decode;
+pub use writing::encode;
+
+#[cfg(test)]
+mod tests;
