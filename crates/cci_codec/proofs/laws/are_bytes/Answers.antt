@@ -1,0 +1,6 @@
+use Rattle.std.proofs.Common.{arith}
+use Rattle.cci_codec.proofs.Fields.{all_bytes}
+use Rattle.cci_codec.proofs.laws.are_bytes.Goals as goal
+
+pub returns : goal.returns
+returns c = all_bytes c.args.bytes.now (λ i. omega (arith, c.type_inv.bytes i))

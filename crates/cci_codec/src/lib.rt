@@ -1,0 +1,18 @@
+//! The form of a message between a host or the Fabric Manager and the device: a header of 12 bytes and a payload.
+#![tactic(auto)]
+
+mod faults;
+mod headers;
+mod laws;
+mod messages;
+mod requests;
+mod responses;
+
+pub use faults::MessageFault;
+pub use laws::{law_request_is_spelled, law_spelling_reads};
+pub use messages::{Request, Response};
+pub use requests::{decode, encode_request};
+pub use responses::{encode_response, response_head};
+
+#[cfg(test)]
+mod tests;

@@ -1,0 +1,64 @@
+//! Requests in bytes.
+
+ghost use Rattle.cci_codec.specs.Messages.{Decodes, IsDecoded, ReadsRequest, request_bytes, request_fields, length_field, message_fault, request_in};
+ghost use Rattle.cci_codec.specs.declared.messages.Request.{Request};
+ghost use Rattle.std.specs.Prelude.{IfOk, ◌≡◌, ◌+◌, ◌++◌, ◌<◌, ◌≤◌, ◌^◌, [], ◌∷◌, length, OnOk, OnErr, take};
+
+use crate::faults::MessageFault;
+use crate::headers::head;
+use crate::messages::Request;
+use dcd_base::{Bytes, NoMemory};
+use std::alloc::Global;
+
+/// The payload length that a header says, whatever the bits above its 21 bits are.
+fn length_of(bytes: &[u8]) -> u32
+    requires { 12 ≤ length bytes.now }
+    ensures { result ≡ length_field bytes.now }
+{
+    u32::from(u16::from_le_bytes([bytes[5], bytes[6]])) + 0x1_0000 * u32::from(bytes[7] & 0x1F)
+}
+
+/// Reads a request from all of the bytes (CXL 3.1, 7.6.3).
+///
+/// Of the header it reads the category, the tag, the opcode and the 21 bits of the payload length; all other
+/// bits and bytes are ignored. Each fault of `MessageFault` comes exactly in its place, and `NoMemory` only
+/// where the bytes are a request.
+pub fn decode(alloc: Global, bytes: &[u8]) -> Result<Request, MessageFault>
+    ensures cases { Decodes bytes.now result }
+    ensures reads { IfOk result (λ request. ReadsRequest bytes.now request) }
+    ensures only { (request : Request) → ReadsRequest bytes.now request → IsDecoded request result }
+{
+    if bytes.len() < 12 {
+        return Err(MessageFault::Short(bytes.len() as u64));
+    }
+    let category = bytes[0] & 0x0F;
+    if category != 0 {
+        return Err(MessageFault::NotRequest(category));
+    }
+    let (header, payload) = bytes.split_at(12);
+    let field = length_of(header);
+    let rest = payload.len() as u64;
+    if u64::from(field) != rest {
+        return Err(MessageFault::LengthDiffers { field, rest });
+    }
+    Ok(Request {
+        tag: header[1],
+        opcode: u16::from_le_bytes([header[3], header[4]]),
+        payload: Bytes::from_slice(alloc, payload)?,
+    })
+}
+
+/// Appends the one spelling of a request, whose payload has at most 2,097,151 bytes (CXL 3.1, 7.6.3).
+///
+/// Reserved and ignored bits are 0. At `NoMemory` `out` is as it was.
+pub fn encode_request(request: &Request, out: &mut Bytes) -> Result<(), NoMemory>
+    requires { length request.now.payload < 2 ^ 21 }
+    ensures appended { OnOk result (out.new ≡ out.old ++ request_bytes request.now) }
+    ensures kept { OnErr result (out.new ≡ out.old) }
+{
+    let length = request.payload.as_slice().len() as u32;
+    let header = head(0, request.tag, request.opcode, 0, length);
+    let mut message = Bytes::from_slice(out.allocator(), header.as_slice())?;
+    message.extend_from_slice(request.payload.as_slice())?;
+    out.extend_from_slice(message.as_slice())
+}

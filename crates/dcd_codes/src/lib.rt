@@ -1,0 +1,14 @@
+//! The return codes of a command, and the rules that a command may break.
+#![tactic(auto)]
+
+mod codes;
+mod refusals;
+mod rules;
+mod words;
+
+pub use codes::{Code, number_of};
+pub use refusals::Refusal;
+pub use rules::{Rule, code_of};
+
+#[cfg(test)]
+mod tests;
