@@ -1,0 +1,4 @@
+mod Changing
+pub mod HostBits
+mod Stores
+pub mod Tagged

@@ -1,0 +1,4 @@
+pub mod Changes
+pub mod Hosts
+pub mod Stored
+pub mod Tables

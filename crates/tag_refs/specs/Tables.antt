@@ -1,0 +1,97 @@
+-- The table of live tags, and what each call makes of it.
+use Rattle.std.specs.Prelude.{◌≡◌, ℕ, ◌==◌, Bool, true, false, if◌then◌else◌, not, ◌||◌, Option, Some, None, is_some, List, map, filter, All}
+use Rattle.std.specs.List.{find, IsDistinct}
+use Rattle.dcd_base.specs.Words.{same_tag}
+use Rattle.dcd_base.specs.declared.capacity.Tag.{Tag}
+use Rattle.dcd_base.specs.declared.media.Run.{Run}
+use Rattle.tag_refs.specs.Hosts.{has_host, with_host, without_host}
+use Rattle.tag_refs.specs.declared.entries.TagEntry.{TagEntry}
+use Rattle.tag_refs.specs.declared.views.TagView.{TagView}
+
+-- whether there is an entry, and it passes the test
+abbrev pub some_passes : (TagEntry → Bool) → Option TagEntry → Bool
+some_passes test None = false
+some_passes test (Some e) = test e
+
+-- whether the entry is that of the tag
+abbrev pub is_of : Tag → TagEntry → Bool
+is_of t e = same_tag t e.tag
+
+-- whether a host holds the tag, is offered it, or the Fabric Manager has a reference to it
+abbrev pub is_used : TagEntry → Bool
+is_used e = not (e.holders == 0) || not (e.offered == 0) || e.referenced
+
+-- what holds of every table: each entry is used, and no two have one tag
+pub record AreTags (entries : List TagEntry) : Type 0 where
+  pub used : All (λ e. is_used e ≡ true) entries
+  pub apart : IsDistinct same_tag (map (λ e. e.tag) entries)
+
+-- the entry of the tag
+abbrev pub entry_of : Tag → List TagEntry → Option TagEntry
+entry_of t entries = find (is_of t) entries
+
+abbrev pub is_live : Tag → List TagEntry → Bool
+is_live t entries = is_some (entry_of t entries)
+
+-- whether the tag is live, and its entry passes the test
+abbrev pub passes : Tag → (TagEntry → Bool) → List TagEntry → Bool
+passes t test entries = some_passes test (entry_of t entries)
+
+abbrev pub is_held_by : ℕ → TagEntry → Bool
+is_held_by h e = has_host e.holders h
+
+abbrev pub is_offered_to : ℕ → TagEntry → Bool
+is_offered_to h e = has_host e.offered h
+
+abbrev pub is_referenced : TagEntry → Bool
+is_referenced e = e.referenced
+
+abbrev pub is_soiled : TagEntry → Bool
+is_soiled e = e.soiled
+
+-- ---- changes of an entry
+
+-- a new entry, offered to the host
+abbrev pub opened : Tag → ℕ → List Run → ℕ → TagEntry
+opened t region runs h = record {
+  tag = t;
+  region = region;
+  runs = runs;
+  holders = 0;
+  offered = with_host 0 h;
+  referenced = false;
+  soiled = false;
+}
+
+abbrev pub offered_to : ℕ → TagEntry → TagEntry
+offered_to h e = record e { offered = with_host e.offered h }
+
+-- the host answered its offer
+abbrev pub settled_by : ℕ → Bool → TagEntry → TagEntry
+settled_by h accepted e = record e {
+  offered = without_host e.offered h;
+  holders = if accepted then with_host e.holders h else e.holders;
+}
+
+abbrev pub dropped_by : ℕ → TagEntry → TagEntry
+dropped_by h e = record e { holders = without_host e.holders h }
+
+abbrev pub with_reference : Bool → TagEntry → TagEntry
+with_reference on e = record e { referenced = on }
+
+abbrev pub with_soil : TagEntry → TagEntry
+with_soil e = record e { soiled = true }
+
+-- ---- changes of the table
+
+-- the entries with this change of the tag's
+abbrev pub changed : Tag → (TagEntry → TagEntry) → List TagEntry → List TagEntry
+changed t change entries = map (λ e. if is_of t e then change e else e) entries
+
+-- the entries that are used, in order; the others have ended
+abbrev pub still_used : List TagEntry → List TagEntry
+still_used entries = filter is_used entries
+
+-- what the Fabric Manager is shown of an entry
+abbrev pub view_of : TagEntry → TagView
+view_of e = record { tag = e.tag; holders = e.holders; offered = e.offered; referenced = e.referenced }

@@ -1,0 +1,99 @@
+//! What the device keeps of a live tag.
+
+ghost use Rattle.std.specs.Prelude.{◌≡◌, ◌<◌, IfOk};
+ghost use Rattle.tag_refs.specs.Changes.{IsOfHost, applied};
+ghost use Rattle.tag_refs.specs.Tables.{is_held_by, is_offered_to, is_used, view_of};
+
+use crate::changes::Change;
+use crate::hosts::{has, with, without};
+use crate::views::TagView;
+use dcd_base::{HostId, NoMemory, RegionId, Runs, Tag};
+
+/// A live shareable tag: the capacity that it stands for, and who uses it.
+#[derive(Debug, Drop)]
+pub struct TagEntry {
+    pub tag: Tag,
+    /// The shareable region in which its granules lie.
+    pub region: RegionId,
+    /// Its granules, in the order of its extents.
+    pub runs: Runs,
+    /// Bit h stands where host h holds the tag.
+    pub holders: u16,
+    /// Bit h stands where an offer of the tag to host h is unanswered.
+    pub offered: u16,
+    /// Whether the Fabric Manager has a reference to the tag.
+    pub referenced: bool,
+    /// Whether its granules are dirty once it ends, also where the region does not sanitize.
+    pub soiled: bool,
+}
+
+impl TagEntry {
+    /// An equal entry of its own.
+    pub fn copy(&self) -> Result<TagEntry, NoMemory>
+        ensures { IfOk result (λ copy. copy ≡ self.now) }
+    {
+        Ok(TagEntry {
+            tag: self.tag,
+            region: self.region,
+            runs: self.runs.copy()?,
+            holders: self.holders,
+            offered: self.offered,
+            referenced: self.referenced,
+            soiled: self.soiled,
+        })
+    }
+
+    /// What the Fabric Manager is shown of it.
+    pub fn view(&self) -> TagView
+        ensures { result ≡ view_of self.now }
+    {
+        TagView {
+            tag: self.tag,
+            holders: self.holders,
+            offered: self.offered,
+            referenced: self.referenced,
+        }
+    }
+
+    /// Whether the host holds the tag.
+    pub fn is_held_by(&self, host: HostId) -> bool
+        requires { host < 16 }
+        ensures { result ≡ is_held_by host self.now }
+    {
+        has(self.holders, host.0)
+    }
+
+    /// Whether an offer of the tag to the host is unanswered.
+    pub fn is_offered_to(&self, host: HostId) -> bool
+        requires { host < 16 }
+        ensures { result ≡ is_offered_to host self.now }
+    {
+        has(self.offered, host.0)
+    }
+
+    /// Whether a host holds the tag, is offered it, or the Fabric Manager has a reference to it.
+    pub(crate) fn is_used(&self) -> bool
+        ensures { result ≡ is_used self.now }
+    {
+        self.holders != 0 || self.offered != 0 || self.referenced
+    }
+
+    /// Makes the change.
+    pub(crate) fn apply(&mut self, change: Change)
+        requires { IsOfHost change }
+        ensures { self.new ≡ applied change self.old }
+    {
+        match change {
+            Change::Offer(host) => self.offered = with(self.offered, host.0),
+            Change::Settle(host, accepted) => {
+                self.offered = without(self.offered, host.0);
+                if accepted {
+                    self.holders = with(self.holders, host.0);
+                }
+            }
+            Change::Leave(host) => self.holders = without(self.holders, host.0),
+            Change::Refer(on) => self.referenced = on,
+            Change::Soil => self.soiled = true,
+        }
+    }
+}
