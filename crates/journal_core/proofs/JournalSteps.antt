@@ -1,0 +1,52 @@
+-- A journal with one more entry: its effects, its commands and the calls of a pass.
+use Rattle.std.proofs.Common.{◌≡◌, ℕ, ◌+◌, Bool, true, false, cond, List, [], ◌∷◌, ◌++◌, refl, ap, ◌∙◌, append-nil, zero-add}
+use Rattle.std.specs.Prelude.{fold, map, IsFalse, if◌then◌else◌, ◌==◌}
+use Rattle.std.specs.List.{filter, All}
+use Rattle.std.proofs.lemmas.List.Quantifiers.{all_pairs_push}
+use Rattle.std.proofs.lemmas.Grind.{flat_map-append}
+use Rattle.std.proofs.lemmas.List.{map-append}
+use Rattle.std.proofs.lemmas.List.Elements.{filter-append}
+use Rattle.std.proofs.lemmas.List.Sums.{fold-append, sum_by-append}
+use Rattle.journal_core.specs.declared.outcome.Effect.{Effect}
+use Rattle.journal_core.specs.declared.entries.Entry.{Entry}
+use Rattle.journal_core.specs.Entries.{effects, is_control}
+use Rattle.journal_core.specs.Merging.{commands_in, call_of, calls_of, is_later, Rising, IsStamped, Numbered}
+use Rattle.journal_core.proofs.EachSteps.{Each-push}
+
+-- the effects of one more entry come last
+pub effects-push : (journal : List Entry) (e : Entry) → effects (journal ++ e ∷ []) ≡ effects journal ++ e.effects
+effects-push journal e = flat_map-append (λ (e : Entry). e.effects) journal (e ∷ []) ∙ ap (λ (new : List Effect). effects journal ++ new) (append-nil e.effects)
+
+pub effects-append : (journal more : List Entry) → effects (journal ++ more) ≡ effects journal ++ effects more
+effects-append journal more = flat_map-append (λ (e : Entry). e.effects) journal more
+
+-- what goes over the effects goes on over the new ones
+pub over-push : {B : Type 0} (f : B → Effect → B) (a : B) (journal : List Entry) (e : Entry) → fold f a (effects (journal ++ e ∷ [])) ≡ fold f (fold f a (effects journal)) e.effects
+over-push f a journal e = ap (fold f a) (effects-push journal e) ∙ fold-append f a (effects journal) e.effects
+
+-- a command or a scrub counts
+pub commands_in-push : (journal : List Entry) (e : Entry) → commands_in (journal ++ e ∷ []) ≡ commands_in journal + (if is_control e.act then 1 else 0)
+commands_in-push journal e =
+    sum_by-append (λ (x : Entry). cond (is_control x.act) 1 0) journal (e ∷ [])
+    ∙ ap (λ n. commands_in journal + n) (zero-add (cond (is_control e.act) 1 0))
+
+-- the pass of the entry has one more call, and the other passes have none
+pub calls_of-push : (pass : ℕ) (journal : List Entry) (e : Entry) → calls_of pass (journal ++ e ∷ []) ≡ calls_of pass journal ++ (if e.pass == pass then call_of e ∷ [] else [])
+calls_of-push pass journal e =
+    ap (map call_of) (filter-append (λ (x : Entry). x.pass == pass) journal (e ∷ []))
+    ∙ map-append call_of (filter (λ (x : Entry). x.pass == pass) journal) (filter (λ (x : Entry). x.pass == pass) (e ∷ []))
+    ∙ ap (λ calls. calls_of pass journal ++ calls) (one (e.pass == pass))
+  where
+    one : (b : Bool) → map call_of (cond b (e ∷ []) []) ≡ (if b then call_of e ∷ [] else [])
+    one true = refl
+    one false = refl
+
+-- A journal whose stamps do not come later than that of the entry goes on with it.
+pub Rising-push : (journal : List Entry) (e : Entry) → Rising journal → All (λ (f : Entry). IsFalse (is_later f.stamp e.stamp)) journal → Rising (journal ++ e ∷ [])
+Rising-push journal e up last = all_pairs_push (λ (f g : Entry). IsFalse (is_later f.stamp g.stamp)) journal e up (λ k d under. last k d under)
+
+pub Numbered-push : (journal : List Entry) (e : Entry) → Numbered journal → IsStamped journal e → All (λ (f : Entry). IsFalse (is_later f.stamp e.stamp)) journal → Numbered (journal ++ e ∷ [])
+Numbered-push journal e numbered stamped last = record {
+  stamped = Each-push IsStamped journal e numbered.stamped stamped;
+  rising = Rising-push journal e numbered.rising last;
+}

@@ -1,0 +1,5 @@
+pub mod EachSteps
+pub mod HoldingSteps
+pub mod JournalSteps
+pub mod Merges
+pub mod Sorting
