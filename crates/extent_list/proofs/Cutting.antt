@@ -1,0 +1,87 @@
+-- What a cut leaves: by the index of the extent that gives way, and what stays true of each extent.
+use Rattle.std.specs.List.{list_any, position_or_len}
+use Rattle.std.proofs.Common.{Bool, IsSome, inl, inr, ◌≡◌, ℕ, ◌+◌, ◌-◌, ◌^◌, ◌<◌, ◌≤◌, true, false, List, [], ◌∷◌, ◌++◌, All, Some, length, get_or, take, drop, refl, sym, ap, ◌∙◌, suc, zero, ltb, append_assoc, arith, length-append, length-drop}
+use Rattle.std.proofs.lemmas.Bool.{and_parts, cases_Bool, cond_both, false≢true, leb-true, lt-ltb, ltb-true}
+use Rattle.std.proofs.lemmas.List.{drop_at, length-take-le, take_at}
+use Rattle.std.proofs.lemmas.List.Elements.{All-append, All-cons, All-head, All-nil, All-tail}
+use Rattle.std.proofs.lemmas.List.Quantifiers.{position-Some}
+use Rattle.dcd_base.specs.declared.capacity.Extent.{Extent}
+use Rattle.extent_list.specs.ExtentLists.{cut, has_range, holder_of, is_in, piece, without}
+use Rattle.extent_list.specs.Rooms.{IsInAddresses}
+
+-- the holder's index, and where the range lies in that extent
+pub record Holds (start bytes : ℕ) (xs : List Extent) (i : ℕ) (x : Extent) : Type 0 where
+  pub known : i < length xs
+  pub begins : x.start ≤ start
+  pub ends : start + bytes ≤ x.start + x.length
+
+pub holds_at : (start bytes : ℕ) (xs : List Extent) (i : ℕ) (x : Extent) → holder_of start bytes xs ≡ Some i → x ≡ get_or xs i x → Holds start bytes xs i x
+holds_at start bytes xs i x found is =
+    let facts = position-Some (has_range start bytes) xs i x found in
+    let here : has_range start bytes x ≡ true = ap (has_range start bytes) is ∙ facts.1 in
+    let parts = and_parts _ _ here in
+    record { known = facts.0; begins = leb-true _ _ parts.0; ends = leb-true _ _ parts.1 }
+
+-- the first extent that has the range gives way, and those before and behind it stay
+cut-first : (start bytes : ℕ) (xs : List Extent) (i : ℕ) (d : Extent) → i < length xs → has_range start bytes (get_or xs i d) ≡ true
+    → ((k : ℕ) → k < i → has_range start bytes (get_or xs k d) ≡ false)
+    → cut start bytes xs ≡ take i xs ++ (without (get_or xs i d) start bytes ++ drop (suc i) xs)
+cut-first start bytes [] i d known here none = absurd (omega (arith, known))
+cut-first start bytes (x ∷ xs) zero d known here none = rw here refl
+cut-first start bytes (x ∷ xs) (suc i) d known here none =
+    rw (none 0 (omega arith)) (ap (λ ys. x ∷ ys) (cut-first start bytes xs i d (omega (arith, known)) here (λ k below. none (suc k) (omega (arith, below)))))
+
+pub cut-at : (start bytes : ℕ) (xs : List Extent) (i : ℕ) (x : Extent) → holder_of start bytes xs ≡ Some i → x ≡ get_or xs i x
+    → cut start bytes xs ≡ take i xs ++ (without x start bytes ++ drop (suc i) xs)
+cut-at start bytes xs i x found is =
+    let facts = position-Some (has_range start bytes) xs i x found in
+    cut-first start bytes xs i x facts.0 facts.1 facts.2 ∙ ap (λ y. take i xs ++ (without y start bytes ++ drop (suc i) xs)) (sym is)
+
+-- one item taken out, then the upper part and the lower part put in its place
+pub replaced : {X : Type 0} (xs bare one : List X) (i : ℕ) (lower upper : List X) → i < length xs → bare ≡ take i xs ++ drop (suc i) xs
+    → one ≡ take i bare ++ (upper ++ drop i bare) → take i one ++ (lower ++ drop i one) ≡ take i xs ++ (lower ++ upper ++ drop (suc i) xs)
+replaced xs bare one i lower upper known taken put =
+    let front : length (take i xs) ≡ i = length-take-le i xs (omega (arith, known)) in
+    let front_of_bare : take i bare ≡ take i xs = ap (take i) taken ∙ take_at (take i xs) (drop (suc i) xs) i front in
+    let rest_of_bare : drop i bare ≡ drop (suc i) xs = ap (drop i) taken ∙ drop_at (take i xs) (drop (suc i) xs) i front in
+    let is : one ≡ take i xs ++ (upper ++ drop (suc i) xs) = rw (← front_of_bare, ← rest_of_bare) put in
+    let front_of_one : take i one ≡ take i xs = ap (take i) is ∙ take_at (take i xs) _ i front in
+    let rest_of_one : drop i one ≡ upper ++ drop (suc i) xs = ap (drop i) is ∙ drop_at (take i xs) _ i front in
+    rw (front_of_one, rest_of_one, append_assoc) refl
+
+-- a piece ends where it ends
+piece-in_addresses : (x : Extent) (from to : ℕ) → to ≤ 2 ^ 64 → All IsInAddresses (piece x from to)
+piece-in_addresses x from to ends =
+    cond_both (ltb from to) _ _ (All IsInAddresses)
+    (λ some. let order : from < to = ltb-true from to some in All-cons IsInAddresses (record x { start = from; length = to - from }) [] (omega (arith, order, ends)) (All-nil IsInAddresses))
+    (λ none. All-nil IsInAddresses)
+
+pub All-cut : (start bytes : ℕ) (xs : List Extent) → All IsInAddresses xs → All IsInAddresses (cut start bytes xs)
+All-cut start bytes [] all = All-nil IsInAddresses
+All-cut start bytes (x ∷ xs) all =
+    let first : x.start + x.length ≤ 2 ^ 64 = All-head IsInAddresses x xs all in
+    cond_both (has_range start bytes x) _ _ (All IsInAddresses)
+    (λ here. let ends : start + bytes ≤ x.start + x.length = leb-true _ _ (and_parts _ _ here).1 in
+    All-append IsInAddresses (without x start bytes) xs
+    (All-append IsInAddresses (piece x x.start start) (piece x (start + bytes) (x.start + x.length)) (piece-in_addresses x x.start start (omega (arith, ends, first))) (piece-in_addresses x (start + bytes) _ first))
+    (All-tail IsInAddresses x xs all))
+    (λ other. All-cons IsInAddresses x (cut start bytes xs) first (All-cut start bytes xs (All-tail IsInAddresses x xs all)))
+
+pub length-cut : (start bytes : ℕ) (xs : List Extent) (i : ℕ) (x : Extent) → holder_of start bytes xs ≡ Some i → x ≡ get_or xs i x
+    → length (cut start bytes xs) ≡ length xs - 1 + length (piece x x.start start) + length (piece x (start + bytes) (x.start + x.length))
+length-cut start bytes xs i x found is =
+    let known : i < length xs = (holds_at start bytes xs i x found is).known in
+    let front = length-take-le i xs (omega (arith, known)) in
+    let back = length-drop (suc i) xs in
+    ap length (cut-at start bytes xs i x found is) ∙ simp (length-append) (omega (arith, front, back, known))
+
+-- where an extent lies in one of a list, the list has an index of it
+any-before : (p : Extent → Bool) (xs : List Extent) → list_any p xs ≡ true → position_or_len p xs < length xs
+any-before p [] none = absurd (false≢true none)
+any-before p (x ∷ xs) some = elim (cases_Bool (p x)) [
+  | inl here ↦ rw here (omega arith)
+  | inr other ↦ rw other (omega (arith, any-before p xs (rw other at some)))
+]
+
+pub held-from_is_in : (xs : List Extent) (x : Extent) → is_in xs x ≡ true → IsSome (holder_of x.start x.length xs)
+held-from_is_in xs x inside = rw (lt-ltb _ _ (any-before (has_range x.start x.length) xs inside)) refl

@@ -1,0 +1,23 @@
+use Rattle.std.proofs.Common.{sym, ◌∙◌}
+use Rattle.std.proofs.lemmas.List.Elements.{All-same}
+use Rattle.extent_list.specs.Rooms.{IsInAddresses}
+use Rattle.extent_list.proofs.Cutting.{All-cut, cut-at, holds_at, length-cut, replaced}
+use Rattle.extent_list.proofs.list.replace_at.Goals as goal
+
+pub upper_piece-upper-requires-clause-begins : goal.upper_piece-upper-requires-clause-begins
+upper_piece-upper-requires-clause-begins c = (holds_at _ _ _ _ c.index.result.now c.requires.index c.index.ensures).begins
+
+pub returns-then-len-most-clause-too_many : goal.returns-then-len-most-clause-too_many
+returns-then-len-most-clause-too_many c =
+    rw (c.count_of.ensures.count, c.count_of-2.ensures.count, c.lower_piece-lower.ensures, c.upper_piece-upper.ensures, c.as_slice.ensures.value)
+    (sym (length-cut _ _ _ _ c.index.result.now c.requires.index c.index.ensures))
+
+pub returns-clause-cut : goal.returns-clause-cut
+returns-clause-cut c =
+    let holds = holds_at _ _ _ _ c.index.result.now c.requires.index c.index.ensures in
+    c.put_piece-2.ensures.put
+    ∙ replaced _ _ _ c.args.index _ _ holds.known c.remove.ensures.items c.put_piece.ensures.put
+    ∙ rw (c.lower_piece-lower.ensures, c.upper_piece-upper.ensures) (sym (cut-at _ _ _ _ c.index.result.now c.requires.index c.index.ensures))
+
+pub returns-clause-in_addresses : goal.returns-clause-in_addresses
+returns-clause-in_addresses c = All-same IsInAddresses _ _ (returns-clause-cut c) (All-cut _ _ _ c.requires.in_addresses)

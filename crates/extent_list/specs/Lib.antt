@@ -1,0 +1,2 @@
+pub mod ExtentLists
+pub mod Rooms

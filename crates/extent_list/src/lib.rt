@@ -1,0 +1,13 @@
+//! A list of extents that is cut in place.
+//!
+//! A host's accepted capacity is such a list: a response appends extents, and a release or a removal cuts
+//! ranges out of them. What takes memory is `reserve` and `copy` alone. Ranges and extents may end past
+//! 2^64: no sum wraps.
+#![tactic(auto)]
+
+mod list;
+mod pieces;
+#[cfg(test)]
+mod tests;
+
+pub use list::{ExtentList, TooMany};

@@ -1,0 +1,213 @@
+//! The list, and the calls that change it.
+
+ghost use Rattle.extent_list.specs.ExtentLists.{cut, has_range, holder_of, shares_range, without};
+ghost use Rattle.extent_list.specs.Rooms.{IsInAddresses};
+ghost use Rattle.std.specs.List.{list_any};
+ghost use Rattle.std.specs.Prelude.{◌≡◌, ◌==◌, ◌++◌, ◌∷◌, ◌+◌, ◌<◌, ◌≤◌, [], All, IfErr, IfOk, IsSome, OnErr, OnOk, Some, drop, length, option_to_list, slice_get, slice_index_or, suc, take, vec_capacity, vec_len};
+
+use crate::pieces::{count_of, has_range_in, lower_piece, shares_range_with, upper_piece};
+use dcd_base::{Extent, Extents, NoMemory};
+use std::alloc::Global;
+use std::error::Error;
+use std::fmt::{self, Display};
+use std::marker::Model;
+
+/// The list would have this many extents, which is above the limit.
+#[derive(Clone, Copy, Debug, PartialEq, Eq)]
+pub struct TooMany(pub usize);
+
+impl Display for TooMany {
+    fn fmt<W: fmt::Write>(&self, f: &mut fmt::Formatter<W>) -> fmt::Result {
+        write!(f, "the list would have {} extents", self.0)
+    }
+}
+
+impl Error for TooMany {}
+
+/// Extents in the order in which they were appended, the pieces of a cut one in its place.
+///
+/// Contracts see the list and its spare: how many more extents it takes without memory.
+#[derive(Debug, Drop)]
+pub struct ExtentList {
+    alloc: Global,
+    kept: Vec<Extent>,
+}
+
+impl Model for ExtentList {
+    ghost use Rattle.extent_list.specs.Rooms.{Room};
+    ghost use Rattle.std.specs.Prelude.{◌-◌, vec_capacity, vec_len};
+
+    ghost Value = { Room };
+
+    ghost view = { λ list. record { extents = list.kept.items; spare = vec_capacity list.kept - vec_len list.kept } };
+}
+
+impl ExtentList {
+    /// An empty list. It takes no memory.
+    pub fn new(alloc: Global) -> ExtentList
+        ensures { result.extents ≡ [] }
+    {
+        ExtentList {
+            alloc,
+            kept: Vec::new(alloc),
+        }
+    }
+
+    /// An equal list of its own.
+    pub fn copy(&self) -> Result<ExtentList, NoMemory>
+        ensures { IfOk result (λ copy. copy.extents ≡ self.now.extents) }
+    {
+        Ok(ExtentList {
+            alloc: self.alloc,
+            kept: Vec::from_slice(self.alloc, self.kept.as_slice())?,
+        })
+    }
+
+    /// Makes the spare at least `n`. The extents stay, and without memory the spare does too.
+    pub fn reserve(&mut self, n: usize) -> Result<(), NoMemory>
+        ensures room { OnOk result (n ≤ self.new.spare) }
+        ensures extents { self.new.extents ≡ self.old.extents }
+        ensures spare { self.old.spare ≤ self.new.spare }
+        ensures kept { OnErr result (self.new ≡ self.old) }
+    {
+        self.kept.reserve(n)?;
+        Ok(())
+    }
+
+    pub fn len(&self) -> usize
+        ensures { result ≡ length self.now.extents }
+    {
+        self.kept.len()
+    }
+
+    pub fn is_empty(&self) -> bool
+        ensures { result ≡ (length self.now.extents == 0) }
+    {
+        self.kept.is_empty()
+    }
+
+    /// The extent at an index below the length.
+    pub fn at(&self, index: usize) -> Extent
+        requires { index < length self.now.extents }
+        ensures { slice_get self.now.extents index ≡ Some result }
+    {
+        self.kept[index]
+    }
+
+    /// All its extents in order, without copying.
+    pub fn as_slice(&self) -> &[Extent]
+        ensures { result.now ≡ self.now.extents }
+    {
+        self.kept.as_slice()
+    }
+
+    /// Appends an extent. Takes no memory, and uses one of the spare.
+    pub fn add(&mut self, extent: Extent)
+        requires { 0 < self.old.spare }
+        ensures added { self.new.extents ≡ self.old.extents ++ extent ∷ [] }
+        ensures spare { self.old.spare ≤ self.new.spare + 1 }
+    {
+        self.kept.push_reserved(extent);
+    }
+
+    /// The index of the first extent in which the range of `bytes` bytes from `start` on lies; None exactly
+    /// where it lies in none.
+    pub fn holder_of(&self, start: u64, bytes: u64) -> Option<usize>
+        ensures { result ≡ holder_of start bytes self.now.extents }
+    {
+        self.kept
+            .iter()
+            .position(|extent| has_range_in(extent, start, bytes))
+    }
+
+    /// Whether an extent overlaps the range of `bytes` bytes from `start` on.
+    ///
+    /// A range of no bytes overlaps the extents that have addresses on both sides of it.
+    pub fn overlaps(&self, start: u64, bytes: u64) -> bool
+        ensures { result ≡ list_any (shares_range start bytes) self.now.extents }
+    {
+        self.kept
+            .iter()
+            .any(|extent| shares_range_with(extent, start, bytes))
+    }
+
+    /// Puts in place of the first extent in which the range lies what remains of it, the lower piece first.
+    ///
+    /// The range is `bytes` bytes from `start` on. The pieces keep the extent's tag and sequence. At
+    /// `TooMany(n)`, which comes exactly where the list would have n extents and n is above `most`, nothing
+    /// changes. Takes no memory, and uses one of the spare.
+    pub fn cut(&mut self, start: u64, bytes: u64, most: usize) -> Result<(), TooMany>
+        requires spare { 0 < self.old.spare }
+        requires held { IsSome (holder_of start bytes self.old.extents) }
+        requires in_addresses { All IsInAddresses self.old.extents }
+        ensures cut { OnOk result (self.new.extents ≡ cut start bytes self.old.extents) }
+        ensures within { OnOk result (length self.new.extents ≤ most) }
+        ensures too_many { IfErr result (λ fault. fault.0 ≡ length (cut start bytes self.old.extents)) }
+        ensures above { IfErr result (λ fault. most < fault.0) }
+        ensures unchanged { OnErr result (self.new ≡ self.old) }
+        ensures spare { self.old.spare ≤ self.new.spare + 1 }
+        ensures in_addresses { All IsInAddresses self.new.extents }
+    {
+        match self.holder_of(start, bytes) {
+            Some(index) => replace_at(&mut self.kept, index, start, bytes, most),
+            None => unreachable!(),
+        }
+    }
+
+    /// Appends the extents from the index `first` on to `out`: `count` of them, or all where there are fewer.
+    ///
+    /// Without memory `out` is as it was.
+    pub fn page(&self, first: usize, count: usize, out: &mut Extents) -> Result<(), NoMemory>
+        ensures appended { OnOk result (out.new ≡ out.old ++ take count (drop first self.now.extents)) }
+        ensures kept { OnErr result (out.new ≡ out.old) }
+    {
+        let (_, rest) = self.kept.as_slice().split_at(first.min(self.kept.len()));
+        let (page, _) = rest.split_at(count.min(rest.len()));
+        out.extend_from_slice(page)
+    }
+}
+
+/// Puts a piece, if there is one, in front of the extent at the index.
+fn put_piece(kept: &mut Vec<Extent>, index: usize, piece: Option<Extent>)
+    requires index { index ≤ vec_len kept.old }
+    requires spare { vec_len kept.old < vec_capacity kept.old }
+    ensures put { kept.new.items ≡ take index kept.old.items ++ (option_to_list piece ++ drop index kept.old.items) }
+    ensures len { vec_len kept.new ≡ vec_len kept.old + length (option_to_list piece) }
+    ensures capacity { vec_capacity kept.old ≤ vec_capacity kept.new }
+{
+    if let Some(extent) = piece {
+        let _ = kept.insert(index, extent);
+    }
+}
+
+/// Replaces the extent at the index by what remains of it without the range, unless the list gets too long.
+fn replace_at(
+    kept: &mut Vec<Extent>,
+    index: usize,
+    start: u64,
+    bytes: u64,
+    most: usize,
+) -> Result<(), TooMany>
+    requires index { holder_of start bytes kept.old.items ≡ Some index }
+    requires spare { vec_len kept.old < vec_capacity kept.old }
+    requires in_addresses { All IsInAddresses kept.old.items }
+    ensures cut { OnOk result (kept.new.items ≡ cut start bytes kept.old.items) }
+    ensures within { OnOk result (length kept.new.items ≤ most) }
+    ensures too_many { IfErr result (λ fault. fault.0 ≡ length (cut start bytes kept.old.items)) }
+    ensures above { IfErr result (λ fault. most < fault.0) }
+    ensures unchanged { OnErr result (kept.new ≡ kept.old) }
+    ensures spare { vec_capacity kept.old + vec_len kept.new ≤ vec_capacity kept.new + vec_len kept.old + 1 }
+    ensures in_addresses { All IsInAddresses kept.new.items }
+{
+    let extent = kept[index];
+    let lower = lower_piece(&extent, start);
+    let upper = upper_piece(&extent, start, bytes);
+    let len = kept.as_slice().len() - 1 + count_of(&lower) + count_of(&upper);
+    if len > most {
+        return Err(TooMany(len));
+    }
+    kept.remove(index);
+    put_piece(kept, index, upper);
+    put_piece(kept, index, lower);
+    Ok(())
+}

@@ -1,0 +1,28 @@
+-- Runs of numbers: the lowest, the longest, the joined.
+use Rattle.std.specs.Prelude.{ℕ, ◌+◌, ◌-◌, max, Bool, ◌&&◌, ◌==◌, nat_le, List, [], ◌∷◌, map, filter, fold, find, Option, if◌then◌else◌}
+use Rattle.std.specs.List.{range_with_len, prefix_len}
+
+-- a number joins the run that begins right behind it, where the two may stand together
+abbrev pub joined_onto : (ℕ → ℕ → Bool) → ℕ → List (ℕ × ℕ) → List (ℕ × ℕ)
+joined_onto together n [] = (n, 1) ∷ []
+joined_onto together n (r ∷ runs) =
+    if (r.0 == n + 1) && together n (n + 1) then (n, r.1 + 1) ∷ runs else (n, 1) ∷ r ∷ runs
+
+-- rising numbers as the longest runs, each by its first number and its length
+abbrev pub joined : (ℕ → ℕ → Bool) → List ℕ → List (ℕ × ℕ)
+joined together [] = []
+joined together (n ∷ ns) = joined_onto together n (joined together ns)
+
+-- of the numbers below a limit, those that pass a test, how many do from one on, and the most from any on
+abbrev pub passing : (ℕ → Bool) → ℕ → List ℕ
+passing test limit = filter test (range_with_len 0 limit)
+
+abbrev pub run_from : (ℕ → Bool) → ℕ → ℕ → ℕ
+run_from test limit n = prefix_len test (range_with_len n (limit - n))
+
+abbrev pub longest_run : (ℕ → Bool) → ℕ → ℕ
+longest_run test limit = fold max 0 (map (run_from test limit) (range_with_len 0 limit))
+
+-- the lowest place where a run of this length begins
+abbrev pub lowest_run : (ℕ → Bool) → ℕ → ℕ → Option ℕ
+lowest_run test limit n = find (λ k. nat_le n (run_from test limit k)) (range_with_len 0 limit)

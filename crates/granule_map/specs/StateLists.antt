@@ -1,0 +1,47 @@
+-- The states of a device's granules, as a list by number.
+use Rattle.std.specs.Prelude.{ℕ, ◌+◌, Bool, true, false, ◌==◌, List, ◌++◌, take, drop, replicate, count_by, slice_index_or, find, Option, length, ◌-◌}
+use Rattle.std.specs.List.{range_with_len}
+use Rattle.dcd_base.specs.Words.{same_tag}
+use Rattle.dcd_base.specs.declared.media.Run.{Run}
+use Rattle.granule_map.specs.declared.states.GranuleState.{GranuleState}
+
+-- the states in the order of the granules, and for how many changes more there is memory
+pub record States : Type 0 where
+  pub states : List GranuleState
+  pub spare : ℕ
+
+abbrev pub is_free_state : GranuleState → Bool
+is_free_state GranuleState.Free = true
+is_free_state state = false
+
+abbrev pub is_dirty_state : GranuleState → Bool
+is_dirty_state GranuleState.Dirty = true
+is_dirty_state state = false
+
+-- whether these are one state, of one host or tag
+abbrev pub same_state : GranuleState → GranuleState → Bool
+same_state GranuleState.Free GranuleState.Free = true
+same_state (GranuleState.Reserved h) (GranuleState.Reserved k) = h == k
+same_state (GranuleState.Held h) (GranuleState.Held k) = h == k
+same_state (GranuleState.Tagged t) (GranuleState.Tagged u) = same_tag t u
+same_state GranuleState.Dirty GranuleState.Dirty = true
+same_state a b = false
+
+-- a granule by its number; past the last one it is neither free nor dirty
+abbrev pub is_free_at : List GranuleState → ℕ → Bool
+is_free_at states g = is_free_state (slice_index_or states g GranuleState.Dirty)
+
+abbrev pub is_dirty_at : List GranuleState → ℕ → Bool
+is_dirty_at states g = is_dirty_state (slice_index_or states g GranuleState.Free)
+
+-- the states with this one at each granule of the run
+abbrev pub with_run : List GranuleState → Run → GranuleState → List GranuleState
+with_run states run state = take run.first states ++ replicate run.count state ++ drop (run.first + run.count) states
+
+-- how many granules are in the state
+abbrev pub count_of : List GranuleState → GranuleState → ℕ
+count_of states state = count_by (same_state state) states
+
+-- the lowest dirty granule from a number on
+abbrev pub dirty_from : List GranuleState → ℕ → Option ℕ
+dirty_from states from = find (is_dirty_at states) (range_with_len from (length states - from))

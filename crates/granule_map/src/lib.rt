@@ -1,0 +1,14 @@
+//! The state of each granule of a device, and which free blocks an area has.
+//!
+//! Contracts see the list of the states in the order of the granules, and nothing of how they are kept. All
+//! answers are functions of that list. What takes memory is `new`, `reserve` and `copy` alone.
+#![tactic(auto)]
+
+mod blocks;
+mod map;
+mod states;
+#[cfg(test)]
+mod tests;
+
+pub use map::GranuleMap;
+pub use states::GranuleState;

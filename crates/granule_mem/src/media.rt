@@ -1,0 +1,110 @@
+//! Words and holders, granule by granule.
+
+ghost use Rattle.granule_mem.specs.Contents.{IsFresh, SetsHolders, Stores, Zeroes, holders_in, word_in};
+ghost use Rattle.std.specs.Prelude.{◌≡◌, ◌+◌, ◌<◌, ◌≤◌, [], IfOk, OnErr, OnOk, length, map, replicate};
+
+use dcd_base::{Granule, NoMemory, Run};
+use std::alloc::Global;
+use std::collections::BTreeMap;
+use std::marker::Model;
+
+/// The words and the holders of granules 0, 1, 2 and so on.
+///
+/// Contracts see a word by its granule and its number in it, and for each granule the bits of its holders.
+/// A granule or a run that is handed in is of the memory.
+#[derive(Debug, Drop)]
+pub struct Memory {
+    stored: Vec<BTreeMap<u64, u64>>,
+    held: Vec<u16>,
+}
+
+impl Model for Memory {
+    ghost use Rattle.granule_mem.specs.Contents.{Media};
+    ghost use Rattle.std.specs.Prelude.{◌≡◌, length, map};
+
+    ghost Value = { Media };
+
+    ghost view = { λ m. record { words = map (λ words. words.entries) m.stored.items; holders = m.held.items } };
+
+    ghost invariant = { λ m. length m.stored.items ≡ length m.held.items };
+}
+
+impl Memory {
+    /// So many granules that nobody holds, all words 0.
+    pub fn new(alloc: Global, granules: u32) -> Result<Memory, NoMemory>
+        ensures granules { IfOk result (λ m. length m.holders ≡ granules) }
+        ensures fresh { IfOk result IsFresh }
+    {
+        Ok(Memory {
+            stored: nothing_stored(alloc, granules)?,
+            held: vec![in alloc; 0u16; granules as usize]?,
+        })
+    }
+
+    /// A word of a granule: the last one stored there since the granule was zeroed, else 0.
+    pub fn read(&self, granule: Granule, word: u64) -> u64
+        requires { granule < length self.now.holders }
+        ensures { result ≡ word_in self.now granule word }
+    {
+        self.stored[granule.0 as usize]
+            .get(&word)
+            .copied()
+            .unwrap_or(0)
+    }
+
+    /// Stores a word. All other words stay, of this granule too, and so do all holders; without memory all stays.
+    pub fn write(&mut self, granule: Granule, word: u64, value: u64) -> Result<(), NoMemory>
+        requires { granule < length self.old.holders }
+        ensures words { OnOk result (Stores self.old self.new granule word value) }
+        ensures holders { self.new.holders ≡ self.old.holders }
+        ensures kept { OnErr result (self.new ≡ self.old) }
+    {
+        let stored = &mut self.stored[granule.0 as usize];
+        stored.insert(word, value)?;
+        Ok(())
+    }
+
+    /// Makes each word of the run's granules 0. All other words and all holders stay. Takes no memory.
+    pub fn zero(&mut self, run: Run)
+        requires { run.first + run.count ≤ length self.old.holders }
+        ensures words { Zeroes self.old self.new run }
+        ensures holders { self.new.holders ≡ self.old.holders }
+    {
+        let first = run.first.0 as usize;
+        for granule in first..first + run.count as usize {
+            self.stored[granule].clear();
+        }
+    }
+
+    /// The hosts that hold a granule: bit h stands for host h.
+    pub fn holders(&self, granule: Granule) -> u16
+        requires { granule < length self.now.holders }
+        ensures { result ≡ holders_in self.now granule }
+    {
+        self.held[granule.0 as usize]
+    }
+
+    /// Sets the holders of each granule of the run. All others and all words stay. Takes no memory.
+    pub fn set_holders(&mut self, run: Run, holders: u16)
+        requires { run.first + run.count ≤ length self.old.holders }
+        ensures holders { SetsHolders self.old self.new run holders }
+        ensures granules { length self.new.holders ≡ length self.old.holders }
+        ensures words { self.new.words ≡ self.old.words }
+    {
+        let first = run.first.0 as usize;
+        for granule in first..first + run.count as usize {
+            self.held[granule] = holders;
+        }
+    }
+}
+
+/// So many granules of which no word is stored.
+fn nothing_stored(alloc: Global, granules: u32) -> Result<Vec<BTreeMap<u64, u64>>, NoMemory>
+    ensures { IfOk result (λ stored. map (λ words. words.entries) stored.items ≡ replicate granules []) }
+{
+    let mut stored = Vec::with_capacity(alloc, granules as usize)?;
+    for _ in 0..granules {
+        stored.push(BTreeMap::new(alloc))?;
+    }
+    Ok(stored)
+}

@@ -1,0 +1,97 @@
+-- A payload is read as a page exactly where it reads so, and as that one.
+use Rattle.std.proofs.Common.{◌≡◌, ℕ, ◌+◌, ◌-◌, ◌*◌, ◌/◌, ◌^◌, ◌<◌, ◌≤◌, List, [], ◌∷◌, ◌++◌, length, map, flat_map, drop, Result, Ok, Err, refl, sym, ap, subst, ◌∙◌, arith}
+use Rattle.std.specs.Prelude.{IfOk, OnOk}
+use Rattle.std.specs.List.{AllByRecursion}
+use Rattle.std.specs.Int.{w32}
+use Rattle.std.proofs.lemmas.List.{length-drop, length-map}
+use Rattle.dcd_base.specs.declared.capacity.Extent.{Extent}
+use Rattle.dcd_base.specs.Layouts.{Number, Reserved, FitsField, number_at, pieces, spelling}
+use Rattle.event_records.specs.Records.{extent_fields}
+use Rattle.host_payloads.specs.declared.faults.PayloadFault.{PayloadFault}
+use Rattle.host_payloads.specs.declared.pages.ExtentsPage.{ExtentsPage}
+use Rattle.host_payloads.specs.HostPayloads.{FitsExtent, Gives, IsPage, extent_bytes, extents_payload, page_extents, page_fields, page_head, page_in, page_length, whole_extent}
+use Rattle.host_payloads.proofs.Agreement.{Agrees, Agrees-spelled, fits-append}
+use Rattle.host_payloads.proofs.Widths.{IsBytes, IsBytes-drop, wide_32}
+use Rattle.host_payloads.proofs.Places.{FieldsAt, number_found, number_only, reserved_found, reserved_only}
+use Rattle.host_payloads.proofs.Shapes.{all_from, each_is_good, length-pieces, pieces_found, pieces_only, whole_found, whole_only}
+use Rattle.host_payloads.proofs.Asked.{Reads-from, counted_at, counted_is, sized_at, sized_is}
+use Rattle.host_payloads.proofs.Written.{spelling_each}
+
+abbrev wrong : ℕ → ℕ → PayloadFault
+wrong = λ need have. PayloadFault.WrongLength need have
+
+-- ---- whole extents at the end of a payload
+
+pub extents_agree : (payload : List ℕ) (at n : ℕ) → IsBytes payload → length payload ≡ at + 40 * n → FieldsAt payload at (flat_map extent_fields (map whole_extent (pieces 40 n (drop at payload))))
+extents_agree payload at n small len = record {
+  within = omega (arith, len);
+  rest = pieces_found whole_extent extent_fields 40 whole_found n (drop at payload) (omega (arith, len, length-drop at payload)) (IsBytes-drop at payload small);
+}
+
+pub extents_are : (payload : List ℕ) (at : ℕ) (xs : List Extent) → FieldsAt payload at (flat_map extent_fields xs) → (length payload ≡ at + 40 * length xs) × (map whole_extent (pieces 40 (length xs) (drop at payload)) ≡ xs)
+extents_are payload at xs here =
+    let all = pieces_only whole_extent extent_fields 40 (λ x. Unit {0}) whole_only xs (each_is_good xs) (drop at payload) here.rest in
+    (omega (arith, all.0, here.within, length-drop at payload), all.1)
+
+pub extents_spelled : (xs : List Extent) → spelling (flat_map extent_fields xs) ≡ flat_map extent_bytes xs
+unfolding extent_bytes
+extents_spelled xs = spelling_each extent_fields xs
+
+pub extents_fit : (xs : List Extent) → AllByRecursion FitsExtent xs → AllByRecursion FitsField (flat_map extent_fields xs)
+extents_fit [] fit = tt
+extents_fit (x ∷ xs) fit = fits-append (extent_fields x) (flat_map extent_fields xs) fit.0 (extents_fit xs fit.1)
+
+-- ---- pages
+
+page_found : (payload : List ℕ) (page : ExtentsPage) → IsBytes payload → page_in payload ≡ Ok page → IsPage payload page
+unfolding page_in
+page_found payload page small e =
+    let n = number_at w32 payload 0 in
+    let k = (length payload - 16) / 40 in
+    let at = sized_is wrong (page_length payload) payload (record { total = number_at w32 payload 4; generation = number_at w32 payload 8; extents = page_extents payload }) page e in
+    let all : length payload ≡ 16 + 40 * n = counted_is 16 40 n payload at.0 in
+    let same : k ≡ n = omega (arith, all) in
+    let count : n ≡ length (page_extents payload) = sym (length-map (pieces 40 k (drop 16 payload)) whole_extent ∙ length-pieces 40 k (drop 16 payload) ∙ same) in
+    let extents = extents_agree payload 16 k small (omega (arith, all, same)) in
+    let rest = number_found w32 wide_32 payload 4 8 _ small refl (number_found w32 wide_32 payload 8 12 _ small refl (reserved_found payload 12 16 4 _ refl extents)) in
+    let counted = number_found w32 wide_32 payload 0 4 _ small refl rest in
+    let named = subst (λ c. FieldsAt payload 0 (Number w32 c ∷ Number w32 (number_at w32 payload 4) ∷ Number w32 (number_at w32 payload 8) ∷ Reserved 4 ∷ flat_map extent_fields (page_extents payload))) count counted in
+    subst (IsPage payload) at.1 (Reads-from payload _ small named)
+
+page_only : (payload : List ℕ) (page : ExtentsPage) → Agrees payload (page_fields page.total page.generation page.extents) → page_in payload ≡ Ok page
+unfolding page_in
+page_only payload page a =
+    let xs = page.extents in
+    let first = number_only w32 wide_32 payload 0 4 (length xs) _ refl (all_from payload _ a) in
+    let total = number_only w32 wide_32 payload 4 8 page.total _ refl first.1 in
+    let generation = number_only w32 wide_32 payload 8 12 page.generation _ refl total.1 in
+    let list = extents_are payload 16 xs (reserved_only payload 12 16 4 _ refl generation.1) in
+    let k : (length payload - 16) / 40 ≡ length xs = omega (arith, list.0) in
+    let made : ℕ → ℕ → List Extent → ExtentsPage = λ t g ys. record { total = t; generation = g; extents = ys } in
+    let is : made (number_at w32 payload 4) (number_at w32 payload 8) (page_extents payload) ≡ page =
+    ap (λ t. made t (number_at w32 payload 8) (page_extents payload)) total.0 ∙ ap (λ g. made page.total g (page_extents payload)) generation.0
+    ∙ ap (λ ys. made page.total page.generation ys) (ap (λ n. map whole_extent (pieces 40 n (drop 16 payload))) k ∙ list.1) in
+    sized_at wrong (page_length payload) payload _ _ (counted_at 16 40 (number_at w32 payload 0) payload (rw first.0 list.0)) is
+
+-- ---- of what a call gives
+
+pub page_of_given : (payload : List ℕ) (r : Result ExtentsPage PayloadFault) → IsBytes payload → Gives r (page_in payload) → IfOk r (λ page. IsPage payload page)
+page_of_given payload (Ok page) small given = page_found payload page small given
+page_of_given payload (Err fault) small given = tt
+
+pub given_of_page : (payload : List ℕ) (r : Result ExtentsPage PayloadFault) → Gives r (page_in payload) → (page : ExtentsPage) → IsPage payload page → Gives r (Ok page)
+given_of_page payload r given page reads = subst (Gives r) (page_only payload page (record { fits = reads.fits; agrees = reads.agrees })) given
+
+-- ---- pages as they are written
+
+pub page_spelled : (total generation : ℕ) (xs : List Extent) → page_head (length xs) total generation ++ flat_map extent_bytes xs ≡ extents_payload total generation xs
+unfolding page_head extents_payload
+page_spelled total generation xs = ap (λ rest. spelling (Number w32 (length xs) ∷ Number w32 total ∷ Number w32 generation ∷ Reserved 4 ∷ []) ++ rest) (sym (extents_spelled xs))
+
+pub page_fits : (total generation : ℕ) (xs : List Extent) → total < 2 ^ 32 → generation < 2 ^ 32 → length xs ≤ 50 → AllByRecursion FitsExtent xs → AllByRecursion FitsField (page_fields total generation xs)
+page_fits total generation xs t g few fit = (omega (arith, few), (t, (g, (tt, extents_fit xs fit))))
+
+pub page_again : {E : Type 0} (r : Result (Unit {0}) E) (total generation : ℕ) (xs : List Extent) → AllByRecursion FitsField (page_fields total generation xs) → OnOk r (page_in (extents_payload total generation xs) ≡ Ok (record { total = total; generation = generation; extents = xs }))
+unfolding extents_payload
+page_again (Ok x) total generation xs fits = page_only (spelling (page_fields total generation xs)) (record { total = total; generation = generation; extents = xs }) (Agrees-spelled _ fits)
+page_again (Err e) total generation xs fits = tt

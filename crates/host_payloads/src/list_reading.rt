@@ -1,0 +1,53 @@
+//! Lists in a payload: handles, and extents without tags.
+
+ghost use Rattle.dcd_base.specs.Layouts.{pieces};
+ghost use Rattle.host_payloads.specs.HostPayloads.{listed_extent};
+ghost use Rattle.std.specs.Int.{from_le_bytes, w16};
+ghost use Rattle.std.specs.Prelude.{◌≡◌, ◌*◌, ◌≤◌, IfOk, length, map};
+
+use crate::numbers::{u16_at, u64_at};
+use dcd_base::{Extent, Extents, Handles, NoMemory, no_tag};
+use std::alloc::Global;
+
+/// So many handles of two bytes each.
+pub fn handles_of(alloc: Global, count: usize, bytes: &[u8]) -> Result<Handles, NoMemory>
+    requires { 2 * count ≤ length bytes.now }
+    ensures { IfOk result (λ handles. handles ≡ map (from_le_bytes w16) (pieces 2 count bytes.now)) }
+{
+    let mut handles = Handles::new(alloc);
+    let mut rest = bytes;
+    for _ in 0..count {
+        let (piece, after) = rest.split_at(2);
+        handles.push(u16_at(piece, 0))?;
+        rest = after;
+    }
+    Ok(handles)
+}
+
+/// The extent that 24 bytes list.
+fn listed_extent(bytes: &[u8]) -> Extent
+    requires { 24 ≤ length bytes.now }
+    ensures { result ≡ listed_extent bytes.now }
+{
+    Extent {
+        start: u64_at(bytes, 0),
+        length: u64_at(bytes, 8),
+        tag: no_tag(),
+        sequence: 0,
+    }
+}
+
+/// So many extents without tags, of 24 bytes each.
+pub fn listed_of(alloc: Global, count: usize, bytes: &[u8]) -> Result<Extents, NoMemory>
+    requires { 24 * count ≤ length bytes.now }
+    ensures { IfOk result (λ extents. extents ≡ map listed_extent (pieces 24 count bytes.now)) }
+{
+    let mut extents = Extents::new(alloc);
+    let mut rest = bytes;
+    for _ in 0..count {
+        let (piece, after) = rest.split_at(24);
+        extents.push(listed_extent(piece))?;
+        rest = after;
+    }
+    Ok(extents)
+}

@@ -1,0 +1,10 @@
+pub mod Adding
+pub mod CoveringLaws
+pub mod FieldLaws
+pub mod HeadLaws
+pub mod LineLaws
+pub mod Lists
+pub mod ScriptLaws
+pub mod Spans
+pub mod Writable
+pub mod WritingLaws

@@ -1,0 +1,97 @@
+-- What a loop over fields of one form, or over lines, has read so far.
+use Rattle.std.proofs.Common.{◌≡◌, ℕ, zero, suc, List, [], ◌∷◌, ◌++◌, Result, Ok, Err, refl, sym, ap, ◌∙◌, append-nil, append_assoc, eqb, false}
+use Rattle.script_codec.specs.declared.script_line.Line.{Line}
+use Rattle.script_codec.specs.declared.faults.ScriptFault.{ScriptFault}
+use Rattle.script_codec.specs.Fields.{◌>>=◌, Gives, many_from}
+use Rattle.script_codec.specs.Lines.{kind_from, line_from, end_from, lines_from}
+
+-- these before those that are still to come
+abbrev pub with_fields : {A : Type 0} → List A → Result (List A × ℕ) ScriptFault → Result (List A × ℕ) ScriptFault
+with_fields xs (Ok rest) = Ok (xs ++ rest.0, rest.1)
+with_fields xs (Err fault) = Err fault
+
+module _ {A : Type 0} (field : List ℕ → ℕ → Result (A × ℕ) ScriptFault) where
+  pub many_goes_on : (xs : List A) (x : A × ℕ) (n left : ℕ) (bytes : List ℕ) (place : ℕ) (whole : Result (List A × ℕ) ScriptFault) → n ≡ suc left → field bytes place ≡ Ok x → with_fields xs (many_from field n bytes place) ≡ whole → with_fields (xs ++ x.0 ∷ []) (many_from field left bytes x.1) ≡ whole
+  unfolding many_from
+  many_goes_on xs x n left bytes place whole more here is =
+      by (many_from field left bytes x.1)
+      ∙ sym (ap (λ r. with_fields xs (r >>= (λ first. many_from field left bytes first.1 >>= (λ rest. Ok (first.0 ∷ rest.0, rest.1))))) here)
+      ∙ sym (ap (λ m. with_fields xs (many_from field m bytes place)) more)
+      ∙ is
+    where
+      by : (r : Result (List A × ℕ) ScriptFault) → with_fields (xs ++ x.0 ∷ []) r ≡ with_fields xs (r >>= (λ rest. Ok (x.0 ∷ rest.0, rest.1)))
+      by (Ok rest) = ap (λ ys. Ok (ys, rest.1)) (append_assoc xs (x.0 ∷ []) rest.0)
+      by (Err fault) = refl
+
+  pub many_fails : (xs : List A) (fault : ScriptFault) (n left : ℕ) (bytes : List ℕ) (place : ℕ) (whole : Result (List A × ℕ) ScriptFault) → n ≡ suc left → field bytes place ≡ Err fault → with_fields xs (many_from field n bytes place) ≡ whole → whole ≡ Err fault
+  unfolding many_from
+  many_fails xs fault n left bytes place whole more here is =
+      sym is ∙ ap (λ m. with_fields xs (many_from field m bytes place)) more
+      ∙ ap (λ r. with_fields xs (r >>= (λ first. many_from field left bytes first.1 >>= (λ rest. Ok (first.0 ∷ rest.0, rest.1))))) here
+
+  pub many_done : (xs : List A) (n : ℕ) (bytes : List ℕ) (place : ℕ) (whole : Result (List A × ℕ) ScriptFault) → n ≡ 0 → with_fields xs (many_from field n bytes place) ≡ whole → whole ≡ Ok (xs, place)
+  unfolding many_from
+  many_done xs n bytes place whole none is =
+      sym is ∙ ap (λ m. with_fields xs (many_from field m bytes place)) none ∙ ap (λ ys. Ok (ys, place)) (append-nil xs)
+
+  pub many_begins : (n : ℕ) (bytes : List ℕ) (place : ℕ) → with_fields [] (many_from field n bytes place) ≡ many_from field n bytes place
+  many_begins n bytes place = by (many_from field n bytes place)
+    where
+      by : (r : Result (List A × ℕ) ScriptFault) → with_fields [] r ≡ r
+      by (Ok rest) = refl
+      by (Err fault) = refl
+
+-- these lines before those that are still to come
+abbrev pub with_lines : List Line → Result (List Line) ScriptFault → Result (List Line) ScriptFault
+with_lines lines (Ok rest) = Ok (lines ++ rest)
+with_lines lines (Err fault) = Err fault
+
+pub lines_begin : (n hosts lanes : ℕ) (bytes : List ℕ) (place : ℕ) → with_lines [] (lines_from n hosts lanes bytes place) ≡ lines_from n hosts lanes bytes place
+lines_begin n hosts lanes bytes place = by (lines_from n hosts lanes bytes place)
+  where
+    by : (r : Result (List Line) ScriptFault) → with_lines [] r ≡ r
+    by (Ok rest) = refl
+    by (Err fault) = refl
+
+-- the kind of the next line is read first
+no_kind : (n hosts lanes : ℕ) (bytes : List ℕ) (place : ℕ) (fault : ScriptFault) → kind_from bytes place ≡ Err fault → lines_from n hosts lanes bytes place ≡ Err fault
+unfolding lines_from
+no_kind zero hosts lanes bytes place fault e = rw e refl
+no_kind (suc left) hosts lanes bytes place fault e = rw e refl
+
+pub lines_no_kind : (lines : List Line) (n hosts lanes : ℕ) (bytes : List ℕ) (place : ℕ) (fault : ScriptFault) (whole : Result (List Line) ScriptFault) → kind_from bytes place ≡ Err fault → with_lines lines (lines_from n hosts lanes bytes place) ≡ whole → whole ≡ Err fault
+lines_no_kind lines n hosts lanes bytes place fault whole e is = sym is ∙ ap (with_lines lines) (no_kind n hosts lanes bytes place fault e)
+
+at_end : (n hosts lanes : ℕ) (bytes : List ℕ) (place : ℕ) (kind : ℕ × ℕ) → kind_from bytes place ≡ Ok kind → kind.0 ≡ 0 → lines_from n hosts lanes bytes place ≡ end_from bytes kind.1
+unfolding lines_from
+at_end zero hosts lanes bytes place kind e is = rw (e, is) refl
+at_end (suc left) hosts lanes bytes place kind e is = rw (e, is) refl
+
+pub lines_end : (lines : List Line) (n hosts lanes : ℕ) (bytes : List ℕ) (place : ℕ) (kind : ℕ × ℕ) (whole : Result (List Line) ScriptFault) → kind_from bytes place ≡ Ok kind → kind.0 ≡ 0 → with_lines lines (lines_from n hosts lanes bytes place) ≡ whole → whole ≡ with_lines lines (end_from bytes kind.1)
+lines_end lines n hosts lanes bytes place kind whole e ends is = sym is ∙ ap (with_lines lines) (at_end n hosts lanes bytes place kind e ends)
+
+pub lines_bad : (lines : List Line) (n left hosts lanes : ℕ) (bytes : List ℕ) (place : ℕ) (kind : ℕ × ℕ) (fault : ScriptFault) (whole : Result (List Line) ScriptFault) → n ≡ suc left → kind_from bytes place ≡ Ok kind → eqb kind.0 0 ≡ false → line_from kind.0 hosts lanes bytes kind.1 ≡ Err fault → with_lines lines (lines_from n hosts lanes bytes place) ≡ whole → whole ≡ Err fault
+unfolding lines_from
+lines_bad lines n left hosts lanes bytes place kind fault whole more e goes bad is =
+    sym is ∙ ap (λ m. with_lines lines (lines_from m hosts lanes bytes place)) more ∙ rw (e, goes, bad) refl
+
+pub lines_go_on : (lines : List Line) (n left hosts lanes : ℕ) (bytes : List ℕ) (place : ℕ) (kind : ℕ × ℕ) (line : Line × ℕ) (whole : Result (List Line) ScriptFault) → n ≡ suc left → kind_from bytes place ≡ Ok kind → eqb kind.0 0 ≡ false → line_from kind.0 hosts lanes bytes kind.1 ≡ Ok line → with_lines lines (lines_from n hosts lanes bytes place) ≡ whole → with_lines (lines ++ line.0 ∷ []) (lines_from left hosts lanes bytes line.1) ≡ whole
+unfolding lines_from
+lines_go_on lines n left hosts lanes bytes place kind line whole more e goes here is =
+    by (lines_from left hosts lanes bytes line.1)
+    ∙ sym (ap (λ m. with_lines lines (lines_from m hosts lanes bytes place)) more ∙ rw (e, goes, here) refl)
+    ∙ is
+  where
+    by : (r : Result (List Line) ScriptFault) → with_lines (lines ++ line.0 ∷ []) r ≡ with_lines lines (r >>= (λ rest. Ok (line.0 ∷ rest)))
+    by (Ok rest) = ap Ok (append_assoc lines (line.0 ∷ []) rest)
+    by (Err fault) = refl
+
+pub lines_too_many : (lines : List Line) (n hosts lanes : ℕ) (bytes : List ℕ) (place : ℕ) (kind : ℕ × ℕ) (whole : Result (List Line) ScriptFault) → n ≡ 0 → kind_from bytes place ≡ Ok kind → eqb kind.0 0 ≡ false → with_lines lines (lines_from n hosts lanes bytes place) ≡ whole → whole ≡ Err (ScriptFault.TooManyLines place)
+unfolding lines_from
+lines_too_many lines n hosts lanes bytes place kind whole none e goes is =
+    sym is ∙ ap (λ m. with_lines lines (lines_from m hosts lanes bytes place)) none ∙ rw (e, goes) refl
+
+-- what stands behind the end word decides
+pub ends : (r : Result (Unit {0}) ScriptFault) (lines : List Line) (end whole : Result (List Line) ScriptFault) → whole ≡ with_lines lines end → Gives {A = Unit {0}} (λ done. []) r end → Gives {A = Unit {0}} (λ done. lines) r whole
+ends (Ok done) lines end whole is given = is ∙ ap (with_lines lines) given ∙ ap Ok (append-nil lines)
+ends (Err fault) lines end whole is given = λ real. is ∙ ap (with_lines lines) (given real)

@@ -1,0 +1,56 @@
+//! Why bytes are no script.
+
+ghost use Rattle.script_codec.specs.declared.faults.ScriptFault.TheVariants.{NoMemory as OutOfMemory};
+ghost use Rattle.std.specs.Prelude.{◌≡◌};
+
+use cci_codec::MessageFault;
+use dcd_base::NoMemory;
+use region_config::ConfigFault;
+use std::alloc::AllocFailed;
+
+/// Why bytes are no script. `TooLong` is tried first; then the fields are read in order, and the first fault is
+/// answered. A place is the number of bytes before it.
+#[derive(Clone, Copy, Debug, PartialEq, Eq)]
+pub enum ScriptFault {
+    /// The first four bytes are not `DCDS`. Its place is 0.
+    BadMagic,
+    /// The version is that number, neither 1 nor 2. Its place is 4.
+    BadVersion(u16),
+    /// The configuration is refused. Its place is 8. `Count` is answered before the regions are read, the other
+    /// faults when all bases are read.
+    BadConfig(ConfigFault),
+    /// The field that comes next lacks bytes. The place is the number of bytes there are.
+    Truncated(u64),
+    /// The kind byte at the place is above 05h.
+    UnknownKind(u64),
+    /// The actor byte at the place names no actor and lane of that line.
+    UnknownActor(u64),
+    /// The message that begins at the place is no request.
+    BadMessage { at: u64, fault: MessageFault },
+    /// There are more than 16,777,216 bytes. Its place is 16777216.
+    TooLong,
+    /// At the place stands a byte behind the end word.
+    AfterEnd(u64),
+    /// Line 65,537 begins at the place.
+    TooManyLines(u64),
+    /// Version 2 says that number of lanes, 0 or above 4. Its place is 10.
+    BadLanes(u8),
+    /// Memory was wanted and not to be had.
+    NoMemory,
+}
+
+impl From<NoMemory> for ScriptFault {
+    ghost from_gives = { λ _ fault. fault ≡ OutOfMemory };
+
+    fn from(_: NoMemory) -> ScriptFault {
+        ScriptFault::NoMemory
+    }
+}
+
+impl<T: Drop> From<AllocFailed<T>> for ScriptFault {
+    ghost from_gives = { λ _ fault. fault ≡ OutOfMemory };
+
+    fn from(_: AllocFailed<T>) -> ScriptFault {
+        ScriptFault::NoMemory
+    }
+}
