@@ -1,0 +1,4 @@
+pub mod Freshness
+mod Pages
+pub mod Quietness
+pub mod Shortness

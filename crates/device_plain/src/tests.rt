@@ -1,0 +1,45 @@
+//! One step of the device.
+
+use crate::Device;
+use cci_codec::Request;
+use control_core::is_built;
+use dcd_base::{Actor, Bytes, HostId};
+use journal_core::{Act, fits};
+use region_config::{Config, RegionSpec};
+use std::test::Fail;
+
+const MIB: u64 = 0x10_0000;
+
+const REGION: RegionSpec = RegionSpec {
+    decode_units: 1,
+    length: 16 * MIB,
+    block: MIB,
+    sizes: MIB,
+    handle: 0,
+    sanitize: true,
+    shareable: false,
+};
+
+#[test]
+fn a_step_is_entered_in_the_journal(rt: HostRuntime) -> Result<(), Fail> {
+    let alloc = rt.alloc();
+    let mut device = Device::new(alloc, Config::new(alloc, 1, &[REGION], &[0])?)?;
+    let actor = Actor::Host(HostId(0));
+    let act = Act::Command(Request {
+        tag: 0,
+        opcode: 0x4800,
+        payload: Bytes::from_slice(alloc, &[1, 0])?,
+    });
+    let may = is_built(&actor, &act) && fits(device.control().config().hosts(), &actor, &act);
+    if !may {
+        return Err(Fail::from("4800h is built"));
+    }
+    let _reply = device.step(3, 5, actor, &act)?;
+    let journal = device.journal();
+    assert_eq!(rt; journal.len(), 1);
+    assert_eq!(rt; journal[0].pass, 3);
+    assert_eq!(rt; journal[0].line, 5);
+    assert_eq!(rt; journal[0].stamp.number, 1);
+    assert_eq!(rt; device.control().entries().len(), 1);
+    Ok(())
+}

@@ -1,0 +1,129 @@
+//! The lines of entries.
+
+ghost use Rattle.control_core.specs.Kept.{AreShort, IsShort};
+ghost use Rattle.journal_core.specs.declared.acts.Reply.{Reply};
+ghost use Rattle.report.specs.Printing.{Prints};
+ghost use Rattle.report.specs.Texts.{act_name, entry_line, entry_lines, fault_number, next_word, reply_words, rest_of_line};
+ghost use Rattle.std.specs.Prelude.{◌≡◌, ◌<◌, ◌^◌, ◌++◌, [], ◌∷◌, decimal, length};
+
+use crate::printing::Printer;
+use cci_codec::{Response, response_head};
+use dcd_base::{AccessFault, Sink};
+use journal_core::{Act, Entry, Reply};
+
+/// The number of a fault of a load or store.
+fn fault_number(fault: AccessFault) -> u64
+    ensures { result ≡ fault_number fault }
+{
+    match fault {
+        AccessFault::Misaligned => 1,
+        AccessFault::OutsideRegions => 2,
+        AccessFault::NotGranted => 3,
+    }
+}
+
+/// How an act is called.
+fn act_name(act: &Act) -> &'static [u8]
+    ensures { result.now ≡ act_name act.now }
+{
+    match act {
+        Act::Command(_) => b"cmd",
+        Act::Load(_) => b"ld",
+        Act::Store(_, _) => b"st",
+        Act::Scrub(_) => b"sc",
+    }
+}
+
+/// Puts the digits of a response: its header, then its payload.
+#[tactic(auto, using(crate::proofs::Parts::prints_then))]
+fn put_response<K: Sink>(printer: &mut Printer, sink: &mut K, response: &Response)
+    requires { length response.now.payload < 2 ^ 21 }
+    ensures { Prints (K.taken sink.old) (K.faults sink.old) printer.old (K.taken sink.new) (K.faults sink.new) printer.new (rest_of_line (reply_words (Reply.Answer response.now))) }
+{
+    let payload = response.payload.as_slice();
+    let head = response_head(
+        response.tag,
+        response.opcode,
+        response.code,
+        payload.len() as u32,
+    );
+    printer.put_byte(sink, b' ');
+    printer.put_hex(sink, head.as_slice());
+    printer.put_hex(sink, payload);
+    printer.end_line(sink);
+}
+
+/// Puts the sixteen digits of a word, the most significant first.
+#[tactic(auto, using(crate::proofs::Parts::prints_then))]
+fn put_loaded<K: Sink>(printer: &mut Printer, sink: &mut K, word: u64)
+    ensures { Prints (K.taken sink.old) (K.faults sink.old) printer.old (K.taken sink.new) (K.faults sink.new) printer.new (rest_of_line (reply_words (Reply.Word word))) }
+{
+    printer.put_byte(sink, b' ');
+    printer.put_hex(sink, word.to_be_bytes().as_slice());
+    printer.end_line(sink);
+}
+
+/// Says that a store was done.
+#[tactic(auto, using(crate::proofs::Parts::prints_then))]
+fn put_stored<K: Sink>(printer: &mut Printer, sink: &mut K)
+    ensures { Prints (K.taken sink.old) (K.faults sink.old) printer.old (K.taken sink.new) (K.faults sink.new) printer.new (rest_of_line (reply_words Reply.Stored)) }
+{
+    printer.put_word(sink, b"ok");
+    printer.end_line(sink);
+}
+
+/// Says that a load or a store was refused, and why.
+#[tactic(auto, using(crate::proofs::Parts::prints_then))]
+fn put_refused<K: Sink>(printer: &mut Printer, sink: &mut K, fault: AccessFault)
+    ensures { Prints (K.taken sink.old) (K.faults sink.old) printer.old (K.taken sink.new) (K.faults sink.new) printer.new (rest_of_line (reply_words (Reply.Refused fault))) }
+{
+    printer.put_counted(sink, b"refused", fault_number(fault));
+    printer.end_line(sink);
+}
+
+/// Says how many granules were zeroed.
+#[tactic(auto, using(crate::proofs::Parts::prints_then))]
+fn put_scrubbed<K: Sink>(printer: &mut Printer, sink: &mut K, count: u32)
+    ensures { Prints (K.taken sink.old) (K.faults sink.old) printer.old (K.taken sink.new) (K.faults sink.new) printer.new (rest_of_line (reply_words (Reply.Scrubbed count))) }
+{
+    printer.put_count(sink, u64::from(count));
+    printer.end_line(sink);
+}
+
+/// Puts a reply and ends the line.
+fn put_reply<K: Sink>(printer: &mut Printer, sink: &mut K, reply: &Reply)
+    requires { IsShort reply.now }
+    ensures { Prints (K.taken sink.old) (K.faults sink.old) printer.old (K.taken sink.new) (K.faults sink.new) printer.new (rest_of_line (reply_words reply.now)) }
+{
+    match reply {
+        Reply::Answer(response) => put_response(printer, sink, response),
+        Reply::Word(word) => put_loaded(printer, sink, *word),
+        Reply::Stored => put_stored(printer, sink),
+        Reply::Refused(fault) => put_refused(printer, sink, *fault),
+        Reply::Scrubbed(count) => put_scrubbed(printer, sink, *count),
+    }
+}
+
+/// Puts the line of an entry: its number, its line in the script, its actor, and its answer.
+#[tactic(auto, using(crate::proofs::Parts::prints_then), unfolding(crate::specs::Texts::entry_line))]
+fn put_entry<K: Sink>(printer: &mut Printer, sink: &mut K, number: u64, entry: &Entry)
+    requires { IsShort entry.now.reply }
+    ensures { Prints (K.taken sink.old) (K.faults sink.old) printer.old (K.taken sink.new) (K.faults sink.new) printer.new (entry_line (number, entry.now)) }
+{
+    printer.put_number(sink, number);
+    printer.put_count(sink, u64::from(entry.line));
+    printer.put_actor(sink, entry.actor);
+    printer.put_word(sink, act_name(&entry.act));
+    put_reply(printer, sink, &entry.reply);
+}
+
+/// Puts a line for each entry, numbered from 1.
+#[tactic(auto, using(crate::proofs::Parts::prints_nothing, crate::proofs::Parts::prints_each), unfolding(crate::specs::Texts::entry_lines))]
+pub fn put_entries<K: Sink>(printer: &mut Printer, sink: &mut K, journal: &[Entry])
+    requires { AreShort journal.now }
+    ensures { Prints (K.taken sink.old) (K.faults sink.old) printer.old (K.taken sink.new) (K.faults sink.new) printer.new (entry_lines journal.now) }
+{
+    for (i, entry) in journal.iter().enumerate() {
+        put_entry(printer, sink, i as u64 + 1, entry);
+    }
+}

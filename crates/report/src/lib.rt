@@ -1,0 +1,17 @@
+//! The printed text of a journal, and the lines of scripts and words that are refused.
+//!
+//! Whatever is printed goes to a sink in pieces and takes no memory.
+#![tactic(auto)]
+
+mod entry_lines;
+mod printing;
+mod refusals;
+mod rendering;
+mod state_lines;
+mod words;
+
+pub use refusals::{not_built, refusal, usage};
+pub use rendering::render;
+
+#[cfg(test)]
+mod tests;

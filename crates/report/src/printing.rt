@@ -1,0 +1,118 @@
+//! The printer: it gathers bytes into pieces and hands each full piece to a sink.
+
+ghost use Rattle.report.specs.Printing.{Prints, with_byte};
+ghost use Rattle.std.specs.Prelude.{◌≡◌, ◌<◌, ◌≤◌, [], ◌∷◌, IfSome, None, OnErr, OnOk, Some, decimal, length};
+
+use dcd_base::{Failed, Sink, write_all};
+use itoa::Buffer;
+use std::marker::Model;
+
+/// How many bytes a piece has; the last piece of a text may have fewer.
+const PIECE: usize = 4096;
+
+/// Gathers bytes into pieces of 4,096 and hands them to a sink. After a write that failed it drops all that is put.
+///
+/// Contracts see the bytes that wait, or none where a write failed.
+#[derive(Drop)]
+pub struct Printer {
+    buffer: [u8; 4096],
+    len: usize,
+    failed: bool,
+}
+
+impl Model for Printer {
+    ghost use Rattle.std.specs.Prelude.{◌≤◌, None, Option, List, Some, if◌then◌else◌, take, ℕ};
+
+    ghost Value = { Option (List ℕ) };
+
+    ghost view = { λ p. if p.failed then None else Some (take p.len p.buffer) };
+
+    ghost invariant = { λ p. p.len ≤ 4096 };
+}
+
+impl Printer {
+    /// A printer in which nothing waits.
+    pub fn new() -> Printer
+        ensures { result ≡ Some [] }
+    {
+        Printer {
+            buffer: [0; 4096],
+            len: 0,
+            failed: false,
+        }
+    }
+
+    /// Hands what waits to the sink. What a write leaves of the piece is handed in next.
+    #[tactic(auto, using(crate::proofs::Parts::prints_nothing, crate::proofs::Parts::prints_sent, crate::proofs::Parts::prints_cut))]
+    fn send<K: Sink>(&mut self, sink: &mut K)
+        ensures prints { Prints (K.taken sink.old) (K.faults sink.old) self.old (K.taken sink.new) (K.faults sink.new) self.new [] }
+        ensures sent { IfSome self.new (λ waits. waits ≡ []) }
+    {
+        if self.failed {
+            return;
+        }
+        let (piece, _) = self.buffer.split_at(self.len);
+        match write_all(sink, piece) {
+            Ok(()) => self.len = 0,
+            Err(Failed) => self.failed = true,
+        }
+    }
+
+    /// Sees to it that one more byte can wait.
+    #[tactic(auto, using(crate::proofs::Parts::prints_nothing))]
+    fn make_room<K: Sink>(&mut self, sink: &mut K)
+        ensures prints { Prints (K.taken sink.old) (K.faults sink.old) self.old (K.taken sink.new) (K.faults sink.new) self.new [] }
+        ensures room { IfSome self.new (λ waits. length waits < 4096) }
+    {
+        if self.len == PIECE {
+            self.send(sink);
+        }
+    }
+
+    /// Lets one more byte wait.
+    fn store(&mut self, byte: u8)
+        requires { IfSome self.old (λ waits. length waits < 4096) }
+        ensures { self.new ≡ with_byte byte self.old }
+    {
+        if !self.failed {
+            self.buffer[self.len] = byte;
+            self.len += 1;
+        }
+    }
+
+    /// Puts a byte.
+    #[tactic(auto, using(crate::proofs::Parts::prints_byte))]
+    pub fn put_byte<K: Sink>(&mut self, sink: &mut K, byte: u8)
+        ensures { Prints (K.taken sink.old) (K.faults sink.old) self.old (K.taken sink.new) (K.faults sink.new) self.new (byte ∷ []) }
+    {
+        self.make_room(sink);
+        self.store(byte);
+    }
+
+    /// Puts bytes.
+    #[tactic(auto, using(crate::proofs::Parts::prints_nothing, crate::proofs::Parts::prints_more))]
+    pub fn put<K: Sink>(&mut self, sink: &mut K, bytes: &[u8])
+        ensures { Prints (K.taken sink.old) (K.faults sink.old) self.old (K.taken sink.new) (K.faults sink.new) self.new bytes.now }
+    {
+        for byte in bytes {
+            self.put_byte(sink, *byte);
+        }
+    }
+
+    /// Puts a number in decimal digits, without leading zeros.
+    pub fn put_number<K: Sink>(&mut self, sink: &mut K, number: u64)
+        ensures { Prints (K.taken sink.old) (K.faults sink.old) self.old (K.taken sink.new) (K.faults sink.new) self.new (decimal number) }
+    {
+        let mut digits = Buffer::new();
+        self.put(sink, digits.format(number).as_bytes());
+    }
+
+    /// Hands in what still waits. It fails where this write or one before failed.
+    pub fn finish<K: Sink>(mut self, sink: &mut K) -> Result<(), Failed>
+        ensures whole { OnOk result (Prints (K.taken sink.old) (K.faults sink.old) self (K.taken sink.new) (K.faults sink.new) (Some []) []) }
+        ensures failed { OnErr result (Prints (K.taken sink.old) (K.faults sink.old) self (K.taken sink.new) (K.faults sink.new) None []) }
+    {
+        self.send(sink);
+        if self.failed { Err(Failed) } else { Ok(()) }
+    }
+}

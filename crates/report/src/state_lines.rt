@@ -1,0 +1,123 @@
+//! The lines of the records in the logs, and those of the state.
+
+ghost use Rattle.dcd_base.specs.declared.steps.LogId.{LogId};
+ghost use Rattle.journal_core.specs.Entries.{effects};
+ghost use Rattle.region_config.specs.Granules.{hosts_of};
+ghost use Rattle.report.specs.Printing.{Prints};
+ghost use Rattle.report.specs.Texts.{all_records, end_line, granules_line, host_line, host_lines, manager_line, record_line, record_lines, state_lines};
+ghost use Rattle.std.specs.Prelude.{◌≡◌, flat_map, length};
+
+use crate::printing::Printer;
+use control_core::Control;
+use dcd_base::{HostId, LogId, Sink};
+use event_records::{Event, encode};
+use journal_core::Entry;
+
+/// Puts the line of a record: its log and its 256 digits.
+#[tactic(auto, using(crate::proofs::Parts::prints_then), unfolding(crate::specs::Texts::record_line))]
+fn put_record<K: Sink>(printer: &mut Printer, sink: &mut K, log: &LogId, event: &Event)
+    ensures { Prints (K.taken sink.old) (K.faults sink.old) printer.old (K.taken sink.new) (K.faults sink.new) printer.new (record_line log.now event.now) }
+{
+    printer.put(sink, b"rec");
+    printer.put_log(sink, log);
+    printer.put_byte(sink, b' ');
+    printer.put_hex(sink, encode(event).as_slice());
+    printer.end_line(sink);
+}
+
+/// Puts a line for each record in the log, the oldest first.
+#[tactic(auto, using(crate::proofs::Parts::prints_nothing, crate::proofs::Parts::prints_each), unfolding(crate::specs::Texts::record_lines))]
+fn put_log_records<K: Sink>(printer: &mut Printer, sink: &mut K, control: &Control, log: &LogId)
+    ensures { Prints (K.taken sink.old) (K.faults sink.old) printer.old (K.taken sink.new) (K.faults sink.new) printer.new (record_lines (effects control.now.entries) log.now) }
+{
+    for index in 0..control.records(*log) {
+        let event = control.record(*log, index);
+        put_record(printer, sink, log, &event);
+    }
+}
+
+/// Puts the records of the hosts' logs.
+#[tactic(auto, using(crate::proofs::Parts::prints_nothing, crate::proofs::Parts::prints_each))]
+fn put_host_records<K: Sink>(printer: &mut Printer, sink: &mut K, control: &Control)
+    ensures { Prints (K.taken sink.old) (K.faults sink.old) printer.old (K.taken sink.new) (K.faults sink.new) printer.new (flat_map (λ h. record_lines (effects control.now.entries) (LogId.Host h)) (hosts_of control.now.config)) }
+{
+    for host in 0..control.config().hosts() {
+        put_log_records(printer, sink, control, &LogId::Host(HostId(host)));
+    }
+}
+
+/// Puts all records that are left: those of the hosts' logs, then those of the Fabric Manager's.
+#[tactic(auto, using(crate::proofs::Parts::prints_then), unfolding(crate::specs::Texts::all_records))]
+pub fn put_records<K: Sink>(printer: &mut Printer, sink: &mut K, control: &Control)
+    ensures { Prints (K.taken sink.old) (K.faults sink.old) printer.old (K.taken sink.new) (K.faults sink.new) printer.new (all_records control.now.config (effects control.now.entries)) }
+{
+    put_host_records(printer, sink, control);
+    put_log_records(printer, sink, control, &LogId::Manager);
+}
+
+/// Puts the line of a host: its extents, their granules, and the records in its log.
+#[tactic(auto, using(crate::proofs::Parts::prints_then), unfolding(crate::specs::Texts::host_line))]
+fn put_host_line<K: Sink>(printer: &mut Printer, sink: &mut K, control: &Control, host: HostId)
+    ensures { Prints (K.taken sink.old) (K.faults sink.old) printer.old (K.taken sink.new) (K.faults sink.new) printer.new (host_line control.now.config (effects control.now.entries) host) }
+{
+    printer.put(sink, b"host");
+    printer.put_host(sink, host);
+    printer.put_counted(sink, b"extents", u64::from(control.extents(host)));
+    printer.put_counted(sink, b"granules", u64::from(control.granules_held(host)));
+    printer.put_counted(sink, b"log", u64::from(control.records(LogId::Host(host))));
+    printer.end_line(sink);
+}
+
+/// Puts a line for each host.
+#[tactic(auto, using(crate::proofs::Parts::prints_nothing, crate::proofs::Parts::prints_each), unfolding(crate::specs::Texts::host_lines))]
+fn put_host_lines<K: Sink>(printer: &mut Printer, sink: &mut K, control: &Control)
+    ensures { Prints (K.taken sink.old) (K.faults sink.old) printer.old (K.taken sink.new) (K.faults sink.new) printer.new (host_lines control.now.config (effects control.now.entries)) }
+{
+    for host in 0..control.config().hosts() {
+        put_host_line(printer, sink, control, HostId(host));
+    }
+}
+
+/// Puts the line of the Fabric Manager's log.
+#[tactic(auto, using(crate::proofs::Parts::prints_then), unfolding(crate::specs::Texts::manager_line))]
+fn put_manager_line<K: Sink>(printer: &mut Printer, sink: &mut K, control: &Control)
+    ensures { Prints (K.taken sink.old) (K.faults sink.old) printer.old (K.taken sink.new) (K.faults sink.new) printer.new (manager_line (effects control.now.entries)) }
+{
+    printer.put(sink, b"fm");
+    printer.put_counted(sink, b"log", u64::from(control.records(LogId::Manager)));
+    printer.put_counted(sink, b"missed", u64::from(control.missed(LogId::Manager)));
+    printer.end_line(sink);
+}
+
+/// Puts the line of the free and the dirty granules.
+#[tactic(auto, using(crate::proofs::Parts::prints_then), unfolding(crate::specs::Texts::granules_line))]
+fn put_granules_line<K: Sink>(printer: &mut Printer, sink: &mut K, control: &Control)
+    ensures { Prints (K.taken sink.old) (K.faults sink.old) printer.old (K.taken sink.new) (K.faults sink.new) printer.new (granules_line control.now.config (effects control.now.entries)) }
+{
+    printer.put(sink, b"granules");
+    printer.put_counted(sink, b"free", u64::from(control.free()));
+    printer.put_counted(sink, b"dirty", u64::from(control.dirty()));
+    printer.end_line(sink);
+}
+
+/// Puts the last line, with the number of entries.
+#[tactic(auto, using(crate::proofs::Parts::prints_then), unfolding(crate::specs::Texts::end_line))]
+fn put_end_line<K: Sink>(printer: &mut Printer, sink: &mut K, count: u64)
+    ensures { Prints (K.taken sink.old) (K.faults sink.old) printer.old (K.taken sink.new) (K.faults sink.new) printer.new (end_line count) }
+{
+    printer.put(sink, b"end");
+    printer.put_count(sink, count);
+    printer.end_line(sink);
+}
+
+/// Puts the lines of the state that the journal leaves.
+#[tactic(auto, using(crate::proofs::Parts::prints_then), unfolding(crate::specs::Texts::state_lines))]
+pub fn put_state<K: Sink>(printer: &mut Printer, sink: &mut K, control: &Control, journal: &[Entry])
+    requires { control.now.entries ≡ journal.now }
+    ensures { Prints (K.taken sink.old) (K.faults sink.old) printer.old (K.taken sink.new) (K.faults sink.new) printer.new (state_lines control.now.config journal.now) }
+{
+    put_host_lines(printer, sink, control);
+    put_manager_line(printer, sink, control);
+    put_granules_line(printer, sink, control);
+    put_end_line(printer, sink, journal.len() as u64);
+}

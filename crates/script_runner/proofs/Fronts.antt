@@ -1,0 +1,93 @@
+-- One more line of a serial run, and the whole of it.
+use Rattle.std.proofs.Common.{◌≡◌, ℕ, ◌+◌, ◌-◌, ◌<◌, ◌≤◌, cond, List, [], ◌∷◌, ◌++◌, length, take, count_by, Some, refl, sym, ap, subst, ◌∙◌, arith, zero-add}
+use Rattle.std.specs.Prelude.{slice_get}
+use Rattle.std.specs.List.{AllByRecursion}
+use Rattle.std.proofs.Common.{get_or}
+use Rattle.std.proofs.lemmas.List.{length_push, take_all, take_more}
+use Rattle.std.proofs.lemmas.List.Elements.{All-push}
+use Rattle.std.proofs.lemmas.Option.{slice_get_read}
+use Rattle.std.proofs.lemmas.List.Quantifiers.{all_pairs_push}
+use Rattle.std.proofs.lemmas.List.Sums.{sum_by-append}
+use Rattle.dcd_base.specs.declared.steps.Actor.{Actor}
+use Rattle.journal_core.specs.declared.acts.Act.{Act}
+use Rattle.journal_core.specs.declared.entries.Entry.{Entry}
+use Rattle.script_codec.specs.declared.script_line.Line.{Line}
+use Rattle.script_codec.specs.declared.scripts.Script.{Script}
+use Rattle.script_codec.specs.Covering.{Covers, IsOfLine, is_line, pass_of}
+use Rattle.script_runner.specs.Fronts.{AddsEntry, CoversFront, RunsLine}
+
+all_push : {X : Type 0} (P : X → Type 0) (xs : List X) (x : X) → AllByRecursion P xs → P x → AllByRecursion P (xs ++ x ∷ [])
+all_push P [] x all last = (last, tt)
+all_push P (y ∷ xs) x all last = (all.0, all_push P xs x all.1 last)
+
+count_push : (xs : List Line) (x : Line) → count_by is_line (xs ++ x ∷ []) ≡ count_by is_line xs + (cond (is_line x) 1 0)
+count_push xs x = sum_by-append (λ y. cond (is_line y) 1 0) xs (x ∷ []) ∙ ap (λ n. count_by is_line xs + n) (zero-add (cond (is_line x) 1 0))
+
+-- a line that is no mark
+front_entry : (s : Script) (i : ℕ) (old new : List Entry) (actor : Actor) (lane : ℕ) (act : Act) → i < length s.lines
+    → Line.Do actor lane act ≡ get_or s.lines i (Line.Do actor lane act) → CoversFront s i old
+    → AddsEntry s.config.hosts s.lanes (i + 1) actor lane act old new → CoversFront s (i + 1) new
+front_entry s i old new actor lane act lt is front adds =
+    let e : Entry = adds.entry in
+    let l : Line = Line.Do actor lane act in
+    let place : e.line - 1 ≡ i = omega (arith, adds.line) in
+    let more : take (i + 1) s.lines ≡ take i s.lines ++ l ∷ [] =
+    take_more s.lines i l lt ∙ ap (λ x. take i s.lines ++ x ∷ []) (sym is) in
+    let counts : count_by is_line (take (i + 1) s.lines) ≡ count_by is_line (take i s.lines) + 1 =
+    ap (λ xs. count_by is_line xs) more ∙ count_push (take i s.lines) l in
+    let of_line : IsOfLine s e = record {
+      counted = omega (arith, adds.line);
+      lane = lane;
+      line = ap (λ n. slice_get s.lines n) place
+          ∙ slice_get_read s.lines (length s.lines) i l refl lt is
+          ∙ ap (λ a. Some (Line.Do a lane act)) (sym adds.actor)
+          ∙ ap (λ b. Some (Line.Do e.actor lane b)) (sym adds.act);
+      pass = adds.pass ∙ ap (λ a. pass_of s.config.hosts s.lanes a lane) (sym adds.actor);
+    } in
+    let whole : CoversFront s (i + 1) (old ++ e ∷ []) = record {
+      counted = omega (arith, length_push old e, front.counted, counts);
+      lines = all_push (IsOfLine s) old e front.lines of_line;
+      below = All-push (λ (x : Entry). x.line ≤ i + 1) old e (λ k d under. omega (arith, front.below k d under)) (omega (arith, adds.line));
+      rising = all_pairs_push (λ (x y : Entry). x.line < y.line) old e front.rising (λ k d under. omega (arith, front.below k d under, adds.line));
+    } in
+    subst (λ journal. CoversFront s (i + 1) journal) (sym adds.added) whole
+
+-- a mark
+front_mark : (s : Script) (i : ℕ) (old new : List Entry) → i < length s.lines → Line.Mark ≡ get_or s.lines i Line.Mark
+    → CoversFront s i old → new ≡ old → CoversFront s (i + 1) new
+front_mark s i old new lt is front same =
+    let more : take (i + 1) s.lines ≡ take i s.lines ++ Line.Mark ∷ [] =
+    take_more s.lines i Line.Mark lt ∙ ap (λ x. take i s.lines ++ x ∷ []) (sym is) in
+    let counts : count_by is_line (take (i + 1) s.lines) ≡ count_by is_line (take i s.lines) + 0 =
+    ap (λ xs. count_by is_line xs) more ∙ count_push (take i s.lines) Line.Mark in
+    let whole : CoversFront s (i + 1) old = record {
+      counted = omega (arith, front.counted, counts);
+      lines = front.lines;
+      below = λ k d under. omega (arith, front.below k d under);
+      rising = front.rising;
+    } in
+    subst (λ journal. CoversFront s (i + 1) journal) (sym same) whole
+
+pub front_line : (s : Script) (i : ℕ) (l : Line) (old new : List Entry) → i < length s.lines → l ≡ get_or s.lines i l → CoversFront s i old
+    → RunsLine s.config.hosts s.lanes (i + 1) l old new → CoversFront s (i + 1) new
+front_line s i (Line.Do actor lane act) old new lt is front ran = front_entry s i old new actor lane act lt is front ran
+front_line s i Line.Mark old new lt is front ran = front_mark s i old new lt is front ran
+
+none : (k : ℕ) → k < 0 → ⊥
+none k under = omega (arith, under)
+
+rises_apart : (a b : ℕ) → a < b → a ≡ b → ⊥
+rises_apart a b less same = omega (arith, less, same)
+
+-- before the first line
+pub front_start : (s : Script) → CoversFront s 0 []
+front_start s = record { counted = refl; lines = tt; below = λ k d under. absurd (none k under); rising = λ i j d less under. absurd (none j under) }
+
+-- behind the last line
+pub front_end : (s : Script) (journal : List Entry) (count : ℕ) → length s.lines ≤ count → CoversFront s count journal → Covers journal s
+front_end s journal count past front = record {
+  count = front.counted ∙ ap (λ xs. count_by is_line xs) (take_all count s.lines past);
+  once = λ i j d less under same. rises_apart _ _ (front.rising i j d less under) same;
+  lines = front.lines;
+  order = λ i j d less under same. front.rising i j d less under;
+}

@@ -1,0 +1,64 @@
+use Rattle.std.proofs.Common.{rules, ◌≡◌, refl, sym, ap, subst, ◌∙◌}
+use Rattle.region_config.specs.Configurations.{Configuration}
+use Rattle.control_core.specs.Legal.{Legal}
+use Rattle.report.specs.Texts.{text}
+use Rattle.report.specs.Refusals.{refusal_line, not_built_line}
+use Rattle.script_runner.specs.declared.status.Status.{Status}
+use Rattle.script_runner.proofs.whole.run_input.Goals as goal
+
+-- A write failed while the text went out.
+pub returns-in-Ok-run_lines : goal.returns-in-Ok-run_lines
+returns-in-Ok-run_lines g c =
+    let config : c.control.result.now.config ≡ c.in-Ok.script.config = c.control.ensures.config ∙ c.in-Ok-run_lines.ensures.config in (
+      record {
+        status = Status.Done;
+        printed = text c.control.result.now.config c.journal.result.now;
+        rest = c.in-Err-render.ensures.front.0;
+        planned = record {
+          script = c.in-Ok.script;
+          journal = c.in-Ok-run_lines.device.journal;
+          reads = c.in-Ok.ensures.reads;
+          runs = record {
+            legal = subst (λ (k : Configuration). Legal k c.in-Ok-run_lines.device.journal) c.in-Ok-run_lines.ensures.config c.journal.ensures.legal;
+            covers = c.in-Ok-run_lines.ensures.covers;
+            rising = c.in-Ok-run_lines.ensures.rising;
+          };
+          is = ap (λ k. text k c.journal.result.now) config ∙ ap (λ j. text c.in-Ok.script.config j) c.journal.ensures.value;
+        };
+        took = c.in-Err-render.ensures.front.1;
+      },
+      c.in-Err-render.ensures.failed,
+    )
+
+-- A write failed while the line went out that the script is not built.
+pub returns-in-Ok : goal.returns-in-Ok
+returns-in-Ok g c = (
+  record {
+    status = Status.NotBuilt;
+    printed = not_built_line;
+    rest = c.in-Err-not_built.ensures.front.0;
+    planned = (
+      record {
+        script = c.in-Ok.script;
+        reads = c.in-Ok.ensures.cases;
+        unbuilt = sym c.is_built_script.ensures ∙ c.if-is_built_script.false;
+      },
+      refl,
+    );
+    took = c.in-Err-not_built.ensures.front.1;
+  },
+  c.in-Err-not_built.ensures.failed,
+)
+
+-- A write failed while the line on the fault went out.
+pub returns : goal.returns
+returns g c = (
+  record {
+    status = Status.ScriptRefused c.in-Err.fault;
+    printed = refusal_line c.in-Err.fault;
+    rest = c.in-Err-refusal.ensures.front.0;
+    planned = (search rules, refl);
+    took = c.in-Err-refusal.ensures.front.1;
+  },
+  c.in-Err-refusal.ensures.failed,
+)

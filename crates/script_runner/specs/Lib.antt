@@ -1,0 +1,4 @@
+pub mod Fronts
+pub mod Planning
+pub mod Running
+pub mod Statuses

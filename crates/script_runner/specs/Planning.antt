@@ -1,0 +1,112 @@
+-- What is to be written, and what was.
+use Rattle.std.specs.Prelude.{◌≡◌, ℕ, Bool, true, false, IsFalse, ◌≤◌, List, [], ◌∷◌, length, take, Option, Some}
+use Rattle.std.specs.Option.{IfSome}
+use Rattle.std.specs.declared.result.Result.TheVariants.{Ok}
+use Rattle.dcd_base.specs.Streams.{Passes, HasRisen}
+use Rattle.journal_core.specs.declared.entries.Entry.{Entry}
+use Rattle.script_codec.specs.declared.scripts.Script.{Script}
+use Rattle.script_codec.specs.Reading.{script_in, first_fault}
+use Rattle.script_codec.specs.Scripts.{ReadsScript}
+use Rattle.report.specs.Texts.{text}
+use Rattle.report.specs.Refusals.{refusal_line, usage_line, not_built_line}
+use Rattle.script_runner.specs.declared.status.Status.{Status}
+use Rattle.script_runner.specs.Running.{IsSerialRun, is_built_script}
+
+-- By now no word is accepted.
+abbrev pub accepts : {A : Type 0} → List A → Bool
+accepts [] = true
+accepts (word ∷ words) = false
+
+-- the most bytes that are read: one more than a script may have
+abbrev pub most_read : ℕ
+most_read = 16777217
+
+-- The input reads as a script, whatever its reserved bits, and the text is that of its serial run.
+pub record IsTextOf (input printed : List ℕ) : Type 0 where
+  pub script : Script
+  pub journal : List Entry
+  pub reads : ReadsScript input script
+  pub runs : IsSerialRun script journal
+  pub is : printed ≡ text script.config journal
+
+-- The input is a script with a line that the device cannot do by now.
+pub record HasUnbuilt (input : List ℕ) : Type 0 where
+  pub script : Script
+  pub reads : script_in input ≡ Ok script
+  pub unbuilt : IsFalse (is_built_script script)
+
+-- The run of this input is to end so, and to write this text.
+abbrev pub IsPlannedFor : List ℕ → Status → List ℕ → Type 0
+IsPlannedFor input Status.Done printed = IsTextOf input printed
+IsPlannedFor input Status.Usage printed = ⊥
+IsPlannedFor input (Status.ScriptRefused fault) printed = (first_fault input ≡ Some fault) × (printed ≡ refusal_line fault)
+IsPlannedFor input Status.NotBuilt printed = HasUnbuilt input × (printed ≡ not_built_line)
+IsPlannedFor input Status.NoMemory printed = ⊥
+IsPlannedFor input Status.ReadFault printed = ⊥
+IsPlannedFor input Status.WriteFault printed = ⊥
+
+-- The run of what the source has left is to end so, and to write this text. What is printed at the end of a whole run
+-- is that of all that is left. A fault is that of what is left, or of its front where there is more than a script may
+-- have. Refused words alone end in the line on usage.
+abbrev pub IsPlanned : Bool → Option (List ℕ) → Status → List ℕ → Type 0
+IsPlanned accepted left Status.Usage printed = (accepted ≡ false) × (printed ≡ usage_line)
+IsPlanned accepted left Status.Done printed = (accepted ≡ true) × IfSome left (λ all. IsTextOf all printed)
+IsPlanned accepted left (Status.ScriptRefused fault) printed =
+    (accepted ≡ true) × IfSome left (λ all. IsPlannedFor (take most_read all) (Status.ScriptRefused fault) printed)
+IsPlanned accepted left Status.NotBuilt printed = (accepted ≡ true) × IfSome left (λ all. IsPlannedFor (take most_read all) Status.NotBuilt printed)
+IsPlanned accepted left Status.NoMemory printed = ⊥
+IsPlanned accepted left Status.ReadFault printed = ⊥
+IsPlanned accepted left Status.WriteFault printed = ⊥
+
+-- All of it is written.
+pub record IsWritten (accepted : Bool) (left old new : Option (List ℕ)) (status : Status) : Type 0 where
+  pub printed : List ℕ
+  pub planned : IsPlanned accepted left status printed
+  pub took : Passes old new [] printed
+
+-- A front of it is written.
+pub record IsBegun (accepted : Bool) (left old new : Option (List ℕ)) : Type 0 where
+  pub status : Status
+  pub printed : List ℕ
+  pub rest : List ℕ
+  pub planned : IsPlanned accepted left status printed
+  pub took : Passes old new rest printed
+
+-- The same for an input that is at hand.
+pub record IsWrittenFor (input : List ℕ) (old new : Option (List ℕ)) (status : Status) : Type 0 where
+  pub printed : List ℕ
+  pub planned : IsPlannedFor input status printed
+  pub took : Passes old new [] printed
+
+pub record IsBegunFor (input : List ℕ) (old new : Option (List ℕ)) : Type 0 where
+  pub status : Status
+  pub printed : List ℕ
+  pub rest : List ℕ
+  pub planned : IsPlannedFor input status printed
+  pub took : Passes old new rest printed
+
+-- How a run of the input ends, by its status: what the sink took and its count of faults, before and after.
+abbrev pub EndsFor : List ℕ → Option (List ℕ) → ℕ → Option (List ℕ) → ℕ → Status → Type 0
+EndsFor input old faults new count Status.Done = IsWrittenFor input old new Status.Done × (length input ≤ 16777216)
+EndsFor input old faults new count Status.Usage = ⊥
+EndsFor input old faults new count (Status.ScriptRefused fault) = IsWrittenFor input old new (Status.ScriptRefused fault)
+EndsFor input old faults new count Status.NotBuilt = IsWrittenFor input old new Status.NotBuilt
+EndsFor input old faults new count Status.NoMemory = new ≡ old
+EndsFor input old faults new count Status.ReadFault = ⊥
+EndsFor input old faults new count Status.WriteFault = IsBegunFor input old new × HasRisen faults count
+
+-- The input is a script of lines that the device can do, and no write failed.
+pub record IsSoundInput (input : List ℕ) (writes : ℕ × ℕ) : Type 0 where
+  pub script : Script
+  pub reads : script_in input ≡ Ok script
+  pub built : is_built_script script ≡ true
+  pub no_write_fault : HasRisen writes.0 writes.1 → ⊥
+
+-- Nothing stood in the way: the words are accepted, the input is told and is a script of lines that the device can
+-- do, and no read and no write failed. The pairs are counts of faults before and after.
+pub record IsSound (accepted : Bool) (left : Option (List ℕ)) (reads writes : ℕ × ℕ) : Type 0 where
+  pub accepted_is : accepted ≡ true
+  pub input : List ℕ
+  pub told : left ≡ Some input
+  pub sound : IsSoundInput (take most_read input) writes
+  pub no_read_fault : HasRisen reads.0 reads.1 → ⊥

@@ -1,0 +1,75 @@
+//! The steps of a run, each with what is to be written by then.
+
+ghost use Rattle.dcd_base.specs.Streams.{HasRisen, IsAtEnd};
+ghost use Rattle.script_codec.specs.Reading.{IsRead};
+ghost use Rattle.script_codec.specs.Scripts.{ReadsScript};
+ghost use Rattle.script_runner.specs.Planning.{EndsFor, IsBegun, IsSound, IsWritten};
+ghost use Rattle.script_runner.specs.Statuses.{IfWhole, OnDone, OnNothing, OnReadFault, OnUsage, OnWriteFault, UnlessFinished};
+ghost use Rattle.std.specs.Prelude.{◌≡◌, ◌≤◌, IfOk, length, true};
+
+use crate::input::{InputFault, fill};
+use crate::lines::{is_built_script, run_lines};
+use crate::status::Status;
+use dcd_base::{Bytes, Failed, NoMemory, Sink, Source};
+use report::{not_built, refusal, render};
+use script_codec::{Script, ScriptFault, read};
+use std::alloc::Global;
+
+/// Runs what is left in the source, up to one byte more than a script may have.
+#[tactic(auto, using(crate::proofs::Endings::whole, crate::proofs::Endings::begun, crate::proofs::Endings::nothing, crate::proofs::Endings::to_the_end, crate::proofs::Endings::no_usage, crate::proofs::Endings::write_fault, crate::proofs::Endings::complete))]
+pub(crate) fn run_source<S: Source, K: Sink>(alloc: Global, source: &mut S, sink: &mut K) -> Status
+    ensures written { IfWhole result (IsWritten true (S.left source.old) (K.taken sink.old) (K.taken sink.new)) }
+    ensures begun { OnWriteFault result (IsBegun true (S.left source.old) (K.taken sink.old) (K.taken sink.new)) }
+    ensures nothing { OnNothing result (K.taken sink.new ≡ K.taken sink.old) }
+    ensures to_the_end { OnDone result (IsAtEnd (S.left source.new)) }
+    ensures no_usage { OnUsage result ⊥ }
+    ensures read_fault { OnReadFault result (HasRisen (S.faults source.old) (S.faults source.new)) }
+    ensures write_fault { OnWriteFault result (HasRisen (K.faults sink.old) (K.faults sink.new)) }
+    ensures complete { UnlessFinished result (¬ IsSound true (S.left source.old) (S.faults source.old, S.faults source.new) (K.faults sink.old, K.faults sink.new)) }
+{
+    let mut input = Bytes::new(alloc);
+    match fill(source, &mut input) {
+        Ok(()) => run_input(alloc, input, sink),
+        Err(InputFault::Failed) => Status::ReadFault,
+        Err(InputFault::NoMemory) => Status::NoMemory,
+    }
+}
+
+/// Runs the script that the input is, or writes the line on its first fault.
+fn run_input<K: Sink>(alloc: Global, input: Bytes, sink: &mut K) -> Status
+    ensures { EndsFor input (K.taken sink.old) (K.faults sink.old) (K.taken sink.new) (K.faults sink.new) result }
+{
+    match script_of(alloc, input) {
+        Ok(script) => {
+            if is_built_script(&script) {
+                match run_lines(alloc, &script) {
+                    Ok(device) => match render(device.control(), device.journal(), sink) {
+                        Ok(()) => Status::Done,
+                        Err(Failed) => Status::WriteFault,
+                    },
+                    Err(NoMemory) => Status::NoMemory,
+                }
+            } else {
+                match not_built(sink) {
+                    Ok(()) => Status::NotBuilt,
+                    Err(Failed) => Status::WriteFault,
+                }
+            }
+        }
+        Err(ScriptFault::NoMemory) => Status::NoMemory,
+        Err(fault) => match refusal(&fault, sink) {
+            Ok(()) => Status::ScriptRefused(fault),
+            Err(Failed) => Status::WriteFault,
+        },
+    }
+}
+
+/// The script that the input is, or its first fault. The bytes are let go.
+fn script_of(alloc: Global, input: Bytes) -> Result<Script, ScriptFault>
+    ensures cases { IsRead input result }
+    ensures reads { IfOk result (λ script. ReadsScript input script) }
+    ensures few { IfOk result (λ script. length script.lines ≤ 65536) }
+    ensures short { IfOk result (λ _. length input ≤ 16777216) }
+{
+    read(alloc, input.as_slice())
+}
