@@ -1,5 +1,5 @@
 -- What is printed of a journal.
-use Rattle.std.specs.Prelude.{ℕ, ◌+◌, ◌/◌, ◌%◌, nat_lt, List, [], ◌∷◌, ◌++◌, length, flat_map, if◌then◌else◌, codes, decimal}
+use Rattle.std.specs.Prelude.{ℕ, ◌/◌, ◌%◌, List, [], ◌∷◌, ◌++◌, length, flat_map, codes, decimal, slice_index}
 use Rattle.std.specs.List.{enumerate_from}
 use Rattle.std.specs.Int.{w64, to_be_bytes}
 use Rattle.dcd_base.specs.declared.ids.HostId.{HostId}
@@ -34,7 +34,7 @@ line_of (word ∷ words) = word ++ rest_of_line words
 
 -- bytes as lower-case digits
 abbrev pub hex_digit : ℕ → ℕ
-hex_digit n = if nat_lt n 10 then 48 + n else 87 + n
+hex_digit n = slice_index (codes "0123456789abcdef") n
 
 abbrev pub hex_pair : ℕ → List ℕ
 hex_pair byte = hex_digit (byte / 16) ∷ hex_digit (byte % 16) ∷ []

@@ -7,12 +7,14 @@ ghost use Rattle.std.specs.Prelude.{◌≡◌, ◌++◌, ◌<◌, [], ◌∷◌,
 use crate::printing::Printer;
 use dcd_base::{Actor, HostId, LogId, Sink};
 
+const DIGITS: [u8; 16] = *b"0123456789abcdef";
+
 /// The lower-case hexadecimal digit of a number.
 fn hex_digit(n: u8) -> u8
     requires { n < 16 }
     ensures { result ≡ hex_digit n }
 {
-    if n < 10 { b'0' + n } else { b'a' - 10 + n }
+    DIGITS[usize::from(n)]
 }
 
 impl Printer {
