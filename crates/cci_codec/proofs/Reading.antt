@@ -7,7 +7,7 @@ use Rattle.cci_codec.specs.declared.messages.Request.{Request}
 use Rattle.cci_codec.specs.declared.faults.MessageFault.{MessageFault}
 use Rattle.cci_codec.specs.Messages.{message_fault, request_in, request_fields, request_bytes, length_field, ReadsRequest, WritesRequest}
 use Rattle.dcd_base.specs.Layouts.{is_byte}
-use Rattle.cci_codec.proofs.Fields.{IsBytes, all_bytes, length_of_fields, two_bytes, spelled_reads}
+use Rattle.dcd_base.proofs.Fields.{IsBytes, all_bytes, length_of_fields, two_bytes, spelled_reads}
 
 no_fault : (b : Bool) (f : MessageFault) (rest : Option MessageFault) → cond b (Some f) rest ≡ None → (b ≡ false) × (rest ≡ None)
 no_fault true f rest e = absurd cc

@@ -1,2 +1,3 @@
+pub mod Fields
 mod Parts
 pub mod Passing

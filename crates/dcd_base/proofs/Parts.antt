@@ -1,5 +1,5 @@
 -- What a source in memory gives and what it has left are what was left before.
-use Rattle.std.proofs.Common.{◌≡◌, ℕ, ◌+◌, List, ◌++◌, take, drop, Some, Option, sym, ap, ◌∙◌}
+use Rattle.std.proofs.Common.{◌≡◌, ℕ, ◌+◌, List, ◌++◌, take, drop, sym, ap, ◌∙◌}
 use Rattle.std.proofs.lemmas.List.{take-append-drop, drop-drop}
 
 pub parts : (bytes buf : List ℕ) (at n : ℕ) → take n buf ≡ take n (drop at bytes)

@@ -1,4 +1,5 @@
 pub mod Ends
+pub mod Failures
 pub mod Layouts
 pub mod Streams
 pub mod Words

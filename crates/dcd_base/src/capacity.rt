@@ -3,7 +3,7 @@
 ghost use Rattle.std.specs.Prelude.{◌≡◌};
 ghost use Rattle.dcd_base.specs.Words.{is_zero_tag, zero_tag};
 
-/// The tag of an allocation, 16 bytes as they stand in a message (CXL 3.1, 8.2.9.2.1.5).
+/// The tag of an allocation, 16 bytes as they stand in a message (CXL 3.1, 8.2.9.2.1.6).
 ///
 /// Sixteen zero bytes are no tag.
 #[derive(Clone, Copy, Debug, PartialEq, Eq, PartialOrd, Ord, Hash)]
@@ -24,7 +24,7 @@ pub fn is_no_tag(tag: &Tag) -> bool
 }
 
 /// A range of a host's addresses with its tag and its place in the order of a shared allocation
-/// (CXL 3.1, 8.2.9.2.1.5).
+/// (CXL 3.1, 8.2.9.2.1.6).
 #[derive(Clone, Copy, Debug, PartialEq, Eq)]
 pub struct Extent {
     /// The first device physical address (DPA), in bytes.

@@ -1,5 +1,8 @@
 //! Why something was not done.
 
+ghost use Rattle.dcd_base.specs.Failures.{fault_words};
+ghost use Rattle.std.specs.Prelude.{Some, codes};
+
 use std::alloc::{AllocError, AllocFailed};
 use std::error::Error;
 use std::fmt::{self, Display};
@@ -16,6 +19,8 @@ pub enum AccessFault {
 }
 
 impl Display for AccessFault {
+    ghost output = { λ fault. Some (fault_words fault) };
+
     fn fmt<W: fmt::Write>(&self, f: &mut fmt::Formatter<W>) -> fmt::Result {
         f.write_str(match self {
             AccessFault::Misaligned => "the address is no multiple of 8",
@@ -32,6 +37,8 @@ impl Error for AccessFault {}
 pub struct NoMemory;
 
 impl Display for NoMemory {
+    ghost output = { λ failure. Some (codes "out of memory") };
+
     fn fmt<W: fmt::Write>(&self, f: &mut fmt::Formatter<W>) -> fmt::Result {
         f.write_str("out of memory")
     }
@@ -56,6 +63,8 @@ impl<T: Drop> From<AllocFailed<T>> for NoMemory {
 pub struct Failed;
 
 impl Display for Failed {
+    ghost output = { λ failure. Some (codes "a read or a write failed") };
+
     fn fmt<W: fmt::Write>(&self, f: &mut fmt::Formatter<W>) -> fmt::Result {
         f.write_str("a read or a write failed")
     }

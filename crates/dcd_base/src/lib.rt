@@ -15,6 +15,7 @@ mod mem_source;
 mod reading;
 mod sequence;
 mod steps;
+mod tags;
 #[cfg(test)]
 mod tests;
 mod writing;
@@ -29,4 +30,5 @@ pub use mem_source::{MemSource, SoundSource};
 pub use reading::Source;
 pub use sequence::{Bytes, Changes, Duplicate, Extents, Handles, Runs, Seq};
 pub use steps::{Actor, LogId, Stamp};
+pub use tags::TagView;
 pub use writing::{Sink, write_all};

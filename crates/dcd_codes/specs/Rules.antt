@@ -1,7 +1,10 @@
 -- The code of each rule, and how a row of rules is read.
 use Rattle.dcd_base.specs.Words.{◌or◌}
-use Rattle.std.specs.Prelude.{ℕ, Bool, List, [], ◌∷◌, ◌++◌, Option, Some, None, if◌then◌else◌}
+use Rattle.std.specs.declared.result.Result.{Result}
+use Rattle.std.specs.declared.result.Result.TheVariants.{Ok, Err}
+use Rattle.std.specs.Prelude.{◌≡◌, ℕ, Bool, List, [], ◌∷◌, ◌++◌, Option, Some, None, if◌then◌else◌}
 use Rattle.dcd_codes.specs.declared.codes.Code.{Code}
+use Rattle.dcd_codes.specs.declared.refusals.Refusal.{Refusal}
 use Rattle.dcd_codes.specs.declared.rules.Rule.{Rule}
 
 -- This rule, where the test says that it is broken.
@@ -17,6 +20,12 @@ first_by check before (x ∷ xs) = check before x or first_by check (before ++ x
 -- The first rule that a member breaks; the check sees the members before it, so that their number is its index.
 abbrev pub each_in : {X : Type 0} → List X → (List X → X → Option Rule) → Option Rule
 each_in xs check = first_by check [] xs
+
+-- What a call that keeps a row answers: what it makes where no rule of the row is broken, and else the first broken one.
+abbrev pub ByRow : {X : Type 0} → Option Rule → (X → Type 0) → Result X Refusal → Type 0
+ByRow row Makes (Ok x) = (row ≡ None) × Makes x
+ByRow row Makes (Err (Refusal.Broken rule)) = row ≡ Some rule
+ByRow row Makes (Err Refusal.NoMemory) = Unit {0}
 
 -- The code of a response to a command that breaks this rule first.
 abbrev pub code_of : Rule → Code

@@ -6,7 +6,7 @@ use Rattle.std.proofs.lemmas.Bool.{cases_lt}
 use Rattle.std.proofs.lemmas.List.{get_or_past}
 use Rattle.std.proofs.lemmas.Nat.{le_bytes_2, le_bytes_4, le_bytes_8, from_le_bytes-to_le_bytes_2, from_le_bytes-to_le_bytes_4, from_le_bytes-to_le_bytes_8}
 use Rattle.dcd_base.specs.Layouts.{Field, Number, Masked, Raw, Reserved, Fixed, spell, number_at, FitsField, ReadsField, ReadsFields}
-use Rattle.event_records.proofs.Fields.{IsBytes, length-replicate}
+use Rattle.dcd_base.proofs.Fields.{IsBytes, length-replicate}
 
 -- how many bytes a field has
 abbrev pub size : Field → ℕ

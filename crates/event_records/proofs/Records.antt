@@ -9,7 +9,7 @@ use Rattle.event_records.specs.declared.events.EventKind.{EventKind}
 use Rattle.event_records.specs.declared.faults.RecordFault.{RecordFault}
 use Rattle.event_records.specs.Records.{record_uuid, record_fault, kind_number, head_bytes, extent_bytes, end_bytes, record_bytes, head_fields, extent_fields, end_fields, record_fields, IsEventIn, ReadsRecord, WritesRecord}
 use Rattle.dcd_base.specs.Layouts.{spell, spelling, flag_of, is_byte, FitsField}
-use Rattle.event_records.proofs.Fields.{IsBytes, all_bytes, spelled_reads}
+use Rattle.dcd_base.proofs.Fields.{IsBytes, all_bytes, spelled_reads}
 use Rattle.event_records.proofs.Places.{reads_from_places, places_from_reads, part_bytes, length_of_part, byte_at_place, byte_is, reads_1, reads_2, reads_4, reads_8, read_1, read_2, read_4, read_8}
 
 pub record_in_parts : (e : Event) → record_bytes e ≡ head_bytes e ++ extent_bytes e.extent ++ end_bytes e

@@ -1,13 +1,15 @@
 -- What a cut leaves: by the index of the extent that gives way, and what stays true of each extent.
-use Rattle.std.specs.List.{list_any, position_or_len}
-use Rattle.std.proofs.Common.{Bool, IsSome, inl, inr, ◌≡◌, ℕ, ◌+◌, ◌-◌, ◌^◌, ◌<◌, ◌≤◌, true, false, List, [], ◌∷◌, ◌++◌, All, Some, length, get_or, take, drop, refl, sym, ap, ◌∙◌, suc, zero, ltb, append_assoc, arith, length-append, length-drop}
-use Rattle.std.proofs.lemmas.Bool.{and_parts, cases_Bool, cond_both, false≢true, leb-true, lt-ltb, ltb-true}
+use Rattle.std.specs.List.{find, list_any, position_or_len}
+use Rattle.std.proofs.Common.{◌⊎◌, Bool, IfSome, IsSome, slice_get, subst, inl, inr, ◌≡◌, ℕ, ◌+◌, ◌-◌, ◌^◌, ◌<◌, ◌≤◌, true, false, List, [], ◌∷◌, ◌++◌, Some, length, get_or, take, drop, refl, sym, ap, ◌∙◌, suc, zero, append_assoc, arith, length-append, length-drop}
+use Rattle.std.proofs.lemmas.Bool.{and_parts, cases_Bool, false≢true, leb-true, lt-ltb}
 use Rattle.std.proofs.lemmas.List.{drop_at, length-take-le, take_at}
-use Rattle.std.proofs.lemmas.List.Elements.{All-append, All-cons, All-head, All-nil, All-tail}
+use Rattle.std.proofs.lemmas.List.Folds.{find_at}
 use Rattle.std.proofs.lemmas.List.Quantifiers.{position-Some}
+use Rattle.std.proofs.lemmas.List.Sums.{position_or_len_is}
+use Rattle.std.proofs.lemmas.Option.{slice_get-get_or}
 use Rattle.dcd_base.specs.declared.capacity.Extent.{Extent}
 use Rattle.extent_list.specs.ExtentLists.{cut, has_range, holder_of, is_in, piece, without}
-use Rattle.extent_list.specs.Rooms.{IsInAddresses}
+use Rattle.extent_list.specs.Rooms.{IsCutInAddresses, IsInAddresses}
 
 -- the holder's index, and where the range lies in that extent
 pub record Holds (start bytes : ℕ) (xs : List Extent) (i : ℕ) (x : Extent) : Type 0 where
@@ -49,23 +51,16 @@ replaced xs bare one i lower upper known taken put =
     let rest_of_one : drop i one ≡ upper ++ drop (suc i) xs = ap (drop i) is ∙ drop_at (take i xs) _ i front in
     rw (front_of_one, rest_of_one, append_assoc) refl
 
--- a piece ends where it ends
-piece-in_addresses : (x : Extent) (from to : ℕ) → to ≤ 2 ^ 64 → All IsInAddresses (piece x from to)
-piece-in_addresses x from to ends =
-    cond_both (ltb from to) _ _ (All IsInAddresses)
-    (λ some. let order : from < to = ltb-true from to some in All-cons IsInAddresses (record x { start = from; length = to - from }) [] (omega (arith, order, ends)) (All-nil IsInAddresses))
-    (λ none. All-nil IsInAddresses)
-
-pub All-cut : (start bytes : ℕ) (xs : List Extent) → All IsInAddresses xs → All IsInAddresses (cut start bytes xs)
-All-cut start bytes [] all = All-nil IsInAddresses
-All-cut start bytes (x ∷ xs) all =
-    let first : x.start + x.length ≤ 2 ^ 64 = All-head IsInAddresses x xs all in
-    cond_both (has_range start bytes x) _ _ (All IsInAddresses)
-    (λ here. let ends : start + bytes ≤ x.start + x.length = leb-true _ _ (and_parts _ _ here).1 in
-    All-append IsInAddresses (without x start bytes) xs
-    (All-append IsInAddresses (piece x x.start start) (piece x (start + bytes) (x.start + x.length)) (piece-in_addresses x x.start start (omega (arith, ends, first))) (piece-in_addresses x (start + bytes) _ first))
-    (All-tail IsInAddresses x xs all))
-    (λ other. All-cons IsInAddresses x (cut start bytes xs) first (All-cut start bytes xs (All-tail IsInAddresses x xs all)))
+-- where what remains above begins at an address, by the holder's index
+pub in_addresses_at : (start bytes : ℕ) (xs : List Extent) (i : ℕ) (x : Extent) → holder_of start bytes xs ≡ Some i → x ≡ get_or xs i x
+    → IsCutInAddresses start bytes xs → (start + bytes < 2 ^ 64) ⊎ IsInAddresses x
+in_addresses_at start bytes xs i x found is (inl below) = inl below
+in_addresses_at start bytes xs i x found is (inr whole) =
+    let p = has_range start bytes in
+    let facts = position-Some p xs i x found in
+    let first : position_or_len p xs ≡ i = position_or_len_is p xs i x (omega (arith, facts.0)) facts.2 (λ below. facts.1) in
+    let at : find p xs ≡ Some x = find_at p xs ∙ ap (slice_get xs) first ∙ slice_get-get_or xs i x facts.0 ∙ ap (λ y. Some y) (sym is) in
+    inr (subst (λ o. IfSome o IsInAddresses) at whole)
 
 pub length-cut : (start bytes : ℕ) (xs : List Extent) (i : ℕ) (x : Extent) → holder_of start bytes xs ≡ Some i → x ≡ get_or xs i x
     → length (cut start bytes xs) ≡ length xs - 1 + length (piece x x.start start) + length (piece x (start + bytes) (x.start + x.length))

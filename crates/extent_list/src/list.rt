@@ -1,9 +1,9 @@
 //! The list, and the calls that change it.
 
 ghost use Rattle.extent_list.specs.ExtentLists.{cut, has_range, holder_of, shares_range, without};
-ghost use Rattle.extent_list.specs.Rooms.{IsInAddresses};
+ghost use Rattle.extent_list.specs.Rooms.{IsCutInAddresses};
 ghost use Rattle.std.specs.List.{list_any};
-ghost use Rattle.std.specs.Prelude.{◌≡◌, ◌==◌, ◌++◌, ◌∷◌, ◌+◌, ◌<◌, ◌≤◌, [], All, IfErr, IfOk, IsSome, OnErr, OnOk, Some, drop, length, option_to_list, slice_get, slice_index_or, suc, take, vec_capacity, vec_len};
+ghost use Rattle.std.specs.Prelude.{◌≡◌, ◌==◌, ◌++◌, ◌∷◌, ◌+◌, ◌<◌, ◌≤◌, [], IfErr, IfOk, IsSome, OnErr, OnOk, Some, drop, length, option_to_list, slice_get, slice_index_or, suc, take, vec_capacity, vec_len};
 
 use crate::pieces::{count_of, has_range_in, lower_piece, shares_range_with, upper_piece};
 use dcd_base::{Extent, Extents, NoMemory};
@@ -133,20 +133,20 @@ impl ExtentList {
 
     /// Puts in place of the first extent in which the range lies what remains of it, the lower piece first.
     ///
-    /// The range is `bytes` bytes from `start` on. The pieces keep the extent's tag and sequence. At
+    /// The range is `bytes` bytes from `start` on, and ends below 2^64, or that extent ends at 2^64 or below: else
+    /// what remains above would begin at no address. The pieces keep the extent's tag and sequence. At
     /// `TooMany(n)`, which comes exactly where the list would have n extents and n is above `most`, nothing
     /// changes. Takes no memory, and uses one of the spare.
     pub fn cut(&mut self, start: u64, bytes: u64, most: usize) -> Result<(), TooMany>
         requires spare { 0 < self.old.spare }
         requires held { IsSome (holder_of start bytes self.old.extents) }
-        requires in_addresses { All IsInAddresses self.old.extents }
+        requires in_addresses { IsCutInAddresses start bytes self.old.extents }
         ensures cut { OnOk result (self.new.extents ≡ cut start bytes self.old.extents) }
         ensures within { OnOk result (length self.new.extents ≤ most) }
         ensures too_many { IfErr result (λ fault. fault.0 ≡ length (cut start bytes self.old.extents)) }
         ensures above { IfErr result (λ fault. most < fault.0) }
         ensures unchanged { OnErr result (self.new ≡ self.old) }
         ensures spare { self.old.spare ≤ self.new.spare + 1 }
-        ensures in_addresses { All IsInAddresses self.new.extents }
     {
         match self.holder_of(start, bytes) {
             Some(index) => replace_at(&mut self.kept, index, start, bytes, most),
@@ -190,14 +190,13 @@ fn replace_at(
 ) -> Result<(), TooMany>
     requires index { holder_of start bytes kept.old.items ≡ Some index }
     requires spare { vec_len kept.old < vec_capacity kept.old }
-    requires in_addresses { All IsInAddresses kept.old.items }
+    requires in_addresses { IsCutInAddresses start bytes kept.old.items }
     ensures cut { OnOk result (kept.new.items ≡ cut start bytes kept.old.items) }
     ensures within { OnOk result (length kept.new.items ≤ most) }
     ensures too_many { IfErr result (λ fault. fault.0 ≡ length (cut start bytes kept.old.items)) }
     ensures above { IfErr result (λ fault. most < fault.0) }
     ensures unchanged { OnErr result (kept.new ≡ kept.old) }
     ensures spare { vec_capacity kept.old + vec_len kept.new ≤ vec_capacity kept.new + vec_len kept.old + 1 }
-    ensures in_addresses { All IsInAddresses kept.new.items }
 {
     let extent = kept[index];
     let lower = lower_piece(&extent, start);

@@ -1,7 +1,8 @@
 //! What one extent is to a range of addresses.
 
 ghost use Rattle.extent_list.specs.ExtentLists.{has_range, shares_range, piece};
-ghost use Rattle.std.specs.Prelude.{◌≡◌, ◌+◌, ◌-◌, ◌^◌, ◌<◌, ◌≤◌, length, option_to_list};
+ghost use Rattle.extent_list.specs.Rooms.{IsInAddresses};
+ghost use Rattle.std.specs.Prelude.{◌≡◌, ◌+◌, ◌^◌, ◌<◌, ◌≤◌, ◌⊎◌, length, option_to_list};
 
 use dcd_base::Extent;
 
@@ -43,7 +44,7 @@ pub(crate) fn lower_piece(extent: &Extent, start: u64) -> Option<Extent>
 /// What remains of the extent above the range, if anything.
 pub(crate) fn upper_piece(extent: &Extent, start: u64, bytes: u64) -> Option<Extent>
     requires begins { extent.now.start ≤ start }
-    requires ends { extent.now.start + extent.now.length ≤ 2 ^ 64 }
+    requires ends { (start + bytes < 2 ^ 64) ⊎ IsInAddresses extent.now }
     ensures { option_to_list result ≡ piece extent.now (start + bytes) (extent.now.start + extent.now.length) }
 {
     let from = end_of(start, bytes);

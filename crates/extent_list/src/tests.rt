@@ -1,7 +1,6 @@
 //! What cuts leave, and each call once.
 
-ghost use Rattle.extent_list.specs.Rooms.{IsInAddresses};
-ghost use Rattle.std.specs.Prelude.{◌≡◌, ◌+◌, ◌*◌, All, IfOk};
+ghost use Rattle.std.specs.Prelude.{◌≡◌, ◌*◌};
 
 use crate::{ExtentList, TooMany};
 use dcd_base::{Extent, Extents, NoMemory, Tag};
@@ -23,9 +22,7 @@ fn mib(first: u32, count: u32) -> Extent
     }
 }
 
-fn list_of(alloc: Global, extents: &[(u32, u32)]) -> Result<ExtentList, NoMemory>
-    ensures { IfOk result (λ list. All IsInAddresses list.extents) }
-{
+fn list_of(alloc: Global, extents: &[(u32, u32)]) -> Result<ExtentList, NoMemory> {
     let mut list = ExtentList::new(alloc);
     for (first, count) in extents {
         list.reserve(1)?;

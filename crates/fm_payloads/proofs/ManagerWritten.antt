@@ -9,7 +9,7 @@ use Rattle.event_records.specs.Records.{extent_fields}
 use Rattle.host_payloads.specs.HostPayloads.{extent_bytes}
 use Rattle.host_payloads.proofs.PageLaws.{extents_spelled}
 use Rattle.host_payloads.proofs.Written.{spelling_each}
-use Rattle.fm_payloads.specs.declared.views.TagView.{TagView}
+use Rattle.dcd_base.specs.declared.tags.TagView.{TagView}
 use Rattle.fm_payloads.specs.ManagerPayloads.{info_head, info_head_fields, info_payload, placed_fields, placed_head, placed_head_fields, tag_bytes, tag_fields, tags_head, tags_head_fields, tags_payload}
 
 pub placed_spelled : (host choice region bytes : ℕ) (tag : Tag) (xs : List Extent) → placed_head host choice region bytes tag (length xs) ++ flat_map extent_bytes xs ≡ spelling (placed_fields host choice region bytes tag xs)

@@ -1,6 +1,6 @@
 -- What the manager asks, and the bytes of the replies.
 use Rattle.dcd_base.specs.Layouts.{spelling, Field, Reads, flag, flag_of, number_at, pieces, Number, Raw, Reserved}
-use Rattle.fm_payloads.specs.declared.views.TagView.{TagView}
+use Rattle.dcd_base.specs.declared.tags.TagView.{TagView}
 use Rattle.std.specs.Prelude.{◌≡◌, ◌≢◌, ◌≤◌, Bool, ℕ, ◌-◌, ◌/◌, ◌==◌, List, [], ◌∷◌, ◌++◌, length, map, flat_map, drop, replicate, slice_index, if◌then◌else◌}
 use Rattle.std.specs.Int.{w8, w16, w32, w64, to_le_bytes}
 use Rattle.std.specs.declared.result.Result.{Result}

@@ -14,14 +14,12 @@ mod faults;
 mod placing;
 mod replies;
 mod requests;
-mod views;
 
 pub use decoding::decode;
 pub use encoding::encode;
 pub use faults::PayloadFault;
 pub use replies::{lists_head, regions_head, write_info, write_tags};
 pub use requests::FmRequest;
-pub use views::TagView;
 
 #[cfg(test)]
 mod tests;

@@ -4,8 +4,7 @@ ghost use Rattle.fm_payloads.specs.ManagerPayloads.{info_head, info_payload, lis
 ghost use Rattle.std.specs.Int.{to_le_bytes, w64};
 ghost use Rattle.std.specs.Prelude.{◌≡◌, ◌++◌, ◌≤◌, IfOk, OnErr, OnOk, flat_map, length};
 
-use crate::views::TagView;
-use dcd_base::{Bytes, NoMemory};
+use dcd_base::{Bytes, NoMemory, TagView};
 use host_payloads::{flag_byte, put_3};
 use std::alloc::Global;
 

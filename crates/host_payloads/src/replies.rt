@@ -94,7 +94,7 @@ fn configuration_payload(
     requires { length regions.now ≤ 8 }
     ensures { IfOk result (λ bytes. bytes ≡ configuration_payload total regions.now counts.now) }
 {
-    let mut payload = Bytes::new(alloc);
+    let mut payload = Bytes::from_vec(alloc, Vec::with_capacity(alloc, 24 + 40 * regions.len())?);
     payload.extend_from_slice(&configuration_head(total, regions.len() as u8))?;
     put_regions(&mut payload, regions)?;
     payload.extend_from_slice(&counts_bytes(counts))?;

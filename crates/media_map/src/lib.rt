@@ -10,5 +10,5 @@ mod runs;
 #[cfg(test)]
 mod tests;
 
-pub use places::{dpa_of, locate};
+pub use places::{dpa_of, locate, region_at};
 pub use runs::{extent_of, run_of};

@@ -59,8 +59,8 @@ fn address_of(config: &Config, host: HostId, place: &Place) -> u64
     config.base(host, region) + u64::from(behind) * config.granule_size(region) + 8 * place.word
 }
 
-/// The region that has the host's address within its length.
-pub(crate) fn region_at(config: &Config, host: HostId, dpa: u64) -> Option<RegionId>
+/// The region that has the host's address within its length; None exactly where none has it.
+pub fn region_at(config: &Config, host: HostId, dpa: u64) -> Option<RegionId>
     requires { host < config.now.hosts }
     ensures value { result ≡ find (has_address config.now host dpa) (regions_of config.now) }
     ensures known { IfSome result (λ r. r < length config.now.regions) }

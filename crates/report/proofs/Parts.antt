@@ -1,10 +1,11 @@
 -- How parts of a text make up the whole.
-use Rattle.std.proofs.Common.{◌≡◌, Bool, if◌then◌else◌, ℕ, zero, suc, ◌+◌, ◌≤◌, ◌<◌, List, [], ◌∷◌, ◌++◌, Option, Some, None, sym, ap, ◌∙◌, arith, take, length, flat_map, subst}
+use Rattle.std.proofs.Common.{◌*◌, get_or, set, drop, ◌≡◌, Bool, if◌then◌else◌, ℕ, zero, suc, ◌+◌, ◌≤◌, ◌<◌, List, [], ◌∷◌, ◌++◌, Option, Some, None, sym, ap, ◌∙◌, arith, take, length, flat_map, subst}
 use Rattle.std.specs.Prelude.{slice_get, IsFalse, OnErr, OnOk}
 use Rattle.std.specs.declared.result.Result.{Result}
 use Rattle.std.specs.declared.result.Result.TheVariants.{Ok, Err}
 use Rattle.std.specs.List.{enumerate_from, range_with_len}
-use Rattle.std.proofs.lemmas.List.{append_assoc, append-nil, flat_map_more, length-take-le, take_more}
+use Rattle.std.proofs.Math.Seq.{take-add}
+use Rattle.std.proofs.lemmas.List.{append_assoc, append-nil, flat_map_more, length-set, length-take-le, take_more, take_more_set}
 use Rattle.std.proofs.lemmas.Option.{get_or_from_slice_get}
 use Rattle.std.proofs.lemmas.Grind.{flat_map-append}
 use Rattle.dcd_base.specs.Layouts.{Field, Raw, spell, spelling}
@@ -14,7 +15,7 @@ use Rattle.journal_core.specs.declared.entries.Entry.{Entry}
 use Rattle.report.specs.Texts.{hex_of, hex_pair}
 use Rattle.dcd_base.specs.Streams.{HasRisen, Passes}
 use Rattle.dcd_base.proofs.Passing.{passes_start, passes_more, passes_then, risen_before}
-use Rattle.report.specs.Printing.{Printed, Prints, with_byte}
+use Rattle.report.specs.Printing.{with_bytes, Printed, Prints, with_byte}
 
 -- nothing was put
 pub prints_nothing : (taken : Option (List ℕ)) (count : ℕ) (waits : Option (List ℕ)) → Prints taken count waits taken count waits []
@@ -53,6 +54,42 @@ prints_byte {t} {t'} {n} {n'} {w} {w'} {w''} byte room e = record {
       (printed_byte start faults t' n' w' text byte
       (subst (λ ys. Printed start faults t' n' w' ys) (append-nil text) (room.onto start faults text printed)));
 }
+
+-- more bytes wait
+printed_bytes : (start : Option (List ℕ)) (faults : ℕ) (taken : Option (List ℕ)) (count : ℕ) (waits : Option (List ℕ)) (text bytes : List ℕ)
+    → Printed start faults taken count waits text → Printed start faults taken count (with_bytes bytes waits) (text ++ bytes)
+printed_bytes start faults taken count None text bytes printed =
+    (printed.0, record { risen = printed.1.risen; rest = printed.1.rest ++ bytes; took = passes_more bytes printed.1.took })
+printed_bytes start faults taken count (Some waits) text bytes printed = (printed.0, passes_more bytes printed.1)
+
+pub prints_waiting : (t : Option (List ℕ)) (n : ℕ) (w w' : Option (List ℕ)) (bytes : List ℕ) → w' ≡ with_bytes bytes w → Prints t n w t n w' bytes
+prints_waiting t n w w' bytes e = record {
+  onto = λ start faults text printed.
+      subst (λ x. Printed start faults t n x (text ++ bytes)) (sym e) (printed_bytes start faults t n w text bytes printed);
+}
+
+-- two more items behind a front
+pub two_more : {X : Type 0} (xs : List X) (at : ℕ) (a b : X) → at + 2 ≤ length xs → take (at + 2) (set (set xs at a) (at + 1) b) ≡ take at xs ++ a ∷ b ∷ []
+two_more xs at a b within =
+    let long : length (set xs at a) ≡ length xs = length-set xs at a in
+    ap (λ n. take n (set (set xs at a) (at + 1) b)) (omega arith) ∙ take_more_set (set xs at a) (at + 1) b (omega (arith, within, long)) ∙ ap (λ ys. ys ++ b ∷ []) (take_more_set xs at a (omega (arith, within))) ∙ append_assoc (take at xs) (a ∷ []) (b ∷ [])
+
+-- the digits of one byte more
+pub pairs_more : (out out' bytes front : List ℕ) (at i byte : ℕ) → i < length bytes → byte ≡ get_or bytes i 0 → take (at + 2 * i) out ≡ front ++ hex_of (take i bytes)
+    → take (at + 2 * i + 2) out' ≡ take (at + 2 * i) out ++ hex_pair byte → take (at + 2 * (i + 1)) out' ≡ front ++ hex_of (take (i + 1) bytes)
+pairs_more out out' bytes front at i byte known is done written =
+    let size : at + 2 * (i + 1) ≡ at + 2 * i + 2 = omega arith in
+    let one : hex_of (take (i + 1) bytes) ≡ hex_of (take i bytes) ++ hex_pair byte =
+    ap hex_of (take_more bytes i 0 known) ∙ flat_map-append hex_pair (take i bytes) (get_or bytes i 0 ∷ []) ∙ ap (λ xs. hex_of (take i bytes) ++ xs) (append-nil (hex_pair (get_or bytes i 0)) ∙ ap hex_pair (sym is)) in
+    ap (λ n. take n out') size ∙ written ∙ ap (λ xs. xs ++ hex_pair byte) done ∙ append_assoc front (hex_of (take i bytes)) (hex_pair byte)
+    ∙ ap (λ xs. front ++ xs) (sym one)
+
+-- the digits of one part more
+pub parts_more : (bytes rest part : List ℕ) (at n : ℕ) → rest ≡ drop at bytes → part ≡ take n rest → n ≤ length rest → hex_of (take (at + length part) bytes) ≡ hex_of (take at bytes) ++ hex_of part
+parts_more bytes rest part at n behind is within =
+    let count : length part ≡ n = ap length is ∙ length-take-le n rest within in
+    ap (λ m. hex_of (take (at + m) bytes)) count ∙ ap hex_of (take-add at n bytes) ∙ flat_map-append hex_pair (take at bytes) (take n (drop at bytes))
+    ∙ ap (λ xs. hex_of (take at bytes) ++ hex_of xs) (sym (is ∙ ap (take n) behind))
 
 -- a text of which a piece waits, and what is left of it once the sink took some of the piece
 passes_piece : {start t t' : Option (List ℕ)} {piece text rest : List ℕ} → Passes start t piece text → Passes t t' rest piece

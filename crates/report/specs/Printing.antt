@@ -21,6 +21,11 @@ pub record Prints (taken : Option (List ℕ)) (count : ℕ) (waits : Option (Lis
   pub onto : (start : Option (List ℕ)) (faults : ℕ) (text : List ℕ) → Printed start faults taken count waits text
       → Printed start faults new_taken new_count new_waits (text ++ bytes)
 
+-- more bytes wait
+abbrev pub with_bytes : List ℕ → Option (List ℕ) → Option (List ℕ)
+with_bytes bytes None = None
+with_bytes bytes (Some waits) = Some (waits ++ bytes)
+
 -- one more byte waits
 abbrev pub with_byte : ℕ → Option (List ℕ) → Option (List ℕ)
 with_byte byte None = None

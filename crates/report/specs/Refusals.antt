@@ -16,6 +16,7 @@ script_fault_number (ScriptFault.AfterEnd place) = 9
 script_fault_number (ScriptFault.TooManyLines place) = 10
 script_fault_number ScriptFault.NoMemory = 11
 script_fault_number (ScriptFault.BadLanes n) = 12
+script_fault_number ScriptFault.NotBuilt = 20
 
 -- how many bytes stand before the fault
 abbrev pub fault_place : ScriptFault → ℕ
@@ -30,6 +31,7 @@ fault_place ScriptFault.TooLong = 16777216
 fault_place (ScriptFault.AfterEnd place) = place
 fault_place (ScriptFault.TooManyLines place) = place
 fault_place (ScriptFault.BadLanes n) = 10
+fault_place ScriptFault.NotBuilt = 0
 fault_place ScriptFault.NoMemory = 0
 
 -- a script that is refused for the fault of this number at this place
@@ -38,10 +40,6 @@ refused_at number place = line_of (codes "script" ∷ codes "refused:" ∷ decim
 
 abbrev pub refusal_line : ScriptFault → List ℕ
 refusal_line fault = refused_at (script_fault_number fault) (fault_place fault)
-
--- a script with a line whose command is not built
-abbrev pub not_built_line : List ℕ
-not_built_line = refused_at 20 0
 
 -- the words that the program takes: none
 unfoldable pub usage_line : List ℕ

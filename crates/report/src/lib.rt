@@ -3,6 +3,7 @@
 //! Whatever is printed goes to a sink in pieces and takes no memory.
 #![tactic(auto)]
 
+mod digits;
 mod entry_lines;
 mod printing;
 mod refusals;
@@ -10,7 +11,7 @@ mod rendering;
 mod state_lines;
 mod words;
 
-pub use refusals::{not_built, refusal, usage};
+pub use refusals::{refusal, usage};
 pub use rendering::render;
 
 #[cfg(test)]

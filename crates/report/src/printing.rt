@@ -1,14 +1,19 @@
 //! The printer: it gathers bytes into pieces and hands each full piece to a sink.
 
-ghost use Rattle.report.specs.Printing.{Prints, with_byte};
-ghost use Rattle.std.specs.Prelude.{◌≡◌, ◌<◌, ◌≤◌, [], ◌∷◌, IfSome, None, OnErr, OnOk, Some, decimal, length};
+ghost use Rattle.report.specs.Printing.{Prints, with_byte, with_bytes};
+ghost use Rattle.report.specs.Texts.{hex_of, hex_pair};
+ghost use Rattle.std.specs.Prelude.{◌≡◌, ◌+◌, ◌*◌, ◌<◌, ◌≤◌, [], ◌∷◌, IfSome, None, OnErr, OnOk, Some, decimal, length};
 
+use crate::digits::{hex_digit, write_hex};
 use dcd_base::{Failed, Sink, write_all};
 use itoa::Buffer;
 use std::marker::Model;
 
 /// How many bytes a piece has; the last piece of a text may have fewer.
 const PIECE: usize = 4096;
+
+/// How many bytes are put as digits at a time.
+const HEX_PART: usize = 64;
 
 /// Gathers bytes into pieces of 4,096 and hands them to a sink. After a write that failed it drops all that is put.
 ///
@@ -87,6 +92,62 @@ impl Printer {
     {
         self.make_room(sink);
         self.store(byte);
+    }
+
+    /// Lets the digits of bytes wait.
+    fn store_hex(&mut self, bytes: &[u8])
+        requires { IfSome self.old (λ waits. length waits + 2 * length bytes.now ≤ 4096) }
+        ensures { self.new ≡ with_bytes (hex_of bytes.now) self.old }
+    {
+        if !self.failed {
+            write_hex(&mut self.buffer, self.len, bytes);
+            self.len += 2 * bytes.len();
+        }
+    }
+
+    /// Puts the digits of at most 64 bytes, which mostly fit into the piece.
+    #[tactic(auto, using(crate::proofs::Parts::prints_waiting))]
+    fn put_hex_part<K: Sink>(&mut self, sink: &mut K, bytes: &[u8])
+        requires { length bytes.now ≤ 64 }
+        ensures { Prints (K.taken sink.old) (K.faults sink.old) self.old (K.taken sink.new) (K.faults sink.new) self.new (hex_of bytes.now) }
+    {
+        if self.len + 2 * bytes.len() <= PIECE {
+            self.store_hex(bytes);
+        } else {
+            self.put_digits(sink, bytes);
+        }
+    }
+
+    /// Puts the digits of bytes one by one.
+    #[tactic(auto, using(crate::proofs::Parts::prints_nothing, crate::proofs::Parts::prints_each))]
+    fn put_digits<K: Sink>(&mut self, sink: &mut K, bytes: &[u8])
+        ensures { Prints (K.taken sink.old) (K.faults sink.old) self.old (K.taken sink.new) (K.faults sink.new) self.new (hex_of bytes.now) }
+    {
+        for byte in bytes {
+            self.put_pair(sink, *byte);
+        }
+    }
+
+    /// Puts the two digits of a byte.
+    #[tactic(auto, using(crate::proofs::Parts::prints_then))]
+    fn put_pair<K: Sink>(&mut self, sink: &mut K, byte: u8)
+        ensures { Prints (K.taken sink.old) (K.faults sink.old) self.old (K.taken sink.new) (K.faults sink.new) self.new (hex_pair byte) }
+    {
+        self.put_byte(sink, hex_digit(byte / 16));
+        self.put_byte(sink, hex_digit(byte % 16));
+    }
+
+    /// Puts the digits of bytes.
+    pub fn put_hex<K: Sink>(&mut self, sink: &mut K, bytes: &[u8])
+        ensures { Prints (K.taken sink.old) (K.faults sink.old) self.old (K.taken sink.new) (K.faults sink.new) self.new (hex_of bytes.now) }
+    {
+        let mut at = 0;
+        while at < bytes.len() {
+            let (_, rest) = bytes.split_at(at);
+            let (part, _) = rest.split_at(rest.len().min(HEX_PART));
+            self.put_hex_part(sink, part);
+            at += part.len();
+        }
     }
 
     /// Puts bytes.

@@ -2,7 +2,7 @@
 
 ghost use Rattle.dcd_base.specs.Streams.{HasRisen, Passes};
 ghost use Rattle.report.specs.Printing.{Prints};
-ghost use Rattle.report.specs.Refusals.{fault_place, not_built_line, refusal_line, refused_at, script_fault_number, usage_line};
+ghost use Rattle.report.specs.Refusals.{fault_place, refusal_line, refused_at, script_fault_number, usage_line};
 ghost use Rattle.script_codec.specs.declared.faults.ScriptFault.{ScriptFault};
 ghost use Rattle.std.specs.Prelude.{◌≡◌, ◌≢◌, ◌≤◌, [], List, OnErr, OnOk, ℕ};
 
@@ -27,6 +27,7 @@ fn number_of(fault: &ScriptFault) -> u64
         ScriptFault::TooManyLines(_) => 10,
         ScriptFault::NoMemory => 11,
         ScriptFault::BadLanes(_) => 12,
+        ScriptFault::NotBuilt => 20,
     }
 }
 
@@ -35,7 +36,7 @@ fn place_of(fault: &ScriptFault) -> u64
     ensures { result ≡ fault_place fault.now }
 {
     match fault {
-        ScriptFault::BadMagic | ScriptFault::NoMemory => 0,
+        ScriptFault::BadMagic | ScriptFault::NotBuilt | ScriptFault::NoMemory => 0,
         ScriptFault::BadVersion(_) => 4,
         ScriptFault::BadConfig(_) => 8,
         ScriptFault::Truncated(place)
@@ -84,18 +85,6 @@ pub fn refusal<K: Sink>(fault: &ScriptFault, sink: &mut K) -> Result<(), Failed>
     ensures never_falls { K.faults sink.old ≤ K.faults sink.new }
 {
     write_refused_at(number_of(fault), place_of(fault), sink)
-}
-
-/// Writes the line that says that a script has a line whose command is not built yet: `script refused: 20 at 0`.
-///
-/// It takes no memory, and fails as `refusal` does.
-pub fn not_built<K: Sink>(sink: &mut K) -> Result<(), Failed>
-    ensures whole { OnOk result (Passes (K.taken sink.old) (K.taken sink.new) [] not_built_line) }
-    ensures front { OnErr result ((rest : List ℕ) × Passes (K.taken sink.old) (K.taken sink.new) rest not_built_line) }
-    ensures failed { OnErr result (HasRisen (K.faults sink.old) (K.faults sink.new)) }
-    ensures never_falls { K.faults sink.old ≤ K.faults sink.new }
-{
-    write_refused_at(20, 0, sink)
 }
 
 /// Writes the line that says which words the program takes.

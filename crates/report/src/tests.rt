@@ -222,7 +222,5 @@ fn words_and_commands_that_are_not_taken_have_a_line_each(rt: HostRuntime) {
     let mut words = MemSink::new(alloc, 4, Vec::new(alloc));
     assert_eq!(rt; usage(&mut words), Ok(()));
     assert!(rt; took(&words, b"usage: dcdsim\n"));
-    let mut script = MemSink::new(alloc, 4, Vec::new(alloc));
-    assert_eq!(rt; not_built(&mut script), Ok(()));
-    assert!(rt; took(&script, b"script refused: 20 at 0\n"));
+    assert!(rt; refuses(alloc, ScriptFault::NotBuilt, b"script refused: 20 at 0\n"));
 }

@@ -1,42 +1,13 @@
-//! Words of a line: hexadecimal digits, names and numbers.
+//! Words of a line: names and numbers.
 
 ghost use Rattle.report.specs.Printing.{Prints};
-ghost use Rattle.report.specs.Texts.{actor_name, hex_digit, hex_of, hex_pair, host_name, log_name, next_word};
-ghost use Rattle.std.specs.Prelude.{◌≡◌, ◌++◌, ◌<◌, [], ◌∷◌, decimal};
+ghost use Rattle.report.specs.Texts.{actor_name, host_name, log_name, next_word};
+ghost use Rattle.std.specs.Prelude.{◌++◌, [], ◌∷◌, decimal};
 
 use crate::printing::Printer;
 use dcd_base::{Actor, HostId, LogId, Sink};
 
-const DIGITS: [u8; 16] = *b"0123456789abcdef";
-
-/// The lower-case hexadecimal digit of a number.
-fn hex_digit(n: u8) -> u8
-    requires { n < 16 }
-    ensures { result ≡ hex_digit n }
-{
-    DIGITS[usize::from(n)]
-}
-
 impl Printer {
-    /// Puts the two digits of a byte.
-    #[tactic(auto, using(crate::proofs::Parts::prints_then))]
-    fn put_pair<K: Sink>(&mut self, sink: &mut K, byte: u8)
-        ensures { Prints (K.taken sink.old) (K.faults sink.old) self.old (K.taken sink.new) (K.faults sink.new) self.new (hex_pair byte) }
-    {
-        self.put_byte(sink, hex_digit(byte / 16));
-        self.put_byte(sink, hex_digit(byte % 16));
-    }
-
-    /// Puts the digits of bytes.
-    #[tactic(auto, using(crate::proofs::Parts::prints_nothing, crate::proofs::Parts::prints_each))]
-    pub fn put_hex<K: Sink>(&mut self, sink: &mut K, bytes: &[u8])
-        ensures { Prints (K.taken sink.old) (K.faults sink.old) self.old (K.taken sink.new) (K.faults sink.new) self.new (hex_of bytes.now) }
-    {
-        for byte in bytes {
-            self.put_pair(sink, *byte);
-        }
-    }
-
     /// Puts a space and a word.
     #[tactic(auto, using(crate::proofs::Parts::prints_then))]
     pub fn put_word<K: Sink>(&mut self, sink: &mut K, word: &[u8])

@@ -10,7 +10,7 @@ use Rattle.dcd_base.specs.Layouts.{Number, Reads, is_byte}
 use Rattle.cci_codec.specs.declared.messages.Request.{Request}
 use Rattle.cci_codec.specs.declared.faults.MessageFault.{MessageFault}
 use Rattle.cci_codec.specs.Messages.{message_fault, request_in, request_fields, ReadsRequest}
-use Rattle.cci_codec.proofs.Fields.{all_bytes}
+use Rattle.dcd_base.proofs.Fields.{all_bytes}
 use Rattle.cci_codec.proofs.Reading.{no_message_fault, request_reads, request_read}
 use Rattle.journal_core.specs.declared.acts.Act.{Act}
 use Rattle.script_codec.specs.declared.script_line.Line.{Line}

@@ -6,7 +6,7 @@ use Rattle.std.specs.Int.{w8}
 use Rattle.std.proofs.lemmas.Bool.{le-ltb}
 use borrow.Author.Tests.{ltb-true, ltb-false, eqb-true}
 use Rattle.dcd_base.specs.Layouts.{Field, Number, is_byte}
-use Rattle.cci_codec.proofs.Fields.{all_bytes}
+use Rattle.dcd_base.proofs.Fields.{all_bytes}
 use Rattle.script_codec.specs.declared.script_line.Line.{Line}
 use Rattle.script_codec.specs.declared.scripts.Script.{Script}
 use Rattle.script_codec.specs.declared.faults.ScriptFault.{ScriptFault}

@@ -6,7 +6,7 @@ use Rattle.std.proofs.lemmas.Bool.{le-leb}
 use Rattle.script_codec.proofs.LineLaws.{both}
 use Rattle.std.specs.Int.{w8, w64}
 use Rattle.dcd_base.specs.Layouts.{Field, Number, Reserved, Reads, FitsField}
-use Rattle.cci_codec.proofs.Fields.{IsOfBytes, spelled_reads, length_of_fields}
+use Rattle.dcd_base.proofs.Fields.{IsOfBytes, spelled_reads, length_of_fields}
 use Rattle.region_config.specs.declared.region_spec.RegionSpec.{RegionSpec}
 use Rattle.journal_core.specs.declared.acts.Act.{Act}
 use Rattle.script_codec.specs.declared.script_line.Line.{Line}
@@ -89,6 +89,7 @@ other_fault ScriptFault.TooLong un = absurd (un (λ e. cc))
 other_fault (ScriptFault.AfterEnd at) un = absurd (un (λ e. cc))
 other_fault (ScriptFault.TooManyLines at) un = absurd (un (λ e. cc))
 other_fault (ScriptFault.BadLanes n) un = absurd (un (λ e. cc))
+other_fault ScriptFault.NotBuilt un = absurd (un (λ e. cc))
 
 pub read_only : (bytes : List ℕ) (r : Result Script ScriptFault) → IsRead bytes r → (script : Script) → ReadsScript bytes script → IsReadAs script r
 read_only bytes (Ok found) is script reads = ok_is found script (sym is ∙ script_is bytes script reads)

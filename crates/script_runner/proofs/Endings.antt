@@ -1,5 +1,5 @@
 -- From how a run of the input ends to how the run of what the source has left ends.
-use Rattle.std.proofs.Common.{◌≡◌, ℕ, ◌<◌, ◌≤◌, true, false, List, Option, Some, None, length, take, refl, sym, ap, subst, ◌∙◌, arith, min}
+use Rattle.std.proofs.Common.{◌≡◌, inl, inr, ℕ, ◌<◌, ◌≤◌, true, false, List, Option, Some, None, length, take, refl, sym, ap, subst, ◌∙◌, arith, min}
 use Rattle.std.proofs.lemmas.List.{length-take, take_all}
 use Rattle.std.specs.Option.{IfSome}
 use Rattle.std.specs.declared.result.Result.{Result}
@@ -7,10 +7,10 @@ use Rattle.std.specs.declared.result.Result.TheVariants.{Ok}
 use Rattle.dcd_base.specs.Streams.{HasRisen, IsAtEnd}
 use Rattle.script_codec.specs.declared.scripts.Script.{Script}
 use Rattle.script_codec.specs.declared.faults.ScriptFault.{ScriptFault}
-use Rattle.script_codec.specs.Reading.{fault_of, first_fault}
+use Rattle.script_codec.specs.Reading.{fault_of}
 use Rattle.script_runner.specs.declared.status.Status.{Status}
 use Rattle.script_runner.specs.Running.{is_built_script}
-use Rattle.script_runner.specs.Planning.{EndsFor, HasUnbuilt, IsBegun, IsBegunFor, IsPlanned, IsPlannedFor, IsSound, IsSoundInput, IsTextOf, IsWritten, IsWrittenFor, most_read}
+use Rattle.script_runner.specs.Planning.{EndsFor, HasUnbuilt, IsBegun, IsBegunFor, IsFaultOf, IsPlanned, IsPlannedFor, IsSound, IsSoundInput, IsTextOf, IsWritten, IsWrittenFor, most_read}
 use Rattle.script_runner.specs.Statuses.{IfWhole, OnDone, OnNothing, OnReadFault, OnUsage, OnWriteFault, UnlessFinished}
 
 -- The input is what was left, up to the most that is read.
@@ -38,7 +38,6 @@ planned : (left : Option (List ℕ)) (input : List ℕ) (status : Status) (print
 planned left input Status.Done printed is p = (refl, all_along left input printed is p)
 planned left input Status.Usage printed is p = absurd p
 planned left input (Status.ScriptRefused fault) printed is p = (refl, along left input (λ i. IsPlannedFor i (Status.ScriptRefused fault) printed) is p)
-planned left input Status.NotBuilt printed is p = (refl, along left input (λ i. IsPlannedFor i Status.NotBuilt printed) is p)
 planned left input Status.NoMemory printed is p = absurd p
 planned left input Status.ReadFault printed is p = absurd p
 planned left input Status.WriteFault printed is p = absurd p
@@ -52,7 +51,6 @@ pub whole : (left : Option (List ℕ)) (input : List ℕ) (old new : Option (Lis
 whole left input old new faults count Status.Done is ends = written_from left input old new Status.Done is ends.0
 whole left input old new faults count Status.Usage is ends = absurd ends
 whole left input old new faults count (Status.ScriptRefused fault) is ends = written_from left input old new (Status.ScriptRefused fault) is ends
-whole left input old new faults count Status.NotBuilt is ends = written_from left input old new Status.NotBuilt is ends
 whole left input old new faults count Status.NoMemory is ends = tt
 whole left input old new faults count Status.ReadFault is ends = tt
 whole left input old new faults count Status.WriteFault is ends = tt
@@ -71,7 +69,6 @@ pub begun : (left : Option (List ℕ)) (input : List ℕ) (old new : Option (Lis
 begun left input old new faults count Status.Done is ends = tt
 begun left input old new faults count Status.Usage is ends = tt
 begun left input old new faults count (Status.ScriptRefused fault) is ends = tt
-begun left input old new faults count Status.NotBuilt is ends = tt
 begun left input old new faults count Status.NoMemory is ends = tt
 begun left input old new faults count Status.ReadFault is ends = tt
 begun left input old new faults count Status.WriteFault is ends = begun_from left input old new is ends.0
@@ -81,7 +78,6 @@ pub nothing : (input : List ℕ) (old new : Option (List ℕ)) (faults count : �
 nothing input old new faults count Status.Done ends = tt
 nothing input old new faults count Status.Usage ends = tt
 nothing input old new faults count (Status.ScriptRefused fault) ends = tt
-nothing input old new faults count Status.NotBuilt ends = tt
 nothing input old new faults count Status.NoMemory ends = ends
 nothing input old new faults count Status.ReadFault ends = absurd ends
 nothing input old new faults count Status.WriteFault ends = tt
@@ -91,7 +87,6 @@ pub to_the_end : (left : Option (List ℕ)) (input : List ℕ) (old new : Option
 to_the_end left input old new faults count Status.Done end ends = end (omega (arith, ends.1))
 to_the_end left input old new faults count Status.Usage end ends = tt
 to_the_end left input old new faults count (Status.ScriptRefused fault) end ends = tt
-to_the_end left input old new faults count Status.NotBuilt end ends = tt
 to_the_end left input old new faults count Status.NoMemory end ends = tt
 to_the_end left input old new faults count Status.ReadFault end ends = tt
 to_the_end left input old new faults count Status.WriteFault end ends = tt
@@ -101,7 +96,6 @@ pub no_usage : (input : List ℕ) (old new : Option (List ℕ)) (faults count : 
 no_usage input old new faults count Status.Done ends = tt
 no_usage input old new faults count Status.Usage ends = ends
 no_usage input old new faults count (Status.ScriptRefused fault) ends = tt
-no_usage input old new faults count Status.NotBuilt ends = tt
 no_usage input old new faults count Status.NoMemory ends = tt
 no_usage input old new faults count Status.ReadFault ends = tt
 no_usage input old new faults count Status.WriteFault ends = tt
@@ -111,7 +105,6 @@ pub no_read_fault : (P : Type 0) (input : List ℕ) (old new : Option (List ℕ)
 no_read_fault P input old new faults count Status.Done ends = tt
 no_read_fault P input old new faults count Status.Usage ends = tt
 no_read_fault P input old new faults count (Status.ScriptRefused fault) ends = tt
-no_read_fault P input old new faults count Status.NotBuilt ends = tt
 no_read_fault P input old new faults count Status.NoMemory ends = tt
 no_read_fault P input old new faults count Status.ReadFault ends = absurd ends
 no_read_fault P input old new faults count Status.WriteFault ends = tt
@@ -121,7 +114,6 @@ pub write_fault : (input : List ℕ) (old new : Option (List ℕ)) (faults count
 write_fault input old new faults count Status.Done ends = tt
 write_fault input old new faults count Status.Usage ends = tt
 write_fault input old new faults count (Status.ScriptRefused fault) ends = tt
-write_fault input old new faults count Status.NotBuilt ends = tt
 write_fault input old new faults count Status.NoMemory ends = tt
 write_fault input old new faults count Status.ReadFault ends = tt
 write_fault input old new faults count Status.WriteFault ends = ends.1
@@ -141,19 +133,19 @@ one_script s t e = cc
 never : true ≡ false → ⊥
 never e = cc
 
-refused_yet : (input : List ℕ) (writes : ℕ × ℕ) (fault : ScriptFault) → first_fault input ≡ Some fault → IsSoundInput input writes → ⊥
-refused_yet input writes fault e sound = no_fault fault (sym (ap fault_of sound.reads) ∙ e)
-
 unbuilt_yet : (input : List ℕ) (writes : ℕ × ℕ) → HasUnbuilt input → IsSoundInput input writes → ⊥
 unbuilt_yet input writes u sound =
     never (sym sound.built ∙ ap is_built_script (one_script sound.script u.script (sym sound.reads ∙ u.reads)) ∙ u.unbuilt)
+
+refused_yet : (input : List ℕ) (writes : ℕ × ℕ) (fault : ScriptFault) → IsFaultOf input fault → IsSoundInput input writes → ⊥
+refused_yet input writes fault (inl e) sound = no_fault fault (sym (ap fault_of sound.reads) ∙ e)
+refused_yet input writes fault (inr u) sound = unbuilt_yet input writes u.0 sound
 
 incomplete : (input : List ℕ) (old new : Option (List ℕ)) (faults count : ℕ) (status : Status) → EndsFor input old faults new count status
     → UnlessFinished status (¬ IsSoundInput input (faults, count))
 incomplete input old new faults count Status.Done ends = tt
 incomplete input old new faults count Status.Usage ends = absurd ends
 incomplete input old new faults count (Status.ScriptRefused fault) ends = λ sound. refused_yet input (faults, count) fault ends.planned.0 sound
-incomplete input old new faults count Status.NotBuilt ends = λ sound. unbuilt_yet input (faults, count) ends.planned.0 sound
 incomplete input old new faults count Status.NoMemory ends = tt
 incomplete input old new faults count Status.ReadFault ends = absurd ends
 incomplete input old new faults count Status.WriteFault ends = λ sound. sound.no_write_fault ends.1
@@ -167,7 +159,6 @@ lifted : {P Q : Type 0} (status : Status) → (Q → P) → UnlessFinished statu
 lifted Status.Done f unsound = tt
 lifted Status.Usage f unsound = λ q. unsound (f q)
 lifted (Status.ScriptRefused fault) f unsound = λ q. unsound (f q)
-lifted Status.NotBuilt f unsound = λ q. unsound (f q)
 lifted Status.NoMemory f unsound = tt
 lifted Status.ReadFault f unsound = λ q. unsound (f q)
 lifted Status.WriteFault f unsound = λ q. unsound (f q)

@@ -1,9 +1,12 @@
 -- One more line of a serial run, and the whole of it.
-use Rattle.std.proofs.Common.{◌≡◌, ℕ, ◌+◌, ◌-◌, ◌<◌, ◌≤◌, cond, List, [], ◌∷◌, ◌++◌, length, take, count_by, Some, refl, sym, ap, subst, ◌∙◌, arith, zero-add}
+use Rattle.std.proofs.Common.{◌≡◌, Bool, true, ◌&&◌, ℕ, ◌+◌, ◌-◌, ◌<◌, ◌≤◌, cond, List, [], ◌∷◌, ◌++◌, length, take, count_by, Some, refl, sym, ap, subst, ◌∙◌, arith, zero-add}
 use Rattle.std.specs.Prelude.{slice_get}
-use Rattle.std.specs.List.{AllByRecursion}
+use Rattle.std.specs.List.{AllByRecursion, list_all}
 use Rattle.std.proofs.Common.{get_or}
-use Rattle.std.proofs.lemmas.List.{length_push, take_all, take_more}
+use Rattle.std.proofs.lemmas.Bool.{and_parts}
+use Rattle.std.proofs.lemmas.List.{append_assoc, length-append, length_push, take_all, take_more}
+use Rattle.std.proofs.lemmas.List.Folds.{list_all-append}
+use Rattle.std.proofs.Math.Seq.{get_or-append_seam}
 use Rattle.std.proofs.lemmas.List.Elements.{All-push}
 use Rattle.std.proofs.lemmas.Option.{slice_get_read}
 use Rattle.std.proofs.lemmas.List.Quantifiers.{all_pairs_push}
@@ -91,3 +94,26 @@ front_end s journal count past front = record {
   lines = front.lines;
   order = λ i j d less under same. front.rising i j d less under;
 }
+
+-- ---- a list of which some items are done, one is at hand, and others are left
+
+pub item_at : (lines done rest : List Line) (l : Line) → lines ≡ done ++ l ∷ rest → l ≡ get_or lines (length done) l
+item_at lines done rest l parts = sym (get_or-append_seam done l rest l) ∙ ap (λ xs. get_or xs (length done) l) (sym parts)
+
+pub item_within : (lines done rest : List Line) (l : Line) → lines ≡ done ++ l ∷ rest → length done < length lines
+item_within lines done rest l parts = omega (arith, ap length parts, length-append done (l ∷ rest))
+
+pub item_passes : (p : Line → Bool) (lines done rest : List Line) (l : Line) → lines ≡ done ++ l ∷ rest → list_all p lines ≡ true → p l ≡ true
+item_passes p lines done rest l parts all =
+    let both : (list_all p done && list_all p (l ∷ rest)) ≡ true = sym (list_all-append p done (l ∷ rest)) ∙ ap (list_all p) (sym parts) ∙ all in
+    (and_parts (p l) (list_all p rest) (and_parts (list_all p done) (list_all p (l ∷ rest)) both).1).0
+
+pub front_item : (s : Script) (done rest : List Line) (l : Line) (number : ℕ) (old new : List Entry) → s.lines ≡ done ++ l ∷ rest → number ≡ length done
+    → CoversFront s (length done) old → RunsLine s.config.hosts s.lanes (number + 1) l old new → CoversFront s (length (done ++ l ∷ [])) new
+front_item s done rest l number old new parts counted front ran =
+    let here : RunsLine s.config.hosts s.lanes (length done + 1) l old new = subst (λ n. RunsLine s.config.hosts s.lanes (n + 1) l old new) counted ran in
+    let next : CoversFront s (length done + 1) new = front_line s (length done) l old new (item_within s.lines done rest l parts) (item_at s.lines done rest l parts) front here in
+    subst (λ n. CoversFront s n new) (sym (length_push done l)) next
+
+pub moved_on : (lines done rest rest' : List Line) (l : Line) → lines ≡ done ++ rest → rest ≡ l ∷ rest' → lines ≡ (done ++ l ∷ []) ++ rest'
+moved_on lines done rest rest' l parts step = parts ∙ ap (λ xs. done ++ xs) step ∙ sym (append_assoc done (l ∷ []) rest')

@@ -1,14 +1,15 @@
 -- What is to be written, and what was.
-use Rattle.std.specs.Prelude.{◌≡◌, ℕ, Bool, true, false, IsFalse, ◌≤◌, List, [], ◌∷◌, length, take, Option, Some}
+use Rattle.std.specs.Prelude.{◌≡◌, ◌⊎◌, ℕ, Bool, true, false, IsFalse, ◌≤◌, List, [], ◌∷◌, length, take, Option, Some}
 use Rattle.std.specs.Option.{IfSome}
 use Rattle.std.specs.declared.result.Result.TheVariants.{Ok}
 use Rattle.dcd_base.specs.Streams.{Passes, HasRisen}
 use Rattle.journal_core.specs.declared.entries.Entry.{Entry}
+use Rattle.script_codec.specs.declared.faults.ScriptFault.{ScriptFault}
 use Rattle.script_codec.specs.declared.scripts.Script.{Script}
 use Rattle.script_codec.specs.Reading.{script_in, first_fault}
 use Rattle.script_codec.specs.Scripts.{ReadsScript}
 use Rattle.report.specs.Texts.{text}
-use Rattle.report.specs.Refusals.{refusal_line, usage_line, not_built_line}
+use Rattle.report.specs.Refusals.{refusal_line, usage_line}
 use Rattle.script_runner.specs.declared.status.Status.{Status}
 use Rattle.script_runner.specs.Running.{IsSerialRun, is_built_script}
 
@@ -35,12 +36,15 @@ pub record HasUnbuilt (input : List ℕ) : Type 0 where
   pub reads : script_in input ≡ Ok script
   pub unbuilt : IsFalse (is_built_script script)
 
+-- The input is refused with this: its first fault, or that it is a script with such a line.
+abbrev pub IsFaultOf : List ℕ → ScriptFault → Type 0
+IsFaultOf input fault = (first_fault input ≡ Some fault) ⊎ (HasUnbuilt input × (fault ≡ ScriptFault.NotBuilt))
+
 -- The run of this input is to end so, and to write this text.
 abbrev pub IsPlannedFor : List ℕ → Status → List ℕ → Type 0
 IsPlannedFor input Status.Done printed = IsTextOf input printed
 IsPlannedFor input Status.Usage printed = ⊥
-IsPlannedFor input (Status.ScriptRefused fault) printed = (first_fault input ≡ Some fault) × (printed ≡ refusal_line fault)
-IsPlannedFor input Status.NotBuilt printed = HasUnbuilt input × (printed ≡ not_built_line)
+IsPlannedFor input (Status.ScriptRefused fault) printed = IsFaultOf input fault × (printed ≡ refusal_line fault)
 IsPlannedFor input Status.NoMemory printed = ⊥
 IsPlannedFor input Status.ReadFault printed = ⊥
 IsPlannedFor input Status.WriteFault printed = ⊥
@@ -53,7 +57,6 @@ IsPlanned accepted left Status.Usage printed = (accepted ≡ false) × (printed 
 IsPlanned accepted left Status.Done printed = (accepted ≡ true) × IfSome left (λ all. IsTextOf all printed)
 IsPlanned accepted left (Status.ScriptRefused fault) printed =
     (accepted ≡ true) × IfSome left (λ all. IsPlannedFor (take most_read all) (Status.ScriptRefused fault) printed)
-IsPlanned accepted left Status.NotBuilt printed = (accepted ≡ true) × IfSome left (λ all. IsPlannedFor (take most_read all) Status.NotBuilt printed)
 IsPlanned accepted left Status.NoMemory printed = ⊥
 IsPlanned accepted left Status.ReadFault printed = ⊥
 IsPlanned accepted left Status.WriteFault printed = ⊥
@@ -90,7 +93,6 @@ abbrev pub EndsFor : List ℕ → Option (List ℕ) → ℕ → Option (List ℕ
 EndsFor input old faults new count Status.Done = IsWrittenFor input old new Status.Done × (length input ≤ 16777216)
 EndsFor input old faults new count Status.Usage = ⊥
 EndsFor input old faults new count (Status.ScriptRefused fault) = IsWrittenFor input old new (Status.ScriptRefused fault)
-EndsFor input old faults new count Status.NotBuilt = IsWrittenFor input old new Status.NotBuilt
 EndsFor input old faults new count Status.NoMemory = new ≡ old
 EndsFor input old faults new count Status.ReadFault = ⊥
 EndsFor input old faults new count Status.WriteFault = IsBegunFor input old new × HasRisen faults count

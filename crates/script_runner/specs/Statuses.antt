@@ -7,7 +7,6 @@ abbrev pub number_of : Status → ℕ
 number_of Status.Done = 0
 number_of Status.Usage = 2
 number_of (Status.ScriptRefused fault) = 3
-number_of Status.NotBuilt = 3
 number_of Status.NoMemory = 4
 number_of Status.ReadFault = 5
 number_of Status.WriteFault = 6
@@ -16,7 +15,6 @@ abbrev pub OnDone : Status → Type 0 → Type 0
 OnDone Status.Done P = P
 OnDone Status.Usage P = Unit {0}
 OnDone (Status.ScriptRefused fault) P = Unit {0}
-OnDone Status.NotBuilt P = Unit {0}
 OnDone Status.NoMemory P = Unit {0}
 OnDone Status.ReadFault P = Unit {0}
 OnDone Status.WriteFault P = Unit {0}
@@ -25,7 +23,6 @@ abbrev pub OnUsage : Status → Type 0 → Type 0
 OnUsage Status.Done P = Unit {0}
 OnUsage Status.Usage P = P
 OnUsage (Status.ScriptRefused fault) P = Unit {0}
-OnUsage Status.NotBuilt P = Unit {0}
 OnUsage Status.NoMemory P = Unit {0}
 OnUsage Status.ReadFault P = Unit {0}
 OnUsage Status.WriteFault P = Unit {0}
@@ -34,7 +31,6 @@ abbrev pub OnReadFault : Status → Type 0 → Type 0
 OnReadFault Status.Done P = Unit {0}
 OnReadFault Status.Usage P = Unit {0}
 OnReadFault (Status.ScriptRefused fault) P = Unit {0}
-OnReadFault Status.NotBuilt P = Unit {0}
 OnReadFault Status.NoMemory P = Unit {0}
 OnReadFault Status.ReadFault P = P
 OnReadFault Status.WriteFault P = Unit {0}
@@ -43,7 +39,6 @@ abbrev pub OnWriteFault : Status → Type 0 → Type 0
 OnWriteFault Status.Done P = Unit {0}
 OnWriteFault Status.Usage P = Unit {0}
 OnWriteFault (Status.ScriptRefused fault) P = Unit {0}
-OnWriteFault Status.NotBuilt P = Unit {0}
 OnWriteFault Status.NoMemory P = Unit {0}
 OnWriteFault Status.ReadFault P = Unit {0}
 OnWriteFault Status.WriteFault P = P
@@ -53,7 +48,6 @@ abbrev pub OnNothing : Status → Type 0 → Type 0
 OnNothing Status.Done P = Unit {0}
 OnNothing Status.Usage P = Unit {0}
 OnNothing (Status.ScriptRefused fault) P = Unit {0}
-OnNothing Status.NotBuilt P = Unit {0}
 OnNothing Status.NoMemory P = P
 OnNothing Status.ReadFault P = P
 OnNothing Status.WriteFault P = Unit {0}
@@ -63,7 +57,6 @@ abbrev pub IfWhole : Status → (Status → Type 0) → Type 0
 IfWhole Status.Done P = P Status.Done
 IfWhole Status.Usage P = P Status.Usage
 IfWhole (Status.ScriptRefused fault) P = P (Status.ScriptRefused fault)
-IfWhole Status.NotBuilt P = P Status.NotBuilt
 IfWhole Status.NoMemory P = Unit {0}
 IfWhole Status.ReadFault P = Unit {0}
 IfWhole Status.WriteFault P = Unit {0}
@@ -73,7 +66,6 @@ abbrev pub UnlessFinished : Status → Type 0 → Type 0
 UnlessFinished Status.Done P = Unit {0}
 UnlessFinished Status.Usage P = P
 UnlessFinished (Status.ScriptRefused fault) P = P
-UnlessFinished Status.NotBuilt P = P
 UnlessFinished Status.NoMemory P = Unit {0}
 UnlessFinished Status.ReadFault P = P
 UnlessFinished Status.WriteFault P = P

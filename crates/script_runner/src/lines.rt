@@ -52,18 +52,25 @@ fn run_line(device: &mut Device, lanes: u8, number: u32, line: &Line) -> Result<
     }
 }
 
-/// Does all lines of the script in their order on a fresh device.
-pub(crate) fn run_lines(alloc: Global, script: &Script) -> Result<Device, NoMemory>
-    requires built { IsTrue (is_built_script script.now) }
-    requires few { length script.now.lines ≤ 65536 }
-    ensures config { IfOk result (λ device. device.config ≡ script.now.config) }
-    ensures covers { IfOk result (λ device. Covers device.journal script.now) }
+/// Does all lines of the script in their order on a fresh device. Each line is let go once it is done.
+pub(crate) fn run_lines(alloc: Global, script: Script) -> Result<Device, NoMemory>
+    requires built { IsTrue (is_built_script script) }
+    requires few { length script.lines ≤ 65536 }
+    ensures config { IfOk result (λ device. device.config ≡ script.config) }
+    ensures covers { IfOk result (λ device. Covers device.journal script) }
     ensures rising { IfOk result (λ device. AllPairs (λ (e f : Entry). e.line < f.line) device.journal) }
 {
-    let mut device = Device::new(alloc, script.config.copy()?)?;
-    let lines = script.lines.as_slice();
-    for i in 0..lines.len() {
-        run_line(&mut device, script.lanes, i as u32 + 1, &lines[i])?;
+    let Script {
+        version: _,
+        lanes,
+        config,
+        lines,
+    } = script;
+    let mut device = Device::new(alloc, config)?;
+    let mut number = 0;
+    for line in lines.into_vec() {
+        number += 1;
+        run_line(&mut device, lanes, number, &line)?;
     }
     Ok(device)
 }

@@ -12,10 +12,9 @@ pub enum Status {
     Done,
     /// The words of the command line are refused, and one line says so.
     Usage,
-    /// The input has this fault, and one line says so.
+    /// The input has this fault, or it is a script with a line that the device cannot do by now (`NotBuilt`), and one
+    /// line says so.
     ScriptRefused(ScriptFault),
-    /// A line of the script is a step that the device cannot take by now, and one line says so.
-    NotBuilt,
     /// Memory was wanted and not to be had. Nothing was written.
     NoMemory,
     /// A read failed. Nothing was written.
@@ -32,7 +31,7 @@ impl Status {
         match self {
             Status::Done => 0,
             Status::Usage => 2,
-            Status::ScriptRefused(_) | Status::NotBuilt => 3,
+            Status::ScriptRefused(_) => 3,
             Status::NoMemory => 4,
             Status::ReadFault => 5,
             Status::WriteFault => 6,

@@ -140,7 +140,7 @@ fn a_load_is_not_built(rt: HostRuntime) -> Result<(), Fail> {
         4096,
         &[],
     )?;
-    assert_eq!(rt; status, Status::NotBuilt);
+    assert_eq!(rt; status, Status::ScriptRefused(ScriptFault::NotBuilt));
     assert_eq!(rt; text.as_slice(), b"script refused: 20 at 0\n".as_slice());
     Ok(())
 }

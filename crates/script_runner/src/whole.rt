@@ -11,7 +11,7 @@ use crate::input::{InputFault, fill};
 use crate::lines::{is_built_script, run_lines};
 use crate::status::Status;
 use dcd_base::{Bytes, Failed, NoMemory, Sink, Source};
-use report::{not_built, refusal, render};
+use report::{refusal, render};
 use script_codec::{Script, ScriptFault, read};
 use std::alloc::Global;
 
@@ -42,7 +42,7 @@ fn run_input<K: Sink>(alloc: Global, input: Bytes, sink: &mut K) -> Status
     match script_of(alloc, input) {
         Ok(script) => {
             if is_built_script(&script) {
-                match run_lines(alloc, &script) {
+                match run_lines(alloc, script) {
                     Ok(device) => match render(device.control(), device.journal(), sink) {
                         Ok(()) => Status::Done,
                         Err(Failed) => Status::WriteFault,
@@ -50,8 +50,8 @@ fn run_input<K: Sink>(alloc: Global, input: Bytes, sink: &mut K) -> Status
                     Err(NoMemory) => Status::NoMemory,
                 }
             } else {
-                match not_built(sink) {
-                    Ok(()) => Status::NotBuilt,
+                match refusal(&ScriptFault::NotBuilt, sink) {
+                    Ok(()) => Status::ScriptRefused(ScriptFault::NotBuilt),
                     Err(Failed) => Status::WriteFault,
                 }
             }

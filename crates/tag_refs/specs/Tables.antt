@@ -6,7 +6,7 @@ use Rattle.dcd_base.specs.declared.capacity.Tag.{Tag}
 use Rattle.dcd_base.specs.declared.media.Run.{Run}
 use Rattle.tag_refs.specs.Hosts.{has_host, with_host, without_host}
 use Rattle.tag_refs.specs.declared.entries.TagEntry.{TagEntry}
-use Rattle.tag_refs.specs.declared.views.TagView.{TagView}
+use Rattle.dcd_base.specs.declared.tags.TagView.{TagView}
 
 -- whether there is an entry, and it passes the test
 abbrev pub some_passes : (TagEntry → Bool) → Option TagEntry → Bool

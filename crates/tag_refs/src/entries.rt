@@ -6,8 +6,7 @@ ghost use Rattle.tag_refs.specs.Tables.{is_held_by, is_offered_to, is_used, view
 
 use crate::changes::Change;
 use crate::hosts::{has, with, without};
-use crate::views::TagView;
-use dcd_base::{HostId, NoMemory, RegionId, Runs, Tag};
+use dcd_base::{HostId, NoMemory, RegionId, Runs, Tag, TagView};
 
 /// A live shareable tag: the capacity that it stands for, and who uses it.
 #[derive(Debug, Drop)]

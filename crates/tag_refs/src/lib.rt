@@ -11,9 +11,7 @@ mod hosts;
 mod tables;
 #[cfg(test)]
 mod tests;
-mod views;
 
 pub use entries::TagEntry;
 pub use faults::TagFault;
 pub use tables::Tags;
-pub use views::TagView;

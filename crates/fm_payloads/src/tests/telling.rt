@@ -1,7 +1,7 @@
 //! Replies as bytes.
 
-use crate::{TagView, lists_head, regions_head, write_info, write_tags};
-use dcd_base::{Bytes, Tag};
+use crate::{lists_head, regions_head, write_info, write_tags};
+use dcd_base::{Bytes, Tag, TagView};
 use std::test::Fail;
 
 const TAG: Tag = Tag([1, 2, 3, 4, 5, 6, 7, 8, 9, 10, 11, 12, 13, 14, 15, 16]);

@@ -1,5 +1,5 @@
 use Rattle.std.proofs.Common.{arith}
-use Rattle.cci_codec.proofs.Fields.{all_bytes}
+use Rattle.dcd_base.proofs.Fields.{all_bytes}
 use Rattle.cci_codec.proofs.laws.are_bytes.Goals as goal
 
 pub returns : goal.returns

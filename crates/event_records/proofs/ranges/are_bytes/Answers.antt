@@ -1,5 +1,5 @@
 use Rattle.std.proofs.Common.{arith}
-use Rattle.event_records.proofs.Fields.{all_bytes}
+use Rattle.dcd_base.proofs.Fields.{all_bytes}
 use Rattle.event_records.proofs.ranges.are_bytes.Goals as goal
 
 pub returns : goal.returns

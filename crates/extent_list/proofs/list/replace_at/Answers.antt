@@ -1,7 +1,5 @@
 use Rattle.std.proofs.Common.{sym, ◌∙◌}
-use Rattle.std.proofs.lemmas.List.Elements.{All-same}
-use Rattle.extent_list.specs.Rooms.{IsInAddresses}
-use Rattle.extent_list.proofs.Cutting.{All-cut, cut-at, holds_at, length-cut, replaced}
+use Rattle.extent_list.proofs.Cutting.{cut-at, holds_at, in_addresses_at, length-cut, replaced}
 use Rattle.extent_list.proofs.list.replace_at.Goals as goal
 
 pub upper_piece-upper-requires-clause-begins : goal.upper_piece-upper-requires-clause-begins
@@ -19,5 +17,5 @@ returns-clause-cut c =
     ∙ replaced _ _ _ c.args.index _ _ holds.known c.remove.ensures.items c.put_piece.ensures.put
     ∙ rw (c.lower_piece-lower.ensures, c.upper_piece-upper.ensures) (sym (cut-at _ _ _ _ c.index.result.now c.requires.index c.index.ensures))
 
-pub returns-clause-in_addresses : goal.returns-clause-in_addresses
-returns-clause-in_addresses c = All-same IsInAddresses _ _ (returns-clause-cut c) (All-cut _ _ _ c.requires.in_addresses)
+pub upper_piece-upper-requires-clause-ends : goal.upper_piece-upper-requires-clause-ends
+upper_piece-upper-requires-clause-ends c = in_addresses_at _ _ _ _ c.index.result.now c.requires.index c.index.ensures c.requires.in_addresses

@@ -1,20 +1,63 @@
-use Rattle.std.proofs.Common.{◌≡◌, ◌+◌, ◌<◌, length, ap, subst, ◌∙◌}
-use Rattle.std.proofs.Common.{get_or}
+use Rattle.std.proofs.Common.{◌≡◌, true, ◌+◌, ◌∷◌, ◌++◌, ap, subst, sym, ◌∙◌}
+use Rattle.std.proofs.lemmas.List.{length_push}
 use Rattle.region_config.specs.Configurations.{Configuration}
 use Rattle.script_codec.specs.declared.script_line.Line.{Line}
 use Rattle.script_runner.specs.Fronts.{RunsLine}
-use Rattle.script_runner.proofs.Fronts.{front_line}
+use Rattle.script_runner.specs.Running.{is_built_line}
+use Rattle.script_runner.proofs.Fronts.{front_item, item_passes, moved_on}
 use Rattle.script_runner.proofs.lines.run_lines.Goals as goal
 
-pub loop-i-preserved : goal.loop-i-preserved
-loop-i-preserved c =
-    let line : Line = c.index-lines-i.result in
-    let within : c.loop-i.i < length c.args.script.now.lines = rw c.as_slice-lines.ensures at c.loop-i-test.true in
-    let is : line ≡ get_or c.args.script.now.lines c.loop-i.i line = rw c.as_slice-lines.ensures at c.index-lines-i.is in
-    let hosts : c.loop-i.device.config.hosts ≡ c.args.script.now.config.hosts = ap (λ (k : Configuration). k.hosts) c.loop-i.invariant.config in
-    let ran : RunsLine c.args.script.now.config.hosts c.args.script.now.lanes (c.loop-i.i + 1) line c.loop-i.device.journal c.run_line.new.device.journal =
-    subst (λ n. RunsLine n c.args.script.now.lanes (c.loop-i.i + 1) line c.loop-i.device.journal c.run_line.new.device.journal) hosts c.in_ok-run_line.ensures.ran in
+pub run_line-requires : goal.run_line-requires
+run_line-requires c =
+    let line : Line = c.in-Some.line in
+    let parts : c.args.script.lines ≡ c.loop-line.yielded ++ line ∷ c.next.new.self.rest.items = c.loop-line.invariant.parts ∙ ap (λ xs. c.loop-line.yielded ++ xs) c.in-Some.ensures.steps.0 in
+    let built : is_built_line c.args.script.config.hosts line ≡ true = item_passes (is_built_line c.args.script.config.hosts) c.args.script.lines c.loop-line.yielded c.next.new.self.rest.items line parts c.requires.built in
+    ap (λ (k : Configuration). is_built_line k.hosts line) c.loop-line.invariant.config ∙ built
+
+pub loop-line-preserved : goal.loop-line-preserved
+loop-line-preserved c =
+    let line : Line = c.in-Some.line in
+    let rest = c.next.new.self.rest.items in
+    let step : c.loop-line.line-iterator.rest.items ≡ line ∷ rest = c.in-Some.ensures.steps.0 in
+    let parts : c.args.script.lines ≡ c.loop-line.yielded ++ line ∷ rest = c.loop-line.invariant.parts ∙ ap (λ xs. c.loop-line.yielded ++ xs) step in
+    let hosts : c.loop-line.device.config.hosts ≡ c.args.script.config.hosts = ap (λ (k : Configuration). k.hosts) c.loop-line.invariant.config in
+    let ran : RunsLine c.args.script.config.hosts c.args.script.lanes (c.loop-line.number + 1) line c.loop-line.device.journal c.run_line.new.device.journal =
+    subst (λ n. RunsLine n c.args.script.lanes (c.loop-line.number + 1) line c.loop-line.device.journal c.run_line.new.device.journal) hosts c.in_ok-run_line.ensures.ran in
     record {
-      front = front_line c.args.script.now c.loop-i.i line c.loop-i.device.journal c.run_line.new.device.journal within is c.loop-i.invariant.front ran;
-      config = c.in_ok-run_line.ensures.config ∙ c.loop-i.invariant.config;
+      front = front_item c.args.script c.loop-line.yielded rest line c.loop-line.number c.loop-line.device.journal c.run_line.new.device.journal parts c.loop-line.invariant.number c.loop-line.invariant.front ran;
+      config = c.in_ok-run_line.ensures.config ∙ c.loop-line.invariant.config;
+      number = ap (λ n. n + 1) c.loop-line.invariant.number ∙ sym (length_push c.loop-line.yielded line);
+      parts = moved_on c.args.script.lines c.loop-line.yielded c.loop-line.line-iterator.rest.items rest line c.loop-line.invariant.parts step;
+    }
+
+pub loop-line-preserved-in_ok-run_line : goal.loop-line-preserved-in_ok-run_line
+loop-line-preserved-in_ok-run_line c =
+    let line : Line = c.in-Some.line in
+    let rest = c.next.new.self.rest.items in
+    let step : c.loop-line.line-iterator.rest.items ≡ line ∷ rest = c.in-Some.ensures.steps.0 in
+    let parts : c.args.script.lines ≡ c.loop-line.yielded ++ line ∷ rest = c.loop-line.invariant.parts ∙ ap (λ xs. c.loop-line.yielded ++ xs) step in
+    let hosts : c.loop-line.device.config.hosts ≡ c.args.script.config.hosts = ap (λ (k : Configuration). k.hosts) c.loop-line.invariant.config in
+    let ran : RunsLine c.args.script.config.hosts c.args.script.lanes (c.loop-line.number + 1) line c.loop-line.device.journal c.run_line.new.device.journal =
+    subst (λ n. RunsLine n c.args.script.lanes (c.loop-line.number + 1) line c.loop-line.device.journal c.run_line.new.device.journal) hosts c.in_ok-run_line.ensures.ran in
+    record {
+      front = front_item c.args.script c.loop-line.yielded rest line c.loop-line.number c.loop-line.device.journal c.run_line.new.device.journal parts c.loop-line.invariant.number c.loop-line.invariant.front ran;
+      config = c.in_ok-run_line.ensures.config ∙ c.loop-line.invariant.config;
+      number = ap (λ n. n + 1) c.loop-line.invariant.number ∙ sym (length_push c.loop-line.yielded line);
+      parts = moved_on c.args.script.lines c.loop-line.yielded c.loop-line.line-iterator.rest.items rest line c.loop-line.invariant.parts step;
+    }
+
+pub loop-line-preserved-in_ok-run_line-2 : goal.loop-line-preserved-in_ok-run_line-2
+loop-line-preserved-in_ok-run_line-2 c =
+    let line : Line = c.in-Some.line in
+    let rest = c.next.new.self.rest.items in
+    let step : c.loop-line.line-iterator.rest.items ≡ line ∷ rest = c.in-Some.ensures.steps.0 in
+    let parts : c.args.script.lines ≡ c.loop-line.yielded ++ line ∷ rest = c.loop-line.invariant.parts ∙ ap (λ xs. c.loop-line.yielded ++ xs) step in
+    let hosts : c.loop-line.device.config.hosts ≡ c.args.script.config.hosts = ap (λ (k : Configuration). k.hosts) c.loop-line.invariant.config in
+    let ran : RunsLine c.args.script.config.hosts c.args.script.lanes (c.loop-line.number + 1) line c.loop-line.device.journal c.run_line.new.device.journal =
+    subst (λ n. RunsLine n c.args.script.lanes (c.loop-line.number + 1) line c.loop-line.device.journal c.run_line.new.device.journal) hosts c.in_ok-run_line.ensures.ran in
+    record {
+      front = front_item c.args.script c.loop-line.yielded rest line c.loop-line.number c.loop-line.device.journal c.run_line.new.device.journal parts c.loop-line.invariant.number c.loop-line.invariant.front ran;
+      config = c.in_ok-run_line.ensures.config ∙ c.loop-line.invariant.config;
+      number = ap (λ n. n + 1) c.loop-line.invariant.number ∙ sym (length_push c.loop-line.yielded line);
+      parts = moved_on c.args.script.lines c.loop-line.yielded c.loop-line.line-iterator.rest.items rest line c.loop-line.invariant.parts step;
     }

@@ -1,10 +1,12 @@
-use Rattle.std.proofs.Common.{◌≡◌}
+use Rattle.std.proofs.Common.{◌≡◌, ◌++◌, length}
 use Rattle.script_runner.specs.Fronts.{CoversFront}
 use Rattle.script_runner.proofs.lines.run_lines.Given as goal
 
--- The first lines are done.
-abbrev pub invariant-loop-i : goal.invariant-loop-i
-invariant-loop-i l = record {
-  front : CoversFront l.script l.i l.device.journal;
-  config : l.device.config ≡ l.script.config;
+-- The first lines are done, and the others are left.
+abbrev pub invariant-loop-line : goal.invariant-loop-line
+invariant-loop-line l = record {
+  front : CoversFront l.fn.script (length l.yielded) l.device.journal;
+  config : l.device.config ≡ l.fn.script.config;
+  number : l.number ≡ length l.yielded;
+  parts : l.fn.script.lines ≡ l.yielded ++ l.line-iterator.rest.items;
 }

@@ -1,8 +1,9 @@
-use Rattle.std.proofs.Common.{rules, ◌≡◌, refl, sym, ap, subst, ◌∙◌}
+use Rattle.std.proofs.Common.{inl, inr, rules, ◌≡◌, refl, sym, ap, subst, ◌∙◌}
 use Rattle.region_config.specs.Configurations.{Configuration}
 use Rattle.control_core.specs.Legal.{Legal}
 use Rattle.report.specs.Texts.{text}
-use Rattle.report.specs.Refusals.{refusal_line, not_built_line}
+use Rattle.report.specs.Refusals.{refusal_line}
+use Rattle.script_codec.specs.declared.faults.ScriptFault.{ScriptFault}
 use Rattle.script_runner.specs.declared.status.Status.{Status}
 use Rattle.script_runner.proofs.whole.run_input.Goals as goal
 
@@ -34,20 +35,23 @@ returns-in-Ok-run_lines g c =
 pub returns-in-Ok : goal.returns-in-Ok
 returns-in-Ok g c = (
   record {
-    status = Status.NotBuilt;
-    printed = not_built_line;
-    rest = c.in-Err-not_built.ensures.front.0;
+    status = Status.ScriptRefused ScriptFault.NotBuilt;
+    printed = refusal_line ScriptFault.NotBuilt;
+    rest = c.in-Err-refusal.ensures.front.0;
     planned = (
-      record {
-        script = c.in-Ok.script;
-        reads = c.in-Ok.ensures.cases;
-        unbuilt = sym c.is_built_script.ensures ∙ c.if-is_built_script.false;
-      },
+      inr (
+        record {
+          script = c.in-Ok.script;
+          reads = c.in-Ok.ensures.cases;
+          unbuilt = sym c.is_built_script.ensures ∙ c.if-is_built_script.false;
+        },
+        refl,
+      ),
       refl,
     );
-    took = c.in-Err-not_built.ensures.front.1;
+    took = c.in-Err-refusal.ensures.front.1;
   },
-  c.in-Err-not_built.ensures.failed,
+  c.in-Err-refusal.ensures.failed,
 )
 
 -- A write failed while the line on the fault went out.
@@ -56,9 +60,9 @@ returns g c = (
   record {
     status = Status.ScriptRefused c.in-Err.fault;
     printed = refusal_line c.in-Err.fault;
-    rest = c.in-Err-refusal.ensures.front.0;
-    planned = (search rules, refl);
-    took = c.in-Err-refusal.ensures.front.1;
+    rest = c.in-Err-refusal-2.ensures.front.0;
+    planned = (inl (search rules), refl);
+    took = c.in-Err-refusal-2.ensures.front.1;
   },
-  c.in-Err-refusal.ensures.failed,
+  c.in-Err-refusal-2.ensures.failed,
 )

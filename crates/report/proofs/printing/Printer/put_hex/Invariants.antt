@@ -1,10 +1,13 @@
-use Rattle.std.proofs.Common.{take}
+use Rattle.std.proofs.Common.{◌-◌, length, take}
 use Rattle.report.specs.Texts.{hex_of}
 use Rattle.report.specs.Printing.{Prints}
 use Rattle.report.proofs.printing.Printer.put_hex.Given as goal
 
 -- The digits of the bytes so far are put.
-abbrev pub invariant-loop-byte : goal.invariant-loop-byte
-invariant-loop-byte g l =
+abbrev pub invariant-loop-at : goal.invariant-loop-at
+invariant-loop-at g l =
     Prints (g.K.Sink.taken l.fn.sink) (g.K.Sink.faults l.fn.sink) l.fn.self
-    (g.K.Sink.taken l.sink) (g.K.Sink.faults l.sink) l.self (hex_of (take l.byte-index l.bytes))
+    (g.K.Sink.taken l.sink) (g.K.Sink.faults l.sink) l.self (hex_of (take l.at l.bytes))
+
+abbrev pub decreases-loop-at : goal.decreases-loop-at
+decreases-loop-at g l = length l.bytes - l.at

@@ -1,5 +1,5 @@
 -- Fields of a layout, and bytes that read as them.
-use Rattle.std.proofs.Common.{◌≡◌, ℕ, zero, suc, ◌<◌, true, List, [], ◌∷◌, length, get_or, refl, ap, ◌∙◌, arith, replicate, take_at, drop_at}
+use Rattle.std.proofs.Common.{◌≡◌, ℕ, zero, suc, ◌<◌, true, List, [], ◌∷◌, length, get_or, take, drop, refl, sym, ap, ◌∙◌, arith, replicate, take_at, drop_at, length-append, take-append-drop}
 use Rattle.std.specs.List.{list_all, AllByRecursion}
 use Rattle.std.specs.Int.{byte_at, byte_len, bytes_low_first}
 use Rattle.std.proofs.lemmas.Bool.{lt-ltb}
@@ -17,6 +17,29 @@ all_bytes (x ∷ bytes) small = rw (lt-ltb x 256 (small 0)) (all_bytes bytes (λ
 pub length-replicate : (n : ℕ) → length (replicate n zero) ≡ n
 length-replicate zero = refl
 length-replicate (suc n) = ap suc (length-replicate n)
+
+-- what reads as a field is as long as its spelling
+length_of_field : (piece : List ℕ) (field : Field) → ReadsField piece field → length piece ≡ length (spell field)
+length_of_field piece (Number w n) e = ap length e
+length_of_field piece (Masked mask n) reads = ap length reads.1
+length_of_field piece (Raw n bytes) e = ap length e
+length_of_field piece (Reserved n) e = e ∙ sym (length-replicate n)
+length_of_field piece (Fixed bytes) e = e
+
+pub length_of_fields : (bytes : List ℕ) (fields : List Field) → ReadsFields bytes fields → length bytes ≡ length (spelling fields)
+length_of_fields bytes [] e = ap length e
+length_of_fields bytes (field ∷ fields) reads =
+    let n = length (spell field) in
+    let front = length_of_field (take n bytes) field reads.0 in
+    let rest = length_of_fields (drop n bytes) fields reads.1 in
+    ap length (sym (take-append-drop n bytes)) ∙ length-append (take n bytes) (drop n bytes)
+    ∙ omega (arith, front, rest, length-append (spell field) (spelling fields))
+
+-- two bytes
+pub two_bytes : (x y : ℕ) → x < 256 → y < 256 → IsBytes (x ∷ y ∷ [])
+two_bytes x y p q zero = p
+two_bytes x y p q (suc zero) = q
+two_bytes x y p q (suc (suc i)) = omega arith
 
 -- a field's spelling reads as the field
 field_spelled : (field : Field) → FitsField field → ReadsField (spell field) field

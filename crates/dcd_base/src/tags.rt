@@ -1,15 +1,15 @@
 //! What the Fabric Manager is shown of a tag.
 
-use dcd_base::Tag;
+use crate::capacity::Tag;
 
-/// A live shareable tag (profile).
+/// A live shareable tag as the reply to List Tags shows it (profile).
 #[derive(Clone, Copy, Debug, PartialEq, Eq)]
 pub struct TagView {
     pub tag: Tag,
     /// Bit h stands where host h holds the tag.
     pub holders: u16,
-    /// Bit h stands where an offer of the tag to host h is unanswered.
+    /// Bit h stands where host h is offered the tag.
     pub offered: u16,
-    /// Whether the Fabric Manager has a reference to the tag.
+    /// Whether the manager has a reference to it.
     pub referenced: bool,
 }

@@ -1,0 +1,10 @@
+use Rattle.std.proofs.Common.{◌≡◌, ◌+◌, ◌*◌, ◌++◌, length, take}
+use Rattle.report.specs.Texts.{hex_of}
+use Rattle.report.proofs.digits.write_hex.Given as goal
+
+-- The digits of the bytes so far are written.
+abbrev pub invariant-loop-i : goal.invariant-loop-i
+invariant-loop-i l = record {
+  written : take (l.at + 2 * l.i) l.out ≡ take l.at l.fn.out ++ hex_of (take l.i l.bytes);
+  long : length l.out ≡ length l.fn.out;
+}
