@@ -1,0 +1,2 @@
+mod EachTag
+mod FirstOwner

@@ -1,0 +1,17 @@
+//! The rules that every list of extents in a message has to keep.
+//!
+//! A response, a release, a removal and a prescribed offer each list extents, and share these rules. Each call
+//! answers the first rule that its part of a row breaks, with the index of the extent that breaks it.
+#![tactic(auto)]
+
+mod limits;
+mod owners;
+mod placing;
+mod tags;
+#[cfg(test)]
+mod tests;
+
+pub use limits::{too_many_extents, too_many_listed};
+pub use owners::{is_in, marked, not_whole, shares_address};
+pub use placing::{misplaced, region_at};
+pub use tags::incomplete;

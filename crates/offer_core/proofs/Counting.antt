@@ -1,0 +1,26 @@
+-- How many extents stand in offers.
+use Rattle.std.proofs.Common.{◌≡◌, ◌+◌, ◌≤◌, List, [], ◌∷◌, ◌++◌, length, refl, ap, ◌∙◌, drop, arith}
+use Rattle.std.proofs.lemmas.List.{map-append}
+use Rattle.std.proofs.lemmas.List.Sums.{sum_by-cons, sum_by_push}
+use Rattle.dcd_base.specs.declared.capacity.Extent.{Extent}
+use Rattle.extent_list.specs.ExtentLists.{count_in}
+use Rattle.offer_core.specs.declared.offer.Offer.{Offer}
+use Rattle.offer_core.specs.Offerings.{lists_of, oldest_of}
+
+pub count_in-cons : (xs : List Extent) (later : List (List Extent)) → count_in (xs ∷ later) ≡ length xs + count_in later
+count_in-cons xs later = sum_by-cons (λ (ys : List Extent). length ys) xs later
+
+-- the oldest and the others
+pub count_in-parts : (offers : List (List Extent)) → count_in offers ≡ length (oldest_of offers) + count_in (drop 1 offers)
+count_in-parts [] = refl
+count_in-parts (xs ∷ later) = count_in-cons xs later
+
+-- the offers behind one have no more than it and they
+pub fewer_behind : (offer : Offer) (later : List Offer) → count_in (lists_of later) ≤ count_in (lists_of (offer ∷ later))
+fewer_behind offer later = omega (arith, count_in-cons offer.extents (lists_of later))
+
+-- one more offer
+pub count_in_push : (offers : List Offer) (offer : Offer) → count_in (lists_of (offers ++ offer ∷ [])) ≡ count_in (lists_of offers) + length offer.extents
+count_in_push offers offer =
+    ap count_in (map-append (λ (o : Offer). o.extents) offers (offer ∷ []))
+    ∙ sum_by_push (λ (ys : List Extent). length ys) (lists_of offers) offer.extents

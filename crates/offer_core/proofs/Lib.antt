@@ -1,0 +1,5 @@
+pub mod Completeness
+pub mod Counting
+pub mod Missing
+pub mod NoOffer
+pub mod Owners

@@ -1,0 +1,44 @@
+-- Responses that list extents of the oldest offer whole and in order.
+use Rattle.std.specs.Prelude.{◌≡◌, ◌⊎◌, ℕ, ◌<◌, Bool, false, List, [], ◌∷◌, IsFalse, IsTrue, All, AllPairs, length}
+use Rattle.dcd_base.specs.declared.capacity.Extent.{Extent}
+use Rattle.dcd_base.specs.declared.ids.HostId.{HostId}
+use Rattle.extent_list.specs.ExtentLists.{overlaps}
+use Rattle.list_rules.specs.Listing.{is_aligned, lies_in_region}
+use Rattle.offer_core.specs.declared.offer.Offer.{Offer}
+use Rattle.offer_core.specs.Offerings.{Offering}
+use Rattle.region_config.specs.Configurations.{Configuration}
+use Rattle.region_config.specs.Granules.{region_spec}
+
+-- The addresses are the same; tags and sequences are not read.
+pub record SameAddresses (x y : Extent) : Type 0 where
+  pub start : x.start ≡ y.start
+  pub length : x.length ≡ y.length
+
+-- The first list is some of the second, in order and each at most once; Is says what makes two the same.
+pub data AreSome (Is : Extent → Extent → Type 0) : List Extent → List Extent → Type 0 where
+  none : AreSome Is [] []
+  taken : {x y : Extent} {xs ys : List Extent} → Is x y → AreSome Is xs ys → AreSome Is (x ∷ xs) (y ∷ ys)
+  left : {y : Extent} {xs ys : List Extent} → AreSome Is xs ys → AreSome Is xs (y ∷ ys)
+
+-- An extent of some bytes in the region, made of its blocks.
+pub record IsSoundIn (c : Configuration) (h : HostId) (r : ℕ) (x : Extent) : Type 0 where
+  pub some : 0 < x.length
+  pub within : IsTrue (lies_in_region c h r x)
+  pub aligned : IsTrue (is_aligned c h r x)
+
+-- An offer of sound extents that share no address.
+pub record IsSoundOffer (c : Configuration) (h : HostId) (offer : Offer) : Type 0 where
+  pub each : All (IsSoundIn c h offer.region) offer.extents
+  pub apart : AllPairs (λ x y. IsFalse (overlaps x y)) offer.extents
+
+-- The response is one message and lists extents of the oldest offer whole, in order and each at most once; where
+-- the region is shareable, all of them or none.
+pub record IsInOrder (c : Configuration) (h : HostId) (old : Offering) (more : Bool) (list : List Extent) : Type 0 where
+  pub offer : Offer
+  pub later : List Offer
+  pub oldest : old.offers ≡ offer ∷ later
+  pub sound : IsSoundOffer c h offer
+  pub alone : old.held ≡ []
+  pub last : more ≡ false
+  pub some : AreSome SameAddresses list offer.extents
+  pub shared : IsTrue (region_spec c offer.region).shareable → (list ≡ []) ⊎ (length list ≡ length offer.extents)

@@ -1,0 +1,4 @@
+pub mod Answers
+pub mod InOrder
+pub mod Offerings
+pub mod Responses

@@ -1,0 +1,20 @@
+-- What a host is offered, and what it has answered so far.
+use Rattle.std.specs.Prelude.{ℕ, List, [], ◌∷◌, map}
+use Rattle.dcd_base.specs.declared.capacity.Extent.{Extent}
+use Rattle.offer_core.specs.declared.offer.Offer.{Offer}
+
+-- The unanswered offers, the oldest first; the extents of the responses so far that have More set; and how many
+-- more offers there is memory for.
+pub record Offering : Type 0 where
+  pub offers : List Offer
+  pub held : List Extent
+  pub spare : ℕ
+
+-- the extents of each offer
+abbrev pub lists_of : List Offer → List (List Extent)
+lists_of offers = map (λ (offer : Offer). offer.extents) offers
+
+-- the extents of the oldest offer; none where there is no offer
+abbrev pub oldest_of : List (List Extent) → List Extent
+oldest_of [] = []
+oldest_of (offer ∷ later) = offer

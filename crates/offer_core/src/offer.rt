@@ -1,0 +1,24 @@
+//! An offer.
+
+ghost use Rattle.std.specs.Prelude.{◌≡◌, IfOk};
+
+use dcd_base::{Extents, NoMemory, RegionId};
+
+/// Extents of one region that a host may accept, in the order in which they were chosen.
+#[derive(Debug, Drop)]
+pub struct Offer {
+    pub region: RegionId,
+    pub extents: Extents,
+}
+
+impl Offer {
+    /// An equal offer of its own.
+    pub fn copy(&self) -> Result<Offer, NoMemory>
+        ensures { IfOk result (λ copy. copy ≡ self.now) }
+    {
+        Ok(Offer {
+            region: self.region,
+            extents: self.extents.copy()?,
+        })
+    }
+}

@@ -1,0 +1,98 @@
+//! What a response does to the offers.
+
+ghost use Rattle.dcd_codes.specs.Rules.{ByRow};
+ghost use Rattle.extent_list.specs.ExtentLists.{count_in, marked};
+ghost use Rattle.offer_core.specs.Answers.{Leaves, NeverBroken, Responds};
+ghost use Rattle.offer_core.specs.InOrder.{IsInOrder};
+ghost use Rattle.offer_core.specs.Offerings.{lists_of, oldest_of};
+ghost use Rattle.offer_core.specs.Responses.{respond_rule};
+ghost use Rattle.std.specs.Prelude.{◌≡◌, ◌++◌, ◌+◌, ◌<◌, ◌≤◌, [], IfOk, OnErr, false, map};
+
+use crate::answered::Answered;
+use crate::offers::Offers;
+use crate::row::broken_rule;
+use dcd_base::{Extent, Extents, HostId, NoMemory};
+use dcd_codes::Refusal;
+use list_rules::marked;
+use region_config::Config;
+use std::alloc::{AllocError, Global};
+
+impl Offers {
+    /// The host's response to its oldest offer (CXL 3.1, 8.2.9.9.9.3): this list of a message behind the held one,
+    /// and whether more messages are to follow.
+    ///
+    /// `accepted` is the number of extents that the host has accepted; with those of all offers they are at most 64.
+    /// The list is of the host's addresses, in bytes; the tags and sequences in it are not read. `Broken(rule)` names
+    /// the first broken rule of the row: the held list is let go then, and nothing else changes. At `NoMemory`
+    /// nothing changes. A response in one message that lists extents of the oldest offer whole, in order and each at
+    /// most once, and in a shareable region all of them or none, is never `Broken`.
+    pub fn respond(
+        &mut self,
+        config: &Config,
+        host: HostId,
+        accepted: usize,
+        list: &Extents,
+        more: bool,
+    ) -> Result<Answered, Refusal>
+        requires host { host < config.now.hosts }
+        requires few { accepted + count_in (lists_of self.old.offers) ≤ 64 }
+        ensures answer { ByRow
+            (respond_rule config.now host accepted (lists_of self.old.offers) self.old.held more list.now)
+            (Responds self.old more list.now self.new)
+            result }
+        ensures left { Leaves self.old self.new result }
+        ensures complete { NeverBroken result (IsInOrder config.now host self.old more list.now) }
+        ensures fewer { count_in (lists_of self.new.offers) ≤ count_in (lists_of self.old.offers) }
+        ensures spare { self.old.spare ≤ self.new.spare }
+    {
+        // That regions lie apart, which a configuration says of itself where it is read, is what `complete` rests on.
+        let _regions = config.regions();
+        match broken_rule(config, host, accepted, self, list.as_slice(), more)? {
+            Some(rule) => {
+                self.drop_held();
+                Err(Refusal::Broken(rule))
+            }
+            None => Ok(self.take(list, more)?),
+        }
+    }
+
+    /// Does what a response says that breaks no rule: where there is no offer, its whole list is empty.
+    #[tactic(auto, using(crate::proofs::Counting::fewer_behind))]
+    fn take(&mut self, list: &Extents, more: bool) -> Result<Answered, NoMemory>
+        requires offered { more ≡ false → self.old.offers ≡ [] → self.old.held ++ list.now ≡ [] }
+        ensures done { IfOk result (λ answered. Responds self.old more list.now self.new answered) }
+        ensures kept { OnErr result (self.new ≡ self.old) }
+        ensures fewer { count_in (lists_of self.new.offers) ≤ count_in (lists_of self.old.offers) }
+        ensures spare { self.old.spare ≤ self.new.spare }
+    {
+        if more {
+            self.held.extend_from_slice(list.as_slice())?;
+            return Ok(Answered::Held);
+        }
+        let alloc = self.held.allocator();
+        let accepted = marked_all(alloc, self.oldest(), self.held.as_slice(), list.as_slice())?;
+        let accepted = Extents::from_vec(alloc, accepted);
+        self.held.clear();
+        match self.waiting.pop_front() {
+            Some(offer) => Ok(Answered::Done { offer, accepted }),
+            None => Ok(Answered::Nothing),
+        }
+    }
+}
+
+/// The held list and then the other one, each extent with the tag and the sequence of the offered extent in which it
+/// lies.
+fn marked_all(
+    alloc: Global,
+    offered: &[Extent],
+    held: &[Extent],
+    list: &[Extent],
+) -> Result<Vec<Extent>, AllocError>
+    ensures { IfOk result (λ accepted.
+        accepted.items ≡ map (marked offered.now) (held.now ++ list.now)) }
+{
+    held.iter()
+        .chain(list.iter())
+        .map(|extent| marked(offered, extent))
+        .collect(alloc)
+}

@@ -1,0 +1,45 @@
+-- The rules of the extents of a list that are to leave their host. The configuration is the one with the present blocks.
+use Rattle.std.specs.Prelude.{ℕ, ◌+◌, ◌^◌, ◌<◌, IsTrue, not, List, length, take, slice_index_or, Option}
+use Rattle.std.specs.List.{list_all}
+use Rattle.dcd_base.specs.declared.capacity.Extent.{Extent}
+use Rattle.dcd_base.specs.declared.ids.HostId.{HostId}
+use Rattle.dcd_base.specs.Words.{◌or◌}
+use Rattle.dcd_codes.specs.declared.rules.Rule.{Rule}
+use Rattle.dcd_codes.specs.Rules.{◌breaks◌, each_in}
+use Rattle.extent_list.specs.ExtentLists.{cut_all, is_in, overlaps}
+use Rattle.list_rules.specs.Listing.{incomplete, misplaced, not_whole, overlapping}
+use Rattle.media_map.specs.Places.{region_at}
+use Rattle.region_config.specs.Configurations.{Configuration}
+use Rattle.release_core.specs.declared.leaving.Within.{Within}
+
+-- the region in which an extent has to lie: the one that the command names, or else the one that has its first address
+abbrev pub region_for : Configuration → HostId → Within → Extent → ℕ
+region_for c h Within.AnyRegion x = region_at c h x.start
+region_for c h (Within.Region r) x = r
+
+-- an extent that is to leave, beside those before it
+abbrev pub leaving_rule : Configuration → HostId → List Extent → Within → List Extent → Extent → Option Rule
+leaving_rule c h accepted bounds before x =
+    misplaced c h (region_for c h bounds x) (length before) x
+    or not (is_in accepted x) breaks Rule.NotAccepted (length before)
+    or overlapping before x
+    or not_whole c h accepted (length before) x
+
+-- all of the list, extent by extent and then tag by tag
+abbrev pub list_rule : Configuration → HostId → List Extent → Within → List Extent → Option Rule
+list_rule c h accepted bounds list = each_in list (leaving_rule c h accepted bounds) or incomplete c h accepted list
+
+-- how many extents the host has, accepted and offered, once those of the list have left
+abbrev pub count_after : List Extent → ℕ → List Extent → ℕ
+count_after accepted offered list = length (cut_all list accepted) + offered
+
+-- The extent can leave: it lies in an accepted one, ends at an address, and shares no address with those before it.
+pub record CanLeave (accepted before : List Extent) (x : Extent) : Type 0 where
+  pub some : 0 < x.length
+  pub ends : x.start + x.length < 2 ^ 64
+  pub inside : IsTrue (is_in accepted x)
+  pub apart : IsTrue (list_all (λ y. not (overlaps x y)) before)
+
+-- Each extent of the list can leave when its turn comes.
+pub record AllCanLeave (accepted list : List Extent) : Type 0 where
+  pub each : (i : ℕ) (d : Extent) → i < length list → CanLeave accepted (take i list) (slice_index_or list i d)

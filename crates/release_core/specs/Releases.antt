@@ -1,0 +1,33 @@
+-- A Release Dynamic Capacity: its row, and what it does to the held list.
+use Rattle.std.specs.Prelude.{◌≡◌, ◌≢◌, ℕ, Bool, true, false, not, List, [], map, Option}
+use Rattle.std.specs.declared.result.Result.{Result}
+use Rattle.std.specs.declared.result.Result.TheVariants.{Ok, Err}
+use Rattle.dcd_base.specs.declared.capacity.Extent.{Extent}
+use Rattle.dcd_base.specs.declared.ids.HostId.{HostId}
+use Rattle.dcd_base.specs.Words.{◌or◌, where_true}
+use Rattle.dcd_codes.specs.declared.refusals.Refusal.{Refusal}
+use Rattle.dcd_codes.specs.declared.rules.Rule.{Rule}
+use Rattle.extent_list.specs.ExtentLists.{marked}
+use Rattle.list_rules.specs.Listing.{too_many_extents, too_many_listed}
+use Rattle.region_config.specs.Configurations.{Configuration}
+use Rattle.release_core.specs.declared.leaving.Within.{Within}
+use Rattle.release_core.specs.declared.releases.GivenBack.{GivenBack}
+use Rattle.release_core.specs.Leaving.{count_after, list_rule}
+
+-- the row; the whole list is the held one and then the message's, and so many extents are offered
+abbrev pub give_back_rule : Configuration → HostId → List Extent → ℕ → List Extent → Bool → Option Rule
+give_back_rule c h accepted offered whole more =
+    too_many_listed whole
+    or where_true (not more) (list_rule c h accepted Within.AnyRegion whole or too_many_extents (count_after accepted offered whole))
+
+-- What a release that breaks no rule answers, and what is held after it.
+abbrev pub GivesBack : List Extent → List Extent → Bool → List Extent → GivenBack → Type 0
+GivesBack accepted whole more held GivenBack.Held = (more ≡ true) × (held ≡ whole)
+GivesBack accepted whole more held GivenBack.Nothing = (more ≡ false) × (whole ≡ []) × (held ≡ [])
+GivesBack accepted whole more held (GivenBack.Done leaving) = (more ≡ false) × (whole ≢ []) × (leaving ≡ map (marked accepted) whole) × (held ≡ [])
+
+-- A broken rule empties the held list; without memory it stays as it was.
+abbrev pub KeepsHeld : List Extent → List Extent → Result GivenBack Refusal → Type 0
+KeepsHeld old new (Ok given) = Unit {0}
+KeepsHeld old new (Err (Refusal.Broken rule)) = new ≡ []
+KeepsHeld old new (Err Refusal.NoMemory) = new ≡ old

@@ -1,0 +1,32 @@
+-- An Initiate Dynamic Capacity Release: the rows of its two policies.
+use Rattle.std.specs.Prelude.{ℕ, Bool, not, nat_le, List, filter, length, Option}
+use Rattle.dcd_base.specs.declared.capacity.Extent.{Extent}
+use Rattle.dcd_base.specs.declared.capacity.Tag.{Tag}
+use Rattle.dcd_base.specs.declared.ids.HostId.{HostId}
+use Rattle.dcd_base.specs.Words.{◌or◌, is_empty, is_zero_tag, same_tag, where_true}
+use Rattle.dcd_codes.specs.declared.rules.Rule.{Rule}
+use Rattle.dcd_codes.specs.Rules.{◌breaks◌}
+use Rattle.extent_list.specs.ExtentLists.{has_extent_of}
+use Rattle.list_rules.specs.Listing.{too_many_extents, too_many_listed}
+use Rattle.region_config.specs.Configurations.{Configuration}
+use Rattle.release_core.specs.declared.leaving.Within.{Within}
+use Rattle.release_core.specs.Leaving.{count_after, list_rule}
+
+-- by tag
+abbrev pub by_tag_rule : List Extent → Tag → Option Rule
+by_tag_rule accepted tag =
+    is_zero_tag tag breaks Rule.ZeroTag
+    or not (has_extent_of tag accepted) breaks Rule.NoSuchTag
+
+-- the extents that have the tag
+abbrev pub tagged : Tag → List Extent → List Extent
+tagged tag xs = filter (λ x. same_tag x.tag tag) xs
+
+-- prescriptive; so many extents are offered
+abbrev pub listed_rule : Configuration → HostId → List Extent → ℕ → ℕ → List Extent → Bool → Option Rule
+listed_rule c h accepted offered r list forced =
+    nat_le (length c.regions) r breaks Rule.NoSuchRegion r
+    or is_empty list breaks Rule.EmptyList
+    or too_many_listed list
+    or list_rule c h accepted (Within.Region r) list
+    or where_true forced (too_many_extents (count_after accepted offered list))

@@ -1,0 +1,176 @@
+//! What a host gives back, in one message or in several.
+
+ghost use Rattle.dcd_codes.specs.Rules.{ByRow};
+ghost use Rattle.release_core.specs.Releases.{GivesBack, KeepsHeld, give_back_rule};
+ghost use Rattle.std.specs.Prelude.{◌≡◌, ◌++◌, ◌+◌, ◌<◌, ◌≤◌, [], IfOk, Option, length};
+
+use crate::counting::count_rule;
+use crate::leaving::{Within, list_rule};
+use crate::marking::marked_list;
+use dcd_base::{Extent, Extents, HostId, NoMemory};
+use dcd_codes::{Refusal, Rule};
+use extent_list::ExtentList;
+use list_rules::too_many_listed;
+use region_config::Config;
+use std::alloc::Global;
+use std::marker::Model;
+
+/// What a Release Dynamic Capacity does that breaks no rule.
+#[derive(Debug, Drop)]
+pub enum GivenBack {
+    /// More is to come: the extents of the message are held.
+    Held,
+    /// Nothing is given back.
+    Nothing,
+    /// These extents leave the host, in the order in which it listed them.
+    Done(Extents),
+}
+
+/// The extents that one host has listed in Release Dynamic Capacity commands with the More flag.
+#[derive(Debug, Drop)]
+pub struct Releases {
+    listed: Extents,
+}
+
+impl Model for Releases {
+    ghost use Rattle.std.specs.Prelude.{List};
+    ghost use Rattle.dcd_base.specs.declared.capacity.Extent.{Extent};
+
+    ghost Value = { List Extent };
+
+    ghost view = { λ releases. releases.listed };
+}
+
+impl Releases {
+    /// Nothing is held. It takes no memory.
+    pub fn new(alloc: Global) -> Releases
+        ensures { result ≡ [] }
+    {
+        Releases {
+            listed: Extents::new(alloc),
+        }
+    }
+
+    /// The same list for itself.
+    pub fn copy(&self) -> Result<Releases, NoMemory>
+        ensures { IfOk result (λ copy. copy ≡ self.now) }
+    {
+        Ok(Releases {
+            listed: self.listed.copy()?,
+        })
+    }
+
+    /// The extents held so far, in the order in which they were listed.
+    pub fn held(&self) -> &Extents
+        ensures { result.now ≡ self.now }
+    {
+        &self.listed
+    }
+
+    /// Holds nothing any more, as after a command whose payload can not be read.
+    pub fn drop_held(&mut self)
+        ensures { self.new ≡ [] }
+    {
+        self.listed.clear();
+    }
+
+    /// Reads a Release Dynamic Capacity of the host (4803h, CXL 3.1, 8.2.9.9.9.4): its list of extents and its More
+    /// flag.
+    ///
+    /// The whole list is the held one and then the message's, and indices count through both. `Broken` comes with
+    /// the first of these rules that it breaks (order: profile):
+    ///
+    /// 1. `TooManyListed(n)`: the whole list has n extents, above 64. With `more` nothing further is tried.
+    /// 2. For each extent in order: `ZeroLength`; `OutsideRegion`, where it is not within one region of the host;
+    ///    `Unaligned`; `NotAccepted`, where it lies in no accepted extent; `Overlap` with the first earlier extent
+    ///    with which it shares an address; `NotWhole`, where its region is shareable and it is a part.
+    /// 3. `TagIncomplete`, for the first tag of a shareable region of which not all accepted extents are listed.
+    /// 4. `TooManyExtents(n)`: without the whole list the host has n extents, accepted and offered, above 64.
+    ///
+    /// `Held` comes exactly where no rule is broken and `more` is set, and the whole list is held from then on;
+    /// `Nothing` where it is not set and the whole list is empty; else `Done` with the whole list, each extent with
+    /// the tag and the sequence of the accepted one in which it lies. After these two and after `Broken` nothing is
+    /// held. Without memory the held list stays. `offered` is how many extents the host is offered.
+    pub fn release(
+        &mut self,
+        config: &Config,
+        host: HostId,
+        accepted: &ExtentList,
+        offered: usize,
+        list: &Extents,
+        more: bool,
+    ) -> Result<GivenBack, Refusal>
+        requires host { host < config.now.hosts }
+        requires few { length accepted.now.extents + offered ≤ 64 }
+        ensures answer { ByRow (give_back_rule config.now host accepted.now.extents offered (self.old ++ list.now) more) (GivesBack accepted.now.extents (self.old ++ list.now) more self.new) result }
+        ensures refused { KeepsHeld self.old self.new result }
+    {
+        let whole = self.followed_by(list)?;
+        let rule = give_back_rule(config, host, accepted, offered, &whole, more)?;
+        match rule {
+            Some(rule) => {
+                self.listed.clear();
+                Err(Refusal::Broken(rule))
+            }
+            None => self.give_back(accepted.as_slice(), whole, more),
+        }
+    }
+
+    /// The held list and then the message's.
+    fn followed_by(&self, list: &Extents) -> Result<Extents, NoMemory>
+        ensures { IfOk result (λ whole. whole ≡ self.now ++ list.now) }
+    {
+        let mut whole = self.listed.copy()?;
+        whole.extend_from_slice(list.as_slice())?;
+        Ok(whole)
+    }
+
+    /// Holds the whole list, or answers it where no more is to come. It breaks no rule.
+    fn give_back(
+        &mut self,
+        accepted: &[Extent],
+        whole: Extents,
+        more: bool,
+    ) -> Result<GivenBack, Refusal>
+        ensures answer { ByRow Option.None (GivesBack accepted.now whole more self.new) result }
+        ensures refused { KeepsHeld self.old self.new result }
+    {
+        if more {
+            self.listed = whole;
+            return Ok(GivenBack::Held);
+        }
+        let leaving = marked_list(whole.allocator(), accepted, whole.as_slice())?;
+        self.listed.clear();
+        if leaving.is_empty() {
+            return Ok(GivenBack::Nothing);
+        }
+        Ok(GivenBack::Done(leaving))
+    }
+}
+
+/// The first rule that the whole list breaks.
+fn give_back_rule(
+    config: &Config,
+    host: HostId,
+    accepted: &ExtentList,
+    offered: usize,
+    whole: &Extents,
+    more: bool,
+) -> Result<Option<Rule>, NoMemory>
+    requires host { host < config.now.hosts }
+    requires few { length accepted.now.extents + offered ≤ 64 }
+    ensures { IfOk result (λ found. found ≡ give_back_rule config.now host accepted.now.extents offered whole.now more) }
+{
+    if let Some(rule) = too_many_listed(whole.as_slice()) {
+        return Ok(Some(rule));
+    }
+    if more {
+        return Ok(None);
+    }
+    let alloc = whole.allocator();
+    let (extents, list) = (accepted.as_slice(), whole.as_slice());
+    match list_rule(alloc, config, host, extents, &Within::AnyRegion, list)? {
+        Some(rule) => Ok(Some(rule)),
+        None => count_rule(accepted, offered, list),
+    }
+}

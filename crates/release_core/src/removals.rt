@@ -1,0 +1,128 @@
+//! What the Fabric Manager takes from a host, or asks it to give back.
+
+ghost use Rattle.dcd_codes.specs.Rules.{ByRow};
+ghost use Rattle.extent_list.specs.ExtentLists.{has_extent_of, marked};
+ghost use Rattle.release_core.specs.Removals.{by_tag_rule, listed_rule, tagged};
+ghost use Rattle.std.specs.Prelude.{◌≡◌, ◌+◌, ◌<◌, ◌≤◌, [], IfOk, OnOk, length, map};
+
+use crate::counting::count_rule;
+use crate::leaving::{Within, list_rule};
+use crate::marking::marked_list;
+use dcd_base::{Extent, Extents, HostId, NoMemory, RegionId, Tag, is_no_tag};
+use dcd_codes::{Refusal, Rule};
+use extent_list::ExtentList;
+use list_rules::too_many_listed;
+use region_config::Config;
+use std::alloc::Global;
+
+/// The extents that an Initiate Dynamic Capacity Release of policy Prescriptive means (5605h, profile): the listed
+/// ones, each with the tag and the sequence of the accepted extent in which it lies.
+///
+/// `Broken` comes with the first of these rules that is broken (profile):
+///
+/// 1. `NoSuchRegion`, where the device has no such region; `EmptyList`; `TooManyListed(n)`, with n extents, above 64.
+/// 2. For each extent in order: `ZeroLength`; `OutsideRegion`, where it is not within the region; `Unaligned`;
+///    `NotAccepted`, where it lies in no accepted extent; `Overlap` with the first earlier extent with which it
+///    shares an address; `NotWhole`, where its region is shareable and it is a part.
+/// 3. `TagIncomplete`, for the first tag of a shareable region of which not all accepted extents are listed.
+/// 4. Where they are `forced` out, `TooManyExtents(n)`: without them the host has n extents, accepted and offered,
+///    above 64. A request to the host takes nothing yet.
+///
+/// `offered` is how many extents the host is offered.
+pub fn removal(
+    alloc: Global,
+    config: &Config,
+    host: HostId,
+    accepted: &ExtentList,
+    offered: usize,
+    region: RegionId,
+    list: &Extents,
+    forced: bool,
+) -> Result<Extents, Refusal>
+    requires host { host < config.now.hosts }
+    requires few { length accepted.now.extents + offered ≤ 64 }
+    ensures { ByRow (listed_rule config.now host accepted.now.extents offered region list.now forced) (λ leaving. leaving ≡ map (marked accepted.now.extents) list.now) result }
+{
+    let list = list.as_slice();
+    match listed_rule(alloc, config, host, accepted, offered, region, list, forced)? {
+        Some(rule) => Err(Refusal::Broken(rule)),
+        None => Ok(marked_list(alloc, accepted.as_slice(), list)?),
+    }
+}
+
+/// The first rule that the list breaks.
+fn listed_rule(
+    alloc: Global,
+    config: &Config,
+    host: HostId,
+    accepted: &ExtentList,
+    offered: usize,
+    region: RegionId,
+    list: &[Extent],
+    forced: bool,
+) -> Result<Option<Rule>, NoMemory>
+    requires host { host < config.now.hosts }
+    requires few { length accepted.now.extents + offered ≤ 64 }
+    ensures { IfOk result (λ found. found ≡ listed_rule config.now host accepted.now.extents offered region list.now forced) }
+{
+    if region.0 >= config.regions() {
+        return Ok(Some(Rule::NoSuchRegion(region.0)));
+    }
+    if list.is_empty() {
+        return Ok(Some(Rule::EmptyList));
+    }
+    if let Some(rule) = too_many_listed(list) {
+        return Ok(Some(rule));
+    }
+    let bounds = Within::Region(region);
+    match list_rule(alloc, config, host, accepted.as_slice(), &bounds, list)? {
+        Some(rule) => Ok(Some(rule)),
+        None if forced => count_rule(accepted, offered, list),
+        None => Ok(None),
+    }
+}
+
+/// The extents that an Initiate Dynamic Capacity Release of policy Tag means (5605h, profile): the accepted extents
+/// that have the tag, in their order.
+///
+/// `ZeroTag` where the tag is sixteen zero bytes, and else `NoSuchTag` where no accepted extent has it.
+pub fn by_tag(alloc: Global, accepted: &ExtentList, tag: &Tag) -> Result<Extents, Refusal>
+    ensures { ByRow (by_tag_rule accepted.now.extents tag.now) (λ leaving. leaving ≡ tagged tag.now accepted.now.extents) result }
+{
+    if is_no_tag(tag) {
+        return Err(Refusal::Broken(Rule::ZeroTag));
+    }
+    if !has_extent_of(tag, accepted.as_slice()) {
+        return Err(Refusal::Broken(Rule::NoSuchTag));
+    }
+    Ok(tagged_list(alloc, tag, accepted.as_slice())?)
+}
+
+/// Whether one of the extents has the tag.
+fn has_extent_of(tag: &Tag, extents: &[Extent]) -> bool
+    ensures { result ≡ has_extent_of tag.now extents.now }
+{
+    extents.iter().any(|extent| extent.tag == *tag)
+}
+
+/// The extents that have the tag, in their order.
+fn tagged_list(alloc: Global, tag: &Tag, extents: &[Extent]) -> Result<Extents, NoMemory>
+    ensures { IfOk result (λ leaving. leaving ≡ tagged tag.now extents.now) }
+{
+    let mut leaving = Extents::new(alloc);
+    put_tagged(tag, extents, &mut leaving)?;
+    Ok(leaving)
+}
+
+/// Puts them into an empty list.
+fn put_tagged(tag: &Tag, extents: &[Extent], leaving: &mut Extents) -> Result<(), NoMemory>
+    requires { leaving.old ≡ [] }
+    ensures { OnOk result (leaving.new ≡ tagged tag.now extents.now) }
+{
+    for extent in extents {
+        if extent.tag == *tag {
+            leaving.push(*extent)?;
+        }
+    }
+    Ok(())
+}

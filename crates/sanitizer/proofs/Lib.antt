@@ -1,0 +1,5 @@
+pub mod Counting
+pub mod Freeing
+pub mod Joining
+pub mod Regions
+pub mod Scrubbed

@@ -1,0 +1,61 @@
+-- Which granules a turn of the sanitizer zeroes, and what it leaves. `dirty` tells whether a granule is dirty.
+use Rattle.std.specs.Prelude.{◌≡◌, ℕ, suc, ◌+◌, ◌-◌, ◌<◌, ◌≤◌, Bool, ◌==◌, if◌then◌else◌, List, [], ◌∷◌, fold, map, take, filter, slice_index_or, sum_by, Option, Some, None}
+use Rattle.std.specs.List.{range_with_len}
+use Rattle.dcd_base.specs.declared.media.Run.{Run}
+use Rattle.dcd_base.specs.Words.{has_in_runs}
+use Rattle.granule_map.specs.Choices.{joined, passing}
+use Rattle.granule_map.specs.StateLists.{with_run}
+use Rattle.granule_map.specs.declared.states.GranuleState.{GranuleState}
+use Rattle.region_config.specs.Configurations.{Configuration}
+use Rattle.region_config.specs.Granules.{first_granule, granule_total, region_of}
+
+-- whether two granules are of one region, so that they may stand in one run
+abbrev pub same_region : Configuration → ℕ → ℕ → Bool
+same_region c g next = region_of c g == region_of c next
+
+-- of the numbers from one up to a limit the lowest that pass, at most so many
+abbrev pub lowest_from : (ℕ → Bool) → ℕ → ℕ → ℕ → List ℕ
+lowest_from test limit from most = take most (filter test (range_with_len from (limit - from)))
+
+-- the granules of a turn: the lowest dirty ones, so many, or all where there are fewer
+abbrev pub scrubbed : Configuration → (ℕ → Bool) → ℕ → List ℕ
+scrubbed c dirty n = take n (passing dirty (granule_total c))
+
+-- granules, by the first one and how many there are, as a run
+abbrev pub granules_of : ℕ × ℕ → Run
+granules_of granules = record { first = granules.0; count = granules.1 }
+
+-- the same granules as the longest runs within regions, by rising number
+abbrev pub scrub_runs : Configuration → (ℕ → Bool) → ℕ → List Run
+scrub_runs c dirty n = map granules_of (joined (same_region c) (scrubbed c dirty n))
+
+-- the states once each of the runs is free
+abbrev pub freed : List GranuleState → List Run → List GranuleState
+freed states runs = fold (λ now run. with_run now run GranuleState.Free) states runs
+
+-- Each granule of the runs is free, and each other one is as it was.
+abbrev pub AreFreed : List GranuleState → List GranuleState → List Run → Type 0
+AreFreed old new runs = (g : ℕ) (d : GranuleState) → slice_index_or new g d ≡ (if has_in_runs runs g then GranuleState.Free else slice_index_or old g d)
+
+-- how many granules are in the runs
+abbrev pub granules_in : List Run → ℕ
+granules_in runs = sum_by (λ run. run.count) runs
+
+-- Granules of one region of the device, at least one.
+pub record IsInRegion (c : Configuration) (run : Run) : Type 0 where
+  pub some : 0 < run.count
+  pub known : run.first < granule_total c
+  pub within : run.first + run.count ≤ first_granule c (suc (region_of c run.first))
+
+-- What the lowest run of dirty granules from one on leaves to be zeroed: no run where none is left.
+pub record IsNext (c : Configuration) (dirty : ℕ → Bool) (from most : ℕ) (run : Run) : Type 0 where
+  pub runs : joined (same_region c) (lowest_from dirty (granule_total c) from most)
+      ≡ (run.first, run.count) ∷ joined (same_region c) (lowest_from dirty (granule_total c) (run.first + run.count) (most - run.count))
+  pub later : from < run.first + run.count
+  pub few : run.count ≤ most
+  pub below : run.first + run.count ≤ granule_total c
+  pub in_region : IsInRegion c run
+
+abbrev pub NextRun : Configuration → (ℕ → Bool) → ℕ → ℕ → Option Run → Type 0
+NextRun c dirty from most None = lowest_from dirty (granule_total c) from most ≡ []
+NextRun c dirty from most (Some run) = IsNext c dirty from most run

@@ -1,0 +1,11 @@
+//! Turns of the sanitizer: which dirty granules are zeroed next, and that they are free from then on.
+//!
+//! A turn changes the states of granules. Their words are zeroed by who keeps them, run by run.
+#![tactic(auto)]
+
+mod scrubbing;
+mod search;
+#[cfg(test)]
+mod tests;
+
+pub use scrubbing::turn;

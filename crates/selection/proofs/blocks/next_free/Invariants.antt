@@ -1,0 +1,11 @@
+use Rattle.std.proofs.Common.{◌≡◌, ◌-◌}
+use Rattle.std.specs.List.{find, range_with_len}
+use Rattle.granule_map.specs.Blocks.{block_count, is_block_free}
+use Rattle.selection.proofs.blocks.next_free.Given as goal
+
+abbrev pub invariant-loop-block : goal.invariant-loop-block
+invariant-loop-block l = record {
+  end : l.block-end ≡ block_count l.area l.per_block;
+  rest : find (is_block_free l.map.states l.area l.per_block) (range_with_len l.block (block_count l.area l.per_block - l.block))
+      ≡ find (is_block_free l.map.states l.area l.per_block) (range_with_len l.fn.from (block_count l.area l.per_block - l.fn.from));
+}

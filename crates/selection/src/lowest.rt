@@ -1,0 +1,103 @@
+//! The policy Free: the lowest free blocks, wherever they lie.
+
+ghost use Rattle.dcd_codes.specs.Rules.{ByRow};
+ghost use Rattle.granule_map.specs.Blocks.{IsArea, block_count, free_block_count, is_block_free};
+ghost use Rattle.granule_map.specs.StateLists.{is_free_at};
+ghost use Rattle.selection.specs.Selections.{AreApart, AreBetween, NextRun, are_free, free_runs, too_few_free};
+ghost use Rattle.std.specs.Prelude.{◌≡◌, ◌+◌, ◌<◌, IfOk, IsTrue, OnOk, [], length};
+
+use crate::blocks::{free_from, next_free, run_of_blocks};
+use dcd_base::{Granule, NoMemory, Run, Runs};
+use dcd_codes::{Refusal, Rule};
+use granule_map::GranuleMap;
+use std::alloc::Global;
+
+/// The lowest free blocks of the area, so many, adjacent ones joined: runs of granules in rising order.
+///
+/// The area is made of blocks of `per_block` granules from its first granule on, and a block is free where all
+/// its granules are. `TooFewFree` comes exactly where fewer blocks are free than asked for, with both numbers.
+/// `NoMemory` may come in place of any answer (profile).
+pub fn free(
+    alloc: Global,
+    map: &GranuleMap,
+    area: Run,
+    per_block: u32,
+    blocks: u64,
+) -> Result<Runs, Refusal>
+    requires area { IsArea map.now.states area per_block }
+    requires some { 0 < blocks }
+    ensures answer { ByRow (too_few_free blocks (free_block_count map.now.states area per_block))
+        (λ runs. runs ≡ free_runs (is_free_at map.now.states) area per_block blocks) result }
+    ensures some { IfOk result (λ runs. 0 < length runs) }
+    ensures within { IfOk result (λ runs. AreBetween area.first (area.first + area.count) runs) }
+    ensures apart { IfOk result (λ runs. AreApart runs) }
+    ensures are_free { IfOk result (λ runs. IsTrue (are_free (is_free_at map.now.states) runs)) }
+{
+    let have = count_free(map, &area, per_block);
+    if u64::from(have) < blocks {
+        return Err(Refusal::Broken(Rule::TooFewFree {
+            need: blocks,
+            have: u64::from(have),
+        }));
+    }
+    let mut runs = Runs::new(alloc);
+    find_lowest(map, &area, per_block, blocks as u32, &mut runs)?;
+    Ok(runs)
+}
+
+/// How many blocks of the area are free.
+fn count_free(map: &GranuleMap, area: &Run, per_block: u32) -> u32
+    requires { IsArea map.now.states area.now per_block }
+    ensures { result ≡ free_block_count map.now.states area.now per_block }
+{
+    map.free_blocks(*area, per_block)
+}
+
+/// The runs of the lowest free blocks, so many or all that there are.
+fn find_lowest(
+    map: &GranuleMap,
+    area: &Run,
+    per_block: u32,
+    blocks: u32,
+    runs: &mut Runs,
+) -> Result<(), NoMemory>
+    requires area { IsArea map.now.states area.now per_block }
+    requires empty { runs.old ≡ [] }
+    ensures { OnOk result (runs.new ≡ free_runs (is_free_at map.now.states) area.now per_block blocks) }
+{
+    let _granules = map.len();
+    let mut at = 0;
+    let mut left = blocks;
+    while let Some((first, count)) = next_run(map, area, per_block, at, left) {
+        runs.push(run_of_blocks(area, per_block, first, count))?;
+        at = first + count;
+        left -= count;
+    }
+    Ok(())
+}
+
+/// The lowest run of free blocks from one on, at most so many of them, by its first block and its blocks.
+fn next_run(
+    map: &GranuleMap,
+    area: &Run,
+    per_block: u32,
+    from: u32,
+    most: u32,
+) -> Option<(u32, u32)>
+    requires area { IsArea map.now.states area.now per_block }
+    ensures { NextRun (is_block_free map.now.states area.now per_block) (block_count area.now per_block) from most result }
+{
+    if most == 0 {
+        return None;
+    }
+    match next_free(map, area, per_block, from) {
+        None => None,
+        Some(first) => {
+            let behind = area.count / per_block - first;
+            Some((
+                first,
+                free_from(map, area, per_block, first, most.min(behind)),
+            ))
+        }
+    }
+}
