@@ -1,0 +1,17 @@
+pub mod Places
+pub mod TurnSteps
+pub mod TurnPlays
+pub mod TurnCalls
+pub mod TurnSeats
+pub mod Order
+pub mod RuleSteps
+pub mod Weights
+pub mod BookSteps
+pub mod CountSteps
+pub mod WholeSteps
+pub mod CallSteps
+pub mod Opening
+pub mod AtRest
+pub mod MakingSteps
+pub mod ClosingSteps
+pub mod TallySteps

@@ -1,0 +1,9 @@
+use Rattle.std.proofs.Common.{arith}
+use Rattle.ruled_cells.proofs.TurnSeats.{joins}
+use Rattle.ruled_cells.proofs.turns.seats.absorb.Goals as goal
+
+pub join_seat-requires : goal.join_seat-requires
+join_seat-requires g c =
+    let b = c.requires.board in
+    let l = c.requires.live in
+    (b.0, b.1, l.2, omega (arith, b.2), joins _ _ (g.P.Protocol.holds c.args.board.now.key) _ _ c.args.seat.now.me.0 c.args.other.me.0 g.M.Merging.both g.M.Merging.spent l.0 l.1 c.requires.no_turn c.requires.rule)

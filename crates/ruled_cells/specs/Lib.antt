@@ -1,0 +1,11 @@
+pub mod Turning
+pub mod Stamps
+pub mod Laws
+pub mod Ruling
+pub mod Booking
+pub mod Telling
+pub mod Resting
+pub mod Seats
+pub mod Calls
+pub mod Making
+pub mod Tally

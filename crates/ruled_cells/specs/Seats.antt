@@ -1,0 +1,54 @@
+-- What a seat shows.
+use Rattle.std.specs.Prelude.{◌≡◌, ℕ, suc, List, Option}
+use Rattle.atomic_table.specs.Seated.{TableId}
+use Rattle.ruled_cells.specs.declared.about.View.{View}
+use Rattle.ruled_cells.specs.declared.kept.Kept.{Kept}
+use Rattle.ruled_cells.specs.declared.kept.Kept.TheVariants.{First, Rest}
+use Rattle.ruled_cells.specs.declared.seat.Seat.{Seat}
+use Rattle.ruled_cells.specs.Turning.{HasTurn, NoTurn}
+
+module _ {F S : Type 0} where
+  abbrev pub number_of : Seat F S → ℕ
+  number_of s = s.number
+
+  -- how many seats were made with it
+  abbrev pub among_of : Seat F S → ℕ
+  among_of s = s.token.me.0.among
+
+  -- which cells it is a seat of
+  abbrev pub place_of : Seat F S → TableId
+  place_of s = s.token.table_id
+
+  abbrev pub view_of : Seat F S → View
+  view_of s = s.token.me.0.client
+
+  -- the turns that it has, each with the value that was taken. Cell 0 is the first one, and cell i + 1 that of index i
+  abbrev pub turns_of : Seat F S → List (Option (Kept F S))
+  turns_of s = s.token.me.0.taken
+
+  -- how often it tried to get a turn, and what the last try read: 0, or the number of another seat plus 1
+  abbrev pub tries_of : Seat F S → ℕ
+  tries_of s = s.token.me.0.tries
+
+  abbrev pub saw_of : Seat F S → ℕ
+  saw_of s = s.token.me.0.saw
+
+  pub record IsSameSeat (s t : Seat F S) : Type 0 where
+    pub number : number_of t ≡ number_of s
+    pub among : among_of t ≡ among_of s
+    pub place : place_of t ≡ place_of s
+
+  abbrev pub HasFirst : Seat F S → F → Type 0
+  HasFirst s f = HasTurn (turns_of s) 0 (First f)
+
+  abbrev pub HasCell : Seat F S → ℕ → S → Type 0
+  HasCell s i x = HasTurn (turns_of s) (suc i) (Rest x)
+
+  abbrev pub NoFirst : Seat F S → Type 0
+  NoFirst s = NoTurn (turns_of s) 0
+
+  abbrev pub NoCell : Seat F S → ℕ → Type 0
+  NoCell s i = NoTurn (turns_of s) (suc i)
+
+  abbrev pub NoTurns : Seat F S → Type 0
+  NoTurns s = (k : ℕ) → NoTurn (turns_of s) k

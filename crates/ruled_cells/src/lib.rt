@@ -1,0 +1,23 @@
+//! Cells that threads take, use and give back in turns, under one rule that holds between any two steps.
+#![tactic(auto)]
+
+mod about;
+mod calls;
+mod cells;
+mod chief;
+mod closing;
+mod kept;
+mod making;
+mod member;
+mod ruling;
+mod seat;
+mod turns;
+
+pub use about::{About, View};
+pub use cells::Cells;
+pub use chief::Chief;
+pub use member::Member;
+pub use seat::{Busy, Seat};
+
+#[cfg(test)]
+mod tests;

@@ -1,0 +1,147 @@
+//! Taking a turn, giving it back, and setting the user's word.
+ghost use Rattle.std.specs.Prelude.{◌≡◌, ◌+◌, ◌<◌, [], ◌∷◌, IfErr, IfOk, None, Some};
+ghost use Rattle.ruled_cells.specs.Turning.{Gives, HasTurn, IsGiven, IsMissed, IsMoving, IsResting, IsTaken, IsTakenInTheEnd, Marks, NoTurn, Takes, marked, moving_at, still, tried};
+ghost use Rattle.atomic_table.specs.Table.{step};
+ghost use mathlib.Core.Option.{none};
+
+use crate::turns::plays::{Give, Lay, Mark, Pick, Try};
+use crate::turns::protocol::{Board, Marking, Outcome, Protocol, Token};
+use std::sync::Wait;
+
+/// One try, by one step.
+fn attempt<X, V, K, P: Protocol<X, V, K>, M: Outcome<X, V>>(
+    board: &Board<X, V, K, P>,
+    seat: &mut Token<X, V>,
+    number: u32,
+    cell: usize,
+) -> u64
+    requires board { (seat.old.table_id ≡ board.now.table_id) × (cell < board.now.table_id.slots) × (board.now.table_id.words ≡ board.now.table_id.slots + 1) }
+    requires resting { IsResting number seat.old.me }
+    requires no_turn { NoTurn seat.old.me.0.taken cell }
+    requires rule { Takes (P.holds board.now.key) board.now.table_id.slots number seat.old.me.0.taken seat.old.me.0.client cell M.then }
+    ensures board { (seat.new.table_id ≡ seat.old.table_id) × (seat.new.id ≡ seat.old.id) }
+    ensures tried { tried M.then (step board.now.table_id.slots cell 0 (number + 1) none) seat.old.me result seat.new.me }
+{
+    board.compare_exchange::<Try<M>>(seat, cell, 0, u64::from(number) + 1)
+}
+
+/// Takes the value out of the slot, and lays the slot back.
+fn lift<X, V, K, P: Protocol<X, V, K>>(
+    board: &Board<X, V, K, P>,
+    seat: &mut Token<X, V>,
+    cell: usize,
+) -> X
+    requires board { (seat.old.table_id ≡ board.now.table_id) × (cell < board.now.table_id.slots) × (board.now.table_id.words ≡ board.now.table_id.slots + 1) }
+    requires moving { (x : X) × IsMoving cell (Some x) seat.old.me }
+    ensures board { (seat.new.table_id ≡ seat.old.table_id) × (seat.new.id ≡ seat.old.id) }
+    ensures value { seat.old.me.1 ≡ (cell, Some result) ∷ [] }
+    ensures seat { seat.new.me ≡ (still seat.old.me.0, []) }
+{
+    let Some(value) = board.exchange(seat, cell, None) else {
+        unreachable!()
+    };
+    board.load::<Lay>(seat, cell);
+    value
+}
+
+/// Takes a turn if it is free, by one try. Else it answers the number of the seat that has it.
+pub fn try_take<X, V, K, P: Protocol<X, V, K>, M: Outcome<X, V>>(
+    board: &Board<X, V, K, P>,
+    seat: &mut Token<X, V>,
+    number: u32,
+    cell: usize,
+) -> Result<X, u32>
+    requires board { (seat.old.table_id ≡ board.now.table_id) × (cell < board.now.table_id.slots) × (board.now.table_id.words ≡ board.now.table_id.slots + 1) }
+    requires resting { IsResting number seat.old.me }
+    requires no_turn { NoTurn seat.old.me.0.taken cell }
+    requires rule { Takes (P.holds board.now.key) board.now.table_id.slots number seat.old.me.0.taken seat.old.me.0.client cell M.then }
+    ensures board { (seat.new.table_id ≡ seat.old.table_id) × (seat.new.id ≡ seat.old.id) }
+    ensures ok { IfOk result (λ value. IsTaken M.then cell seat.old.me value seat.new.me) }
+    ensures err { IfErr result (λ other. IsMissed seat.old.me other seat.new.me) }
+{
+    let found = attempt::<X, V, K, P, M>(board, seat, number, cell);
+    if found == 0 {
+        Ok(lift(board, seat, cell))
+    } else {
+        Err((found - 1) as u32)
+    }
+}
+
+/// Takes a turn, and sleeps while it is another's.
+pub fn take<X, V, K, P: Protocol<X, V, K>, M: Outcome<X, V>, R: Wait>(
+    rt: &R,
+    board: &Board<X, V, K, P>,
+    seat: &mut Token<X, V>,
+    number: u32,
+    cell: usize,
+) -> X
+    requires board { (seat.old.table_id ≡ board.now.table_id) × (cell < board.now.table_id.slots) × (board.now.table_id.words ≡ board.now.table_id.slots + 1) }
+    requires resting { IsResting number seat.old.me }
+    requires no_turn { NoTurn seat.old.me.0.taken cell }
+    requires rule { Takes (P.holds board.now.key) board.now.table_id.slots number seat.old.me.0.taken seat.old.me.0.client cell M.then }
+    ensures board { (seat.new.table_id ≡ seat.old.table_id) × (seat.new.id ≡ seat.old.id) }
+    ensures taken { IsTakenInTheEnd M.then cell seat.old.me result seat.new.me }
+{
+    for _ in rt.forever() {
+        match try_take::<X, V, K, P, M>(board, seat, number, cell) {
+            Ok(value) => return value,
+            Err(other) => board.park(rt, cell, other + 1),
+        }
+    }
+    unreachable!()
+}
+
+/// Picks up the empty slot of a cell, and puts the value in.
+fn fill<X, V, K, P: Protocol<X, V, K>>(
+    board: &Board<X, V, K, P>,
+    seat: &mut Token<X, V>,
+    number: u32,
+    cell: usize,
+    value: X,
+)
+    requires board { (seat.old.table_id ≡ board.now.table_id) × (cell < board.now.table_id.slots) × (board.now.table_id.words ≡ board.now.table_id.slots + 1) }
+    requires resting { IsResting number seat.old.me }
+    requires turn { (x : X) × HasTurn seat.old.me.0.taken cell x }
+    ensures board { (seat.new.table_id ≡ seat.old.table_id) × (seat.new.id ≡ seat.old.id) }
+    ensures moving { seat.new.me ≡ (moving_at cell seat.old.me.0, (cell, Some value) ∷ []) }
+{
+    board.load::<Pick>(seat, cell);
+    let empty = board.exchange(seat, cell, Some(value));
+    let None = empty else { unreachable!() };
+}
+
+/// Gives a turn back with a value, and wakes one that waits for it.
+pub fn give<X, V, K, P: Protocol<X, V, K>, M: Outcome<X, V>>(
+    board: &Board<X, V, K, P>,
+    seat: &mut Token<X, V>,
+    number: u32,
+    cell: usize,
+    value: X,
+)
+    requires board { (seat.old.table_id ≡ board.now.table_id) × (cell < board.now.table_id.slots) × (board.now.table_id.words ≡ board.now.table_id.slots + 1) }
+    requires resting { IsResting number seat.old.me }
+    requires rule { (x : X) × HasTurn seat.old.me.0.taken cell x × Gives (P.holds board.now.key) board.now.table_id.slots number seat.old.me.0.taken seat.old.me.0.client cell x value M.then }
+    ensures board { (seat.new.table_id ≡ seat.old.table_id) × (seat.new.id ≡ seat.old.id) }
+    ensures given { IsGiven M.then cell seat.old.me value seat.new.me }
+{
+    fill(board, seat, number, cell, value);
+    board.store::<Give<M>>(seat, cell, 0);
+    board.wake_one(cell);
+}
+
+/// Sets the user's word, which stands behind the turns.
+pub fn mark<X, V, K, P: Protocol<X, V, K>, M: Marking<V>>(
+    board: &Board<X, V, K, P>,
+    seat: &mut Token<X, V>,
+    number: u32,
+    word: usize,
+    value: u64,
+)
+    requires board { (seat.old.table_id ≡ board.now.table_id) × (word ≡ board.now.table_id.slots) × (board.now.table_id.words ≡ board.now.table_id.slots + 1) }
+    requires resting { IsResting number seat.old.me }
+    requires rule { Marks (P.holds board.now.key) board.now.table_id.slots number seat.old.me.0.taken seat.old.me.0.client value M.then }
+    ensures board { (seat.new.table_id ≡ seat.old.table_id) × (seat.new.id ≡ seat.old.id) }
+    ensures marked { marked M.then (step board.now.table_id.slots word value 0 none) seat.old.me value seat.new.me }
+{
+    board.store::<Mark<M>>(seat, word, value);
+}

@@ -1,0 +1,5 @@
+pub mod Configured
+pub mod Counting
+pub mod Made
+pub mod Sound
+pub mod Stepping

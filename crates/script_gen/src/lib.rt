@@ -1,0 +1,17 @@
+//! A load for the whole device that is made and not read: the script of a seed.
+//!
+//! Four hosts share one region. In each of 256 rounds the Fabric Manager offers each of them an extent, and each
+//! takes it, stores and loads 16 words of it, and gives it back; the sanitizer zeroes what was given back.
+//! `generate` makes the lines, and the seed alone says which words and which values.
+#![tactic(auto)]
+
+mod commands;
+mod draws;
+mod generating;
+mod rounds;
+mod settings;
+#[cfg(test)]
+mod tests;
+mod uses;
+
+pub use generating::generate;

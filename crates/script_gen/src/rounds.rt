@@ -1,0 +1,103 @@
+//! The lines of a round.
+
+ghost use Rattle.script_codec.specs.declared.script_line.Line.{Line};
+ghost use Rattle.script_gen.specs.Drawing.{after, round_by, rounds_by};
+ghost use Rattle.script_gen.specs.Generated.{end_lines, give_back_lines, offers_lines};
+ghost use Rattle.std.specs.Prelude.{◌≡◌, ◌++◌, [], ◌∷◌, ◌<◌, OnOk};
+
+use crate::commands::{give_back, offer};
+use crate::draws::Draws;
+use crate::settings::HOSTS;
+use crate::uses::put_uses;
+use dcd_base::{Actor, HostId, NoMemory};
+use journal_core::Act;
+use script_codec::{Line, Lines};
+
+/// How many rounds there are.
+const ROUNDS: u16 = 256;
+
+/// The round after which nothing is given back.
+const LAST: u16 = 255;
+
+/// How many granules a turn of the sanitizer zeroes at most: those of one round.
+const ROUND_GRANULES: u16 = 32;
+
+/// A mark: all of the phase is done before the next begins.
+fn end_phase(lines: &mut Lines) -> Result<(), NoMemory>
+    ensures { OnOk result (lines.new ≡ lines.old ++ Line.Mark ∷ []) }
+{
+    lines.push(Line::Mark)
+}
+
+/// The Fabric Manager offers each host its extent.
+fn put_offers(round: u16, lines: &mut Lines) -> Result<(), NoMemory>
+    ensures { OnOk result (lines.new ≡ lines.old ++ offers_lines round) }
+{
+    let alloc = lines.allocator();
+    for host in 0..HOSTS {
+        lines.push(offer(alloc, round, HostId(host))?)?;
+    }
+    Ok(())
+}
+
+/// Each host gives its extent back.
+fn put_give_backs(round: u16, lines: &mut Lines) -> Result<(), NoMemory>
+    ensures { OnOk result (lines.new ≡ lines.old ++ give_back_lines round) }
+{
+    let alloc = lines.allocator();
+    for host in 0..HOSTS {
+        lines.push(give_back(alloc, round, HostId(host))?)?;
+    }
+    Ok(())
+}
+
+/// What the hosts give back is zeroed.
+#[tactic(auto, unfolding(crate::specs::Generated::end_lines))]
+fn put_end(round: u16, lines: &mut Lines) -> Result<(), NoMemory>
+    requires { round < 255 }
+    ensures { OnOk result (lines.new ≡ lines.old ++ end_lines round) }
+{
+    put_give_backs(round, lines)?;
+    end_phase(lines)?;
+    lines.push(Line::Do {
+        actor: Actor::Sanitizer,
+        lane: 0,
+        act: Act::Scrub(ROUND_GRANULES),
+    })?;
+    end_phase(lines)
+}
+
+/// The end of a round; the last round has none.
+#[tactic(auto, unfolding(crate::specs::Generated::end_lines))]
+fn put_end_or_none(round: u16, lines: &mut Lines) -> Result<(), NoMemory>
+    ensures { OnOk result (lines.new ≡ lines.old ++ end_lines round) }
+{
+    if round < LAST {
+        put_end(round, lines)
+    } else {
+        Ok(())
+    }
+}
+
+#[tactic(auto, unfolding(crate::specs::Drawing::round_by))]
+fn put_round(round: u16, draws: &mut Draws, lines: &mut Lines) -> Result<(), NoMemory>
+    requires { round < 256 }
+    ensures lines { OnOk result (lines.new ≡ lines.old ++ round_by round draws.old) }
+    ensures draws { OnOk result (draws.new ≡ after draws.old 128) }
+{
+    put_offers(round, lines)?;
+    end_phase(lines)?;
+    put_uses(round, draws, lines)?;
+    end_phase(lines)?;
+    put_end_or_none(round, lines)
+}
+
+/// All rounds.
+pub fn put_rounds(draws: &mut Draws, lines: &mut Lines) -> Result<(), NoMemory>
+    ensures { OnOk result (lines.new ≡ lines.old ++ rounds_by draws.old 256) }
+{
+    for round in 0..ROUNDS {
+        put_round(round, draws, lines)?;
+    }
+    Ok(())
+}

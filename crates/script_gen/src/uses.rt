@@ -1,0 +1,99 @@
+//! What a host does with its extent in a round.
+
+ghost use Rattle.dcd_base.specs.declared.steps.Actor.{Actor};
+ghost use Rattle.script_codec.specs.declared.script_line.Line.{Line};
+ghost use Rattle.script_gen.specs.Drawing.{access_by, accesses_by, after, use_by, uses_by};
+ghost use Rattle.script_gen.specs.Generated.{place};
+ghost use Rattle.std.specs.Prelude.{◌≡◌, ◌++◌, ◌<◌, OnOk};
+
+use crate::commands::{clear, take};
+use crate::draws::Draws;
+use crate::settings::{HOSTS, share};
+use dcd_base::{Actor, HostId, NoMemory};
+use journal_core::Act;
+use script_codec::{Line, Lines};
+
+/// How many words a host stores and loads in a round.
+const WORDS: u8 = 16;
+
+/// How many words of 8 bytes an extent of eight blocks has.
+const EXTENT_WORDS: u64 = 0x1000_0000;
+
+/// The DPA of the word that a draw names in the host's extent of the round.
+fn place(round: u16, host: HostId, draw: u64) -> u64
+    requires { host < 4 }
+    ensures { result ≡ place round host draw }
+{
+    share(round, host).start + 8 * (draw % EXTENT_WORDS)
+}
+
+/// The line of a host's load or store.
+fn host_does(host: HostId, act: Act) -> Line
+    ensures { result ≡ Line.Do (Actor.Host host) 0 act }
+{
+    Line::Do {
+        actor: Actor::Host(host),
+        lane: 0,
+        act,
+    }
+}
+
+/// A store and a load of one word: one draw says which word, the next which value.
+#[tactic(auto, unfolding(crate::specs::Generated::access_lines, crate::specs::Drawing::after))]
+fn put_access(
+    round: u16,
+    host: HostId,
+    draws: &mut Draws,
+    lines: &mut Lines,
+) -> Result<(), NoMemory>
+    requires { host < 4 }
+    ensures lines { OnOk result (lines.new ≡ lines.old ++ access_by round host draws.old) }
+    ensures draws { OnOk result (draws.new ≡ after draws.old 2) }
+{
+    let dpa = place(round, host, draws.draw());
+    let value = draws.draw();
+    lines.push(host_does(host, Act::Store(dpa, value)))?;
+    lines.push(host_does(host, Act::Load(dpa)))
+}
+
+fn put_accesses(
+    round: u16,
+    host: HostId,
+    draws: &mut Draws,
+    lines: &mut Lines,
+) -> Result<(), NoMemory>
+    requires { host < 4 }
+    ensures lines { OnOk result (lines.new ≡ lines.old ++ accesses_by round host draws.old 16) }
+    ensures draws { OnOk result (draws.new ≡ after draws.old 32) }
+{
+    for word in 0..WORDS {
+        put_access(round, host, draws, lines)?;
+    }
+    Ok(())
+}
+
+/// The host takes its extent, clears the record, and stores and loads words.
+#[tactic(auto, unfolding(crate::specs::Drawing::use_by))]
+fn put_use(round: u16, host: HostId, draws: &mut Draws, lines: &mut Lines) -> Result<(), NoMemory>
+    requires host { host < 4 }
+    requires round { round < 256 }
+    ensures lines { OnOk result (lines.new ≡ lines.old ++ use_by round host draws.old) }
+    ensures draws { OnOk result (draws.new ≡ after draws.old 32) }
+{
+    let alloc = lines.allocator();
+    lines.push(take(alloc, round, host)?)?;
+    lines.push(clear(alloc, round, host)?)?;
+    put_accesses(round, host, draws, lines)
+}
+
+/// Each host does so.
+pub fn put_uses(round: u16, draws: &mut Draws, lines: &mut Lines) -> Result<(), NoMemory>
+    requires { round < 256 }
+    ensures lines { OnOk result (lines.new ≡ lines.old ++ uses_by round draws.old 4) }
+    ensures draws { OnOk result (draws.new ≡ after draws.old 128) }
+{
+    for host in 0..HOSTS {
+        put_use(round, HostId(host), draws, lines)?;
+    }
+    Ok(())
+}
