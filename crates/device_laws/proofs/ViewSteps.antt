@@ -1,0 +1,28 @@
+-- A view after one more entry is one step from the view before it.
+use Rattle.std.proofs.Common.{◌≡◌, ◌+◌, List, [], ◌∷◌, ◌++◌}
+use Rattle.std.specs.Prelude.{if◌then◌else◌}
+use Rattle.std.specs.List.{list_any}
+use Rattle.std.proofs.lemmas.List.Sums.{fold_push}
+use Rattle.region_config.specs.Configurations.{Configuration}
+use Rattle.dcd_base.specs.declared.ids.HostId.{HostId}
+use Rattle.journal_core.specs.declared.entries.Entry.{Entry}
+use Rattle.journal_core.specs.declared.outcome.HeldKind.{HeldKind}
+use Rattle.dcd_base.specs.declared.steps.LogId.{LogId}
+use Rattle.journal_core.proofs.JournalSteps.{over-push}
+use Rattle.device_rules.specs.Hosts.{offers_after, accepted_after, moves, held_after, block_after}
+use Rattle.event_log.specs.Logs.{empty_log}
+use Rattle.device_rules.specs.Logs.{log_after}
+use Rattle.region_config.specs.Granules.{region_spec}
+use Rattle.device_rules.specs.Views.{view_of, view_after}
+
+-- the view after one more entry is one step from the view before it
+pub view_of-push : (c : Configuration) (h : HostId) (journal : List Entry) (e : Entry) → view_of c h (journal ++ e ∷ []) ≡ view_after c h (view_of c h journal) e.effects
+view_of-push c h journal e = λ i. record {
+  offers = over-push (offers_after h) [] journal e i;
+  accepted = over-push (accepted_after c h) [] journal e i;
+  changes = fold_push (λ n (e : Entry). if list_any (moves h) e.effects then n + 1 else n) 0 journal e i;
+  responses = over-push (held_after h HeldKind.Responses) [] journal e i;
+  releases = over-push (held_after h HeldKind.Releases) [] journal e i;
+  log = over-push (log_after (LogId.Host h)) empty_log journal e i;
+  block = λ r. over-push (block_after r) (region_spec c r).block journal e i;
+}

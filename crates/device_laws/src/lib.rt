@@ -1,0 +1,8 @@
+//! What every legal journal keeps.
+#![tactic(auto)]
+
+mod holdings;
+mod open_tags;
+
+pub use holdings::{law_exclusive, law_legal_holdings, law_legal_sound};
+pub use open_tags::law_open_tags;

@@ -1,0 +1,51 @@
+-- Reading a log and clearing it: 0100h and 0101h.
+use Rattle.std.specs.Prelude.{ℕ, Bool, not, ◌==◌, nat_le, nat_lt, List, [], ◌∷◌, ◌++◌, length, take, Option, Some, None, if◌then◌else◌}
+use Rattle.std.specs.List.{list_any}
+use Rattle.dcd_base.specs.declared.steps.LogId.{LogId}
+use Rattle.dcd_codes.specs.declared.rules.Rule.{Rule}
+use Rattle.event_records.specs.declared.events.Event.{Event}
+use Rattle.journal_core.specs.declared.outcome.Effect.{Effect}
+use Rattle.event_log.specs.Logs.{Log, empty_log, records_in}
+use Rattle.dcd_codes.specs.Rules.{◌breaks◌}
+use Rattle.dcd_base.specs.Words.{◌or◌}
+use Rattle.host_payloads.specs.HostPayloads.{events_payload}
+use Rattle.device_rules.specs.Outcomes.{Outcome}
+
+-- the logs below the fourth are always empty
+abbrev pub log_named : ℕ → Log → Log
+log_named number own = if number == 4 then own else empty_log
+
+abbrev pub no_such_log : ℕ → Option Rule
+no_such_log number = nat_le 5 number breaks Rule.NoSuchLog number
+
+-- 0100h: the oldest records, fifteen at most
+abbrev pub events_reply : Log → List ℕ
+events_reply log = events_payload log.missed (nat_lt 15 (length (records_in log))) (take 15 (records_in log))
+
+-- handles must be those of the oldest records, in order
+abbrev pub out_of_place : List ℕ → List Event → Option Rule
+out_of_place [] records = None
+out_of_place (h ∷ handles) [] = Some (Rule.UnknownHandle h)
+out_of_place (h ∷ handles) (e ∷ records) =
+    if h == e.handle then out_of_place handles records
+    else if list_any (λ other. other.handle == h) (e ∷ records) then Some (Rule.OlderLeft e.handle)
+    else Some (Rule.UnknownHandle h)
+
+-- 0101h
+abbrev pub clear_rule : ℕ → Log → Bool → List ℕ → Option Rule
+clear_rule number own all handles = let log = log_named number own in
+    no_such_log number
+    or (if all then (log.missed == 0) breaks Rule.NotOverflowed else out_of_place handles (records_in log))
+
+abbrev pub cleared : LogId → ℕ → List Effect
+cleared l n = if n == 0 then [] else Effect.Cleared l n ∷ []
+
+abbrev pub clear_changes : LogId → ℕ → Log → Bool → List ℕ → List Effect
+clear_changes l number own all handles =
+    if not (number == 4) then []
+    else if all then cleared l (length (records_in own)) ++ Effect.Reset l ∷ []
+    else cleared l (length handles)
+
+abbrev pub clear_outcome : LogId → ℕ → Log → Bool → List ℕ → Outcome
+clear_outcome l number own all handles =
+    record { payload = []; changes = clear_changes l number own all handles; tags = []; notices = [] }

@@ -1,0 +1,15 @@
+pub mod Adding
+pub mod Answers
+pub mod Counts
+pub mod EventCommands
+pub mod Hosts
+pub mod Invariants
+pub mod Legal
+pub mod Logs
+pub mod Outcomes
+pub mod ReleaseOutcomes
+pub mod ResponseOutcomes
+pub mod Settings
+pub mod TagCommands
+pub mod Tags
+pub mod Views

@@ -1,0 +1,47 @@
+-- What a host's response to its oldest offer does: 4802h.
+use Rattle.std.specs.Prelude.{Bool, false, List, [], ◌∷◌, ◌++◌, map, if◌then◌else◌}
+use Rattle.dcd_base.specs.declared.ids.HostId.{HostId}
+use Rattle.dcd_base.specs.declared.capacity.Extent.{Extent}
+use Rattle.dcd_base.specs.declared.steps.LogId.{LogId}
+use Rattle.event_records.specs.declared.events.EventKind.{EventKind}
+use Rattle.event_records.specs.declared.events.Event.{Event}
+use Rattle.region_config.specs.Configurations.{Configuration}
+use Rattle.journal_core.specs.declared.outcome.HeldKind.{HeldKind}
+use Rattle.journal_core.specs.declared.outcome.Effect.{Effect}
+use Rattle.media_map.specs.Places.{run_of}
+use Rattle.device_rules.specs.Views.{View, view_after}
+use Rattle.extent_list.specs.ExtentLists.{tags_of, marked}
+use Rattle.device_rules.specs.Outcomes.{Outcome, notice, notices_of, no_extent}
+use Rattle.offer_core.specs.Offerings.{oldest_of}
+
+abbrev pub hold : HostId → HeldKind → List Extent → List Effect
+hold h kind [] = []
+hold h kind (x ∷ xs) = Effect.Hold h kind (x ∷ xs) ∷ []
+
+abbrev pub unhold : HostId → HeldKind → List Extent → List Effect
+unhold h kind [] = []
+unhold h kind (x ∷ xs) = Effect.Unhold h kind ∷ []
+
+-- the offer is answered by this list, and each of its extents is taken
+abbrev pub answered : Configuration → HostId → List (List Extent) → List Extent → List Effect
+answered c h [] all = []
+answered c h (offer ∷ later) all = Effect.Answer h (map (marked offer) all) ∷ map (λ x. Effect.Take h (run_of c h x)) all
+
+-- the manager is told of each extent, or of one zero extent where none was taken
+abbrev pub response_notices : Configuration → HostId → View → List (List Extent) → List Extent → List (LogId × List Event)
+response_notices c h v [] all = []
+response_notices c h v (offer ∷ later) [] = (LogId.Manager, notice h v EventKind.AddResponse false no_extent ∷ []) ∷ []
+response_notices c h v (offer ∷ later) (x ∷ xs) = (LogId.Manager, notices_of h v EventKind.AddResponse (map (marked offer) (x ∷ xs))) ∷ []
+
+abbrev pub respond_changes : Configuration → HostId → List (List Extent) → List Extent → Bool → List Extent → List Effect
+respond_changes c h offers held more list =
+    if more then hold h HeldKind.Responses list
+    else unhold h HeldKind.Responses held ++ answered c h offers (held ++ list)
+
+abbrev pub respond_outcome : Configuration → HostId → View → Bool → List Extent → Outcome
+respond_outcome c h v more list = let changes = respond_changes c h v.offers v.responses more list in record {
+  payload = [];
+  changes = changes;
+  tags = if more then [] else tags_of (oldest_of v.offers);
+  notices = if more then [] else response_notices c h (view_after c h v changes) v.offers (v.responses ++ list);
+}

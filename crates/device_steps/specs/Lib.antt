@@ -1,0 +1,2 @@
+pub mod GranuleStates
+pub mod Kept
