@@ -7,8 +7,8 @@ use Rattle.dcd_base.specs.declared.steps.LogId.{LogId}
 use Rattle.region_config.specs.Configurations.{Configuration}
 use Rattle.region_config.specs.Granules.{granule_total, hosts_of, region_of, region_spec}
 use Rattle.journal_core.specs.declared.outcome.Effect.{Effect}
-use Rattle.control_core.specs.Counts.{dirty_count, extent_count, free_count, granules_held, missed_of, records_of}
-use Rattle.control_core.specs.Tags.{Status, Held, Offered, Tagged, Dirty, Free, granules_of, is_dirty, is_free, is_offered, status}
+use Rattle.device_rules.specs.Counts.{dirty_count, extent_count, free_count, granules_held, missed_of, records_of}
+use Rattle.device_rules.specs.Tags.{Status, Held, Offered, Tagged, Dirty, Free, granules_of, is_dirty, is_free, is_offered, status}
 
 -- no member passes a test that fails always
 never : {X : Type 0} (xs : List X) → list_any (λ x. false) xs ≡ false

@@ -1,12 +1,4 @@
-pub mod Answers
-pub mod Counts
-pub mod Hosts
+pub mod Built
 pub mod Kept
-pub mod Legal
-pub mod Logs
-pub mod Outcomes
 pub mod Quiet
-pub mod Settings
 pub mod Steps
-pub mod Tags
-pub mod Views

@@ -7,8 +7,8 @@ use Rattle.journal_core.specs.declared.acts.Reply.{Reply}
 use Rattle.journal_core.specs.declared.outcome.Effect.{Effect}
 use Rattle.journal_core.specs.declared.entries.Entry.{Entry}
 use Rattle.journal_core.specs.Entries.{effects}
-use Rattle.control_core.specs.Views.{first_view}
-use Rattle.control_core.specs.Answers.{host_result_in, reply_with}
+use Rattle.device_rules.specs.Views.{first_view}
+use Rattle.device_rules.specs.Answers.{host_result_in, reply_with}
 
 -- So far no entry has an effect.
 abbrev pub IsQuiet : List Entry → Type 0

@@ -5,7 +5,8 @@ use Rattle.region_config.specs.Configurations.{Configuration}
 use Rattle.journal_core.specs.declared.acts.Act.{Act}
 use Rattle.journal_core.specs.declared.entries.Entry.{Entry}
 use Rattle.journal_core.specs.Entries.{fits}
-use Rattle.control_core.specs.Answers.{answer, is_built}
+use Rattle.control_core.specs.Built.{is_built}
+use Rattle.device_rules.specs.Answers.{answer}
 
 -- The configuration that the control was made with, its commands and scrubs, and how many more entries it has room for.
 pub record Controlled : Type 0 where

@@ -1,10 +1,12 @@
 //! From a message to its response.
 
-ghost use Rattle.control_core.specs.Answers.{host_result, host_result_in, is_built, payload_rule, reply_with, response};
+ghost use Rattle.control_core.specs.Built.{get_configuration, is_built};
+ghost use Rattle.device_rules.specs.Answers.{host_result, host_result_in, host_payload_rule, reply_with, response};
 ghost use Rattle.control_core.specs.Quiet.{first_reply};
 ghost use Rattle.control_core.specs.Steps.{MayStep};
-ghost use Rattle.control_core.specs.Views.{first_view};
+ghost use Rattle.device_rules.specs.Views.{first_view};
 ghost use Rattle.dcd_codes.specs.Rules.{code_of};
+ghost use Rattle.host_payloads.specs.HostPayloads.{host_opcode};
 ghost use Rattle.journal_core.specs.declared.acts.Reply.{Reply};
 ghost use Rattle.std.specs.Prelude.{◌≡◌, ◌≢◌, ◌<◌, [], IfOk, length};
 
@@ -42,7 +44,7 @@ fn refused(alloc: Global, request: &Request, rule: &Rule) -> Response
 /// The rule that a payload breaks which is no request.
 fn payload_rule(fault: PayloadFault) -> Rule
     requires { fault ≢ PayloadFault.NoMemory }
-    ensures { result ≡ payload_rule fault }
+    ensures { result ≡ host_payload_rule fault }
 {
     match fault {
         PayloadFault::UnknownOpcode(opcode) => Rule::UnknownOpcode(opcode),
@@ -59,6 +61,7 @@ pub(crate) fn answer_host(
     request: &Request,
 ) -> Result<Response, NoMemory>
     requires host { host < config.now.hosts }
+    requires built { request.now.opcode ≡ get_configuration }
     ensures { IfOk result (λ s. Reply.Answer s ≡ reply_with request.now (host_result_in config.now host (first_view config.now) request.now)) }
 {
     match decode(alloc, request.opcode, request.payload.as_slice()) {
@@ -77,6 +80,7 @@ fn answer_asked(
     asked: &HostRequest,
 ) -> Result<Response, NoMemory>
     requires host { host < config.now.hosts }
+    requires built { host_opcode asked.now ≡ get_configuration }
     ensures { IfOk result (λ s. Reply.Answer s ≡ reply_with request.now (host_result config.now host (first_view config.now) (Ok asked.now))) }
 {
     match asked {
@@ -87,7 +91,7 @@ fn answer_asked(
             let payload = configuration(alloc, config, host, *count, *first)?;
             Ok(response(request, Code::Success, payload))
         }
-        _ => Ok(response(request, Code::Success, Bytes::new(alloc))),
+        _ => unreachable!(),
     }
 }
 

@@ -2,7 +2,7 @@
 //!
 //! By now no command has an effect, so that no host has an extent, all granules are free and no log has a record.
 
-ghost use Rattle.control_core.specs.Counts.{dirty_count, extent_count, free_count, granules_held, missed_of, records_of};
+ghost use Rattle.device_rules.specs.Counts.{dirty_count, extent_count, free_count, granules_held, missed_of, records_of};
 ghost use Rattle.journal_core.specs.Entries.{effects};
 ghost use Rattle.std.specs.Prelude.{◌≡◌, ◌<◌, Some, length, slice_get};
 

@@ -1,7 +1,7 @@
 //! Get Dynamic Capacity Configuration, 4800h.
 
-ghost use Rattle.control_core.specs.Settings.{configuration_reply, host_counts, host_flags, page, region_seen};
-ghost use Rattle.control_core.specs.Views.{first_view};
+ghost use Rattle.device_rules.specs.Settings.{configuration_reply, host_counts, host_flags, page, region_seen};
+ghost use Rattle.device_rules.specs.Views.{first_view};
 ghost use Rattle.dcd_base.specs.Layouts.{flag_of};
 ghost use Rattle.region_config.specs.Granules.{regions_of};
 ghost use Rattle.std.specs.List.{range_with_len};

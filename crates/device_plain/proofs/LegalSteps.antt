@@ -7,8 +7,8 @@ use Rattle.journal_core.specs.declared.acts.Act.{Act}
 use Rattle.journal_core.specs.declared.entries.Entry.{Entry}
 use Rattle.journal_core.specs.Entries.{fits}
 use Rattle.journal_core.proofs.EachSteps.{Each-push}
-use Rattle.control_core.specs.Answers.{is_built}
-use Rattle.control_core.specs.Legal.{Legal, Meets}
+use Rattle.control_core.specs.Built.{is_built}
+use Rattle.device_rules.specs.Legal.{Legal, Meets}
 use Rattle.control_core.specs.Steps.{entry_of}
 
 never : IsTrue false → ⊥

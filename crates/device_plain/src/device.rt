@@ -1,6 +1,6 @@
 //! The device of one thread.
 
-ghost use Rattle.control_core.specs.Legal.{Legal};
+ghost use Rattle.device_rules.specs.Legal.{Legal};
 ghost use Rattle.control_core.specs.Steps.{MayStep};
 ghost use Rattle.device_plain.specs.Devices.{Enters};
 ghost use Rattle.std.specs.Prelude.{◌≡◌, [], IfOk, OnErr};
@@ -21,7 +21,7 @@ pub struct Device {
 }
 
 impl Model for Device {
-    ghost use Rattle.control_core.specs.Legal.{Legal};
+    ghost use Rattle.device_rules.specs.Legal.{Legal};
     ghost use Rattle.device_plain.specs.Devices.{Plain};
 
     ghost Value = { Plain };

@@ -16,7 +16,7 @@ use Rattle.journal_core.specs.declared.acts.Reply.{Reply}
 use Rattle.journal_core.specs.declared.outcome.Effect.{Effect}
 use Rattle.journal_core.specs.declared.entries.Entry.{Entry}
 use Rattle.journal_core.specs.Entries.{effects}
-use Rattle.control_core.specs.Counts.{dirty_count, extent_count, free_count, granules_held, missed_of, records_of}
+use Rattle.device_rules.specs.Counts.{dirty_count, extent_count, free_count, granules_held, missed_of, records_of}
 
 -- a word that is not the first of its line
 abbrev pub next_word : List ℕ → List ℕ

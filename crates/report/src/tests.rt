@@ -1,6 +1,6 @@
 //! The texts that are printed.
 
-ghost use Rattle.control_core.specs.Answers.{is_built};
+ghost use Rattle.control_core.specs.Built.{is_built};
 ghost use Rattle.dcd_base.specs.declared.steps.Actor.{Actor};
 ghost use Rattle.script_codec.specs.declared.faults.ScriptFault.{ScriptFault};
 ghost use Rattle.std.specs.Prelude.{◌≡◌, ◌≢◌, IfOk, IsTrue};

@@ -6,8 +6,8 @@ use Rattle.journal_core.specs.Entries.{fits}
 use Rattle.script_codec.specs.declared.script_line.Line.{Line}
 use Rattle.script_codec.specs.declared.scripts.Script.{Script}
 use Rattle.script_codec.specs.Covering.{Covers}
-use Rattle.control_core.specs.Answers.{is_built}
-use Rattle.control_core.specs.Legal.{Legal}
+use Rattle.control_core.specs.Built.{is_built}
+use Rattle.device_rules.specs.Legal.{Legal}
 
 -- whether the device can do the line by now
 abbrev pub is_built_line : ℕ → Line → Bool

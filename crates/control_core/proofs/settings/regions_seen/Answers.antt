@@ -2,8 +2,8 @@ use Rattle.std.proofs.Common.{◌≡◌, ◌-◌, ◌≤◌, ℕ, [], ◌∷◌,
 use Rattle.std.proofs.lemmas.List.{length_push}
 use Rattle.host_payloads.specs.declared.views.RegionView.{RegionView}
 use Rattle.std.specs.List.{range_with_len}
-use Rattle.control_core.specs.Settings.{host_flags, region_seen}
-use Rattle.control_core.specs.Views.{first_view}
+use Rattle.device_rules.specs.Settings.{host_flags, region_seen}
+use Rattle.device_rules.specs.Views.{first_view}
 use Rattle.control_core.proofs.Pages.{page_done, page_more}
 use Rattle.control_core.proofs.settings.regions_seen.Goals as goal
 

@@ -1,7 +1,7 @@
 use Rattle.std.proofs.Common.{◌≡◌, ◌-◌, map, length}
 use Rattle.std.specs.List.{range_with_len}
-use Rattle.control_core.specs.Settings.{host_flags, region_seen}
-use Rattle.control_core.specs.Views.{first_view}
+use Rattle.device_rules.specs.Settings.{host_flags, region_seen}
+use Rattle.device_rules.specs.Views.{first_view}
 use Rattle.control_core.proofs.settings.regions_seen.Given as goal
 
 -- The regions from the first on are seen.

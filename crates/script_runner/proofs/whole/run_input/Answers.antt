@@ -1,6 +1,6 @@
 use Rattle.std.proofs.Common.{inl, inr, rules, ◌≡◌, refl, sym, ap, subst, ◌∙◌}
 use Rattle.region_config.specs.Configurations.{Configuration}
-use Rattle.control_core.specs.Legal.{Legal}
+use Rattle.device_rules.specs.Legal.{Legal}
 use Rattle.report.specs.Texts.{text}
 use Rattle.report.specs.Refusals.{refusal_line}
 use Rattle.script_codec.specs.declared.faults.ScriptFault.{ScriptFault}

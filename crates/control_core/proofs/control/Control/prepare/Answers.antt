@@ -1,6 +1,6 @@
 use Rattle.std.proofs.Common.{[], length, ap, sym, ◌∙◌}
 use Rattle.std.specs.Prelude.{IsTrue}
-use Rattle.control_core.specs.Answers.{is_built}
+use Rattle.control_core.specs.Built.{is_built}
 use Rattle.control_core.specs.Quiet.{first_reply, made}
 use Rattle.control_core.specs.Steps.{Controlled, entry_of}
 use Rattle.control_core.proofs.Quietness.{next_entry}
