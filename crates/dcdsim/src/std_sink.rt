@@ -1,6 +1,6 @@
 //! Standard output as a sink. It tells nothing of its content.
 
-ghost use Rattle.std.specs.Prelude.{None};
+ghost use Rattle.std.specs.Prelude.{◌≡◌, None};
 
 use dcd_base::{Failed, Sink};
 use std::io::Write;
@@ -13,7 +13,10 @@ pub struct StdSink<W: Write + Drop> {
 }
 
 impl<W: Write + Drop> StdSink<W> {
-    pub fn new(writer: W) -> StdSink<W> {
+    /// The writer with no fault counted.
+    pub fn new(writer: W) -> StdSink<W>
+        ensures { result.faults ≡ 0 }
+    {
         StdSink { writer, faults: 0 }
     }
 }

@@ -1,6 +1,6 @@
 //! Standard input as a source. It tells nothing of its content.
 
-ghost use Rattle.std.specs.Prelude.{None};
+ghost use Rattle.std.specs.Prelude.{◌≡◌, None};
 
 use dcd_base::{Failed, Source};
 use std::io::Read;
@@ -13,7 +13,10 @@ pub struct StdSource<R: Read + Drop> {
 }
 
 impl<R: Read + Drop> StdSource<R> {
-    pub fn new(reader: R) -> StdSource<R> {
+    /// The reader with no fault counted.
+    pub fn new(reader: R) -> StdSource<R>
+        ensures { result.faults ≡ 0 }
+    {
         StdSource { reader, faults: 0 }
     }
 }
