@@ -83,6 +83,13 @@ impl EventLog {
         self.missed
     }
 
+    /// The handle that the next record gets.
+    pub fn next_handle(&self) -> u16
+        ensures { result ≡ self.now.next }
+    {
+        self.next
+    }
+
     /// The record at an index below the length; the oldest has the index 0.
     pub fn at(&self, index: u32) -> Event
         requires { index < length self.now.records }
@@ -124,10 +131,32 @@ impl EventLog {
         match self.put(event) {
             Ok(handle) => Some(handle),
             Err(_) => {
-                self.missed = self.missed.saturating_add(1);
+                self.count_missed();
                 None
             }
         }
+    }
+
+    /// Counts a record that found the log full, up to 65,535, where the count stays. Nothing else changes.
+    pub fn count_missed(&mut self)
+        ensures { self.new ≡ with_missed self.old }
+    {
+        self.missed = self.missed.saturating_add(1);
+    }
+
+    /// Sets the count of missed records to 0. Nothing else changes.
+    pub fn reset_missed(&mut self)
+        ensures { self.new ≡ record self.old { missed = 0 } }
+    {
+        self.missed = 0;
+    }
+
+    /// Takes out so many of the oldest records, or all where there are fewer. Nothing else changes.
+    pub fn drop_oldest(&mut self, count: usize)
+        ensures { self.new ≡ without_oldest count self.old }
+    {
+        let len = self.records.len();
+        self.records.truncate_front(len - len.min(count));
     }
 
     /// The record at the index, from the oldest on.
@@ -158,8 +187,8 @@ impl EventLog {
         }
     }
 
-    /// Why the handles cannot be cleared.
-    fn clear_fault(&self, handles: &[u16]) -> Option<ClearFault>
+    /// Why the records of these handles cannot be cleared; None exactly where they can. It changes nothing.
+    pub fn clear_fault(&self, handles: &[u16]) -> Option<ClearFault>
         ensures fault { result ≡ clear_fault handles.now self.now.records }
         ensures within { IfNone result (length handles.now ≤ length self.now.records) }
     {
@@ -191,8 +220,7 @@ impl EventLog {
         match self.clear_fault(handles) {
             Some(fault) => Err(fault),
             None => {
-                let left = self.records.len() - handles.len();
-                self.records.truncate_front(left);
+                self.drop_oldest(handles.len());
                 Ok(())
             }
         }
@@ -211,7 +239,7 @@ impl EventLog {
             return Err(ClearFault::NotOverflowed);
         }
         self.records.clear();
-        self.missed = 0;
+        self.reset_missed();
         Ok(())
     }
 }

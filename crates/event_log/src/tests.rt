@@ -63,6 +63,24 @@ fn a_full_log_refuses_or_counts(rt: HostRuntime) -> Result<(), Fail> {
 }
 
 #[test]
+fn a_log_changes_part_by_part(rt: HostRuntime) -> Result<(), Fail> {
+    let mut log = EventLog::new(rt.alloc(), 2)?;
+    assert_eq!(rt; log.put(offer(0)), Ok(1));
+    assert_eq!(rt; log.put(offer(1)), Ok(2));
+    assert_eq!(rt; log.next_handle(), 3);
+    assert_eq!(rt; log.clear_fault(&[1]), None);
+    log.count_missed();
+    assert_eq!(rt; log.missed(), 1);
+    log.drop_oldest(1);
+    assert_eq!(rt; (log.len(), log.at(0).handle), (1, 2));
+    log.drop_oldest(5);
+    assert_eq!(rt; (log.len(), log.missed()), (0, 1));
+    log.reset_missed();
+    assert_eq!(rt; (log.missed(), log.next_handle()), (0, 3));
+    Ok(())
+}
+
+#[test]
 fn handles_begin_again_after_65535(rt: HostRuntime) -> Result<(), Fail> {
     let mut log = EventLog::new(rt.alloc(), 1)?;
     for handle in 1..=65_535 {
