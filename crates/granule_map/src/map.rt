@@ -12,7 +12,7 @@ use std::marker::Model;
 
 /// The states of granules 0, 1, 2 and so on.
 ///
-/// Contracts see the list of states and its spare: how many calls of `set_run` there is memory for.
+/// Contracts see the list of states and its spare: where there is some, `set_run` takes no memory.
 #[derive(Debug, Drop)]
 pub struct GranuleMap {
     alloc: Global,
@@ -34,7 +34,8 @@ impl Model for GranuleMap {
 impl GranuleMap {
     /// A map of so many granules, all free.
     pub fn new(alloc: Global, count: u32) -> Result<GranuleMap, NoMemory>
-        ensures { IfOk result (λ map. map.states ≡ replicate count GranuleState.Free) }
+        ensures states { IfOk result (λ map. map.states ≡ replicate count GranuleState.Free) }
+        ensures spare { IfOk result (λ map. 0 < map.spare) }
     {
         Ok(GranuleMap {
             alloc,
@@ -52,7 +53,7 @@ impl GranuleMap {
         })
     }
 
-    /// Makes the spare at least `n`. The states stay, and without memory the spare does too.
+    /// Makes the spare at least `n`. A new map has some. The states stay, and without memory the spare does too.
     pub fn reserve(&mut self, n: usize) -> Result<(), NoMemory>
         ensures room { OnOk result (n ≤ self.new.spare) }
         ensures states { self.new.states ≡ self.old.states }
@@ -80,13 +81,13 @@ impl GranuleMap {
         self.granules[granule.0 as usize]
     }
 
-    /// Gives each granule of the run this state. Takes no memory, and uses one of the spare.
+    /// Gives each granule of the run this state. Takes no memory where there is spare, and leaves the spare.
     pub fn set_run(&mut self, run: Run, state: GranuleState)
         requires spare { 0 < self.old.spare }
         requires within { run.first + run.count ≤ length self.old.states }
         ensures states { self.new.states ≡ with_run self.old.states run state }
         ensures granules { length self.new.states ≡ length self.old.states }
-        ensures spare { self.old.spare ≤ self.new.spare + 1 }
+        ensures spare { self.old.spare ≤ self.new.spare }
     {
         let first = run.first.0 as usize;
         self.granules[first..first + run.count as usize].fill(state);
