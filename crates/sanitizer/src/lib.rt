@@ -1,6 +1,7 @@
 //! Turns of the sanitizer: which dirty granules are zeroed next, and that they are free from then on.
 //!
-//! A turn changes the states of granules. Their words are zeroed by who keeps them, run by run.
+//! A turn changes the states of granules. Their words are zeroed by who keeps them, run by run. Who keeps more of
+//! the granules than their states takes `dirty_runs` alone, and makes the change.
 #![tactic(auto)]
 
 mod scrubbing;
@@ -8,4 +9,4 @@ mod search;
 #[cfg(test)]
 mod tests;
 
-pub use scrubbing::turn;
+pub use scrubbing::{dirty_runs, turn};

@@ -29,9 +29,28 @@ pub fn turn(alloc: Global, map: &mut GranuleMap, config: &Config, n: u32) -> Res
     ensures kept { OnErr result (map.new ≡ map.old) }
     ensures spare { map.old.spare ≤ map.new.spare + n }
 {
+    let runs = dirty_runs(alloc, map, config, n)?;
+    set_free(map, runs.as_slice());
+    Ok(runs)
+}
+
+/// The lowest dirty granules, so many or all where there are fewer, as the longest runs within regions by rising
+/// number (profile): what `turn` frees. Nothing is changed.
+pub fn dirty_runs(
+    alloc: Global,
+    map: &GranuleMap,
+    config: &Config,
+    n: u32,
+) -> Result<Runs, NoMemory>
+    requires granules { length map.now.states ≡ granule_total config.now }
+    ensures runs { IfOk result (λ runs. runs ≡ scrub_runs config.now (is_dirty_at map.now.states) n) }
+    ensures regions { IfOk result (λ runs. All (IsInRegion config.now) runs) }
+    ensures dirty { IfOk result (λ runs. (g : ℕ) → IsTrue (has_in_runs runs g) → IsTrue (is_dirty_at map.now.states g)) }
+    ensures count { IfOk result (λ runs. granules_in runs ≡ length (scrubbed config.now (is_dirty_at map.now.states) n)) }
+    ensures few { IfOk result (λ runs. length runs ≤ n) }
+{
     let mut runs = Runs::new(alloc);
     find_dirty(map, config, n, &mut runs)?;
-    set_free(map, runs.as_slice());
     Ok(runs)
 }
 

@@ -3,7 +3,7 @@
 ghost use Rattle.region_config.specs.Granules.{granule_total};
 ghost use Rattle.std.specs.Prelude.{◌≡◌, IfOk, length};
 
-use crate::turn;
+use crate::{dirty_runs, turn};
 use dcd_base::{Granule, HostId, NoMemory, Run, Runs};
 use granule_map::{GranuleMap, GranuleState};
 use region_config::{Config, ConfigFault, RegionSpec};
@@ -138,5 +138,17 @@ fn held_granules_stay(rt: HostRuntime) -> Result<(), Fail> {
     assert_eq!(rt; runs.as_slice(), [run(2, 1)].as_slice());
     assert_eq!(rt; map.count(GranuleState::Held(HostId(1))), 3);
     assert_eq!(rt; map.at(Granule(2)), GranuleState::Free);
+    Ok(())
+}
+
+#[test]
+fn the_search_alone_frees_nothing(rt: HostRuntime) -> Result<(), Fail> {
+    let alloc = rt.alloc();
+    let config = two_hosts(alloc)?;
+    let mut map = map_of(alloc, &config)?;
+    set(&mut map, 14, 4, false)?;
+    let runs = dirty_runs(alloc, &map, &config, 3)?;
+    assert_eq!(rt; runs.as_slice(), [run(14, 2), run(16, 1)].as_slice());
+    assert_eq!(rt; map.count(GranuleState::Dirty), 4);
     Ok(())
 }

@@ -1,5 +1,5 @@
 -- What a change of one tag makes of the entries, none of which has the tag of another.
-use Rattle.std.proofs.Common.{ℕ, zero, suc, ◌≡◌, Bool, true, false, cond, List, [], ◌∷◌, ◌++◌, map, take, slice_get, Some, None, refl, sym, ◌∙◌, ap, subst}
+use Rattle.std.proofs.Common.{ℕ, zero, suc, ◌≡◌, Bool, true, false, true≢false, cond, List, [], ◌∷◌, ◌++◌, map, take, slice_get, Some, None, refl, sym, ◌∙◌, ap, subst}
 use Rattle.std.specs.Cmp.Lexicographic.{same_text}
 use Rattle.std.specs.List.{AllByRecursion, IsDistinct}
 use Rattle.std.specs.Map.{lookup, set_value, remove_entry, values_of, keys_of}
@@ -181,3 +181,15 @@ absent_before (x ∷ xs) zero e apart at = refl
 absent_before (x ∷ xs) (suc i) e apart at =
     let other = other_at x.tag xs i e (IsDistinct-head same_tag x.tag (map (λ e. e.tag) xs) apart) at in
     rw (nat_list_eq_equiv.symm e.tag.0 x.tag.0 ∙ other) (absent_before xs i e (rest_apart x xs apart) at)
+
+others_of_none : (t : Tag) (xs : List TagEntry) → is_live t xs ≡ false → AreOthers t xs
+others_of_none t [] none = tt
+others_of_none t (x ∷ xs) none = by (is_of t x) refl (others_of_none t xs)
+  where
+    by : (b : Bool) → is_of t x ≡ b → (is_live t xs ≡ false → AreOthers t xs) → AreOthers t (x ∷ xs)
+    by true here rest = absurd (true≢false (rw here at none))
+    by false here rest = (here, rest (rw here at none))
+
+-- a change of a tag that is not live changes nothing
+pub none_changed : (t : Tag) (f : TagEntry → TagEntry) (xs : List TagEntry) → AreUsed xs → is_live t xs ≡ false → xs ≡ still_used (changed t f xs)
+none_changed t f xs used none = sym (ap still_used (changed_others t f xs (others_of_none t xs none)) ∙ used_stay xs used)

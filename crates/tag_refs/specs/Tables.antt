@@ -8,6 +8,11 @@ use Rattle.tag_refs.specs.Hosts.{has_host, with_host, without_host}
 use Rattle.tag_refs.specs.declared.entries.TagEntry.{TagEntry}
 use Rattle.dcd_base.specs.declared.tags.TagView.{TagView}
 
+-- the entries in the order of opening, and for how many tags more there is memory
+pub record Table : Type 0 where
+  pub entries : List TagEntry
+  pub spare : ℕ
+
 -- whether there is an entry, and it passes the test
 abbrev pub some_passes : (TagEntry → Bool) → Option TagEntry → Bool
 some_passes test None = false
@@ -75,6 +80,13 @@ settled_by h accepted e = record e {
 
 abbrev pub dropped_by : ℕ → TagEntry → TagEntry
 dropped_by h e = record e { holders = without_host e.holders h }
+
+-- the host holds the tag or not, and is offered it or not
+abbrev pub set_by : ℕ → Bool → Bool → TagEntry → TagEntry
+set_by h held offered e = record e {
+  holders = if held then with_host e.holders h else without_host e.holders h;
+  offered = if offered then with_host e.offered h else without_host e.offered h;
+}
 
 abbrev pub with_reference : Bool → TagEntry → TagEntry
 with_reference on e = record e { referenced = on }

@@ -11,6 +11,8 @@ pub(crate) enum Change {
     Settle(HostId, bool),
     /// The host no longer holds the tag.
     Leave(HostId),
+    /// Whether the host holds the tag, and whether it is offered it.
+    Host(HostId, bool, bool),
     /// Whether the Fabric Manager has a reference.
     Refer(bool),
     /// The granules are dirty once the tag ends.

@@ -1,11 +1,11 @@
 //! What the device keeps of a live tag.
 
-ghost use Rattle.std.specs.Prelude.{◌≡◌, ◌<◌, IfOk};
+ghost use Rattle.std.specs.Prelude.{◌≡◌, ◌<◌, IfOk, false, not};
 ghost use Rattle.tag_refs.specs.Changes.{IsOfHost, applied};
-ghost use Rattle.tag_refs.specs.Tables.{is_held_by, is_offered_to, is_used, view_of};
+ghost use Rattle.tag_refs.specs.Tables.{is_held_by, is_offered_to, is_used, set_by, view_of, with_reference};
 
 use crate::changes::Change;
-use crate::hosts::{has, with, without};
+use crate::hosts::{has, set, with, without};
 use dcd_base::{HostId, NoMemory, RegionId, Runs, Tag, TagView};
 
 /// A live shareable tag: the capacity that it stands for, and who uses it.
@@ -77,6 +77,23 @@ impl TagEntry {
         self.holders != 0 || self.offered != 0 || self.referenced
     }
 
+    /// Whether it is no longer used once the host holds the tag or not, and is offered it or not.
+    pub(crate) fn ends(&self, host: HostId, held: bool, offered: bool) -> bool
+        requires { host < 16 }
+        ensures { result ≡ not (is_used (set_by host held offered self.now)) }
+    {
+        let holders = set(self.holders, host.0, held);
+        let offered = set(self.offered, host.0, offered);
+        holders == 0 && offered == 0 && !self.referenced
+    }
+
+    /// Whether it is no longer used once the Fabric Manager has no reference to it.
+    pub(crate) fn ends_unreferenced(&self) -> bool
+        ensures { result ≡ not (is_used (with_reference false self.now)) }
+    {
+        self.holders == 0 && self.offered == 0
+    }
+
     /// Makes the change.
     pub(crate) fn apply(&mut self, change: Change)
         requires { IsOfHost change }
@@ -91,6 +108,10 @@ impl TagEntry {
                 }
             }
             Change::Leave(host) => self.holders = without(self.holders, host.0),
+            Change::Host(host, held, offered) => {
+                self.holders = set(self.holders, host.0, held);
+                self.offered = set(self.offered, host.0, offered);
+            }
             Change::Refer(on) => self.referenced = on,
             Change::Soil => self.soiled = true,
         }

@@ -1,9 +1,9 @@
 //! The table of live tags.
 
 ghost use Rattle.std.specs.Option.{option_copied, option_map};
-ghost use Rattle.std.specs.Prelude.{◌≡◌, ◌==◌, ◌<◌, ◌++◌, ◌∷◌, [], IfErr, IfOk, IsTrue, OnErr, OnOk, Some, false, length, not, slice_get, true};
+ghost use Rattle.std.specs.Prelude.{◌≡◌, ◌==◌, ◌+◌, ◌<◌, ◌≤◌, ◌++◌, ◌∷◌, [], IfErr, IfOk, IsTrue, OnErr, OnOk, Some, false, length, not, slice_get, true};
 ghost use Rattle.tag_refs.specs.Changes.{IsOfHost, applied};
-ghost use Rattle.tag_refs.specs.Tables.{AreTags, changed, dropped_by, entry_of, is_held_by, is_live, is_offered_to, is_referenced, is_soiled, is_used, offered_to, opened, passes, settled_by, still_used, view_of, with_reference, with_soil};
+ghost use Rattle.tag_refs.specs.Tables.{AreTags, changed, dropped_by, entry_of, is_held_by, is_live, is_offered_to, is_referenced, is_soiled, is_used, offered_to, opened, passes, set_by, settled_by, still_used, view_of, with_reference, with_soil};
 ghost use Rattle.tag_refs.specs.declared.entries.TagEntry.{TagEntry};
 
 use crate::changes::Change;
@@ -16,20 +16,21 @@ use std::alloc::Global;
 use std::marker::Model;
 
 /// The live shareable tags, in the order of opening.
+///
+/// Contracts see their entries and the spare: how many tags more can be opened without memory.
 #[derive(Drop)]
 pub struct Tags {
     entries: IndexMap<Tag, TagEntry>,
 }
 
 impl Model for Tags {
-    ghost use Rattle.std.specs.Prelude.{List};
-    ghost use Rattle.indexmap.specs.IndexMap.{values};
-    ghost use Rattle.tag_refs.specs.declared.entries.TagEntry.{TagEntry};
+    ghost use Rattle.indexmap.specs.IndexMap.{spare, values};
     ghost use Rattle.tag_refs.specs.Stored.{IsStored};
+    ghost use Rattle.tag_refs.specs.Tables.{Table};
 
-    ghost Value = { List TagEntry };
+    ghost Value = { Table };
 
-    ghost view = { λ tags. values tags.entries };
+    ghost view = { λ tags. record { entries = values tags.entries; spare = spare tags.entries } };
 
     ghost invariant = { λ tags. IsStored tags.entries.entries };
 }
@@ -37,7 +38,7 @@ impl Model for Tags {
 impl Tags {
     /// No tags. It takes no memory.
     pub fn new(alloc: Global) -> Tags
-        ensures { result ≡ [] }
+        ensures { result.entries ≡ [] }
     {
         Tags {
             entries: IndexMap::new(alloc),
@@ -46,22 +47,22 @@ impl Tags {
 
     /// How many tags are live.
     pub fn len(&self) -> usize
-        ensures len { result ≡ length self.now }
-        ensures tags { AreTags self.now }
+        ensures len { result ≡ length self.now.entries }
+        ensures tags { AreTags self.now.entries }
     {
         self.entries.len()
     }
 
     /// Whether no tag is live.
     pub fn is_empty(&self) -> bool
-        ensures { result ≡ (length self.now == 0) }
+        ensures { result ≡ (length self.now.entries == 0) }
     {
         self.entries.len() == 0
     }
 
     /// An equal table of its own.
     pub fn copy(&self) -> Result<Tags, NoMemory>
-        ensures { IfOk result (λ copy. copy ≡ self.now) }
+        ensures { IfOk result (λ copy. copy.entries ≡ self.now.entries) }
     {
         let mut copy = Tags::new(*self.entries.allocator());
         for i in 0..self.len() {
@@ -72,14 +73,14 @@ impl Tags {
 
     /// The entry of the tag; None exactly where the tag is not live.
     pub fn find(&self, tag: &Tag) -> Option<&TagEntry>
-        ensures { option_copied result ≡ entry_of tag.now self.now }
+        ensures { option_copied result ≡ entry_of tag.now self.now.entries }
     {
         self.entries.get(tag)
     }
 
     /// Whether the tag is live.
     pub fn is_live(&self, tag: &Tag) -> bool
-        ensures { result ≡ is_live tag.now self.now }
+        ensures { result ≡ is_live tag.now self.now.entries }
     {
         self.find(tag).is_some()
     }
@@ -87,7 +88,7 @@ impl Tags {
     /// Whether the tag is live and the host holds it.
     pub fn is_held_by(&self, tag: &Tag, host: HostId) -> bool
         requires { host < 16 }
-        ensures { result ≡ passes tag.now (is_held_by host) self.now }
+        ensures { result ≡ passes tag.now (is_held_by host) self.now.entries }
     {
         match self.find(tag) {
             Some(entry) => entry.is_held_by(host),
@@ -98,7 +99,7 @@ impl Tags {
     /// Whether the tag is live and an offer of it to the host is unanswered.
     pub fn is_offered_to(&self, tag: &Tag, host: HostId) -> bool
         requires { host < 16 }
-        ensures { result ≡ passes tag.now (is_offered_to host) self.now }
+        ensures { result ≡ passes tag.now (is_offered_to host) self.now.entries }
     {
         match self.find(tag) {
             Some(entry) => entry.is_offered_to(host),
@@ -108,7 +109,7 @@ impl Tags {
 
     /// Whether the tag is live and the Fabric Manager has a reference to it.
     pub fn is_referenced(&self, tag: &Tag) -> bool
-        ensures { result ≡ passes tag.now is_referenced self.now }
+        ensures { result ≡ passes tag.now is_referenced self.now.entries }
     {
         match self.find(tag) {
             Some(entry) => entry.referenced,
@@ -116,10 +117,31 @@ impl Tags {
         }
     }
 
+    /// Whether the tag is live and ends once the host is made a holder of it or not, and offered it or not.
+    pub fn ends(&self, tag: &Tag, host: HostId, held: bool, offered: bool) -> bool
+        requires { host < 16 }
+        ensures { result ≡ passes tag.now (λ e. not (is_used (set_by host held offered e))) self.now.entries }
+    {
+        match self.find(tag) {
+            Some(entry) => entry.ends(host, held, offered),
+            None => false,
+        }
+    }
+
+    /// Whether the tag is live and ends once the Fabric Manager has no reference to it.
+    pub fn ends_unreferenced(&self, tag: &Tag) -> bool
+        ensures { result ≡ passes tag.now (λ e. not (is_used (with_reference false e))) self.now.entries }
+    {
+        match self.find(tag) {
+            Some(entry) => entry.ends_unreferenced(),
+            None => false,
+        }
+    }
+
     /// What the Fabric Manager is shown of the entry at an index below the length, in the order of opening.
     pub fn at(&self, index: usize) -> TagView
-        requires { index < length self.now }
-        ensures { option_map view_of (slice_get self.now index) ≡ Some result }
+        requires { index < length self.now.entries }
+        ensures { option_map view_of (slice_get self.now.entries index) ≡ Some result }
     {
         self.entry(index).view()
     }
@@ -127,7 +149,7 @@ impl Tags {
     /// Whether the tag's granules are dirty once it ends, also where the region does not sanitize. It is false
     /// for a tag that is not live.
     pub fn soiled(&self, tag: &Tag) -> bool
-        ensures { result ≡ passes tag.now is_soiled self.now }
+        ensures { result ≡ passes tag.now is_soiled self.now.entries }
     {
         match self.find(tag) {
             Some(entry) => entry.soiled,
@@ -135,7 +157,18 @@ impl Tags {
         }
     }
 
-    /// Opens a tag that is not live, as the last, offered to the host. Without memory nothing changes.
+    /// Makes the spare at least `n`. The entries stay, and without memory the spare is no less than it was.
+    pub fn reserve(&mut self, n: usize) -> Result<(), NoMemory>
+        ensures room { OnOk result (n ≤ self.new.spare) }
+        ensures entries { self.new.entries ≡ self.old.entries }
+        ensures spare { self.old.spare ≤ self.new.spare }
+    {
+        self.entries.reserve(n)?;
+        Ok(())
+    }
+
+    /// Opens a tag that is not live, as the last, offered to the host. It takes memory only where there is no spare,
+    /// of which it uses one. Without memory no entry changes.
     pub fn begin(
         &mut self,
         tag: Tag,
@@ -144,9 +177,11 @@ impl Tags {
         host: HostId,
     ) -> Result<(), NoMemory>
         requires host { host < 16 }
-        requires new { is_live tag self.old ≡ false }
-        ensures begun { OnOk result (self.new ≡ self.old ++ opened tag region runs host ∷ []) }
-        ensures kept { OnErr result (self.new ≡ self.old) }
+        requires new { is_live tag self.old.entries ≡ false }
+        ensures begun { OnOk result (self.new.entries ≡ self.old.entries ++ opened tag region runs host ∷ []) }
+        ensures kept { OnErr result (self.new.entries ≡ self.old.entries) }
+        ensures full { OnErr result (self.old.spare ≡ 0) }
+        ensures spare { self.old.spare ≤ self.new.spare + 1 }
     {
         self.push(TagEntry {
             tag,
@@ -162,10 +197,11 @@ impl Tags {
     /// Offers a live tag to a host that neither holds it nor is offered it.
     pub fn share(&mut self, tag: &Tag, host: HostId)
         requires host { host < 16 }
-        requires live { IsTrue (is_live tag.now self.old) }
-        requires not_held { passes tag.now (is_held_by host) self.old ≡ false }
-        requires not_offered { passes tag.now (is_offered_to host) self.old ≡ false }
-        ensures { self.new ≡ changed tag.now (offered_to host) self.old }
+        requires live { IsTrue (is_live tag.now self.old.entries) }
+        requires not_held { passes tag.now (is_held_by host) self.old.entries ≡ false }
+        requires not_offered { passes tag.now (is_offered_to host) self.old.entries ≡ false }
+        ensures offered { self.new.entries ≡ changed tag.now (offered_to host) self.old.entries }
+        ensures spare { self.old.spare ≤ self.new.spare }
     {
         self.change(tag, Change::Offer(host));
     }
@@ -174,9 +210,10 @@ impl Tags {
     /// Answers true exactly where the tag ended, and its entry is gone.
     pub fn settle(&mut self, tag: &Tag, host: HostId, accepted: bool) -> bool
         requires host { host < 16 }
-        requires offered { IsTrue (passes tag.now (is_offered_to host) self.old) }
-        ensures settled { self.new ≡ still_used (changed tag.now (settled_by host accepted) self.old) }
-        ensures ended { result ≡ not (is_live tag.now self.new) }
+        requires offered { IsTrue (passes tag.now (is_offered_to host) self.old.entries) }
+        ensures settled { self.new.entries ≡ still_used (changed tag.now (settled_by host accepted) self.old.entries) }
+        ensures ended { result ≡ not (is_live tag.now self.new.entries) }
+        ensures spare { self.old.spare ≤ self.new.spare }
     {
         self.change(tag, Change::Settle(host, accepted))
     }
@@ -184,23 +221,39 @@ impl Tags {
     /// Takes the tag from a host that holds it. Answers true exactly where the tag ended, and its entry is gone.
     pub fn drop_holder(&mut self, tag: &Tag, host: HostId) -> bool
         requires host { host < 16 }
-        requires held { IsTrue (passes tag.now (is_held_by host) self.old) }
-        ensures dropped { self.new ≡ still_used (changed tag.now (dropped_by host) self.old) }
-        ensures ended { result ≡ not (is_live tag.now self.new) }
+        requires held { IsTrue (passes tag.now (is_held_by host) self.old.entries) }
+        ensures dropped { self.new.entries ≡ still_used (changed tag.now (dropped_by host) self.old.entries) }
+        ensures ended { result ≡ not (is_live tag.now self.new.entries) }
+        ensures spare { self.old.spare ≤ self.new.spare }
     {
         self.change(tag, Change::Leave(host))
+    }
+
+    /// Makes the host a holder of a live tag or not, and offered it or not. The tag ends where no use is left, and
+    /// its entry is gone. Where the tag is not live nothing changes.
+    pub fn set_host(&mut self, tag: &Tag, host: HostId, held: bool, offered: bool)
+        requires { host < 16 }
+        ensures set { self.new.entries ≡ still_used (changed tag.now (set_by host held offered) self.old.entries) }
+        ensures spare { self.old.spare ≤ self.new.spare }
+    {
+        // Each entry that is there is used, so that none ends where the tag is not live.
+        let _tags = self.len();
+        if self.is_live(tag) {
+            self.change(tag, Change::Host(host, held, offered));
+        }
     }
 
     /// Gives the Fabric Manager a reference to the tag. Answers true exactly where it had none.
     ///
     /// `UnknownTag` comes exactly where the tag is not live; nothing changes then.
     pub fn add_reference(&mut self, tag: &Tag) -> Result<bool, TagFault>
-        ensures referenced { OnOk result (self.new ≡ changed tag.now (with_reference true) self.old) }
-        ensures new { IfOk result (λ new. new ≡ not (passes tag.now is_referenced self.old)) }
-        ensures live { OnOk result (is_live tag.now self.old ≡ true) }
+        ensures referenced { OnOk result (self.new.entries ≡ changed tag.now (with_reference true) self.old.entries) }
+        ensures new { IfOk result (λ new. new ≡ not (passes tag.now is_referenced self.old.entries)) }
+        ensures live { OnOk result (is_live tag.now self.old.entries ≡ true) }
         ensures fault { IfErr result (λ fault. fault ≡ TagFault.UnknownTag) }
-        ensures unknown { OnErr result (is_live tag.now self.old ≡ false) }
+        ensures unknown { OnErr result (is_live tag.now self.old.entries ≡ false) }
         ensures kept { OnErr result (self.new ≡ self.old) }
+        ensures spare { self.old.spare ≤ self.new.spare }
     {
         match self.find(tag) {
             None => Err(TagFault::UnknownTag),
@@ -218,12 +271,13 @@ impl Tags {
     /// `NotReferenced` comes exactly where there is no reference to the tag, also where it is not live; nothing
     /// changes then.
     pub fn remove_reference(&mut self, tag: &Tag) -> Result<bool, TagFault>
-        ensures removed { OnOk result (self.new ≡ still_used (changed tag.now (with_reference false) self.old)) }
-        ensures ended { IfOk result (λ ended. ended ≡ not (is_live tag.now self.new)) }
-        ensures referenced { OnOk result (passes tag.now is_referenced self.old ≡ true) }
+        ensures removed { OnOk result (self.new.entries ≡ still_used (changed tag.now (with_reference false) self.old.entries)) }
+        ensures ended { IfOk result (λ ended. ended ≡ not (is_live tag.now self.new.entries)) }
+        ensures referenced { OnOk result (passes tag.now is_referenced self.old.entries ≡ true) }
         ensures fault { IfErr result (λ fault. fault ≡ TagFault.NotReferenced) }
-        ensures none { OnErr result (passes tag.now is_referenced self.old ≡ false) }
+        ensures none { OnErr result (passes tag.now is_referenced self.old.entries ≡ false) }
         ensures kept { OnErr result (self.new ≡ self.old) }
+        ensures spare { self.old.spare ≤ self.new.spare }
     {
         if self.is_referenced(tag) {
             Ok(self.change(tag, Change::Refer(false)))
@@ -234,26 +288,29 @@ impl Tags {
 
     /// Makes a live tag's granules dirty once it ends, also where the region does not sanitize.
     pub fn soil(&mut self, tag: &Tag)
-        requires { IsTrue (is_live tag.now self.old) }
-        ensures { self.new ≡ changed tag.now with_soil self.old }
+        requires { IsTrue (is_live tag.now self.old.entries) }
+        ensures soiled { self.new.entries ≡ changed tag.now with_soil self.old.entries }
+        ensures spare { self.old.spare ≤ self.new.spare }
     {
         self.change(tag, Change::Soil);
     }
 
     /// The entry at an index below the length.
     fn entry(&self, index: usize) -> &TagEntry
-        requires { index < length self.now }
-        ensures { slice_get self.now index ≡ Some result.now }
+        requires { index < length self.now.entries }
+        ensures { slice_get self.now.entries index ≡ Some result.now }
     {
         &self.entries[index]
     }
 
     /// Puts an entry at the end that is used, of a tag that is not live.
     fn push(&mut self, entry: TagEntry) -> Result<(), NoMemory>
-        requires new { is_live entry.tag self.old ≡ false }
+        requires new { is_live entry.tag self.old.entries ≡ false }
         requires used { is_used entry ≡ true }
-        ensures pushed { OnOk result (self.new ≡ self.old ++ entry ∷ []) }
-        ensures kept { OnErr result (self.new ≡ self.old) }
+        ensures pushed { OnOk result (self.new.entries ≡ self.old.entries ++ entry ∷ []) }
+        ensures kept { OnErr result (self.new.entries ≡ self.old.entries) }
+        ensures full { OnErr result (self.old.spare ≡ 0) }
+        ensures spare { self.old.spare ≤ self.new.spare + 1 }
     {
         self.entries.insert(entry.tag, entry)?;
         Ok(())
@@ -261,11 +318,12 @@ impl Tags {
 
     /// Changes the entry of a live tag, and takes it out where it is no longer used, which it answers.
     fn change(&mut self, tag: &Tag, change: Change) -> bool
-        requires live { IsTrue (is_live tag.now self.old) }
+        requires live { IsTrue (is_live tag.now self.old.entries) }
         requires host { IsOfHost change }
-        ensures changed { self.new ≡ still_used (changed tag.now (applied change) self.old) }
-        ensures ended { result ≡ not (is_live tag.now self.new) }
-        ensures kept { ((e : TagEntry) → is_used e ≡ true → is_used (applied change e) ≡ true) → self.new ≡ changed tag.now (applied change) self.old }
+        ensures changed { self.new.entries ≡ still_used (changed tag.now (applied change) self.old.entries) }
+        ensures ended { result ≡ not (is_live tag.now self.new.entries) }
+        ensures kept { ((e : TagEntry) → is_used e ≡ true → is_used (applied change e) ≡ true) → self.new.entries ≡ changed tag.now (applied change) self.old.entries }
+        ensures spare { self.old.spare ≤ self.new.spare }
     {
         let entry = self.entries.get_mut(tag).unwrap();
         entry.apply(change);

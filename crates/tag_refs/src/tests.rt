@@ -60,6 +60,7 @@ fn a_tag_ends_with_its_last_use(rt: HostRuntime) -> Result<(), Fail> {
     let view = tags.at(0);
     assert_eq!(rt; view.tag, tag);
     assert_eq!(rt; (view.holders, view.offered, view.referenced), (0, 0, true));
+    assert!(rt; tags.ends_unreferenced(&tag));
     assert_eq!(rt; tags.remove_reference(&tag), Ok(true));
     assert!(rt; tags.is_empty());
     assert_eq!(rt; tags.remove_reference(&tag), Err(TagFault::NotReferenced));
@@ -97,5 +98,27 @@ fn a_soiled_tag_lives_on(rt: HostRuntime) -> Result<(), Fail> {
     assert!(rt; tags.soiled(&tag));
     let runs = tags.find(&tag).map_or(0, |entry| entry.runs.len());
     assert_eq!(rt; runs, 1);
+    Ok(())
+}
+
+#[test]
+fn a_tag_ends_with_the_last_host_that_is_set(rt: HostRuntime) -> Result<(), Fail> {
+    let tag = bytes_from_1();
+    let mut tags = Tags::new(rt.alloc());
+    tags.reserve(2)?;
+    open(&rt, rt.alloc(), &mut tags, tag)?;
+    tags.set_host(&tag, SECOND, true, false);
+    assert!(rt; tags.is_held_by(&tag, SECOND));
+    assert!(rt; !tags.ends(&tag, FIRST, false, false));
+    tags.set_host(&tag, FIRST, false, false);
+    assert!(rt; !tags.is_offered_to(&tag, FIRST));
+    assert!(rt; !tags.ends_unreferenced(&tag));
+    assert!(rt; !tags.ends(&tag, SECOND, false, true));
+    assert!(rt; tags.ends(&tag, SECOND, false, false));
+    tags.set_host(&tag, SECOND, false, false);
+    assert!(rt; tags.is_empty());
+    tags.set_host(&tag, SECOND, true, true);
+    assert!(rt; tags.is_empty());
+    assert!(rt; !tags.ends(&tag, SECOND, false, false));
     Ok(())
 }

@@ -1,16 +1,16 @@
 use Rattle.std.proofs.Common.{◌≡◌, sym, ◌∙◌, ap, not, is_some, true}
 use Rattle.std.specs.Map.{values_of}
 use Rattle.tag_refs.specs.Changes.{applied}
-use Rattle.tag_refs.specs.Tables.{is_live}
 use Rattle.tag_refs.proofs.Changing.{tag_stays}
 use Rattle.tag_refs.proofs.Stores.{Leaves, after_removal, after_write, found_live, none_ends, some_copied}
+use Rattle.tag_refs.specs.Tables.{Table, is_live}
 use Rattle.tag_refs.proofs.tables.Tags.change.Goals as goal
 
 pub unwrap-entry-requires : goal.unwrap-entry-requires
 unwrap-entry-requires c =
-    let live : is_live c.args.tag.now c.args.self.now ≡ true = c.requires.live in
+    let live : is_live c.args.tag.now c.args.self.now.entries ≡ true = c.requires.live in
     sym (some_copied c.get_mut.result) ∙ ap is_some c.get_mut.ensures.value ∙ sym (found_live c.args.tag.now _ c.self.invariant)
-    ∙ rw c.self.view_is live
+    ∙ rw (ap (λ (t : Table). t.entries) c.self.view_is) live
 
 -- the entry is still used
 written : (c : goal.Then-is_used) → Leaves c.args.tag.now (applied c.args.change) (values_of c.self.inside.entries.entries) c.apply.new.self (c.get_mut.follows.lender c.apply.new.self).entries

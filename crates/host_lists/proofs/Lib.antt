@@ -1,0 +1,4 @@
+pub mod Departures
+pub mod Offered
+pub mod TagCounting
+pub mod Withdrawals

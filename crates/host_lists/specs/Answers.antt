@@ -1,0 +1,63 @@
+-- What a response and a release do to a host's lists.
+use Rattle.std.specs.declared.result.Result.{Result}
+use Rattle.std.specs.declared.result.Result.TheVariants.{Ok, Err}
+use Rattle.std.specs.Prelude.{◌≡◌, ◌≢◌, ℕ, Bool, true, false, if◌then◌else◌, List, [], ◌∷◌, ◌++◌, map}
+use Rattle.dcd_base.specs.declared.capacity.Extent.{Extent}
+use Rattle.dcd_base.specs.Words.{is_empty}
+use Rattle.dcd_codes.specs.declared.refusals.Refusal.{Refusal}
+use Rattle.extent_list.specs.ExtentLists.{cut_all, marked}
+use Rattle.release_core.specs.declared.releases.GivenBack.{GivenBack}
+use Rattle.host_lists.specs.declared.responded.Responded.{Responded}
+use Rattle.host_lists.specs.Lists.{Lists, next_generation}
+
+-- the generation after a change of these extents; without any there is no change
+abbrev pub generation_after : List Extent → ℕ → ℕ
+generation_after changed n = if is_empty changed then n else next_generation n
+
+-- The oldest offer is answered with these accepted extents.
+pub record IsAccepted (old : Lists) (list : List Extent) (new : Lists) (accepted : List Extent) : Type 0 where
+  pub offer : List Extent
+  pub later : List (List Extent)
+  pub oldest : old.offers ≡ offer ∷ later
+  pub marked : accepted ≡ map (marked offer) (old.responses ++ list)
+  pub is : new ≡ record {
+    accepted = old.accepted ++ accepted;
+    offers = later;
+    responses = [];
+    releases = old.releases;
+    generation = generation_after accepted old.generation;
+  }
+
+-- What was there, whether more is to come, the message's list, what is there then, and what was answered.
+abbrev pub Responds : Lists → Bool → List Extent → Lists → Responded → Type 0
+Responds old more list new Responded.Held = (more ≡ true) × (new ≡ record old { responses = old.responses ++ list })
+Responds old more list new Responded.Nothing =
+    (more ≡ false) × (old.offers ≡ []) × (old.responses ++ list ≡ []) × (new ≡ record old { responses = [] })
+Responds old more list new (Responded.Done accepted) = (more ≡ false) × IsAccepted old list new accepted
+
+-- What a refused response leaves: a broken rule lets go what is held of responses, and want of memory changes nothing.
+abbrev pub LeavesResponses : Lists → Lists → Result Responded Refusal → Type 0
+LeavesResponses old new (Ok responded) = Unit {0}
+LeavesResponses old new (Err (Refusal.Broken rule)) = new ≡ record old { responses = [] }
+LeavesResponses old new (Err Refusal.NoMemory) = new ≡ old
+
+-- the lists without the extents that a host gave back, and nothing held of releases
+abbrev pub given_up : Lists → List Extent → Lists
+given_up old whole = record old { accepted = cut_all whole old.accepted; releases = []; generation = next_generation old.generation }
+
+-- What was there, whether more is to come, the message's list, what is there then, and what was answered.
+abbrev pub GivesUp : Lists → Bool → List Extent → Lists → GivenBack → Type 0
+GivesUp old more list new GivenBack.Held = (more ≡ true) × (new ≡ record old { releases = old.releases ++ list })
+GivesUp old more list new GivenBack.Nothing =
+    (more ≡ false) × (old.releases ++ list ≡ []) × (new ≡ record old { releases = [] })
+GivesUp old more list new (GivenBack.Done leaving) =
+    (more ≡ false)
+    × (old.releases ++ list ≢ [])
+    × (leaving ≡ map (marked old.accepted) (old.releases ++ list))
+    × (new ≡ given_up old (old.releases ++ list))
+
+-- What a refused release leaves: a broken rule lets go what is held of releases, and want of memory changes nothing.
+abbrev pub LeavesReleases : Lists → Lists → Result GivenBack Refusal → Type 0
+LeavesReleases old new (Ok given) = Unit {0}
+LeavesReleases old new (Err (Refusal.Broken rule)) = new ≡ record old { releases = [] }
+LeavesReleases old new (Err Refusal.NoMemory) = new ≡ old

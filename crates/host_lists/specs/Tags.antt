@@ -1,0 +1,22 @@
+-- How many tags are among extents.
+use Rattle.std.specs.Prelude.{ℕ, ◌-◌, ◌^◌, Bool, ◌&&◌, not, List, ◌++◌, flat_map, length, min, take}
+use Rattle.dcd_base.specs.declared.capacity.Extent.{Extent}
+use Rattle.dcd_base.specs.declared.capacity.Tag.{Tag}
+use Rattle.dcd_base.specs.Words.{is_zero_tag}
+use Rattle.extent_list.specs.ExtentLists.{has_extent_of, real_tags}
+
+-- how many distinct tags they have; sixteen zero bytes are none
+abbrev pub tag_count : List Extent → ℕ
+tag_count xs = length (real_tags xs)
+
+-- whether the tag is one, and none of the extents before has it
+abbrev pub is_new : List Extent → Tag → Bool
+is_new before t = not (is_zero_tag t) && not (has_extent_of t before)
+
+-- a count that stands still at the end of 32 bits
+abbrev pub capped : ℕ → ℕ
+capped n = min n (2 ^ 32 - 1)
+
+-- the extents accepted and those of the first offers, so many
+abbrev pub extents_before : List Extent → List (List Extent) → ℕ → List Extent
+extents_before accepted offers count = accepted ++ flat_map (λ xs. xs) (take count offers)

@@ -1,0 +1,199 @@
+//! The lists, and what is read of them.
+
+ghost use Rattle.dcd_base.specs.Words.{extents_supported, is_empty, tags_supported};
+ghost use Rattle.extent_list.specs.ExtentLists.{count_in, has_extent_of, real_tags};
+ghost use Rattle.host_lists.specs.Lists.{extent_total, extents_in, no_lists};
+ghost use Rattle.host_lists.specs.Tags.{capped, tag_count};
+ghost use Rattle.offer_core.specs.Offerings.{oldest_of};
+ghost use Rattle.std.specs.List.{list_any};
+ghost use Rattle.std.specs.Prelude.{◌≡◌, ◌++◌, ◌+◌, ◌-◌, ◌^◌, ◌<◌, ◌≤◌, [], IfOk, length, not};
+
+use crate::tag_counts::{has_extent_of, has_in_offers, more_tags};
+use dcd_base::{Extent, Extents, NoMemory, Tag};
+use extent_list::ExtentList;
+use offer_core::Offers;
+use release_core::Releases;
+use std::alloc::Global;
+use std::marker::Model;
+
+/// How many extents a host may have, accepted and offered together (profile).
+const EXTENTS: usize = 64;
+
+/// How many tags these may have (profile).
+const TAGS: u32 = 32;
+
+/// What the device keeps of a host's extents.
+#[derive(Debug, Drop)]
+pub struct HostLists {
+    pub(crate) accepted: ExtentList,
+    pub(crate) offers: Offers,
+    pub(crate) releases: Releases,
+    pub(crate) generation: u32,
+}
+
+impl Model for HostLists {
+    ghost use Rattle.host_lists.specs.Lists.{Lists};
+    ghost use Rattle.offer_core.specs.Offerings.{lists_of};
+
+    ghost Value = { Lists };
+
+    ghost view = { λ l. record {
+      accepted = l.accepted.extents;
+      offers = lists_of l.offers.offers;
+      responses = l.offers.held;
+      releases = l.releases;
+      generation = l.generation;
+    } };
+}
+
+impl HostLists {
+    /// Nothing accepted, offered or held. It takes no memory.
+    pub fn new(alloc: Global) -> HostLists
+        ensures { result ≡ no_lists }
+    {
+        HostLists {
+            accepted: ExtentList::new(alloc),
+            offers: Offers::new(alloc),
+            releases: Releases::new(alloc),
+            generation: 0,
+        }
+    }
+
+    /// Equal lists of their own.
+    pub fn copy(&self) -> Result<HostLists, NoMemory>
+        ensures { IfOk result (λ copy. copy ≡ self.now) }
+    {
+        Ok(HostLists {
+            accepted: self.accepted.copy()?,
+            offers: self.offers.copy()?,
+            releases: self.releases.copy()?,
+            generation: self.generation,
+        })
+    }
+
+    /// The extents that the host has accepted, in the order in which it did.
+    pub fn accepted(&self) -> &ExtentList
+        ensures { result.now.extents ≡ self.now.accepted }
+    {
+        &self.accepted
+    }
+
+    /// Whether an offer is unanswered.
+    pub fn has_offer(&self) -> bool
+        ensures { result ≡ not (is_empty self.now.offers) }
+    {
+        !self.offers.is_empty()
+    }
+
+    /// The extents of the oldest unanswered offer; none where there is no offer.
+    pub fn oldest(&self) -> &[Extent]
+        ensures { result.now ≡ oldest_of self.now.offers }
+    {
+        if self.offers.is_empty() {
+            return &[];
+        }
+        self.offers.at(0).extents.as_slice()
+    }
+
+    /// How many extents all unanswered offers have together.
+    pub fn offered(&self) -> usize
+        requires few { extent_total self.now ≤ 64 }
+        ensures { result ≡ count_in self.now.offers }
+    {
+        self.offers.extents()
+    }
+
+    /// What responses with More hold so far.
+    pub fn responses(&self) -> &Extents
+        ensures { result.now ≡ self.now.responses }
+    {
+        self.offers.held()
+    }
+
+    /// What releases with More hold so far.
+    pub fn releases(&self) -> &Extents
+        ensures { result.now ≡ self.now.releases }
+    {
+        self.releases.held()
+    }
+
+    /// How often the accepted list changed, modulo 2^32 (CXL 3.1, 8.2.9.9.9.2).
+    pub fn generation(&self) -> u32
+        ensures { result ≡ self.now.generation }
+    {
+        self.generation
+    }
+
+    /// Whether an accepted extent has the tag.
+    pub fn has_accepted(&self, tag: &Tag) -> bool
+        ensures { result ≡ has_extent_of tag.now self.now.accepted }
+    {
+        has_extent_of(tag, self.accepted.as_slice())
+    }
+
+    /// Whether an extent of an unanswered offer has the tag.
+    pub fn has_offered(&self, tag: &Tag) -> bool
+        ensures { result ≡ list_any (has_extent_of tag.now) self.now.offers }
+    {
+        has_in_offers(tag, &self.offers, self.offers.len())
+    }
+
+    /// How many more extents the host may get.
+    pub fn extents_available(&self) -> u32
+        requires few { extent_total self.now ≤ 64 }
+        ensures { result ≡ extents_supported - length (extents_in self.now) }
+    {
+        (EXTENTS - (self.accepted.len() + self.offers.extents())) as u32
+    }
+
+    /// How many tags the extents have that the host has accepted or is offered, up to the end of 32 bits.
+    fn tags(&self) -> u32
+        ensures { result ≡ capped (tag_count (extents_in self.now)) }
+    {
+        let accepted = self.accepted.as_slice();
+        let mut tags = more_tags(0, &[], &self.offers, 0, accepted);
+        for i in 0..self.offers.len() {
+            let offer = self.offers.at(i).extents.as_slice();
+            tags = more_tags(tags, accepted, &self.offers, i, offer);
+        }
+        tags
+    }
+
+    /// How many tags the extents have that the host has accepted or is offered.
+    pub fn distinct_tags(&self) -> u32
+        requires few { extent_total self.now < 2 ^ 32 }
+        ensures { result ≡ length (real_tags (extents_in self.now)) }
+    {
+        self.tags()
+    }
+
+    /// How many more tags the host may get; none where it has more than it may.
+    pub fn tags_available(&self) -> u32
+        ensures { result ≡ tags_supported - length (real_tags (extents_in self.now)) }
+    {
+        TAGS.saturating_sub(self.tags())
+    }
+
+    /// How many tags there would be with these extents behind those that the host has accepted or is offered.
+    pub fn tags_with(&self, more: &[Extent]) -> u32
+        requires few { extent_total self.now + length more.now < 2 ^ 32 }
+        ensures { result ≡ length (real_tags (extents_in self.now ++ more.now)) }
+    {
+        let accepted = self.accepted.as_slice();
+        more_tags(self.tags(), accepted, &self.offers, self.offers.len(), more)
+    }
+
+    /// Lets go what responses with More hold.
+    pub fn drop_responses(&mut self)
+        ensures { self.new ≡ record self.old { responses = [] } }
+    {
+        self.offers.drop_held();
+    }
+
+    /// Lets go what releases with More hold.
+    pub fn drop_releases(&mut self)
+        ensures { self.new ≡ record self.old { releases = [] } }
+    {
+        self.releases.drop_held();
+    }
+}

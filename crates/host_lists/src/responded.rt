@@ -1,0 +1,15 @@
+//! What a response did.
+
+use dcd_base::Extents;
+
+/// What a response that breaks no rule did to the host's lists (CXL 3.1, 8.2.9.9.9.3).
+#[derive(Debug, Drop)]
+pub enum Responded {
+    /// More is to come: the list is held.
+    Held,
+    /// There was no offer, and nothing was listed.
+    Nothing,
+    /// The oldest offer is answered. These extents are accepted from it, each with the tag and the sequence of the
+    /// offered extent in which it lies.
+    Done(Extents),
+}

@@ -1,0 +1,77 @@
+//! Tags among the extents that a host has accepted and is offered.
+
+ghost use Rattle.dcd_base.specs.Words.{is_zero_tag};
+ghost use Rattle.extent_list.specs.ExtentLists.{has_extent_of};
+ghost use Rattle.host_lists.specs.Tags.{capped, extents_before, is_new, tag_count};
+ghost use Rattle.offer_core.specs.Offerings.{lists_of};
+ghost use Rattle.std.specs.List.{list_any};
+ghost use Rattle.std.specs.Prelude.{◌≡◌, ◌++◌, ◌≤◌, length, take};
+
+use dcd_base::{Extent, Tag, is_no_tag};
+use offer_core::Offers;
+
+/// Whether one of the extents has the tag.
+pub(crate) fn has_extent_of(tag: &Tag, extents: &[Extent]) -> bool
+    ensures { result ≡ has_extent_of tag.now extents.now }
+{
+    extents.iter().any(|extent| extent.tag == *tag)
+}
+
+/// Whether an extent of the first `count` offers has the tag.
+pub(crate) fn has_in_offers(tag: &Tag, offers: &Offers, count: usize) -> bool
+    requires { count ≤ length offers.now.offers }
+    ensures { result ≡ list_any (has_extent_of tag.now) (take count (lists_of offers.now.offers)) }
+{
+    for i in 0..count {
+        if has_extent_of(tag, offers.at(i).extents.as_slice()) {
+            return true;
+        }
+    }
+    false
+}
+
+/// Whether an accepted extent has the tag, or one of the first `count` offers, or one of those before it.
+#[tactic(auto, using(crate::proofs::Offered::has_extent_before))]
+fn is_among(
+    tag: &Tag,
+    accepted: &[Extent],
+    offers: &Offers,
+    count: usize,
+    before: &[Extent],
+) -> bool
+    requires { count ≤ length offers.now.offers }
+    ensures { result ≡ has_extent_of tag.now (extents_before accepted.now (lists_of offers.now.offers) count ++ before.now) }
+{
+    has_extent_of(tag, before) || has_extent_of(tag, accepted) || has_in_offers(tag, offers, count)
+}
+
+/// Whether the tag is one, and is new behind the accepted extents, the first `count` offers and those before it.
+fn is_new(tag: &Tag, accepted: &[Extent], offers: &Offers, count: usize, before: &[Extent]) -> bool
+    requires { count ≤ length offers.now.offers }
+    ensures { result ≡ is_new (extents_before accepted.now (lists_of offers.now.offers) count ++ before.now) tag.now }
+{
+    !is_no_tag(tag) && !is_among(tag, accepted, offers, count, before)
+}
+
+/// How many tags there are with these extents behind the accepted ones and the first `count` offers, which have
+/// `tags` of them. The counts stand still at the end of 32 bits.
+pub(crate) fn more_tags(
+    tags: u32,
+    accepted: &[Extent],
+    offers: &Offers,
+    count: usize,
+    more: &[Extent],
+) -> u32
+    requires known { count ≤ length offers.now.offers }
+    requires tags { tags ≡ capped (tag_count (extents_before accepted.now (lists_of offers.now.offers) count)) }
+    ensures { result ≡ capped (tag_count (extents_before accepted.now (lists_of offers.now.offers) count ++ more.now)) }
+{
+    let mut tags = tags;
+    for i in 0..more.len() {
+        let (before, _) = more.split_at(i);
+        if is_new(&more[i].tag, accepted, offers, count, before) {
+            tags = tags.saturating_add(1);
+        }
+    }
+    tags
+}

@@ -1,0 +1,13 @@
+pub mod AddSteps
+pub mod Bits
+pub mod Entries
+pub mod GivingSteps
+pub mod LeavingSteps
+pub mod Listing
+pub mod OfferSteps
+pub mod QuietSteps
+pub mod ReferenceSteps
+pub mod ReferencedTags
+pub mod ResponseSteps
+pub mod Settled
+pub mod Telling

@@ -1,0 +1,3 @@
+pub mod QuietRequests
+pub mod Steps
+pub mod Tables
