@@ -1,0 +1,7 @@
+pub mod Answered
+pub mod GivenUp
+pub mod Listed
+pub mod ListsAfter
+pub mod LogRules
+pub mod Pages
+pub mod Showing

@@ -1,0 +1,31 @@
+use Rattle.std.proofs.Common.{◌++◌, length, map, ap, ◌∙◌, arith}
+use Rattle.region_config.specs.Configurations.{Configuration}
+use Rattle.host_payloads.specs.HostPayloads.{configuration_payload}
+use Rattle.device_laws.proofs.Homes.{regions_same}
+use Rattle.host_commands.specs.declared.drafts.Draft.{Draft}
+use Rattle.host_commands.specs.Parts.{told_in}
+use Rattle.host_commands.proofs.Showing.{region_known, region_past}
+use Rattle.host_commands.proofs.configurations.get_configuration.Goals as goal
+
+pub returns-then-first-regions : goal.returns-then-first-regions
+returns-then-first-regions c = λ cfg v is lists.
+    let regions = ap (λ (p : Configuration). length p.regions) is ∙ regions_same cfg v.block in
+    region_past cfg c.args.first (omega (arith, regions, c.if-first-regions.true, c.regions.ensures.value))
+
+pub returns : goal.returns
+returns c = λ cfg v is lists.
+    let regions = ap (λ (p : Configuration). length p.regions) is ∙ regions_same cfg v.block in
+    let total = c.regions-2.ensures.value ∙ regions in
+    let views = c.as_slice.ensures ∙ c.in_ok-views.ensures.seen cfg v is in
+    let counts = c.host_counts-counts.ensures v lists in (
+      region_known cfg c.args.first (omega (arith, regions, c.if-first-regions.false, c.regions.ensures.value)),
+      record {
+        payload = ap (λ (d : Draft). d.payload) c.only.ensures ∙ c.in_ok-write_configuration.ensures.appended
+            ∙ ap (λ front. front ++ configuration_payload c.regions-2.result c.as_slice.result.now c.host_counts-counts.result) c.new-payload.ensures
+            ∙ (λ i. configuration_payload (total i) (views i) (counts i));
+        changes = ap (λ (d : Draft). d.changes) c.only.ensures;
+        tags = ap (λ (d : Draft). d.tags) c.only.ensures;
+        notices = ap (λ (d : Draft). map told_in d.notices) c.only.ensures;
+        lists = ap (λ (d : Draft). d.lists) c.only.ensures;
+      },
+    )

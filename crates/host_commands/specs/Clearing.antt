@@ -1,0 +1,46 @@
+-- Why a log is not cleared, and what clearing it changes, by what the log is.
+use Rattle.std.specs.Prelude.{ℕ, Bool, true, false, Some, None, ◌==◌, List, [], ◌∷◌, ◌++◌, length, Option, option_map, if◌then◌else◌}
+use Rattle.dcd_base.specs.declared.steps.LogId.{LogId}
+use Rattle.dcd_codes.specs.declared.rules.Rule.{Rule}
+use Rattle.dcd_codes.specs.Rules.{◌breaks◌}
+use Rattle.event_log.specs.declared.faults.ClearFault.{ClearFault}
+use Rattle.event_log.specs.LogStates.{LogState, clear_fault}
+use Rattle.journal_core.specs.declared.outcome.Effect.{Effect}
+use Rattle.device_rules.specs.EventCommands.{cleared}
+use Rattle.device_rules.specs.Outcomes.{Outcome}
+
+-- the rule that is broken where records cannot be cleared
+abbrev pub rule_of : ClearFault → Rule
+rule_of (ClearFault.OlderLeft handle) = Rule.OlderLeft handle
+rule_of (ClearFault.UnknownHandle handle) = Rule.UnknownHandle handle
+rule_of ClearFault.NotOverflowed = Rule.NotOverflowed
+
+-- a log is cleared whole only where it missed a record
+abbrev pub whole_rule : LogState → Option Rule
+whole_rule log = (log.missed == 0) breaks Rule.NotOverflowed
+
+-- and else handle by handle
+abbrev pub listed_rule : LogState → List ℕ → Option Rule
+listed_rule log handles = option_map rule_of (clear_fault handles log.records)
+
+abbrev pub clearing_rule : LogState → Bool → List ℕ → Option Rule
+clearing_rule log all handles = if all then whole_rule log else listed_rule log handles
+
+-- changes, and no more
+abbrev pub changing : List Effect → Outcome
+changing changes = record { payload = []; changes = changes; tags = []; notices = [] }
+
+abbrev pub whole_outcome : LogId → LogState → Outcome
+whole_outcome l log = changing (cleared l (length log.records) ++ Effect.Reset l ∷ [])
+
+abbrev pub listed_outcome : LogId → List ℕ → Outcome
+listed_outcome l handles = changing (cleared l (length handles))
+
+abbrev pub clearing_outcome : LogId → LogState → Bool → List ℕ → Outcome
+clearing_outcome l log all handles = if all then whole_outcome l log else listed_outcome l handles
+
+-- an empty log has no handle and missed nothing
+abbrev pub empty_rule : Bool → List ℕ → Option Rule
+empty_rule true handles = Some Rule.NotOverflowed
+empty_rule false [] = None
+empty_rule false (h ∷ handles) = Some (Rule.UnknownHandle h)

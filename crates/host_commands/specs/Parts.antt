@@ -1,0 +1,53 @@
+-- What the device keeps of a host, and what a command makes of it.
+use Rattle.std.specs.Prelude.{◌≡◌, List, map, Option, Some, None}
+use Rattle.dcd_base.specs.declared.ids.HostId.{HostId}
+use Rattle.dcd_base.specs.declared.steps.LogId.{LogId}
+use Rattle.event_records.specs.declared.events.Event.{Event}
+use Rattle.event_log.specs.LogStates.{LogState}
+use Rattle.event_log.specs.Logs.{Log, IsHistory, places_in, state_of}
+use Rattle.region_config.specs.Configurations.{Configuration}
+use Rattle.host_lists.specs.Lists.{Lists}
+use Rattle.device_rules.specs.Outcomes.{Outcome}
+use Rattle.device_rules.specs.Views.{View, generation_in, view_after}
+use Rattle.host_commands.specs.declared.drafts.Draft.{Draft}
+use Rattle.host_commands.specs.declared.notices.Notice.{Notice}
+
+-- the lists that a view shows
+abbrev pub lists_in : View → Lists
+lists_in v = record {
+  accepted = v.accepted;
+  offers = v.offers;
+  responses = v.responses;
+  releases = v.releases;
+  generation = generation_in v;
+}
+
+-- The log is the one of this history.
+pub record IsLogOf (l : LogId) (history : Log) (log : LogState) : Type 0 where
+  pub is : log ≡ state_of (places_in l) history
+  pub told : IsHistory history
+
+-- a notice as a log and what is told to it
+abbrev pub told_in : Notice → LogId × List Event
+told_in n = (n.log, n.events)
+
+-- The lists are those after the command's changes; where there are none, they stay as they are.
+abbrev pub AreAfter : Configuration → HostId → View → Outcome → Option Lists → Type 0
+AreAfter c h v o None = lists_in (view_after c h v o.changes) ≡ lists_in v
+AreAfter c h v o (Some lists) = lists ≡ lists_in (view_after c h v o.changes)
+
+-- The draft is this outcome, and has the lists of this host after it.
+pub record Drafts (c : Configuration) (h : HostId) (v : View) (o : Outcome) (d : Draft) : Type 0 where
+  pub payload : d.payload ≡ o.payload
+  pub changes : d.changes ≡ o.changes
+  pub tags : d.tags ≡ o.tags
+  pub notices : map told_in d.notices ≡ o.notices
+  pub lists : AreAfter c h v o d.lists
+
+-- The draft is this outcome, and changes no lists.
+pub record IsOutcome (o : Outcome) (d : Draft) : Type 0 where
+  pub payload : d.payload ≡ o.payload
+  pub changes : d.changes ≡ o.changes
+  pub tags : d.tags ≡ o.tags
+  pub notices : map told_in d.notices ≡ o.notices
+  pub lists : d.lists ≡ None

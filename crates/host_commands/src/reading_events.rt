@@ -1,0 +1,74 @@
+//! Get Event Records, 0100h, of a host and of the Fabric Manager.
+
+ghost use Rattle.dcd_codes.specs.Rules.{ByRow};
+ghost use Rattle.device_rules.specs.EventCommands.{events_reply, log_named, no_such_log};
+ghost use Rattle.device_rules.specs.Outcomes.{only};
+ghost use Rattle.event_log.specs.Logs.{Log};
+ghost use Rattle.host_commands.specs.Parts.{IsLogOf, IsOutcome};
+ghost use Rattle.host_payloads.specs.HostPayloads.{events_payload};
+ghost use Rattle.std.specs.Prelude.{◌≡◌, ◌≤◌, IfOk, [], length, nat_lt, take, false};
+
+use crate::drafts::Draft;
+use dcd_base::{Bytes, LogId, NoMemory, Seq};
+use dcd_codes::{Refusal, Rule};
+use event_log::EventLog;
+use event_records::Event;
+use host_payloads::write_events;
+use std::alloc::Global;
+
+/// How many logs there are; the one with number 4 is that of dynamic capacity, and the others are always empty.
+pub(crate) const LOGS: u8 = 5;
+
+/// The number of the log of dynamic capacity (CXL 3.1, 8.2.9.2.2).
+pub(crate) const DYNAMIC_CAPACITY: u8 = 4;
+
+/// How many records a reply has at most (profile).
+const RECORDS: usize = 15;
+
+/// The oldest records of the log, 15 at most; nothing of a log whose number is below that of dynamic capacity.
+/// `NoSuchLog` comes exactly where the number is 5 or more.
+pub fn get_events(alloc: Global, number: u8, log: &EventLog) -> Result<Draft, Refusal>
+    ensures { (l : LogId) (own : Log) → IsLogOf l own log.now → ByRow (no_such_log number) (IsOutcome (only (events_reply (log_named number own)))) result }
+{
+    if number >= LOGS {
+        return Err(Refusal::Broken(Rule::NoSuchLog(number)));
+    }
+    let payload = if number == DYNAMIC_CAPACITY {
+        oldest_events(alloc, log)?
+    } else {
+        no_events(alloc)?
+    };
+    Ok(Draft::only(alloc, payload))
+}
+
+/// The payload of an empty log.
+fn no_events(alloc: Global) -> Result<Bytes, NoMemory>
+    ensures { IfOk result (λ payload. payload ≡ events_payload 0 false []) }
+{
+    let mut payload = Bytes::new(alloc);
+    write_events(0, false, &[], &mut payload)?;
+    Ok(payload)
+}
+
+/// The payload of the oldest records.
+fn oldest_events(alloc: Global, log: &EventLog) -> Result<Bytes, NoMemory>
+    ensures { IfOk result (λ payload. payload ≡ events_payload log.now.missed (nat_lt 15 (length log.now.records)) (take 15 log.now.records)) }
+{
+    let events = oldest(alloc, log)?;
+    let mut payload = Bytes::new(alloc);
+    let more = log.len() as usize > RECORDS;
+    write_events(log.missed(), more, events.as_slice(), &mut payload)?;
+    Ok(payload)
+}
+
+/// The oldest records, 15 at most.
+fn oldest(alloc: Global, log: &EventLog) -> Result<Seq<Event>, NoMemory>
+    ensures events { IfOk result (λ events. events ≡ take 15 log.now.records) }
+    ensures few { IfOk result (λ events. length events ≤ 15) }
+{
+    let mut events = Seq::new(alloc);
+    for index in 0..log.len().min(RECORDS as u32) {
+        events.push(log.at(index))?;
+    }
+    Ok(events)
+}

@@ -1,0 +1,173 @@
+//! Add Dynamic Capacity Response, 4802h.
+
+ghost use Rattle.dcd_codes.specs.Rules.{ByRow};
+ghost use Rattle.device_rules.specs.Outcomes.{no_extent};
+ghost use Rattle.device_rules.specs.ResponseOutcomes.{hold, respond_outcome, unhold};
+ghost use Rattle.device_rules.specs.Views.{View};
+ghost use Rattle.extent_list.specs.ExtentLists.{tags_of};
+ghost use Rattle.host_commands.specs.Parts.{Drafts, lists_in};
+ghost use Rattle.host_commands.specs.Told.{Tells, changed, takes, told_of};
+ghost use Rattle.host_lists.specs.Lists.{extent_total};
+ghost use Rattle.journal_core.specs.declared.outcome.Effect.{Effect};
+ghost use Rattle.journal_core.specs.declared.outcome.HeldKind.{HeldKind};
+ghost use Rattle.media_map.specs.Places.{is_granular};
+ghost use Rattle.offer_core.specs.Offerings.{oldest_of};
+ghost use Rattle.offer_core.specs.Responses.{respond_rule};
+ghost use Rattle.region_config.specs.Granules.{with_blocks};
+ghost use Rattle.std.specs.Prelude.{◌≡◌, ◌++◌, ◌∷◌, ◌<◌, ◌≤◌, [], All, IfOk, IsTrue, OnOk, length};
+
+use crate::drafts::Draft;
+use crate::held_lists::{hold, unhold};
+use crate::notices::{event_for, notices_of, one_notice};
+use crate::runs::run_of;
+use crate::tags::tags_of;
+use dcd_base::{Bytes, Extent, Extents, HostId, LogId, NoMemory, Seq, no_tag};
+use dcd_codes::Refusal;
+use event_records::{Event, EventKind};
+use host_lists::{HostLists, Responded};
+use journal_core::{Effect, Effects, HeldKind};
+use region_config::Config;
+use std::alloc::Global;
+
+/// The host's response to its oldest offer: this list behind what it holds of earlier messages, and whether more
+/// messages are to follow (CXL 3.1, 8.2.9.9.9.3).
+///
+/// The first broken rule of the row comes where one is broken. `config` is the configuration that the device was made
+/// with, `present` the one with the present blocks. They have the same granules, so that only `present` is read.
+pub fn add_response(
+    alloc: Global,
+    config: &Config,
+    present: &Config,
+    host: HostId,
+    lists: &HostLists,
+    more: bool,
+    list: &Extents,
+) -> Result<Draft, Refusal>
+    requires host { host < config.now.hosts }
+    requires hosts { present.now.hosts ≡ config.now.hosts }
+    requires few { extent_total lists.now ≤ 64 }
+    ensures { (v : View) → present.now ≡ with_blocks config.now v.block → lists.now ≡ lists_in v →
+        ByRow (respond_rule (with_blocks config.now v.block) host (length v.accepted) v.offers v.responses more list.now)
+        (Drafts config.now host v (respond_outcome config.now host v more list.now)) result }
+{
+    // What is made of present blocks is made of granules, in every configuration.
+    let _regions = present.regions();
+    let mut after = lists.copy()?;
+    match after.respond(present, host, list, more)? {
+        Responded::Held => Ok(held(alloc, host, list, after)?),
+        Responded::Nothing => Ok(nothing(alloc, host, lists, after)?),
+        Responded::Done(accepted) => Ok(done(alloc, present, host, lists, after, accepted)?),
+    }
+}
+
+/// More is to come.
+fn held(alloc: Global, host: HostId, list: &Extents, after: HostLists) -> Result<Draft, NoMemory>
+    ensures { IfOk result (λ draft. draft ≡ changed (hold host HeldKind.Responses list.now) after) }
+{
+    let mut draft = Draft::changing(alloc, hold(alloc, host, HeldKind::Responses, list)?);
+    draft.lists = Some(after);
+    Ok(draft)
+}
+
+/// There is no offer, and nothing is listed.
+fn nothing(
+    alloc: Global,
+    host: HostId,
+    lists: &HostLists,
+    after: HostLists,
+) -> Result<Draft, NoMemory>
+    ensures { IfOk result (λ draft. draft ≡ changed (unhold host HeldKind.Responses lists.now.responses) after) }
+{
+    let changes = unhold(alloc, host, HeldKind::Responses, lists.responses())?;
+    let mut draft = Draft::changing(alloc, changes);
+    draft.lists = Some(after);
+    Ok(draft)
+}
+
+/// The oldest offer is answered.
+fn done(
+    alloc: Global,
+    present: &Config,
+    host: HostId,
+    lists: &HostLists,
+    after: HostLists,
+    accepted: Extents,
+) -> Result<Draft, NoMemory>
+    requires host { host < present.now.hosts }
+    requires granular { All (λ x. IsTrue (is_granular present.now host x.start x.length)) accepted }
+    requires few { extent_total after ≤ 64 }
+    ensures { IfOk result (Tells
+        (unhold host HeldKind.Responses lists.now.responses ++ Effect.Answer host accepted ∷ takes present.now host accepted)
+        (tags_of (oldest_of lists.now.offers))
+        (λ w. told_of host w accepted)
+        after) }
+{
+    let mut changes = unhold(alloc, host, HeldKind::Responses, lists.responses())?;
+    changes.push(Effect::Answer(host, accepted.copy()?))?;
+    put_takes(present, host, accepted.as_slice(), &mut changes)?;
+    let tags = tags_of(alloc, lists.oldest())?;
+    let events = told(alloc, host, &after, accepted.as_slice())?;
+    let notices = one_notice(alloc, LogId::Manager, events)?;
+    Ok(Draft {
+        payload: Bytes::new(alloc),
+        changes,
+        tags,
+        notices,
+        lists: Some(after),
+    })
+}
+
+/// What the Fabric Manager is told: each accepted extent, or one of zeros where none is accepted.
+fn told(
+    alloc: Global,
+    host: HostId,
+    after: &HostLists,
+    accepted: &[Extent],
+) -> Result<Seq<Event>, NoMemory>
+    requires { extent_total after.now ≤ 64 }
+    ensures { IfOk result (λ events. (w : View) → after.now ≡ lists_in w → events ≡ told_of host w accepted.now) }
+{
+    if accepted.is_empty() {
+        return told_none(alloc, host, after);
+    }
+    notices_of(alloc, host, after, EventKind::AddResponse, accepted)
+}
+
+/// What the Fabric Manager is told where no extent is accepted.
+fn told_none(alloc: Global, host: HostId, after: &HostLists) -> Result<Seq<Event>, NoMemory>
+    requires { extent_total after.now ≤ 64 }
+    ensures { IfOk result (λ events. (w : View) → after.now ≡ lists_in w → events ≡ told_of host w []) }
+{
+    let mut events = Seq::new(alloc);
+    events.push(event_for(host, after, EventKind::AddResponse, false, &no_extent()))?;
+    Ok(events)
+}
+
+/// An extent of zeros.
+pub fn no_extent() -> Extent
+    ensures { result ≡ no_extent }
+{
+    Extent {
+        start: 0,
+        length: 0,
+        tag: no_tag(),
+        sequence: 0,
+    }
+}
+
+/// The host takes each of the extents.
+fn put_takes(
+    present: &Config,
+    host: HostId,
+    extents: &[Extent],
+    changes: &mut Effects,
+) -> Result<(), NoMemory>
+    requires host { host < present.now.hosts }
+    requires granular { All (λ x. IsTrue (is_granular present.now host x.start x.length)) extents.now }
+    ensures { OnOk result (changes.new ≡ changes.old ++ takes present.now host extents.now) }
+{
+    for i in 0..extents.len() {
+        changes.push(Effect::Take(host, run_of(present, host, &extents[i])))?;
+    }
+    Ok(())
+}

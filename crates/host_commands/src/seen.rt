@@ -1,0 +1,96 @@
+//! What a host or the Fabric Manager is shown of regions and of what the host may have.
+
+ghost use Rattle.dcd_base.specs.Layouts.{flag_of};
+ghost use Rattle.device_rules.specs.Settings.{host_counts, host_flags, manager_flags, page, region_seen};
+ghost use Rattle.device_rules.specs.Views.{View};
+ghost use Rattle.host_commands.specs.Parts.{lists_in};
+ghost use Rattle.host_commands.specs.Shown.{flags_of as flags_shown};
+ghost use Rattle.host_lists.specs.Lists.{extent_total};
+ghost use Rattle.host_payloads.specs.declared.views.RegionView.{RegionView};
+ghost use Rattle.region_config.specs.Granules.{regions_of, region_spec, with_blocks};
+ghost use Rattle.region_config.specs.Configurations.{Configuration};
+ghost use Rattle.std.specs.Prelude.{◌≡◌, ◌<◌, ◌≤◌, IfOk, length, map};
+
+use dcd_base::{HostId, NoMemory, RegionId, Seq};
+use host_lists::HostLists;
+use host_payloads::{Counts, RegionView};
+use region_config::{Config, RegionSpec};
+use std::alloc::Global;
+
+/// How many extents and how many tags a host may have.
+const EXTENTS: u32 = 64;
+
+const TAGS: u32 = 32;
+
+/// Which flags of a region are shown.
+#[derive(Clone, Copy, Debug, PartialEq, Eq)]
+pub enum Flags {
+    /// Bit 0 where the region sanitizes: to a host.
+    OfHost,
+    /// Bit 1 where it is shareable too: to the Fabric Manager.
+    OfManager,
+}
+
+/// The flags of a region.
+fn flags_of(flags: Flags, spec: &RegionSpec) -> u8
+    ensures { result ≡ flags_shown flags spec.now }
+{
+    let sanitizes = u8::from(spec.sanitize);
+    match flags {
+        Flags::OfHost => sanitizes,
+        Flags::OfManager => sanitizes + 2 * u8::from(spec.shareable),
+    }
+}
+
+/// A region as it is shown. The configuration is the one with the present blocks.
+fn region_seen(present: &Config, host: HostId, flags: Flags, region: RegionId) -> RegionView
+    requires host { host < present.now.hosts }
+    requires region { region < length present.now.regions }
+    ensures { (c : Configuration) (v : View) → present.now ≡ with_blocks c v.block → result ≡ region_seen c host v (flags_shown flags) region }
+{
+    let spec = present.region(region);
+    RegionView {
+        base: present.base(host, region),
+        decode_units: spec.decode_units,
+        length: spec.length,
+        block: spec.block,
+        handle: spec.handle,
+        flags: flags_of(flags, &spec),
+    }
+}
+
+/// Up to `count` regions from the first on, as they are shown. The configuration is the one with the present blocks.
+pub fn regions_seen(
+    alloc: Global,
+    present: &Config,
+    host: HostId,
+    flags: Flags,
+    count: u8,
+    first: u8,
+) -> Result<Seq<RegionView>, NoMemory>
+    requires { host < present.now.hosts }
+    ensures seen { IfOk result (λ views. (c : Configuration) (v : View) → present.now ≡ with_blocks c v.block →
+        views ≡ map (region_seen c host v (flags_shown flags)) (page first count (regions_of c))) }
+    ensures few { IfOk result (λ views. length views ≤ 8) }
+{
+    let regions = present.regions();
+    let end = first.saturating_add(count).min(regions).max(first);
+    let mut views = Seq::new(alloc);
+    for region in first..end {
+        views.push(region_seen(present, host, flags, RegionId(region)))?;
+    }
+    Ok(views)
+}
+
+/// What a host with these lists may have, and what is left of it.
+pub fn host_counts(lists: &HostLists) -> Counts
+    requires { extent_total lists.now ≤ 64 }
+    ensures { (v : View) → lists.now ≡ lists_in v → result ≡ host_counts v }
+{
+    Counts {
+        extents: EXTENTS,
+        extents_available: lists.extents_available(),
+        tags: TAGS,
+        tags_available: lists.tags_available(),
+    }
+}

@@ -1,0 +1,36 @@
+//! The tags of extents.
+
+ghost use Rattle.dcd_base.specs.Words.{has_tag};
+ghost use Rattle.extent_list.specs.ExtentLists.{tags_of};
+ghost use Rattle.std.specs.Prelude.{◌≡◌, ◌++◌, ◌∷◌, [], IfOk, OnOk, if◌then◌else◌};
+
+use dcd_base::{Extent, NoMemory, Seq, Tag};
+use std::alloc::Global;
+
+/// Each tag of the extents once, in the order of first appearance; sixteen zero bytes too.
+pub fn tags_of(alloc: Global, extents: &[Extent]) -> Result<Seq<Tag>, NoMemory>
+    ensures { IfOk result (λ tags. tags ≡ tags_of extents.now) }
+{
+    let mut tags = Seq::new(alloc);
+    for i in 0..extents.len() {
+        put_tag(&extents[i].tag, &mut tags)?;
+    }
+    Ok(tags)
+}
+
+/// Puts a tag behind the others that is not among them.
+fn put_tag(tag: &Tag, tags: &mut Seq<Tag>) -> Result<(), NoMemory>
+    ensures { OnOk result (tags.new ≡ (if has_tag tags.old tag.now then tags.old else tags.old ++ tag.now ∷ [])) }
+{
+    if has_tag(tags.as_slice(), tag) {
+        return Ok(());
+    }
+    tags.push(*tag)
+}
+
+/// Whether the tag is among those.
+fn has_tag(tags: &[Tag], tag: &Tag) -> bool
+    ensures { result ≡ has_tag tags.now tag.now }
+{
+    tags.iter().any(|other| *tag == *other)
+}
