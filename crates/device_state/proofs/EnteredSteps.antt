@@ -1,0 +1,23 @@
+-- Entering a legal step keeps what is kept, and each of its effects is of the device.
+use Rattle.std.proofs.Common.{List, [], ◌∷◌, ◌++◌}
+use Rattle.std.specs.Prelude.{All}
+use Rattle.journal_core.specs.declared.entries.Entry.{Entry}
+use Rattle.region_config.specs.Configurations.{Configuration}
+use Rattle.region_config.specs.Soundness.{IsSound}
+use Rattle.granule_laws.proofs.Commands.{granules_kept}
+use Rattle.device_rules.specs.Legal.{Legal, Meets}
+use Rattle.device_state.specs.Entered.{IsEntered}
+use Rattle.device_state.specs.Kept.{IsKept}
+use Rattle.device_state.specs.Updates.{IsOfDevice, IsUpdate}
+use Rattle.device_state.specs.declared.state.State.{State}
+use Rattle.device_state.specs.declared.updates.Update.{Update}
+use Rattle.device_state.proofs.DeviceEffects.{of_device as legal_of_device}
+use Rattle.device_state.proofs.Keeping.{kept-entered as step_kept}
+
+pub of_device : (c : Configuration) → IsSound c → (before : List Entry) → Legal c before → (e : Entry) → Meets c before e → All (IsOfDevice c) e.effects
+of_device c sound before legal e meets = legal_of_device c before e legal meets
+
+pub kept-entered : (c : Configuration) → IsSound c → (before : List Entry) → Legal c before → (e : Entry) → Meets c before e → (u : Update) → (old now : State) →
+    IsKept c before old → IsUpdate c before e.effects u → IsEntered c e.effects u old now → IsKept c (before ++ e ∷ []) now
+kept-entered c sound before legal e meets u old now kept update entered =
+    step_kept c sound before legal e meets old now u kept update entered (granules_kept c sound before legal e meets)

@@ -1,0 +1,176 @@
+-- What is kept is what the entries so far say, also once one more legal entry is entered.
+use Rattle.std.proofs.Common.{◌≡◌, ℕ, ◌<◌, ◌==◌, Bool, true, false, List, [], ◌∷◌, ◌++◌, length, get_or, inl, inr, refl, sym, ap, subst, ◌∙◌, arith}
+use Rattle.std.specs.Prelude.{fold, if◌then◌else◌, map, Some}
+use Rattle.std.specs.Cmp.Lexicographic.{same_text}
+use Rattle.std.specs.List.{AllByRecursion}
+use Rattle.std.proofs.lemmas.Bool.{cases_eq, cases_lt, eq-eqb, ne_eqb, false≢true}
+use Rattle.std.proofs.lemmas.List.{get_or_past}
+use Rattle.dcd_base.specs.Words.{has_tag, same_tag}
+use Rattle.dcd_base.specs.declared.capacity.Tag.{Tag}
+use Rattle.dcd_base.specs.declared.ids.HostId.{HostId}
+use Rattle.dcd_base.specs.declared.steps.LogId.{LogId}
+use Rattle.event_log.specs.LogStates.{LogState}
+use Rattle.event_log.specs.Logs.{empty_log, places_in, state_of}
+use Rattle.granule_laws.specs.Cells.{IsCell}
+use Rattle.granule_laws.specs.Kept.{AreKnown, StaysRight}
+use Rattle.granule_table.specs.Tables.{cell_at}
+use Rattle.host_commands.specs.Parts.{IsLogOf, lists_in}
+use Rattle.host_lists.specs.Lists.{Lists}
+use Rattle.journal_core.proofs.EachSteps.{Each-push}
+use Rattle.journal_core.proofs.JournalSteps.{effects-push, over-push}
+use Rattle.journal_core.specs.Entries.{effects}
+use Rattle.journal_core.specs.Holders.{holding_after, holds}
+use Rattle.journal_core.specs.declared.entries.Entry.{Entry}
+use Rattle.journal_core.specs.declared.outcome.Effect.{Effect}
+use Rattle.offer_core.specs.Offerings.{oldest_of}
+use Rattle.region_config.proofs.PresentBlocks.{with_block-with_blocks}
+use Rattle.region_config.specs.Configurations.{Configuration}
+use Rattle.region_config.specs.Granules.{granule_total, region_spec, with_blocks}
+use Rattle.region_config.specs.Soundness.{IsSound}
+use Rattle.tag_laws.specs.Tables.{IsEntry, IsTable}
+use Rattle.tag_refs.specs.Hosts.{has_host}
+use Rattle.tag_refs.specs.Tables.{entry_of}
+use Rattle.tag_refs.specs.declared.entries.TagEntry.{TagEntry}
+use Rattle.device_laws.proofs.LegalSound.{legal_is_sound}
+use Rattle.device_laws.proofs.ViewSteps.{view_of-push}
+use Rattle.device_rules.specs.Adding.{present}
+use Rattle.device_rules.specs.Hosts.{block_after, block_of, offers_of}
+use Rattle.device_rules.specs.Legal.{Legal, Meets}
+use Rattle.device_rules.specs.Logs.{log_after, log_of}
+use Rattle.device_rules.specs.Tags.{last_offer, open_tags, tag_runs}
+use Rattle.device_rules.specs.Views.{view_of}
+use Rattle.device_steps.proofs.LegalLogs.{legal_logs}
+use Rattle.device_state.proofs.DeviceEffects.{each_of_device}
+use Rattle.device_state.proofs.HolderBits.{holding_over, length-over}
+use Rattle.device_state.proofs.RecordSteps.{log_all}
+use Rattle.device_state.proofs.Rooms.{room_for}
+use Rattle.device_state.specs.Entered.{IsEntered, lists_by, lists_put, log_by, oldest_in, present_by, runs_found, runs_in, tags_put}
+use Rattle.device_state.specs.Kept.{IsKept, IsPart, no_part, part_of}
+use Rattle.device_state.specs.Updates.{CanChange, IsOfDevice, IsUpdate, lists_after}
+use Rattle.device_state.specs.declared.parts.HostPart.{HostPart}
+use Rattle.device_state.specs.declared.state.State.{State}
+use Rattle.device_state.specs.declared.updates.TagChange.{TagChange}
+use Rattle.device_state.specs.declared.updates.Update.{Update}
+
+-- ---- the present configuration
+
+same_number : (a b : ℕ) → (a == b) ≡ (b == a)
+same_number a b = elim (cases_eq a b) [
+  | inl same ↦ eq-eqb a b same ∙ sym (eq-eqb b a (sym same))
+  | inr other ↦ ne_eqb a b other ∙ sym (ne_eqb b a (λ e. other (sym e)))
+]
+
+present_one : (c : Configuration) (b : ℕ → ℕ) (e : Effect) → IsOfDevice c e → present_by (with_blocks c b) e ≡ with_blocks c (λ r. block_after r (b r) e)
+present_one c b (Effect.Block r size) is =
+    with_block-with_blocks c b r size is.0 ∙ (λ i. with_blocks c (λ k. if same_number k r i then size else b k))
+present_one c b e is = refl
+
+present_over : (c : Configuration) (b : ℕ → ℕ) (new : List Effect) → AllByRecursion (IsOfDevice c) new → fold present_by (with_blocks c b) new ≡ with_blocks c (λ r. fold (block_after r) (b r) new)
+present_over c b [] all = refl
+present_over c b (e ∷ new) all = ap (λ (d : Configuration). fold present_by d new) (present_one c b e all.0) ∙ present_over c (λ r. block_after r (b r) e) new all.1
+
+-- ---- the open tags
+
+one_tag : (t u : Tag) → same_tag t u ≡ true → t ≡ u
+one_tag t u same = let bytes : t.0 ≡ u.0 = same_text t.0 u.0 (sym same) in λ i. record { 0 = bytes i }
+
+found_runs : (c : Configuration) (past : List Effect) (t : Tag) (entries : List TagEntry) → AllByRecursion (IsEntry c past) entries →
+    has_tag (map (λ (e : TagEntry). e.tag) entries) t ≡ true → runs_found (entry_of t entries) ≡ tag_runs c (last_offer t past)
+found_runs c past t [] each has = absurd (false≢true has)
+found_runs c past t (x ∷ xs) each has = by (same_tag t x.tag) refl (found_runs c past t xs each.1)
+  where
+    by : (b : Bool) → same_tag t x.tag ≡ b → (has_tag (map (λ (e : TagEntry). e.tag) xs) t ≡ true → runs_found (entry_of t xs) ≡ tag_runs c (last_offer t past)) →
+        runs_found (entry_of t (x ∷ xs)) ≡ tag_runs c (last_offer t past)
+    by true here rest =
+        ap (λ b. runs_found (if b then Some x else entry_of t xs)) here
+        ∙ each.0.runs_are ∙ ap (λ u. tag_runs c (last_offer u past)) (sym (one_tag t x.tag here))
+    by false other rest =
+        ap (λ b. runs_found (if b then Some x else entry_of t xs)) other ∙ rest (rw other at has)
+
+table_runs : (c : Configuration) (past : List Effect) (entries : List TagEntry) → IsTable c past entries → (t : Tag) → has_tag (open_tags c past) t ≡ true →
+    runs_found (entry_of t entries) ≡ tag_runs c (last_offer t past)
+table_runs c past entries table t open_tag = found_runs c past t entries table.each (ap (λ tags. has_tag tags t) table.tags_are ∙ open_tag)
+
+put_alike : (hosts : ℕ) (change : TagChange) (f g : HostId → Lists) (entries : List TagEntry) → CanChange hosts change entries → ((h : HostId) → h < hosts → f h ≡ g h) →
+    tags_put change f entries ≡ tags_put change g entries
+put_alike hosts TagChange.Nothing f g entries can same = refl
+put_alike hosts (TagChange.Begin tag region runs host) f g entries can same = refl
+put_alike hosts (TagChange.OfHost host tags) f g entries can same = ap (λ (l : Lists). tags_put (TagChange.OfHost host tags) (λ h. l) entries) (same host can)
+put_alike hosts (TagChange.Refer tag) f g entries can same = refl
+put_alike hosts (TagChange.Unrefer tag) f g entries can same = refl
+
+-- ---- one more entry
+
+module _ (c : Configuration) (sound : IsSound c) (before : List Entry) (legal : Legal c before) (e : Entry) (meets : Meets c before e)
+    (old now : State) (u : Update) (kept : IsKept c before old) (update : IsUpdate c before e.effects u) (step : IsEntered c e.effects u old now) where
+  past : List Effect
+  past = effects before
+
+  each : AllByRecursion (IsOfDevice c) e.effects
+  each = each_of_device c before e meets
+
+  known : AreKnown c before (oldest_in old) (runs_in old)
+  known = record { offers = offers; tags = table_runs c (effects before) old.tags.entries kept.tags_are }
+    where
+      offers : (h : HostId) → oldest_in old h ≡ oldest_of (offers_of h (effects before))
+      offers h = elim (cases_lt h c.hosts) [
+        | inl host ↦ ap (λ (l : Lists). oldest_of l.offers) (kept.parts h host).lists_are
+        | inr none ↦ ap (λ (p : HostPart). oldest_of p.lists.offers) (get_or_past old.hosts.items h no_part (omega (arith, kept.host_count, none)))
+            ∙ ap oldest_of (sym ((legal_is_sound c sound before legal).stands.no_offers h none))
+      ]
+
+  present_now : now.present ≡ present c (effects (before ++ e ∷ []))
+  present_now =
+      step.present_is ∙ ap (λ (d : Configuration). fold present_by d e.effects) kept.present_is
+      ∙ present_over c (λ r. block_of c r (effects before)) e.effects each
+      ∙ sym (λ i. with_blocks c (λ r. over-push (block_after r) (region_spec c r).block before e i))
+
+  -- a log that was the one of its history is so again
+  log_now : (l : LogId) (was is : LogState) → IsLogOf l (log_of l (effects before)) was → is ≡ fold (log_by l) was e.effects → IsLogOf l (log_of l (effects (before ++ e ∷ []))) is
+  log_now l was is kept_log changed = record {
+    is = changed ∙ ap (λ (s : LogState). fold (log_by l) s e.effects) kept_log.is
+        ∙ log_all l (log_of l (effects before)) e.effects (room_for c before e legal meets l)
+        ∙ sym (ap (state_of (places_in l)) (over-push (log_after l) empty_log before e));
+    told = (legal_logs c (before ++ e ∷ []) (Each-push (Meets c) before e legal meets)).history l;
+  }
+
+  lists_now : (h : HostId) → h < c.hosts → (part_of now h).lists ≡ lists_after c h before e.effects
+  lists_now h host =
+      step.lists h (omega (arith, host, kept.host_count))
+      ∙ ap (λ (l : Lists). lists_put u.lists h (fold (lists_by h) l e.effects)) (kept.parts h host).lists_are
+      ∙ update.lists h host
+
+  part_now : (h : HostId) → h < c.hosts → IsPart h (view_of c h (before ++ e ∷ [])) (part_of now h)
+  part_now h host = record {
+    lists_are = lists_now h host ∙ sym (ap lists_in (view_of-push c h before e));
+    log_is = log_now (LogId.Host h) (part_of old h).log (part_of now h).log (kept.parts h host).log_is (step.logs h (omega (arith, host, kept.host_count)));
+  }
+
+  held_now : (g : ℕ) (h : HostId) → g < granule_total c → h < c.hosts → has_host (get_or now.holders g 0) h ≡ holds h g (effects (before ++ e ∷ []))
+  held_now g h granule host =
+      ap (λ (bits : List ℕ). has_host (get_or bits g 0) h) step.holders_are
+      ∙ holding_over c sound.hosts h g old.holders e.effects (omega (arith, granule, kept.holder_count)) each
+      ∙ ap (λ (b : Bool). fold (holding_after h g) b e.effects) (kept.held g h granule host)
+      ∙ sym (over-push (holding_after h g) false before e)
+
+  tags_now : IsTable c (effects (before ++ e ∷ [])) now.tags.entries
+  tags_now =
+      let is : now.tags.entries ≡ tags_put u.tags (λ h. lists_after c h before e.effects) old.tags.entries =
+      step.tags_are ∙ put_alike c.hosts u.tags (λ h. (part_of now h).lists) (λ h. lists_after c h before e.effects) old.tags.entries (update.can_change old.tags.entries kept.tags_are) lists_now in
+      subst (λ new. IsTable c new now.tags.entries) (sym (effects-push before e))
+      (subst (IsTable c (effects before ++ e.effects)) (sym is) (update.tags old.tags.entries kept.tags_are))
+
+  -- Where the granules stay right, everything that is kept is what the entries say, also the new one.
+  pub kept-entered : StaysRight c before e → IsKept c (before ++ e ∷ []) now
+  kept-entered right = record {
+    present_is = present_now;
+    host_count = step.host_count ∙ kept.host_count;
+    parts = part_now;
+    manager_log = log_now LogId.Manager old.manager now.manager kept.manager_log step.manager_is;
+    granule_count = step.granule_count ∙ kept.granule_count;
+    cells = λ g granule. subst (IsCell c (effects (before ++ e ∷ [])) g) (sym (step.cells g (omega (arith, granule, kept.granule_count))))
+        (right (oldest_in old) (runs_in old) known g granule (cell_at old.granules g) (kept.cells g granule));
+    holder_count = ap length step.holders_are ∙ length-over old.holders e.effects ∙ kept.holder_count;
+    held = held_now;
+    tags_are = tags_now;
+  }

@@ -1,0 +1,12 @@
+pub mod DeviceEffects
+pub mod EnteredSteps
+pub mod Fresh
+pub mod HolderBits
+pub mod HolderSteps
+pub mod Keeping
+pub mod OfDevice
+pub mod PresentBlocks
+pub mod RecordSteps
+pub mod Rooms
+pub mod Stages
+pub mod TagChanges

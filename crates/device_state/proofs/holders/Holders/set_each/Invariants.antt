@@ -1,0 +1,11 @@
+use Rattle.std.proofs.Common.{◌≡◌, ℕ, length, get_or, cond}
+use Rattle.std.specs.Prelude.{if◌then◌else◌}
+use Rattle.tag_refs.specs.Hosts.{with_host, without_host}
+use Rattle.device_state.proofs.HolderSteps.{between}
+use Rattle.device_state.proofs.holders.Holders.set_each.Given as goal
+
+abbrev pub invariant-loop-granule : goal.invariant-loop-granule
+invariant-loop-granule l = record {
+  granules : length l.self-inside.bits.items ≡ length l.fn.self;
+  each : (g : ℕ) → get_or l.self-inside.bits.items g 0 ≡ cond (between l.first l.granule g) (if l.held then with_host (get_or l.fn.self g 0) l.host else without_host (get_or l.fn.self g 0) l.host) (get_or l.fn.self g 0);
+}

@@ -1,0 +1,5 @@
+use Rattle.tag_refs.proofs.HostBits.{or_host}
+use Rattle.device_state.proofs.holders.with.Goals as goal
+
+pub returns : goal.returns
+returns c = or_host _ _ c.requires

@@ -1,0 +1,8 @@
+use Rattle.device_state.proofs.EnteredSteps.{kept-entered, of_device}
+use Rattle.device_state.proofs.laws.law_kept_entered.Goals as goal
+
+pub returns-clause-of_device : goal.returns-clause-of_device
+returns-clause-of_device _ = of_device
+
+pub returns-clause-kept : goal.returns-clause-kept
+returns-clause-kept _ = kept-entered

@@ -1,0 +1,101 @@
+-- What entering a step makes of what is kept, part by part.
+use Rattle.std.specs.Prelude.{◌≡◌, ℕ, ◌<◌, true, false, ◌==◌, nat_lt, List, [], ◌∷◌, ◌++◌, fold, length, map, Option, Some, None, if◌then◌else◌}
+use Rattle.std.specs.List.{enumerate_from, list_any}
+use Rattle.dcd_base.specs.Words.{has_granule}
+use Rattle.dcd_base.specs.declared.capacity.Extent.{Extent}
+use Rattle.dcd_base.specs.declared.capacity.Tag.{Tag}
+use Rattle.dcd_base.specs.declared.ids.HostId.{HostId}
+use Rattle.dcd_base.specs.declared.media.Run.{Run}
+use Rattle.dcd_base.specs.declared.steps.LogId.{LogId}
+use Rattle.event_log.specs.LogStates.{LogState, with_missed, with_record, without_oldest}
+use Rattle.event_records.specs.declared.events.Event.{Event}
+use Rattle.extent_list.specs.ExtentLists.{has_extent_of}
+use Rattle.granule_laws.specs.Cells.{cell_over}
+use Rattle.granule_table.specs.Tables.{cell_at}
+use Rattle.host_lists.specs.Lists.{Lists}
+use Rattle.journal_core.specs.declared.outcome.Effect.{Effect}
+use Rattle.journal_core.specs.declared.outcome.HeldKind.{HeldKind}
+use Rattle.offer_core.specs.Offerings.{oldest_of}
+use Rattle.region_config.specs.Blocks.{with_block}
+use Rattle.region_config.specs.Configurations.{Configuration}
+use Rattle.device_rules.specs.Logs.{same_log}
+use Rattle.tag_laws.specs.Tables.{told_anew}
+use Rattle.tag_refs.specs.Hosts.{with_host, without_host}
+use Rattle.tag_refs.specs.Tables.{changed, entry_of, opened, still_used, with_reference}
+use Rattle.tag_refs.specs.declared.entries.TagEntry.{TagEntry}
+use Rattle.device_state.specs.Kept.{part_of}
+use Rattle.device_state.specs.declared.state.State.{State}
+use Rattle.device_state.specs.declared.updates.NewLists.{NewLists}
+use Rattle.device_state.specs.declared.updates.TagChange.{TagChange}
+use Rattle.device_state.specs.declared.updates.Update.{Update}
+
+-- each host's oldest offer, and the runs of the open tags
+abbrev pub oldest_in : State → HostId → List Extent
+oldest_in s h = oldest_of (part_of s h).lists.offers
+
+abbrev pub runs_found : Option TagEntry → List Run
+runs_found None = []
+runs_found (Some e) = e.runs
+
+abbrev pub runs_in : State → Tag → List Run
+runs_in s t = runs_found (entry_of t s.tags.entries)
+
+-- a log after one effect: a full log takes no record
+abbrev pub put_in : LogState → Event → LogState
+put_in log event = if nat_lt (length log.records) log.capacity then with_record log event else log
+
+abbrev pub log_by : LogId → LogState → Effect → LogState
+log_by l log (Effect.Logged k event) = if same_log k l then put_in log event else log
+log_by l log (Effect.Missed k) = if same_log k l then with_missed log else log
+log_by l log (Effect.Cleared k n) = if same_log k l then without_oldest n log else log
+log_by l log (Effect.Reset k) = if same_log k l then record log { missed = 0 } else log
+log_by l log e = log
+
+-- the present configuration after one effect
+abbrev pub present_by : Configuration → Effect → Configuration
+present_by c (Effect.Block r size) = with_block c r size
+present_by c e = c
+
+-- the lists of a host after one effect: what it held is let go
+abbrev pub unheld : HeldKind → Lists → Lists
+unheld HeldKind.Responses l = record l { responses = [] }
+unheld HeldKind.Releases l = record l { releases = [] }
+
+abbrev pub lists_by : HostId → Lists → Effect → Lists
+lists_by h l (Effect.Unhold k kind) = if k == h then unheld kind l else l
+lists_by h l e = l
+
+-- the holders of the granules after one effect, by number
+abbrev pub held_in : (ℕ → ℕ) → Run → List ℕ → List ℕ
+held_in change run bits = map (λ b. if has_granule run b.0 then change b.1 else b.1) (enumerate_from 0 bits)
+
+abbrev pub holders_by : List ℕ → Effect → List ℕ
+holders_by bits (Effect.Take h run) = held_in (λ b. with_host b h) run bits
+holders_by bits (Effect.Leave h run) = held_in (λ b. without_host b h) run bits
+holders_by bits e = bits
+
+-- the new lists of a host take the place of the old ones
+abbrev pub lists_put : Option NewLists → HostId → Lists → Lists
+lists_put None h l = l
+lists_put (Some new) h l = if new.host == h then new.lists else l
+
+-- the open tags after their change, by the new lists
+abbrev pub tags_put : TagChange → (HostId → Lists) → List TagEntry → List TagEntry
+tags_put TagChange.Nothing lists entries = entries
+tags_put (TagChange.Begin tag region runs host) lists entries = entries ++ opened tag region runs host ∷ []
+tags_put (TagChange.OfHost host tags) lists entries =
+    told_anew host (λ t. has_extent_of t (lists host).accepted) (λ t. list_any (has_extent_of t) (lists host).offers) tags entries
+tags_put (TagChange.Refer tag) lists entries = changed tag (with_reference true) entries
+tags_put (TagChange.Unrefer tag) lists entries = still_used (changed tag (with_reference false) entries)
+
+-- Each part is changed by the effects, and by what is put in place.
+pub record IsEntered (c : Configuration) (new : List Effect) (u : Update) (old now : State) : Type 0 where
+  pub present_is : now.present ≡ fold present_by old.present new
+  pub host_count : length now.hosts.items ≡ length old.hosts.items
+  pub granule_count : length now.granules.states ≡ length old.granules.states
+  pub cells : (g : ℕ) → g < length old.granules.states → cell_at now.granules g ≡ cell_over c (oldest_in old) (runs_in old) g (cell_at old.granules g) new
+  pub holders_are : now.holders ≡ fold holders_by old.holders new
+  pub manager_is : now.manager ≡ fold (log_by LogId.Manager) old.manager new
+  pub logs : (h : HostId) → h < length old.hosts.items → (part_of now h).log ≡ fold (log_by (LogId.Host h)) (part_of old h).log new
+  pub lists : (h : HostId) → h < length old.hosts.items → (part_of now h).lists ≡ lists_put u.lists h (fold (lists_by h) (part_of old h).lists new)
+  pub tags_are : now.tags.entries ≡ tags_put u.tags (λ h. (part_of now h).lists) old.tags.entries

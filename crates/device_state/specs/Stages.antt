@@ -1,0 +1,28 @@
+-- What the effects of a step make of the hosts' parts, and what new lists make of them.
+use Rattle.std.specs.Prelude.{◌≡◌, ◌<◌, List, fold, length, Option}
+use Rattle.dcd_base.specs.declared.ids.HostId.{HostId}
+use Rattle.dcd_base.specs.declared.steps.LogId.{LogId}
+use Rattle.journal_core.specs.declared.outcome.Effect.{Effect}
+use Rattle.device_state.specs.Entered.{lists_by, lists_put, log_by}
+use Rattle.device_state.specs.Kept.{part_of}
+use Rattle.device_state.specs.declared.state.State.{State}
+use Rattle.device_state.specs.declared.updates.NewLists.{NewLists}
+
+-- The logs are changed by the effects, and no host's lists are.
+pub record LogsOver (new : List Effect) (old now : State) : Type 0 where
+  pub hosts : length now.hosts.items ≡ length old.hosts.items
+  pub manager : now.manager ≡ fold (log_by LogId.Manager) old.manager new
+  pub logs : (h : HostId) → h < length old.hosts.items → (part_of now h).log ≡ fold (log_by (LogId.Host h)) (part_of old h).log new
+  pub lists : (h : HostId) → h < length old.hosts.items → (part_of now h).lists ≡ (part_of old h).lists
+
+-- The hosts' lists are changed by the effects, and no host's log is.
+pub record UnheldOver (new : List Effect) (old now : State) : Type 0 where
+  pub hosts : length now.hosts.items ≡ length old.hosts.items
+  pub lists : (h : HostId) → h < length old.hosts.items → (part_of now h).lists ≡ fold (lists_by h) (part_of old h).lists new
+  pub logs : (h : HostId) → h < length old.hosts.items → (part_of now h).log ≡ (part_of old h).log
+
+-- The new lists of a host are in place, and nothing else of any host is changed.
+pub record ListsPut (new : Option NewLists) (old now : State) : Type 0 where
+  pub hosts : length now.hosts.items ≡ length old.hosts.items
+  pub lists : (h : HostId) → h < length old.hosts.items → (part_of now h).lists ≡ lists_put new h (part_of old h).lists
+  pub logs : (h : HostId) → h < length old.hosts.items → (part_of now h).log ≡ (part_of old h).log

@@ -1,0 +1,159 @@
+//! A step is entered: its effects change what the device keeps, and its update is put in place.
+
+ghost use Rattle.device_state.specs.Changes.{IsOfLogs};
+ghost use Rattle.device_state.specs.Entered.{IsEntered, holders_by, lists_by, lists_put, log_by, oldest_in, present_by, runs_in, tags_put};
+ghost use Rattle.device_state.specs.Granules.{AreChanged};
+ghost use Rattle.device_state.specs.Kept.{part_of};
+ghost use Rattle.device_state.specs.Stages.{ListsPut, LogsOver, UnheldOver};
+ghost use Rattle.device_state.specs.Updates.{CanChange, IsOfDevice, IsOfHosts};
+ghost use Rattle.extent_list.specs.ExtentLists.{has_extent_of};
+ghost use Rattle.granule_laws.specs.Cells.{cell_over};
+ghost use Rattle.region_config.specs.Granules.{granule_total, region_spec, with_blocks};
+ghost use Rattle.std.specs.List.{list_any};
+ghost use Rattle.std.specs.Prelude.{◌≡◌, ◌++◌, ◌<◌, ◌≤◌, ◌∷◌, [], All, false, fold, length, true};
+ghost use Rattle.tag_laws.specs.Tables.{told_anew};
+ghost use Rattle.tag_refs.specs.Tables.{changed, is_live, opened, set_by, still_used, with_reference};
+
+use crate::state::State;
+use crate::updates::{NewLists, TagChange, Update};
+use dcd_base::{HostId, Tag};
+use journal_core::Effect;
+use region_config::Config;
+use tag_refs::Tags;
+
+impl State {
+    /// Changes every part of what is kept by the effects of a step, and puts its update in place. Takes no memory.
+    pub fn enter(&mut self, config: &Config, effects: &[Effect], update: Update)
+        requires hosts { length self.old.hosts.items ≡ config.now.hosts }
+        requires granules { length self.old.granules.states ≡ granule_total config.now }
+        requires present { self.old.present ≡ with_blocks config.now (λ r. (region_spec self.old.present r).block) }
+        requires of_device { All (IsOfDevice config.now) effects.now }
+        requires of_hosts { IsOfHosts config.now.hosts update.lists }
+        requires can_change { CanChange config.now.hosts update.tags self.old.tags.entries }
+        requires spare { 0 < self.old.tags.spare }
+        ensures entered { IsEntered config.now effects.now update self.old self.new }
+    {
+        // There are 16 hosts at most.
+        let _hosts = config.hosts();
+        self.change_all_granules(config, effects);
+        self.change_all_logs(effects);
+        self.change_all_others(effects);
+        let Update { lists, tags } = update;
+        self.put_lists(lists);
+        self.put_tags(tags);
+    }
+
+    /// Changes the granules by each effect in turn.
+    fn change_all_granules(&mut self, config: &Config, effects: &[Effect])
+        requires hosts { length self.old.hosts.items ≡ config.now.hosts }
+        requires granules { length self.old.granules.states ≡ granule_total config.now }
+        requires of_device { All (IsOfDevice config.now) effects.now }
+        ensures cells { AreChanged (λ g cell. cell_over config.now (oldest_in self.old) (runs_in self.old) g cell effects.now) self.old.granules self.new.granules }
+        ensures kept { self.new ≡ record self.old { granules = self.new.granules } }
+    {
+        for i in 0..effects.len() {
+            self.change_granules(config, &effects[i]);
+        }
+    }
+
+    /// Changes the logs by each effect in turn.
+    fn change_all_logs(&mut self, effects: &[Effect])
+        requires { All (IsOfLogs (length self.old.hosts.items)) effects.now }
+        ensures logs { LogsOver effects.now self.old self.new }
+        ensures kept { self.new ≡ record self.old { hosts = self.new.hosts; manager = self.new.manager } }
+    {
+        for i in 0..effects.len() {
+            self.change_logs(&effects[i]);
+        }
+    }
+
+    /// Changes the block sizes, the held lists and the holders by each effect in turn.
+    fn change_all_others(&mut self, effects: &[Effect])
+        requires hosts { length self.old.hosts.items ≡ self.old.present.hosts }
+        requires of_device { All (IsOfDevice self.old.present) effects.now }
+        ensures present { self.new.present ≡ fold present_by self.old.present effects.now }
+        ensures holders { self.new.holders ≡ fold holders_by self.old.holders effects.now }
+        ensures lists { UnheldOver effects.now self.old self.new }
+        ensures kept { self.new ≡ record self.old { present = self.new.present; hosts = self.new.hosts; holders = self.new.holders } }
+    {
+        for i in 0..effects.len() {
+            self.change_others(&effects[i]);
+        }
+    }
+
+    /// Puts the new lists of a host in place.
+    fn put_lists(&mut self, lists: Option<NewLists>)
+        requires { IsOfHosts (length self.old.hosts.items) lists }
+        ensures lists { ListsPut lists self.old self.new }
+        ensures kept { self.new ≡ record self.old { hosts = self.new.hosts } }
+    {
+        if let Some(new) = lists {
+            let NewLists { host, lists } = new;
+            self.hosts[usize::from(host.0)].lists = lists;
+        }
+    }
+
+    /// Changes the open tags.
+    fn put_tags(&mut self, change: TagChange)
+        requires few { length self.old.hosts.items ≤ 16 }
+        requires can_change { CanChange (length self.old.hosts.items) change self.old.tags.entries }
+        requires spare { 0 < self.old.tags.spare }
+        ensures tags { self.new.tags.entries ≡ tags_put change (λ h. (part_of self.old h).lists) self.old.tags.entries }
+        ensures kept { self.new ≡ record self.old { tags = self.new.tags } }
+    {
+        match change {
+            TagChange::Nothing => (),
+            TagChange::Begin {
+                tag,
+                region,
+                runs,
+                host,
+            } => {
+                let _ = self.tags.begin(tag, region, runs, host);
+            }
+            TagChange::OfHost { host, tags } => self.tell_anew(host, tags.as_slice()),
+            TagChange::Refer(tag) => refer(&mut self.tags, &tag),
+            TagChange::Unrefer(tag) => unrefer(&mut self.tags, &tag),
+        }
+    }
+
+    /// Tells what the host has of these tags by its lists.
+    fn tell_anew(&mut self, host: HostId, tags: &[Tag])
+        requires host { host < length self.old.hosts.items }
+        requires few { host < 16 }
+        ensures tags { self.new.tags.entries ≡ told_anew host (λ t. has_extent_of t (part_of self.old host).lists.accepted) (λ t. list_any (has_extent_of t) (part_of self.old host).lists.offers) tags.now self.old.tags.entries }
+        ensures kept { self.new ≡ record self.old { tags = self.new.tags } }
+    {
+        for i in 0..tags.len() {
+            self.tell_one(host, &tags[i]);
+        }
+    }
+
+    /// Tells what the host has of the tag by its lists.
+    fn tell_one(&mut self, host: HostId, tag: &Tag)
+        requires host { host < length self.old.hosts.items }
+        requires few { host < 16 }
+        ensures tags { self.new.tags.entries ≡ still_used (changed tag.now (set_by host (has_extent_of tag.now (part_of self.old host).lists.accepted) (list_any (has_extent_of tag.now) (part_of self.old host).lists.offers)) self.old.tags.entries) }
+        ensures kept { self.new ≡ record self.old { tags = self.new.tags } }
+    {
+        let held = self.part(host).lists.has_accepted(tag);
+        let offered = self.part(host).lists.has_offered(tag);
+        self.tags.set_host(tag, host, held, offered);
+    }
+}
+
+/// The Fabric Manager refers to the tag, where it is live.
+fn refer(tags: &mut Tags, tag: &Tag)
+    ensures { tags.new.entries ≡ changed tag.now (with_reference true) tags.old.entries }
+{
+    let _ = tags.add_reference(tag);
+}
+
+/// The Fabric Manager refers to the tag no longer.
+fn unrefer(tags: &mut Tags, tag: &Tag)
+    ensures { tags.new.entries ≡ still_used (changed tag.now (with_reference false) tags.old.entries) }
+{
+    // No two entries have one tag, and each is used.
+    let _tags = tags.len();
+    let _ = tags.remove_reference(tag);
+}

@@ -1,0 +1,214 @@
+//! What an effect makes of the granules.
+
+ghost use Rattle.device_state.specs.Entered.{oldest_in, runs_in};
+ghost use Rattle.device_state.specs.Granules.{AreChanged, is_private, soiled_by_taking};
+ghost use Rattle.device_state.specs.Kept.{part_of};
+ghost use Rattle.device_state.specs.Updates.{IsOfDevice};
+ghost use Rattle.granule_laws.specs.Cells.{cell_after, ended_run, in_run, is_sanitizing_run, is_shareable_run, left, offered_extent, offered_run, soiled_run, taken, unoffered_extent};
+ghost use Rattle.granule_table.specs.Tables.{given};
+ghost use Rattle.offer_core.specs.Offerings.{oldest_of};
+ghost use Rattle.region_config.specs.Granules.{granule_total, region_of, region_spec};
+ghost use Rattle.std.specs.Prelude.{◌≡◌, ◌↔◌, ◌<◌, IsTrue, Some, fold, if◌then◌else◌, length, slice_index_or};
+
+use crate::parts::HostPart;
+use crate::state::State;
+use dcd_base::{Extent, HostId, Run, Tag};
+use granule_map::GranuleState;
+use granule_table::GranuleTable;
+use journal_core::Effect;
+use region_config::{Config, RegionSpec};
+
+impl State {
+    /// Changes the granules as the effect says: by each host's oldest offer, and by the runs of the open tags.
+    pub(crate) fn change_granules(&mut self, config: &Config, effect: &Effect)
+        requires hosts { length self.old.hosts.items ≡ config.now.hosts }
+        requires granules { length self.old.granules.states ≡ granule_total config.now }
+        requires of_device { IsOfDevice config.now effect.now }
+        ensures cells { AreChanged (λ g cell. cell_after config.now (oldest_in self.old) (runs_in self.old) g cell effect.now) self.old.granules self.new.granules }
+        ensures kept { self.new ≡ record self.old { granules = self.new.granules } }
+    {
+        match effect {
+            Effect::Offer(host, extents) => {
+                offer_all(&mut self.granules, config, *host, extents.as_slice());
+            }
+            Effect::Answer(host, _) => {
+                let offer = oldest_in(self.hosts.as_slice(), *host);
+                unoffer_all(&mut self.granules, config, *host, offer);
+            }
+            Effect::Take(host, run) => take(&mut self.granules, config, *host, run),
+            Effect::Leave(_, run) => leave(&mut self.granules, config, run),
+            Effect::Soil(run) => soil(&mut self.granules, config, run),
+            Effect::Zero(run) => self.granules.zero(*run),
+            Effect::TagEnd(tag) => {
+                if let Some(entry) = self.tags.find(tag) {
+                    settle_all(&mut self.granules, entry.runs.as_slice());
+                }
+            }
+            _ => (),
+        }
+    }
+}
+
+/// The extents of the host's oldest offer.
+fn oldest_in(hosts: &[HostPart], host: HostId) -> &[Extent]
+    requires { host < length hosts.now }
+    ensures { (d : HostPart) → result.now ≡ oldest_of (slice_index_or hosts.now host d).lists.offers }
+{
+    hosts[usize::from(host.0)].lists.oldest()
+}
+
+/// The region of a run whose first granule is one of the device.
+fn region_of(config: &Config, run: &Run) -> RegionSpec
+    requires { run.now.first < granule_total config.now }
+    ensures { result ≡ region_spec config.now (region_of config.now run.now.first) }
+{
+    config.region(config.region_of(run.first))
+}
+
+/// Whether the first granule is one of the device.
+fn is_known(config: &Config, run: &Run) -> bool
+    ensures { IsTrue result ↔ (run.now.first < granule_total config.now) }
+{
+    run.first.0 < config.granules()
+}
+
+/// Whether the first granule is one of the device, in a region that hosts cannot share.
+fn is_private(config: &Config, run: &Run) -> bool
+    ensures { result ≡ is_private config.now run.now }
+{
+    run.first.0 < config.granules() && !region_of(config, run).shareable
+}
+
+/// The extents are offered to the host: to it alone, or under their tag where hosts can share them.
+fn offer_all(granules: &mut GranuleTable, config: &Config, host: HostId, extents: &[Extent])
+    requires granules { length granules.old.states ≡ granule_total config.now }
+    requires host { host < config.now.hosts }
+    ensures { AreChanged (λ g cell. fold (offered_extent config.now host g) cell extents.now) granules.old granules.new }
+{
+    for i in 0..extents.len() {
+        offer_one(granules, config, host, &extents[i]);
+    }
+}
+
+/// One extent is offered.
+fn offer_one(granules: &mut GranuleTable, config: &Config, host: HostId, extent: &Extent)
+    requires granules { length granules.old.states ≡ granule_total config.now }
+    requires host { host < config.now.hosts }
+    ensures { AreChanged (λ g cell. offered_extent config.now host g cell extent.now) granules.old granules.new }
+{
+    if let Some(run) = media_map::run_of(config, host, extent.start, extent.length) {
+        offer_run(granules, config, host, extent.tag, &run);
+    }
+}
+
+/// The run of an extent is offered.
+fn offer_run(granules: &mut GranuleTable, config: &Config, host: HostId, tag: Tag, run: &Run)
+    requires granules { length granules.old.states ≡ granule_total config.now }
+    requires known { run.now.first < granule_total config.now }
+    ensures { AreChanged (λ g cell. offered_run config.now host tag g cell (Some run.now)) granules.old granules.new }
+{
+    let state = offered_state(config, host, tag, run);
+    granules.give(*run, state);
+}
+
+/// The state of what is offered.
+fn offered_state(config: &Config, host: HostId, tag: Tag, run: &Run) -> GranuleState
+    requires { run.now.first < granule_total config.now }
+    ensures { result ≡ (if is_shareable_run config.now run.now then GranuleState.Tagged tag else GranuleState.Reserved host) }
+{
+    if region_of(config, run).shareable {
+        GranuleState::Tagged(tag)
+    } else {
+        GranuleState::Reserved(host)
+    }
+}
+
+/// The extents are offered to the host alone no longer.
+fn unoffer_all(granules: &mut GranuleTable, config: &Config, host: HostId, extents: &[Extent])
+    requires granules { length granules.old.states ≡ granule_total config.now }
+    requires host { host < config.now.hosts }
+    ensures { AreChanged (λ g cell. fold (unoffered_extent config.now host g) cell extents.now) granules.old granules.new }
+{
+    for i in 0..extents.len() {
+        unoffer_one(granules, config, host, &extents[i]);
+    }
+}
+
+/// One extent is offered no longer.
+fn unoffer_one(granules: &mut GranuleTable, config: &Config, host: HostId, extent: &Extent)
+    requires granules { length granules.old.states ≡ granule_total config.now }
+    requires host { host < config.now.hosts }
+    ensures { AreChanged (λ g cell. unoffered_extent config.now host g cell extent.now) granules.old granules.new }
+{
+    if let Some(run) = media_map::run_of(config, host, extent.start, extent.length) {
+        leave(granules, config, &run);
+    }
+}
+
+/// The host takes the run.
+fn take(granules: &mut GranuleTable, config: &Config, host: HostId, run: &Run)
+    requires { length granules.old.states ≡ granule_total config.now }
+    ensures { AreChanged (in_run run.now (taken config.now host run.now)) granules.old granules.new }
+{
+    if is_known(config, run) {
+        take_known(granules, config, host, run);
+    }
+}
+
+/// The host takes a run whose first granule is one of the device.
+fn take_known(granules: &mut GranuleTable, config: &Config, host: HostId, run: &Run)
+    requires granules { length granules.old.states ≡ granule_total config.now }
+    requires known { run.now.first < granule_total config.now }
+    ensures { AreChanged (in_run run.now (taken config.now host run.now)) granules.old granules.new }
+{
+    soil_taken(granules, config, run);
+    hold_taken(granules, config, host, run);
+}
+
+/// What is taken has to be zeroed where its region sanitizes.
+fn soil_taken(granules: &mut GranuleTable, config: &Config, run: &Run)
+    requires { run.now.first < granule_total config.now }
+    ensures { AreChanged (in_run run.now (soiled_by_taking config.now run.now)) granules.old granules.new }
+{
+    if region_of(config, run).sanitize {
+        granules.soil(*run);
+    }
+}
+
+/// What is taken is held, unless hosts can share it.
+fn hold_taken(granules: &mut GranuleTable, config: &Config, host: HostId, run: &Run)
+    requires { run.now.first < granule_total config.now }
+    ensures { AreChanged (in_run run.now (λ cell. if is_shareable_run config.now run.now then cell else given (GranuleState.Held host) cell)) granules.old granules.new }
+{
+    if !region_of(config, run).shareable {
+        granules.give(*run, GranuleState::Held(host));
+    }
+}
+
+/// The run is one host's no longer.
+fn leave(granules: &mut GranuleTable, config: &Config, run: &Run)
+    requires { length granules.old.states ≡ granule_total config.now }
+    ensures { AreChanged (in_run run.now (left config.now run.now)) granules.old granules.new }
+{
+    if is_private(config, run) {
+        granules.settle(*run);
+    }
+}
+
+/// The run has to be zeroed: at once where no tag has it.
+fn soil(granules: &mut GranuleTable, config: &Config, run: &Run)
+    requires { length granules.old.states ≡ granule_total config.now }
+    ensures { AreChanged (in_run run.now (soiled_run config.now run.now)) granules.old granules.new }
+{
+    granules.soil(*run);
+    leave(granules, config, run);
+}
+
+/// The runs belong to no tag any more.
+fn settle_all(granules: &mut GranuleTable, runs: &[Run])
+    ensures { AreChanged (λ g cell. fold (ended_run g) cell runs.now) granules.old granules.new }
+{
+    for i in 0..runs.len() {
+        granules.settle(runs[i]);
+    }
+}

@@ -1,0 +1,96 @@
+//! Who holds each granule.
+
+ghost use Rattle.device_state.specs.Entered.{held_in};
+ghost use Rattle.std.specs.Prelude.{◌≡◌, ◌&&◌, ◌<◌, ◌≤◌, IfOk, if◌then◌else◌, length, nat_le, nat_lt, replicate, slice_index_or, ℕ};
+ghost use Rattle.tag_refs.specs.Hosts.{with_host, without_host};
+
+use dcd_base::{Granule, HostId, NoMemory, Run};
+use std::alloc::Global;
+use std::marker::Model;
+
+/// For each granule the hosts that hold it: bit h stands for host h. Contracts see the bits in the order of granules.
+#[derive(Drop)]
+pub struct Holders {
+    bits: Vec<u16>,
+}
+
+impl Model for Holders {
+    ghost use Rattle.std.specs.Prelude.{List, ℕ};
+
+    ghost Value = { List ℕ };
+
+    ghost view = { λ holders. holders.bits.items };
+}
+
+impl Holders {
+    /// So many granules that nobody holds.
+    pub fn new(alloc: Global, granules: u32) -> Result<Holders, NoMemory>
+        ensures { IfOk result (λ holders. holders ≡ replicate granules 0) }
+    {
+        Ok(Holders {
+            bits: vec![in alloc; 0u16; granules as usize]?,
+        })
+    }
+
+    /// The hosts that hold the granule; nobody holds one past the last.
+    pub fn at(&self, granule: Granule) -> u16
+        ensures { result ≡ slice_index_or self.now granule 0 }
+    {
+        match self.bits.get(granule.0 as usize) {
+            Some(bits) => *bits,
+            None => 0,
+        }
+    }
+
+    /// The host holds the granules of the run from now on, or holds them no longer.
+    pub fn set(&mut self, host: HostId, run: Run, held: bool)
+        requires { host < 16 }
+        ensures { self.new ≡ held_in (λ b. if held then with_host b host else without_host b host) run self.old }
+    {
+        let len = self.bits.len();
+        let first = (run.first.0 as usize).min(len);
+        let end = (run.first.0 as usize + run.count as usize).min(len);
+        self.set_each(first, end, host, held);
+    }
+
+    /// The host holds the granules from the first up to the one before the end, or holds them no longer.
+    fn set_each(&mut self, first: usize, end: usize, host: HostId, held: bool)
+        requires rising { first ≤ end }
+        requires within { end ≤ length self.old }
+        requires host { host < 16 }
+        ensures granules { length self.new ≡ length self.old }
+        ensures each { (g : ℕ) → slice_index_or self.new g 0 ≡ (if nat_le first g && nat_lt g end then (if held then with_host (slice_index_or self.old g 0) host else without_host (slice_index_or self.old g 0) host) else slice_index_or self.old g 0) }
+    {
+        for granule in first..end {
+            self.bits[granule] = with_bit(self.bits[granule], host, held);
+        }
+    }
+}
+
+/// The hosts with this one, or without it.
+pub fn with_bit(hosts: u16, host: HostId, held: bool) -> u16
+    requires { host < 16 }
+    ensures { result ≡ (if held then with_host hosts host else without_host hosts host) }
+{
+    if held {
+        with(hosts, host.0)
+    } else {
+        without(hosts, host.0)
+    }
+}
+
+/// The hosts with the one of this number.
+fn with(hosts: u16, host: u8) -> u16
+    requires { host < 16 }
+    ensures { result ≡ with_host hosts host }
+{
+    hosts | 1 << host
+}
+
+/// The hosts without the one of this number.
+fn without(hosts: u16, host: u8) -> u16
+    requires { host < 16 }
+    ensures { result ≡ without_host hosts host }
+{
+    hosts & !(1 << host)
+}

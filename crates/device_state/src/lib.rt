@@ -1,0 +1,23 @@
+//! What the device keeps at a time, and how a step changes it.
+//!
+//! Each part of the state is a fold of the effects so far: the present block sizes, each host's lists and log, the manager's
+//! log, the states of the granules, who holds them, and the open tags. `State::enter` goes through the effects of a step
+//! and puts its update in place, without memory.
+#![tactic(auto)]
+
+mod entering;
+mod granules;
+mod holders;
+mod laws;
+mod parts;
+mod records;
+mod state;
+#[cfg(test)]
+mod tests;
+mod updates;
+
+pub use holders::{Holders, with_bit};
+pub use laws::law_kept_entered;
+pub use parts::HostPart;
+pub use state::State;
+pub use updates::{NewLists, TagChange, Update};

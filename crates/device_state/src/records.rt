@@ -1,0 +1,134 @@
+//! What an effect makes of the logs, the block sizes, the held lists and the holders.
+
+ghost use Rattle.device_state.specs.Changes.{AreLogged, AreUnheld, IsOfLogs, log_changed, log_told};
+ghost use Rattle.device_state.specs.Entered.{holders_by, log_by, present_by, put_in, unheld};
+ghost use Rattle.device_state.specs.Kept.{part_of};
+ghost use Rattle.device_state.specs.Updates.{IsOfDevice, IsOfLog};
+ghost use Rattle.region_config.specs.Blocks.{with_block};
+ghost use Rattle.region_config.specs.Granules.{is_supported, region_spec};
+ghost use Rattle.std.specs.Prelude.{◌≡◌, ◌<◌, ◌≤◌, Some, length, slice_set, true};
+
+use crate::state::State;
+use dcd_base::{HostId, LogId, RegionId};
+use event_log::EventLog;
+use event_records::Event;
+use host_lists::HostLists;
+use journal_core::{Effect, HeldKind};
+
+impl State {
+    /// Changes the logs as the effect says.
+    pub(crate) fn change_logs(&mut self, effect: &Effect)
+        requires { IsOfLogs (length self.old.hosts.items) effect.now }
+        ensures logs { AreLogged effect.now self.old self.new }
+        ensures kept { self.new ≡ record self.old { hosts = self.new.hosts; manager = self.new.manager } }
+    {
+        match log_of(effect) {
+            Some(log) => self.change_log_of(log, effect),
+            None => (),
+        }
+    }
+
+    /// Changes the log that the effect changes, which is this one.
+    fn change_log_of(&mut self, log: LogId, effect: &Effect)
+        requires known { IsOfLog (length self.old.hosts.items) log }
+        requires told { log_told effect.now ≡ Some log }
+        ensures logs { AreLogged effect.now self.old self.new }
+        ensures kept { self.new ≡ record self.old { hosts = self.new.hosts; manager = self.new.manager } }
+    {
+        match log {
+            LogId::Host(host) => self.change_log_of_host(host, effect),
+            LogId::Manager => change_log(&mut self.manager, effect),
+        }
+    }
+
+    /// Changes the log of the host.
+    fn change_log_of_host(&mut self, host: HostId, effect: &Effect)
+        requires { host < length self.old.hosts.items }
+        ensures hosts { self.new.hosts.items ≡ slice_set self.old.hosts.items host (record (part_of self.old host) { log = log_changed (part_of self.old host).log effect.now }) }
+        ensures kept { self.new ≡ record self.old { hosts = self.new.hosts } }
+    {
+        change_log(&mut self.hosts[usize::from(host.0)].log, effect);
+    }
+
+    /// Changes the block sizes as the effect says, and lets held lists go that end.
+    pub(crate) fn change_others(&mut self, effect: &Effect)
+        requires hosts { length self.old.hosts.items ≡ self.old.present.hosts }
+        requires of_device { IsOfDevice self.old.present effect.now }
+        ensures present { self.new.present ≡ present_by self.old.present effect.now }
+        ensures holders { self.new.holders ≡ holders_by self.old.holders effect.now }
+        ensures lists { AreUnheld effect.now self.old self.new }
+        ensures kept { self.new ≡ record self.old { present = self.new.present; hosts = self.new.hosts; holders = self.new.holders } }
+    {
+        // There are 16 hosts at most.
+        let _hosts = self.present.hosts();
+        match effect {
+            Effect::Block(region, size) => self.set_block(*region, *size),
+            Effect::Unhold(host, kind) => self.unhold(*host, *kind),
+            Effect::Take(host, run) => self.holders.set(*host, *run, true),
+            Effect::Leave(host, run) => self.holders.set(*host, *run, false),
+            _ => (),
+        }
+    }
+
+    /// The region has blocks of this size, which it supports.
+    fn set_block(&mut self, region: RegionId, size: u64)
+        requires known { region < length self.old.present.regions }
+        requires supported { is_supported (region_spec self.old.present region) size ≡ true }
+        ensures { self.new ≡ record self.old { present = with_block self.old.present region size } }
+    {
+        let sanitize = self.present.region(region).sanitize;
+        let _ = self.present.set_block_size(region, size, sanitize, 0);
+    }
+
+    /// What the host holds of this kind is let go.
+    fn unhold(&mut self, host: HostId, kind: HeldKind)
+        requires { host < length self.old.hosts.items }
+        ensures hosts { self.new.hosts.items ≡ slice_set self.old.hosts.items host (record (part_of self.old host) { lists = unheld kind (part_of self.old host).lists }) }
+        ensures kept { self.new ≡ record self.old { hosts = self.new.hosts } }
+    {
+        drop_held(&mut self.hosts[usize::from(host.0)].lists, kind);
+    }
+}
+
+/// The log that the effect changes.
+fn log_of(effect: &Effect) -> Option<LogId>
+    ensures { result ≡ log_told effect.now }
+{
+    match effect {
+        Effect::Logged(log, _) => Some(*log),
+        Effect::Missed(log) => Some(*log),
+        Effect::Cleared(log, _) => Some(*log),
+        Effect::Reset(log) => Some(*log),
+        _ => None,
+    }
+}
+
+/// Changes a log as the effect says that changes it.
+fn change_log(log: &mut EventLog, effect: &Effect)
+    ensures { log.new ≡ log_changed log.old effect.now }
+{
+    match effect {
+        Effect::Logged(_, event) => put(log, *event),
+        Effect::Missed(_) => log.count_missed(),
+        Effect::Cleared(_, count) => log.drop_oldest(usize::from(*count)),
+        Effect::Reset(_) => log.reset_missed(),
+        _ => (),
+    }
+}
+
+/// The log gets the record, unless it is full.
+fn put(log: &mut EventLog, event: Event)
+    ensures { log.new ≡ put_in log.old event }
+{
+    let _ = log.put(event);
+}
+
+/// What is held of this kind is let go.
+fn drop_held(lists: &mut HostLists, kind: HeldKind)
+    ensures { lists.new ≡ unheld kind lists.old }
+{
+    match kind {
+        HeldKind::Responses => lists.drop_responses(),
+        HeldKind::Releases => lists.drop_releases(),
+    }
+}

@@ -1,0 +1,56 @@
+//! What is put in place when a step is entered, beside what its effects change.
+
+ghost use Rattle.device_state.specs.declared.updates.TagChange.{TagChange};
+ghost use Rattle.std.specs.Prelude.{◌≡◌, None};
+
+use dcd_base::{HostId, RegionId, Runs, Seq, Tag};
+use host_lists::HostLists;
+
+/// The new lists of a host, and what changes of the open tags.
+#[derive(Drop)]
+pub struct Update {
+    pub lists: Option<NewLists>,
+    pub tags: TagChange,
+}
+
+/// The lists of a host after a step.
+#[derive(Drop)]
+pub struct NewLists {
+    pub host: HostId,
+    pub lists: HostLists,
+}
+
+/// What a step changes of the open tags.
+#[derive(Drop)]
+pub enum TagChange {
+    /// Nothing.
+    Nothing,
+    /// A tag is opened, offered to the host.
+    Begin {
+        tag: Tag,
+        region: RegionId,
+        runs: Runs,
+        host: HostId,
+    },
+    /// What the host has of these tags is told by its new lists.
+    OfHost {
+        host: HostId,
+        tags: Seq<Tag>,
+    },
+    /// The Fabric Manager refers to the tag.
+    Refer(Tag),
+    /// It refers to the tag no longer.
+    Unrefer(Tag),
+}
+
+impl Update {
+    /// Nothing is put in place.
+    pub fn nothing() -> Update
+        ensures { result ≡ record { lists = None; tags = TagChange.Nothing } }
+    {
+        Update {
+            lists: None,
+            tags: TagChange::Nothing,
+        }
+    }
+}
