@@ -1,14 +1,23 @@
 //! The control: a configuration and the commands and scrubs so far.
 
-ghost use Rattle.control_core.specs.Kept.{AreShort};
-ghost use Rattle.control_core.specs.Quiet.{first_reply, made};
+ghost use Rattle.control_core.specs.ChangedRuns.{AreChanges, LiesIn};
+ghost use Rattle.control_core.specs.Deciding.{AreShort, IsDecidedBy, IsShort};
+ghost use Rattle.device_rules.specs.Legal.{Legal};
 ghost use Rattle.control_core.specs.Steps.{IsNext, MayStep, entry_of};
-ghost use Rattle.std.specs.Prelude.{◌≡◌, ◌-◌, ◌^◌, ◌++◌, ◌∷◌, ◌<◌, [], IfOk, OnOk};
+ghost use Rattle.device_state.specs.Updates.{IsUpdate};
+ghost use Rattle.journal_core.specs.Entries.{effects};
+ghost use Rattle.region_config.specs.Granules.{granule_total};
+ghost use Rattle.std.specs.Prelude.{◌≡◌, ◌+◌, ◌++◌, ◌∷◌, ◌<◌, ◌≤◌, [], All, IfOk, OnOk};
 
-use crate::answering::answer;
+use crate::changing::changes_of;
+use crate::decided::Decided;
+use crate::host_steps::host_step;
+use crate::manager_steps::manager_step;
 use crate::plan::Plan;
-use dcd_base::{Actor, Changes, NoMemory, Stamp};
-use journal_core::{Act, Effects, Entry, Reply};
+use crate::scrub_steps::scrub_step;
+use dcd_base::{Actor, NoMemory, Stamp};
+use device_state::State;
+use journal_core::{Act, Entry, Reply};
 use region_config::Config;
 use std::alloc::Global;
 use std::marker::Model;
@@ -16,17 +25,18 @@ use std::marker::Model;
 /// The commands and scrubs of a device, in order, each with what it replied.
 ///
 /// Contracts see the configuration that it was made with, its entries, and how many more entries it has room for.
-#[derive(Debug, Drop)]
+#[derive(Drop)]
 pub struct Control {
     alloc: Global,
     pub(crate) config: Config,
+    pub(crate) state: State,
     entries: Vec<Entry>,
 }
 
 impl Model for Control {
-    ghost use Rattle.control_core.specs.Kept.{Kept};
+    ghost use Rattle.control_core.specs.Deciding.{Holds};
     ghost use Rattle.control_core.specs.Steps.{Controlled};
-    ghost use Rattle.std.specs.Prelude.{◌-◌};
+    ghost use Rattle.std.specs.Prelude.{◌-◌, min};
     ghost use Rattle.std.specs.Vec.{vec_capacity, vec_len};
 
     ghost Value = { Controlled };
@@ -34,10 +44,10 @@ impl Model for Control {
     ghost view = { λ c. record {
       config = c.config;
       entries = c.entries.items;
-      spare = vec_capacity c.entries - vec_len c.entries;
+      spare = min c.state.tags.spare (vec_capacity c.entries - vec_len c.entries);
     } };
 
-    ghost invariant = { λ c. Kept c.config c.entries.items };
+    ghost invariant = { λ c. Holds c.config c.entries.items c.state };
 }
 
 impl Control {
@@ -46,11 +56,13 @@ impl Control {
         ensures config { IfOk result (λ control. control.config ≡ config) }
         ensures fresh { IfOk result (λ control. control.entries ≡ []) }
     {
-        let regions = config.regions();
-        prove!(regions <= 8);
+        // A configuration is sound.
+        let _hosts = config.hosts();
+        let state = State::new(alloc, &config)?;
         Ok(Control {
             alloc,
             config,
+            state,
             entries: Vec::new(alloc),
         })
     }
@@ -65,6 +77,7 @@ impl Control {
     /// Its commands and scrubs, in order. The payload of each response has a length that the message can say.
     pub fn entries(&self) -> &[Entry]
         ensures value { result.now ≡ self.now.entries }
+        ensures legal { Legal self.now.config self.now.entries }
         ensures short { AreShort self.now.entries }
     {
         self.entries.as_slice()
@@ -74,7 +87,6 @@ impl Control {
     /// an entry.
     ///
     /// The act is a command or a scrub that fits its actor. The plan is for the next `apply` alone.
-    #[tactic(auto, using(crate::proofs::Quietness::next_entry))]
     pub fn prepare(
         &mut self,
         pass: u32,
@@ -88,69 +100,140 @@ impl Control {
         ensures room { OnOk result (0 < self.new.spare) }
         ensures entry { IfOk result (λ plan. plan.entry ≡ entry_of self.old.config self.old.entries pass line actor act.now) }
         ensures reply { IfOk result (λ plan. plan.reply ≡ plan.entry.reply) }
-        ensures changes { IfOk result (λ plan. plan.changes ≡ []) }
+        ensures short { IfOk result (λ plan. IsShort plan.entry.reply) }
+        ensures changes { IfOk result (λ plan. AreChanges self.old.config (effects self.old.entries) plan.entry.effects plan.changes) }
+        ensures inside { IfOk result (λ plan. All (LiesIn (granule_total self.old.config)) plan.changes) }
+        ensures update { IfOk result (λ plan. IsUpdate self.old.config self.old.entries plan.entry.effects plan.update) }
     {
-        self.entries.reserve(1)?;
-        let before = self.entries.as_slice().len() as u64;
-        let plan = make_plan(self.alloc, &self.config, before, pass, line, actor, act)?;
-        Ok(plan)
+        self.make_room()?;
+        self.planned(pass, line, actor, act)
     }
 
     /// Enters the step of a plan and answers its reply. It takes no memory.
     ///
     /// The plan was prepared on this control, and no other was entered since.
-    #[tactic(auto, using(crate::proofs::Shortness::kept_push))]
     pub fn apply(&mut self, plan: Plan) -> Reply
         requires room { 0 < self.old.spare }
         requires next { IsNext self.old plan.entry }
         requires reply { plan.reply ≡ plan.entry.reply }
+        requires short { IsShort plan.entry.reply }
+        requires update { IsUpdate self.old.config self.old.entries plan.entry.effects plan.update }
         ensures config { self.new.config ≡ self.old.config }
         ensures entered { self.new.entries ≡ self.old.entries ++ plan.entry ∷ [] }
-        ensures room_left { self.new.spare ≡ self.old.spare - 1 }
+        ensures room_left { self.old.spare ≤ self.new.spare + 1 }
         ensures reply { result ≡ plan.entry.reply }
     {
         let Plan {
             entry,
             reply,
             changes: _,
+            update,
         } = plan;
+        self.state
+            .enter(&self.config, entry.effects.as_slice(), update);
         self.entries.push_reserved(entry);
         reply
     }
+
+    /// Makes room for an entry, and for a tag that it opens.
+    fn make_room(&mut self) -> Result<(), NoMemory>
+        ensures config { self.new.config ≡ self.old.config }
+        ensures entries { self.new.entries ≡ self.old.entries }
+        ensures room { OnOk result (0 < self.new.spare) }
+    {
+        self.entries.reserve(1)?;
+        reserve_tag(&mut self.state)
+    }
+
+    /// The step, decided.
+    fn planned(&self, pass: u32, line: u32, actor: Actor, act: &Act) -> Result<Plan, NoMemory>
+        requires { MayStep self.now.config actor act.now }
+        ensures entry { IfOk result (λ plan. plan.entry ≡ entry_of self.now.config self.now.entries pass line actor act.now) }
+        ensures reply { IfOk result (λ plan. plan.reply ≡ plan.entry.reply) }
+        ensures short { IfOk result (λ plan. IsShort plan.entry.reply) }
+        ensures changes { IfOk result (λ plan. AreChanges self.now.config (effects self.now.entries) plan.entry.effects plan.changes) }
+        ensures inside { IfOk result (λ plan. All (LiesIn (granule_total self.now.config)) plan.changes) }
+        ensures update { IfOk result (λ plan. IsUpdate self.now.config self.now.entries plan.entry.effects plan.update) }
+    {
+        let decided = self.decide(&actor, act)?;
+        self.plan(pass, line, &actor, act, decided)
+    }
+
+    /// What a step comes to.
+    fn decide(&self, actor: &Actor, act: &Act) -> Result<Decided, NoMemory>
+        requires { MayStep self.now.config actor.now act.now }
+        ensures { IfOk result (λ d. IsDecidedBy self.now.config self.now.entries actor.now act.now d) }
+    {
+        match actor {
+            Actor::Host(host) => match act {
+                Act::Command(request) => {
+                    host_step(self.alloc, &self.config, &self.state, *host, request)
+                }
+                _ => unreachable!(),
+            },
+            Actor::Manager => match act {
+                Act::Command(request) => {
+                    manager_step(self.alloc, &self.config, &self.state, request)
+                }
+                _ => unreachable!(),
+            },
+            Actor::Sanitizer => match act {
+                Act::Scrub(most) => scrub_step(self.alloc, &self.config, &self.state, *most),
+                _ => unreachable!(),
+            },
+        }
+    }
+
+    /// The plan of a step behind the entries so far.
+    fn plan(
+        &self,
+        pass: u32,
+        line: u32,
+        actor: &Actor,
+        act: &Act,
+        decided: Decided,
+    ) -> Result<Plan, NoMemory>
+        requires may { MayStep self.now.config actor.now act.now }
+        requires decided { IsDecidedBy self.now.config self.now.entries actor.now act.now decided }
+        ensures entry { IfOk result (λ plan. plan.entry ≡ entry_of self.now.config self.now.entries pass line actor.now act.now) }
+        ensures reply { IfOk result (λ plan. plan.reply ≡ plan.entry.reply) }
+        ensures short { IfOk result (λ plan. IsShort plan.entry.reply) }
+        ensures changes { IfOk result (λ plan. AreChanges self.now.config (effects self.now.entries) plan.entry.effects plan.changes) }
+        ensures inside { IfOk result (λ plan. All (LiesIn (granule_total self.now.config)) plan.changes) }
+        ensures update { IfOk result (λ plan. IsUpdate self.now.config self.now.entries plan.entry.effects plan.update) }
+    {
+        let Decided {
+            reply,
+            effects,
+            update,
+        } = decided;
+        let changes = changes_of(self.alloc, &self.config, &self.state, effects.as_slice())?;
+        let entry = Entry {
+            pass,
+            line,
+            actor: *actor,
+            act: act.copy()?,
+            reply: reply.copy()?,
+            effects,
+            stamp: Stamp {
+                number: self.entries.as_slice().len() as u64 + 1,
+                count: 0,
+            },
+        };
+        Ok(Plan {
+            entry,
+            reply,
+            changes,
+            update,
+        })
+    }
 }
 
-/// The step behind so many others, as long as the journal has no effects.
-fn make_plan(
-    alloc: Global,
-    config: &Config,
-    before: u64,
-    pass: u32,
-    line: u32,
-    actor: Actor,
-    act: &Act,
-) -> Result<Plan, NoMemory>
-    requires may { MayStep config.now actor act.now }
-    requires before { before < 2 ^ 63 }
-    ensures entry { IfOk result (λ plan. plan.entry ≡ made before pass line actor act.now (first_reply config.now actor act.now) []) }
-    ensures reply { IfOk result (λ plan. plan.reply ≡ plan.entry.reply) }
-    ensures changes { IfOk result (λ plan. plan.changes ≡ []) }
+/// Makes room for one more tag.
+fn reserve_tag(state: &mut State) -> Result<(), NoMemory>
+    ensures room { OnOk result (0 < state.new.tags.spare) }
+    ensures entries { state.new.tags.entries ≡ state.old.tags.entries }
+    ensures kept { state.new ≡ record state.old { tags = state.new.tags } }
 {
-    let reply = answer(alloc, config, actor, act)?;
-    let entry = Entry {
-        pass,
-        line,
-        actor,
-        act: act.copy()?,
-        reply: reply.copy()?,
-        effects: Effects::new(alloc),
-        stamp: Stamp {
-            number: before + 1,
-            count: 0,
-        },
-    };
-    Ok(Plan {
-        entry,
-        reply,
-        changes: Changes::new(alloc),
-    })
+    state.tags.reserve(1)
 }

@@ -3,14 +3,16 @@
 ghost use Rattle.std.specs.Prelude.{◌≡◌};
 
 use dcd_base::Changes;
+use device_state::Update;
 use journal_core::{Entry, Reply};
 
 /// A step of the control with all the memory that it needs: `Control::apply` takes it.
-#[derive(Debug, Drop)]
+#[derive(Drop)]
 pub struct Plan {
     pub(crate) entry: Entry,
     pub(crate) reply: Reply,
     pub(crate) changes: Changes,
+    pub(crate) update: Update,
 }
 
 impl Plan {
@@ -19,6 +21,13 @@ impl Plan {
         ensures { result ≡ self.now.entry.stamp.number }
     {
         self.entry.stamp.number
+    }
+
+    /// The entry that it will make.
+    pub fn entry(&self) -> &Entry
+        ensures { result.now ≡ self.now.entry }
+    {
+        &self.entry
     }
 
     /// The runs whose holders it changes or whose words it zeroes, with the holders after it.

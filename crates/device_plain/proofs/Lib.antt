@@ -1,1 +1,4 @@
-mod LegalSteps
+pub mod Answered
+pub mod Keeping
+pub mod MadeChanges
+pub mod Numbered

@@ -1,1 +1,5 @@
+pub mod Accesses
 pub mod Devices
+pub mod Histories
+pub mod Keeping
+pub mod Numbering

@@ -1,12 +1,25 @@
 //! The device of one thread.
 
-ghost use Rattle.device_rules.specs.Legal.{Legal};
+ghost use Rattle.control_core.specs.Deciding.{AreShort};
 ghost use Rattle.control_core.specs.Steps.{MayStep};
+ghost use Rattle.dcd_base.specs.declared.steps.Actor.{Actor};
 ghost use Rattle.device_plain.specs.Devices.{Enters};
-ghost use Rattle.std.specs.Prelude.{◌≡◌, [], IfOk, OnErr};
+ghost use Rattle.device_plain.specs.Numbering.{IsCounted, commands_of};
+ghost use Rattle.device_rules.specs.Legal.{Exclusive, Legal};
+ghost use Rattle.journal_core.specs.declared.acts.Act.{Act};
+ghost use Rattle.journal_core.specs.Entries.{Each, effects, fits};
+ghost use Rattle.journal_core.specs.Merging.{Numbered};
+ghost use Rattle.std.specs.Prelude.{◌≡◌, ◌<◌, [], IfOk, IsTrue, OnErr};
 
+use crate::accesses::{
+    access_entry, granted, load_reply, stamp_of, store_at, store_reply, word_at,
+};
+use crate::history::History;
+use crate::making::make_all;
 use control_core::Control;
-use dcd_base::{Actor, NoMemory};
+use dcd_base::{Actor, HostId, NoMemory};
+use device_laws::law_exclusive;
+use granule_mem::Memory;
 use journal_core::{Act, Entry, Reply};
 use region_config::Config;
 use std::alloc::Global;
@@ -15,59 +28,160 @@ use std::marker::Model;
 /// A Dynamic Capacity Device that takes one step after another.
 ///
 /// Contracts see the configuration that it was made with and its journal, which is legal at all times.
-#[derive(Debug, Drop)]
+#[derive(Drop)]
 pub struct Device {
+    alloc: Global,
     control: Control,
+    memory: Memory,
+    history: History,
+    /// How many accesses came since the last command or scrub.
+    since: u64,
 }
 
 impl Model for Device {
-    ghost use Rattle.device_rules.specs.Legal.{Legal};
     ghost use Rattle.device_plain.specs.Devices.{Plain};
+    ghost use Rattle.device_plain.specs.Histories.{journal_by};
+    ghost use Rattle.device_plain.specs.Keeping.{Keeps};
 
     ghost Value = { Plain };
 
-    ghost view = { λ d. record { config = d.control.config; journal = d.control.entries } };
+    ghost view = { λ d. record { config = d.control.config; journal = journal_by d.history d.control.entries } };
 
-    ghost invariant = { λ d. Legal d.control.config d.control.entries };
+    ghost invariant = { λ d. Keeps d.control.config d.control.entries d.memory (journal_by d.history d.control.entries) d.since };
 }
 
 impl Device {
-    /// A fresh device of this configuration, with an empty journal.
+    /// A fresh device of this configuration, with an empty journal: nobody holds a granule, and all words are 0.
     pub fn new(alloc: Global, config: Config) -> Result<Device, NoMemory>
         ensures config { IfOk result (λ device. device.config ≡ config) }
         ensures fresh { IfOk result (λ device. device.journal ≡ []) }
     {
-        let control = Control::new(alloc, config)?;
-        Ok(Device { control })
+        // A configuration is sound.
+        let _hosts = config.hosts();
+        let memory = Memory::new(alloc, config.granules())?;
+        Ok(Device {
+            alloc,
+            control: Control::new(alloc, config)?,
+            memory,
+            history: History::new(alloc),
+            since: 0,
+        })
     }
 
-    /// The commands and scrubs of the device.
+    /// The commands and scrubs of the device, in order, and what they leave.
     pub fn control(&self) -> &Control
         ensures config { result.now.config ≡ self.now.config }
-        ensures entries { result.now.entries ≡ self.now.journal }
+        ensures entries { result.now.entries ≡ commands_of self.now.journal }
+        ensures effects { effects result.now.entries ≡ effects self.now.journal }
     {
         &self.control
     }
 
-    /// All steps in order, each with what it replied. It is legal: each reply is the one that the entries before it give.
+    /// All steps in order, each with what it replied.
+    ///
+    /// It is legal: each reply is the one that the entries before it give. No granule of a region that is not shareable
+    /// ever has two hosts in it. Commands and scrubs are numbered from 1; an access has the number of the last of them,
+    /// or 0, and its count is one more than that of the accesses since.
     pub fn journal(&self) -> &[Entry]
         ensures value { result.now ≡ self.now.journal }
         ensures legal { Legal self.now.config self.now.journal }
+        ensures exclusive { Exclusive self.now.config self.now.journal }
+        ensures numbered { Numbered self.now.journal }
+        ensures counted { Each IsCounted self.now.journal }
+        ensures short { AreShort self.now.journal }
     {
-        self.control.entries()
+        law_exclusive();
+        self.history.entries(&self.control)
     }
 
     /// Takes a step: enters it at the end of the journal and answers its reply. Without memory nothing has changed.
     ///
     /// The act fits its actor. The pass and the line are the caller's own numbers.
-    #[tactic(auto, using(crate::proofs::LegalSteps::legal_push))]
     pub fn step(&mut self, pass: u32, line: u32, actor: Actor, act: &Act) -> Result<Reply, NoMemory>
+        requires { IsTrue (fits self.old.config.hosts actor act.now) }
+        ensures entered { IfOk result (Enters self.old self.new pass line actor act.now) }
+        ensures kept { OnErr result (self.new ≡ self.old) }
+    {
+        match act {
+            Act::Command(_) => self.command(pass, line, actor, act),
+            Act::Scrub(_) => self.command(pass, line, actor, act),
+            Act::Load(dpa) => match actor {
+                Actor::Host(host) => self.load(pass, line, host, *dpa),
+                _ => unreachable!(),
+            },
+            Act::Store(dpa, value) => match actor {
+                Actor::Host(host) => self.store(pass, line, host, *dpa, *value),
+                _ => unreachable!(),
+            },
+        }
+    }
+
+    /// Takes a command or a scrub.
+    fn command(&mut self, pass: u32, line: u32, actor: Actor, act: &Act) -> Result<Reply, NoMemory>
         requires { MayStep self.old.config actor act.now }
         ensures entered { IfOk result (Enters self.old self.new pass line actor act.now) }
         ensures kept { OnErr result (self.new ≡ self.old) }
     {
+        self.history.reserve()?;
         let plan = self.control.prepare(pass, line, actor, act)?;
+        let copy = self.history.copy_of(plan.entry())?;
+        make_all(&mut self.memory, plan.changes().as_slice());
         let reply = self.control.apply(plan);
+        self.since = 0;
+        self.history.push_copy(copy);
         Ok(reply)
+    }
+
+    /// Takes a load of a host.
+    fn load(&mut self, pass: u32, line: u32, host: HostId, dpa: u64) -> Result<Reply, NoMemory>
+        requires { host < self.old.config.hosts }
+        ensures entered { IfOk result (Enters self.old self.new pass line (Actor.Host host) (Act.Load dpa)) }
+        ensures kept { OnErr result (self.new ≡ self.old) }
+    {
+        self.history.make_own(&self.control)?;
+        let place = granted(self.control.config(), &self.memory, host, dpa);
+        let found = word_at(&self.memory, &place);
+        let stamp = stamp_of(&self.control, self.since);
+        self.since += 1;
+        self.history.push(access_entry(
+            self.alloc,
+            pass,
+            line,
+            host,
+            Act::Load(dpa),
+            load_reply(&found),
+            stamp,
+        ));
+        Ok(load_reply(&found))
+    }
+
+    /// Takes a store of a host.
+    fn store(
+        &mut self,
+        pass: u32,
+        line: u32,
+        host: HostId,
+        dpa: u64,
+        value: u64,
+    ) -> Result<Reply, NoMemory>
+        requires { host < self.old.config.hosts }
+        ensures entered { IfOk result (Enters self.old self.new pass line (Actor.Host host) (Act.Store dpa value)) }
+        ensures kept { OnErr result (self.new ≡ self.old) }
+    {
+        self.history.make_own(&self.control)?;
+        let place = granted(self.control.config(), &self.memory, host, dpa);
+        store_at(&mut self.memory, &place, value)?;
+        let stamp = stamp_of(&self.control, self.since);
+        self.since += 1;
+        self.history.push(access_entry(
+            self.alloc,
+            pass,
+            line,
+            host,
+            Act::Store(dpa, value),
+            store_reply(&place),
+            stamp,
+        ));
+        Ok(store_reply(&place))
     }
 }

@@ -1,9 +1,10 @@
 //! The serial device: one step at a time, and the journal of all of them.
-//!
-//! By now a step is a host's Get Dynamic Capacity Configuration (4800h).
 #![tactic(auto)]
 
+mod accesses;
 mod device;
+mod history;
+mod making;
 
 pub use device::Device;
 

@@ -2,9 +2,8 @@
 
 use crate::Device;
 use cci_codec::Request;
-use control_core::is_built;
-use dcd_base::{Actor, Bytes, HostId};
-use journal_core::{Act, fits};
+use dcd_base::{AccessFault, Actor, Bytes, HostId};
+use journal_core::{Act, Reply};
 use region_config::{Config, RegionSpec};
 use std::test::Fail;
 
@@ -30,10 +29,6 @@ fn a_step_is_entered_in_the_journal(rt: HostRuntime) -> Result<(), Fail> {
         opcode: 0x4800,
         payload: Bytes::from_slice(alloc, &[1, 0])?,
     });
-    let may = is_built(&actor, &act) && fits(device.control().config().hosts(), &actor, &act);
-    if !may {
-        return Err(Fail::from("4800h is built"));
-    }
     let _reply = device.step(3, 5, actor, &act)?;
     let journal = device.journal();
     assert_eq!(rt; journal.len(), 1);
@@ -41,5 +36,21 @@ fn a_step_is_entered_in_the_journal(rt: HostRuntime) -> Result<(), Fail> {
     assert_eq!(rt; journal[0].line, 5);
     assert_eq!(rt; journal[0].stamp.number, 1);
     assert_eq!(rt; device.control().entries().len(), 1);
+    Ok(())
+}
+
+#[test]
+fn what_nobody_holds_is_refused(rt: HostRuntime) -> Result<(), Fail> {
+    let alloc = rt.alloc();
+    let mut device = Device::new(alloc, Config::new(alloc, 1, &[REGION], &[0])?)?;
+    let actor = Actor::Host(HostId(0));
+    let loaded = device.step(0, 1, actor, &Act::Load(8))?;
+    assert!(rt; matches!(loaded, Reply::Refused(AccessFault::NotGranted)));
+    let stored = device.step(0, 2, actor, &Act::Store(8, 7))?;
+    assert!(rt; matches!(stored, Reply::Refused(AccessFault::NotGranted)));
+    let journal = device.journal();
+    assert_eq!(rt; journal.len(), 2);
+    assert_eq!(rt; journal[1].stamp.number, 0);
+    assert_eq!(rt; journal[1].stamp.count, 2);
     Ok(())
 }

@@ -10,7 +10,7 @@ ghost use Rattle.extent_list.specs.ExtentLists.{has_extent_of};
 ghost use Rattle.granule_laws.specs.Cells.{cell_over};
 ghost use Rattle.region_config.specs.Granules.{granule_total, region_spec, with_blocks};
 ghost use Rattle.std.specs.List.{list_any};
-ghost use Rattle.std.specs.Prelude.{◌≡◌, ◌++◌, ◌<◌, ◌≤◌, ◌∷◌, [], All, false, fold, length, true};
+ghost use Rattle.std.specs.Prelude.{◌≡◌, ◌++◌, ◌+◌, ◌<◌, ◌≤◌, ◌∷◌, [], All, false, fold, length, true};
 ghost use Rattle.tag_laws.specs.Tables.{told_anew};
 ghost use Rattle.tag_refs.specs.Tables.{changed, is_live, opened, set_by, still_used, with_reference};
 
@@ -32,6 +32,7 @@ impl State {
         requires can_change { CanChange config.now.hosts update.tags self.old.tags.entries }
         requires spare { 0 < self.old.tags.spare }
         ensures entered { IsEntered config.now effects.now update self.old self.new }
+        ensures spare { self.old.tags.spare ≤ self.new.tags.spare + 1 }
     {
         // There are 16 hosts at most.
         let _hosts = config.hosts();
@@ -99,6 +100,7 @@ impl State {
         requires can_change { CanChange (length self.old.hosts.items) change self.old.tags.entries }
         requires spare { 0 < self.old.tags.spare }
         ensures tags { self.new.tags.entries ≡ tags_put change (λ h. (part_of self.old h).lists) self.old.tags.entries }
+        ensures spare { self.old.tags.spare ≤ self.new.tags.spare + 1 }
         ensures kept { self.new ≡ record self.old { tags = self.new.tags } }
     {
         match change {
@@ -122,6 +124,7 @@ impl State {
         requires host { host < length self.old.hosts.items }
         requires few { host < 16 }
         ensures tags { self.new.tags.entries ≡ told_anew host (λ t. has_extent_of t (part_of self.old host).lists.accepted) (λ t. list_any (has_extent_of t) (part_of self.old host).lists.offers) tags.now self.old.tags.entries }
+        ensures spare { self.old.tags.spare ≤ self.new.tags.spare }
         ensures kept { self.new ≡ record self.old { tags = self.new.tags } }
     {
         for i in 0..tags.len() {
@@ -134,6 +137,7 @@ impl State {
         requires host { host < length self.old.hosts.items }
         requires few { host < 16 }
         ensures tags { self.new.tags.entries ≡ still_used (changed tag.now (set_by host (has_extent_of tag.now (part_of self.old host).lists.accepted) (list_any (has_extent_of tag.now) (part_of self.old host).lists.offers)) self.old.tags.entries) }
+        ensures spare { self.old.tags.spare ≤ self.new.tags.spare }
         ensures kept { self.new ≡ record self.old { tags = self.new.tags } }
     {
         let held = self.part(host).lists.has_accepted(tag);
@@ -144,14 +148,16 @@ impl State {
 
 /// The Fabric Manager refers to the tag, where it is live.
 fn refer(tags: &mut Tags, tag: &Tag)
-    ensures { tags.new.entries ≡ changed tag.now (with_reference true) tags.old.entries }
+    ensures entries { tags.new.entries ≡ changed tag.now (with_reference true) tags.old.entries }
+    ensures spare { tags.old.spare ≤ tags.new.spare }
 {
     let _ = tags.add_reference(tag);
 }
 
 /// The Fabric Manager refers to the tag no longer.
 fn unrefer(tags: &mut Tags, tag: &Tag)
-    ensures { tags.new.entries ≡ still_used (changed tag.now (with_reference false) tags.old.entries) }
+    ensures entries { tags.new.entries ≡ still_used (changed tag.now (with_reference false) tags.old.entries) }
+    ensures spare { tags.old.spare ≤ tags.new.spare }
 {
     // No two entries have one tag, and each is used.
     let _tags = tags.len();

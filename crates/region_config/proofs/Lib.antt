@@ -4,3 +4,4 @@ pub mod GranuleLemmas
 pub mod Powers
 pub mod PresentBlocks
 pub mod Searches
+pub mod WholeBlocks

@@ -2,7 +2,7 @@
 
 ghost use Rattle.region_config.specs.Blocks.{block_fault, with_block};
 ghost use Rattle.region_config.specs.Granules.{region_spec};
-ghost use Rattle.region_config.specs.Setups.{Makes, bad_count};
+ghost use Rattle.region_config.specs.Setups.{Makes, config_fault, bad_count};
 ghost use Rattle.region_config.specs.Soundness.{IsSound};
 ghost use Rattle.std.specs.Prelude.{◌≡◌, ◌*◌, ◌<◌, IfOk, MatchResult, OnErr, OnOk, length};
 
@@ -60,6 +60,7 @@ impl Config {
     pub(crate) fn layout(&self) -> &Layout
         ensures same { result.now ≡ self.now }
         ensures sound { IsSound self.now }
+        ensures fine { config_fault self.now ≡ None }
     {
         &self.layout
     }

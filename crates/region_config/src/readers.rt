@@ -2,7 +2,7 @@
 
 ghost use Rattle.region_config.specs.Granules.{base_of, first_granule, granule_size, granule_total, granules_in, region_of, region_spec};
 ghost use Rattle.region_config.specs.Soundness.{IsSound, IsSoundRegion, IsSoundSeat};
-ghost use Rattle.std.specs.Prelude.{◌≡◌, ◌+◌, ◌^◌, ◌<◌, ◌≤◌, length, suc};
+ghost use Rattle.std.specs.Prelude.{◌≡◌, ◌+◌, ◌/◌, ◌%◌, ◌^◌, ◌<◌, ◌≤◌, length, suc};
 
 use crate::configuration::Config;
 use crate::region_spec::RegionSpec;
@@ -72,6 +72,17 @@ impl Config {
             first: Granule(self.granules_before(region.0)),
             count: self.granule_count(region.0),
         }
+    }
+
+    /// How many granules a block of the region has, 1 to 4,096. The region is made of whole blocks.
+    pub fn per_block(&self, region: RegionId) -> u32
+        requires { region < length self.now.regions }
+        ensures value { result ≡ (region_spec self.now region).block / granule_size self.now region }
+        ensures some { 0 < result }
+        ensures whole { granules_in self.now region % result ≡ 0 }
+    {
+        let spec = self.layout().region(region.0);
+        (spec.block / self.granule_size(region)) as u32
     }
 
     /// How many granules the device has, 1 to 4,096.

@@ -16,7 +16,6 @@ script_fault_number (ScriptFault.AfterEnd place) = 9
 script_fault_number (ScriptFault.TooManyLines place) = 10
 script_fault_number ScriptFault.NoMemory = 11
 script_fault_number (ScriptFault.BadLanes n) = 12
-script_fault_number ScriptFault.NotBuilt = 20
 
 -- how many bytes stand before the fault
 abbrev pub fault_place : ScriptFault → ℕ
@@ -31,7 +30,6 @@ fault_place ScriptFault.TooLong = 16777216
 fault_place (ScriptFault.AfterEnd place) = place
 fault_place (ScriptFault.TooManyLines place) = place
 fault_place (ScriptFault.BadLanes n) = 10
-fault_place ScriptFault.NotBuilt = 0
 fault_place ScriptFault.NoMemory = 0
 
 -- a script that is refused for the fault of this number at this place

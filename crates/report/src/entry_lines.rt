@@ -1,6 +1,6 @@
 //! The lines of entries.
 
-ghost use Rattle.control_core.specs.Kept.{AreShort, IsShort};
+ghost use Rattle.control_core.specs.Deciding.{AreShort, IsShort};
 ghost use Rattle.journal_core.specs.declared.acts.Reply.{Reply};
 ghost use Rattle.report.specs.Printing.{Prints};
 ghost use Rattle.report.specs.Texts.{act_name, entry_line, entry_lines, fault_number, next_word, reply_words, rest_of_line};

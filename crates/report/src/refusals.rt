@@ -27,7 +27,6 @@ fn number_of(fault: &ScriptFault) -> u64
         ScriptFault::TooManyLines(_) => 10,
         ScriptFault::NoMemory => 11,
         ScriptFault::BadLanes(_) => 12,
-        ScriptFault::NotBuilt => 20,
     }
 }
 
@@ -36,7 +35,7 @@ fn place_of(fault: &ScriptFault) -> u64
     ensures { result ≡ fault_place fault.now }
 {
     match fault {
-        ScriptFault::BadMagic | ScriptFault::NotBuilt | ScriptFault::NoMemory => 0,
+        ScriptFault::BadMagic | ScriptFault::NoMemory => 0,
         ScriptFault::BadVersion(_) => 4,
         ScriptFault::BadConfig(_) => 8,
         ScriptFault::Truncated(place)

@@ -1,8 +1,10 @@
 //! The printed text of a journal.
 
+ghost use Rattle.control_core.specs.Deciding.{AreShort};
 ghost use Rattle.dcd_base.specs.Streams.{HasRisen, Passes};
+ghost use Rattle.journal_core.specs.Entries.{effects};
 ghost use Rattle.report.specs.Printing.{Prints};
-ghost use Rattle.report.specs.Texts.{first_line, text};
+ghost use Rattle.report.specs.Texts.{first_line, summary, text};
 ghost use Rattle.std.specs.Prelude.{◌≡◌, ◌≤◌, [], List, OnErr, OnOk, ℕ};
 
 use crate::entry_lines::put_entries;
@@ -23,25 +25,36 @@ fn put_first_line<K: Sink>(printer: &mut Printer, sink: &mut K)
 /// Puts the whole text.
 #[tactic(auto, using(crate::proofs::Parts::prints_then), unfolding(crate::specs::Texts::text))]
 fn put_text<K: Sink>(printer: &mut Printer, sink: &mut K, control: &Control, journal: &[Entry])
-    requires { control.now.entries ≡ journal.now }
+    requires effects { effects control.now.entries ≡ effects journal.now }
+    requires short { AreShort journal.now }
     ensures { Prints (K.taken sink.old) (K.faults sink.old) printer.old (K.taken sink.new) (K.faults sink.new) printer.new (text control.now.config journal.now) }
 {
-    let commands = control.entries();
-    prove!(commands.len() == journal.len());
     put_first_line(printer, sink);
     put_entries(printer, sink, journal);
     put_records(printer, sink, control);
     put_state(printer, sink, control, journal);
 }
 
+/// Puts the summary.
+#[tactic(auto, using(crate::proofs::Parts::prints_then), unfolding(crate::specs::Texts::summary))]
+fn put_summary<K: Sink>(printer: &mut Printer, sink: &mut K, control: &Control, journal: &[Entry])
+    requires { effects control.now.entries ≡ effects journal.now }
+    ensures { Prints (K.taken sink.old) (K.faults sink.old) printer.old (K.taken sink.new) (K.faults sink.new) printer.new (summary control.now.config journal.now) }
+{
+    put_first_line(printer, sink);
+    put_state(printer, sink, control, journal);
+}
+
 /// Writes the text of a journal: a first line, a line for each entry, one for each record that is left in a log, and
 /// the lines of the state.
 ///
-/// The control's entries are the journal's. The text goes out in pieces of 4,096 bytes, the last one of 1 to 4,096;
-/// what a write leaves of a piece is handed in next. It takes no memory. `Failed` comes only where the sink's count of
-/// faults has risen; the sink has then taken a front of the text.
+/// The control's entries have the effects of the journal's. The payload of each response in the journal has a length
+/// that the message can say. The text goes out in pieces of 4,096 bytes, the last one of 1 to 4,096; what a write
+/// leaves of a piece is handed in next. It takes no memory. `Failed` comes only where the sink's count of faults has
+/// risen; the sink has then taken a front of the text.
 pub fn render<K: Sink>(control: &Control, journal: &[Entry], sink: &mut K) -> Result<(), Failed>
-    requires { control.now.entries ≡ journal.now }
+    requires effects { effects control.now.entries ≡ effects journal.now }
+    requires short { AreShort journal.now }
     ensures whole { OnOk result (Passes (K.taken sink.old) (K.taken sink.new) [] (text control.now.config journal.now)) }
     ensures front { OnErr result ((rest : List ℕ) × Passes (K.taken sink.old) (K.taken sink.new) rest (text control.now.config journal.now)) }
     ensures failed { OnErr result (HasRisen (K.faults sink.old) (K.faults sink.new)) }
@@ -49,5 +62,21 @@ pub fn render<K: Sink>(control: &Control, journal: &[Entry], sink: &mut K) -> Re
 {
     let mut printer = Printer::new();
     put_text(&mut printer, sink, control, journal);
+    printer.finish(sink)
+}
+
+/// Writes the summary of a journal: the first line and the lines of the state, without entries and records.
+///
+/// The control's entries have the effects of the journal's. It goes out as the text does, takes no memory, and fails
+/// as `render` does.
+pub fn summary<K: Sink>(control: &Control, journal: &[Entry], sink: &mut K) -> Result<(), Failed>
+    requires { effects control.now.entries ≡ effects journal.now }
+    ensures whole { OnOk result (Passes (K.taken sink.old) (K.taken sink.new) [] (summary control.now.config journal.now)) }
+    ensures front { OnErr result ((rest : List ℕ) × Passes (K.taken sink.old) (K.taken sink.new) rest (summary control.now.config journal.now)) }
+    ensures failed { OnErr result (HasRisen (K.faults sink.old) (K.faults sink.new)) }
+    ensures never_falls { K.faults sink.old ≤ K.faults sink.new }
+{
+    let mut printer = Printer::new();
+    put_summary(&mut printer, sink, control, journal);
     printer.finish(sink)
 }

@@ -1,11 +1,12 @@
 //! The lines of the records in the logs, and those of the state.
 
 ghost use Rattle.dcd_base.specs.declared.steps.LogId.{LogId};
+ghost use Rattle.device_state.specs.Updates.{IsOfLog};
 ghost use Rattle.journal_core.specs.Entries.{effects};
 ghost use Rattle.region_config.specs.Granules.{hosts_of};
 ghost use Rattle.report.specs.Printing.{Prints};
 ghost use Rattle.report.specs.Texts.{all_records, end_line, granules_line, host_line, host_lines, manager_line, record_line, record_lines, state_lines};
-ghost use Rattle.std.specs.Prelude.{◌≡◌, flat_map, length};
+ghost use Rattle.std.specs.Prelude.{◌≡◌, ◌<◌, flat_map, length};
 
 use crate::printing::Printer;
 use control_core::Control;
@@ -28,6 +29,7 @@ fn put_record<K: Sink>(printer: &mut Printer, sink: &mut K, log: &LogId, event: 
 /// Puts a line for each record in the log, the oldest first.
 #[tactic(auto, using(crate::proofs::Parts::prints_nothing, crate::proofs::Parts::prints_each), unfolding(crate::specs::Texts::record_lines))]
 fn put_log_records<K: Sink>(printer: &mut Printer, sink: &mut K, control: &Control, log: &LogId)
+    requires { IsOfLog control.now.config.hosts log.now }
     ensures { Prints (K.taken sink.old) (K.faults sink.old) printer.old (K.taken sink.new) (K.faults sink.new) printer.new (record_lines (effects control.now.entries) log.now) }
 {
     for index in 0..control.records(*log) {
@@ -58,6 +60,7 @@ pub fn put_records<K: Sink>(printer: &mut Printer, sink: &mut K, control: &Contr
 /// Puts the line of a host: its extents, their granules, and the records in its log.
 #[tactic(auto, using(crate::proofs::Parts::prints_then), unfolding(crate::specs::Texts::host_line))]
 fn put_host_line<K: Sink>(printer: &mut Printer, sink: &mut K, control: &Control, host: HostId)
+    requires { host < control.now.config.hosts }
     ensures { Prints (K.taken sink.old) (K.faults sink.old) printer.old (K.taken sink.new) (K.faults sink.new) printer.new (host_line control.now.config (effects control.now.entries) host) }
 {
     printer.put(sink, b"host");
@@ -113,7 +116,7 @@ fn put_end_line<K: Sink>(printer: &mut Printer, sink: &mut K, count: u64)
 /// Puts the lines of the state that the journal leaves.
 #[tactic(auto, using(crate::proofs::Parts::prints_then), unfolding(crate::specs::Texts::state_lines))]
 pub fn put_state<K: Sink>(printer: &mut Printer, sink: &mut K, control: &Control, journal: &[Entry])
-    requires { control.now.entries ≡ journal.now }
+    requires { effects control.now.entries ≡ effects journal.now }
     ensures { Prints (K.taken sink.old) (K.faults sink.old) printer.old (K.taken sink.new) (K.faults sink.new) printer.new (state_lines control.now.config journal.now) }
 {
     put_host_lines(printer, sink, control);

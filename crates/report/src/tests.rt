@@ -1,6 +1,6 @@
 //! The texts that are printed.
 
-ghost use Rattle.control_core.specs.Built.{is_built};
+ghost use Rattle.journal_core.specs.Entries.{is_control};
 ghost use Rattle.dcd_base.specs.declared.steps.Actor.{Actor};
 ghost use Rattle.script_codec.specs.declared.faults.ScriptFault.{ScriptFault};
 ghost use Rattle.std.specs.Prelude.{◌≡◌, ◌≢◌, IfOk, IsTrue};
@@ -20,6 +20,9 @@ const EMPTY: &[u8] =
 
 const ONE_COMMAND: &[u8] =
     b"dcd 1\n1 1 h0 cmd 012a0000484000000000000002010000000000000000001000000000010000000000000000004000000000000000100000000000010000000100000040000000400000002000000020000000\nhost h0 extents 0 granules 0 log 0\nhost h1 extents 0 granules 0 log 0\nfm log 0 missed 0\ngranules free 20 dirty 0\nend 1\n";
+
+const SUMMARY: &[u8] =
+    b"dcd 1\nhost h0 extents 0 granules 0 log 0\nhost h1 extents 0 granules 0 log 0\nfm log 0 missed 0\ngranules free 20 dirty 0\nend 1\n";
 
 /// Two hosts; 16 MiB that sanitizes, and 4 MiB that is shareable too. The blocks have 1 MiB.
 fn fresh(alloc: Global) -> Result<Control, Fail>
@@ -47,7 +50,7 @@ fn fresh(alloc: Global) -> Result<Control, Fail>
 
 /// Host 0 asks for up to 8 regions from region 1 on.
 fn get_configuration(alloc: Global) -> Result<Act, NoMemory>
-    ensures { IfOk result (λ act. IsTrue (is_built (Actor.Host 0) act)) }
+    ensures { IfOk result (λ act. IsTrue (is_control act)) }
 {
     Ok(Act::Command(Request {
         tag: 0x2a,
@@ -106,6 +109,17 @@ fn a_command_and_its_response_whatever_the_sink_takes_at_once(rt: HostRuntime) -
         assert_eq!(rt; render(&control, control.entries(), &mut sink), Ok(()));
         assert!(rt; took(&sink, ONE_COMMAND));
     }
+    Ok(())
+}
+
+#[test]
+fn a_summary_has_neither_entries_nor_records(rt: HostRuntime) -> Result<(), Fail> {
+    let alloc = rt.alloc();
+    let mut control = fresh(alloc)?;
+    step(alloc, &mut control)?;
+    let mut sink = MemSink::new(alloc, 7, Vec::new(alloc));
+    assert_eq!(rt; summary(&control, control.entries(), &mut sink), Ok(()));
+    assert!(rt; took(&sink, SUMMARY));
     Ok(())
 }
 
@@ -217,10 +231,9 @@ fn a_refused_script_has_the_number_and_the_place_of_its_fault(rt: HostRuntime) {
 }
 
 #[test]
-fn words_and_commands_that_are_not_taken_have_a_line_each(rt: HostRuntime) {
+fn words_that_are_not_taken_have_a_line(rt: HostRuntime) {
     let alloc = rt.alloc();
     let mut words = MemSink::new(alloc, 4, Vec::new(alloc));
     assert_eq!(rt; usage(&mut words), Ok(()));
     assert!(rt; took(&words, b"usage: dcdsim\n"));
-    assert!(rt; refuses(alloc, ScriptFault::NotBuilt, b"script refused: 20 at 0\n"));
 }

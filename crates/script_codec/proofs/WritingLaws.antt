@@ -89,7 +89,6 @@ other_fault ScriptFault.TooLong un = absurd (un (λ e. cc))
 other_fault (ScriptFault.AfterEnd at) un = absurd (un (λ e. cc))
 other_fault (ScriptFault.TooManyLines at) un = absurd (un (λ e. cc))
 other_fault (ScriptFault.BadLanes n) un = absurd (un (λ e. cc))
-other_fault ScriptFault.NotBuilt un = absurd (un (λ e. cc))
 
 pub read_only : (bytes : List ℕ) (r : Result Script ScriptFault) → IsRead bytes r → (script : Script) → ReadsScript bytes script → IsReadAs script r
 read_only bytes (Ok found) is script reads = ok_is found script (sym is ∙ script_is bytes script reads)

@@ -35,9 +35,6 @@ pub enum ScriptFault {
     TooManyLines(u64),
     /// Version 2 says that number of lanes, 0 or above 4. Its place is 10.
     BadLanes(u8),
-    /// The bytes are a script, but the device that is to run it cannot do one of its lines by now. Its place is 0.
-    /// Reading never answers it.
-    NotBuilt,
     /// Memory was wanted and not to be had.
     NoMemory,
 }

@@ -1,16 +1,12 @@
 -- From how a run of the input ends to how the run of what the source has left ends.
-use Rattle.std.proofs.Common.{◌≡◌, inl, inr, ℕ, ◌<◌, ◌≤◌, true, false, List, Option, Some, None, length, take, refl, sym, ap, subst, ◌∙◌, arith, min}
+use Rattle.std.proofs.Common.{◌≡◌, ℕ, ◌<◌, ◌≤◌, true, List, Option, Some, None, length, take, refl, sym, ap, subst, ◌∙◌, arith, min}
 use Rattle.std.proofs.lemmas.List.{length-take, take_all}
 use Rattle.std.specs.Option.{IfSome}
-use Rattle.std.specs.declared.result.Result.{Result}
-use Rattle.std.specs.declared.result.Result.TheVariants.{Ok}
 use Rattle.dcd_base.specs.Streams.{HasRisen, IsAtEnd}
-use Rattle.script_codec.specs.declared.scripts.Script.{Script}
 use Rattle.script_codec.specs.declared.faults.ScriptFault.{ScriptFault}
-use Rattle.script_codec.specs.Reading.{fault_of}
+use Rattle.script_codec.specs.Reading.{fault_of, first_fault}
 use Rattle.script_runner.specs.declared.status.Status.{Status}
-use Rattle.script_runner.specs.Running.{is_built_script}
-use Rattle.script_runner.specs.Planning.{EndsFor, HasUnbuilt, IsBegun, IsBegunFor, IsFaultOf, IsPlanned, IsPlannedFor, IsSound, IsSoundInput, IsTextOf, IsWritten, IsWrittenFor, most_read}
+use Rattle.script_runner.specs.Planning.{EndsFor, IsBegun, IsBegunFor, IsPlanned, IsPlannedFor, IsSound, IsSoundInput, IsTextOf, IsWritten, IsWrittenFor, most_read}
 use Rattle.script_runner.specs.Statuses.{IfWhole, OnDone, OnNothing, OnReadFault, OnUsage, OnWriteFault, UnlessFinished}
 
 -- The input is what was left, up to the most that is read.
@@ -123,23 +119,8 @@ write_fault input old new faults count Status.WriteFault ends = ends.1
 no_fault : (fault : ScriptFault) → None ≡ Some fault → ⊥
 no_fault fault e = cc
 
--- both are what a reading gave
-abbrev AreOne : Result Script ScriptFault → Result Script ScriptFault → Type 0
-AreOne r q = r ≡ q
-
-one_script : (s t : Script) → AreOne (Ok s) (Ok t) → s ≡ t
-one_script s t e = cc
-
-never : true ≡ false → ⊥
-never e = cc
-
-unbuilt_yet : (input : List ℕ) (writes : ℕ × ℕ) → HasUnbuilt input → IsSoundInput input writes → ⊥
-unbuilt_yet input writes u sound =
-    never (sym sound.built ∙ ap is_built_script (one_script sound.script u.script (sym sound.reads ∙ u.reads)) ∙ u.unbuilt)
-
-refused_yet : (input : List ℕ) (writes : ℕ × ℕ) (fault : ScriptFault) → IsFaultOf input fault → IsSoundInput input writes → ⊥
-refused_yet input writes fault (inl e) sound = no_fault fault (sym (ap fault_of sound.reads) ∙ e)
-refused_yet input writes fault (inr u) sound = unbuilt_yet input writes u.0 sound
+refused_yet : (input : List ℕ) (writes : ℕ × ℕ) (fault : ScriptFault) → first_fault input ≡ Some fault → IsSoundInput input writes → ⊥
+refused_yet input writes fault e sound = no_fault fault (sym (ap fault_of sound.reads) ∙ e)
 
 incomplete : (input : List ℕ) (old new : Option (List ℕ)) (faults count : ℕ) (status : Status) → EndsFor input old faults new count status
     → UnlessFinished status (¬ IsSoundInput input (faults, count))

@@ -1,5 +1,5 @@
 -- What is to be written, and what was.
-use Rattle.std.specs.Prelude.{◌≡◌, ◌⊎◌, ℕ, Bool, true, false, IsFalse, ◌≤◌, List, [], ◌∷◌, length, take, Option, Some}
+use Rattle.std.specs.Prelude.{◌≡◌, ℕ, Bool, true, false, ◌≤◌, List, [], ◌∷◌, length, take, Option, Some}
 use Rattle.std.specs.Option.{IfSome}
 use Rattle.std.specs.declared.result.Result.TheVariants.{Ok}
 use Rattle.dcd_base.specs.Streams.{Passes, HasRisen}
@@ -11,7 +11,7 @@ use Rattle.script_codec.specs.Scripts.{ReadsScript}
 use Rattle.report.specs.Texts.{text}
 use Rattle.report.specs.Refusals.{refusal_line, usage_line}
 use Rattle.script_runner.specs.declared.status.Status.{Status}
-use Rattle.script_runner.specs.Running.{IsSerialRun, is_built_script}
+use Rattle.script_runner.specs.Running.{IsSerialRun}
 
 -- By now no word is accepted.
 abbrev pub accepts : {A : Type 0} → List A → Bool
@@ -30,21 +30,11 @@ pub record IsTextOf (input printed : List ℕ) : Type 0 where
   pub runs : IsSerialRun script journal
   pub is : printed ≡ text script.config journal
 
--- The input is a script with a line that the device cannot do by now.
-pub record HasUnbuilt (input : List ℕ) : Type 0 where
-  pub script : Script
-  pub reads : script_in input ≡ Ok script
-  pub unbuilt : IsFalse (is_built_script script)
-
--- The input is refused with this: its first fault, or that it is a script with such a line.
-abbrev pub IsFaultOf : List ℕ → ScriptFault → Type 0
-IsFaultOf input fault = (first_fault input ≡ Some fault) ⊎ (HasUnbuilt input × (fault ≡ ScriptFault.NotBuilt))
-
 -- The run of this input is to end so, and to write this text.
 abbrev pub IsPlannedFor : List ℕ → Status → List ℕ → Type 0
 IsPlannedFor input Status.Done printed = IsTextOf input printed
 IsPlannedFor input Status.Usage printed = ⊥
-IsPlannedFor input (Status.ScriptRefused fault) printed = IsFaultOf input fault × (printed ≡ refusal_line fault)
+IsPlannedFor input (Status.ScriptRefused fault) printed = (first_fault input ≡ Some fault) × (printed ≡ refusal_line fault)
 IsPlannedFor input Status.NoMemory printed = ⊥
 IsPlannedFor input Status.ReadFault printed = ⊥
 IsPlannedFor input Status.WriteFault printed = ⊥
@@ -97,15 +87,14 @@ EndsFor input old faults new count Status.NoMemory = new ≡ old
 EndsFor input old faults new count Status.ReadFault = ⊥
 EndsFor input old faults new count Status.WriteFault = IsBegunFor input old new × HasRisen faults count
 
--- The input is a script of lines that the device can do, and no write failed.
+-- The input is a script, and no write failed.
 pub record IsSoundInput (input : List ℕ) (writes : ℕ × ℕ) : Type 0 where
   pub script : Script
   pub reads : script_in input ≡ Ok script
-  pub built : is_built_script script ≡ true
   pub no_write_fault : HasRisen writes.0 writes.1 → ⊥
 
--- Nothing stood in the way: the words are accepted, the input is told and is a script of lines that the device can
--- do, and no read and no write failed. The pairs are counts of faults before and after.
+-- Nothing stood in the way: the words are accepted, the input is told and is a script, and no read and no write
+-- failed. The pairs are counts of faults before and after.
 pub record IsSound (accepted : Bool) (left : Option (List ℕ)) (reads writes : ℕ × ℕ) : Type 0 where
   pub accepted_is : accepted ≡ true
   pub input : List ℕ

@@ -1,7 +1,7 @@
 //! The run of a script, from the bytes of a source to the bytes of a sink.
 //!
 //! `run` reads the script, takes its lines one after another on the serial device, and writes the text of the journal,
-//! or one line that says why not. By now a line is a host's Get Dynamic Capacity Configuration (4800h) or a mark.
+//! or one line that says why not.
 #![tactic(auto)]
 
 mod input;

@@ -1,43 +1,20 @@
 //! The lines of a script, one after another on the device of one thread.
 
-ghost use Rattle.script_runner.specs.Fronts.{RunsLine};
-ghost use Rattle.script_runner.specs.Running.{is_built_line, is_built_script};
 ghost use Rattle.journal_core.specs.declared.entries.Entry.{Entry};
 ghost use Rattle.script_codec.specs.Covering.{Covers};
+ghost use Rattle.script_codec.specs.Scripts.{is_sound_line};
+ghost use Rattle.script_runner.specs.Fronts.{RunsLine};
+ghost use Rattle.std.specs.List.{list_all};
 ghost use Rattle.std.specs.Prelude.{◌≡◌, ◌<◌, ◌≤◌, AllPairs, IfOk, IsTrue, OnOk, length};
 
-use control_core::is_built;
 use dcd_base::NoMemory;
 use device_plain::Device;
-use journal_core::fits;
 use script_codec::{Line, Script, pass_of};
 use std::alloc::Global;
 
-/// Whether the device can do the line by now.
-fn is_built_line(hosts: u8, line: &Line) -> bool
-    ensures { result ≡ is_built_line hosts line.now }
-{
-    match line {
-        Line::Do {
-            actor,
-            lane: _,
-            act,
-        } => is_built(actor, act) && fits(hosts, actor, act),
-        Line::Mark => true,
-    }
-}
-
-/// Whether the device can do all lines of the script by now.
-pub(crate) fn is_built_script(script: &Script) -> bool
-    ensures { result ≡ is_built_script script.now }
-{
-    let hosts = script.config.hosts();
-    script.lines.iter().all(|line| is_built_line(hosts, line))
-}
-
 /// Does a line: a step of its actor, or nothing for a mark, since there is one thread.
 fn run_line(device: &mut Device, lanes: u8, number: u32, line: &Line) -> Result<(), NoMemory>
-    requires { IsTrue (is_built_line device.old.config.hosts line.now) }
+    requires { IsTrue (is_sound_line device.old.config.hosts lanes line.now) }
     ensures config { device.new.config ≡ device.old.config }
     ensures ran { OnOk result (RunsLine device.old.config.hosts lanes number line.now device.old.journal device.new.journal) }
 {
@@ -54,7 +31,7 @@ fn run_line(device: &mut Device, lanes: u8, number: u32, line: &Line) -> Result<
 
 /// Does all lines of the script in their order on a fresh device. Each line is let go once it is done.
 pub(crate) fn run_lines(alloc: Global, script: Script) -> Result<Device, NoMemory>
-    requires built { IsTrue (is_built_script script) }
+    requires sound { IsTrue (list_all (is_sound_line script.config.hosts script.lanes) script.lines) }
     requires few { length script.lines ≤ 65536 }
     ensures config { IfOk result (λ device. device.config ≡ script.config) }
     ensures covers { IfOk result (λ device. Covers device.journal script) }

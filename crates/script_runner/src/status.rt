@@ -12,8 +12,7 @@ pub enum Status {
     Done,
     /// The words of the command line are refused, and one line says so.
     Usage,
-    /// The input has this fault, or it is a script with a line that the device cannot do by now (`NotBuilt`), and one
-    /// line says so.
+    /// The input has this fault, and one line says so.
     ScriptRefused(ScriptFault),
     /// Memory was wanted and not to be had. Nothing was written.
     NoMemory,

@@ -23,8 +23,8 @@ pub fn run<R, S: Source, K: Sink, G: Gate>(
     sink: &mut K,
     _gate: &G,
 ) -> Status
-    // All of one text is written: at Done the text of a journal that is legal and has each line of the script once,
-    // in rising order.
+    // All of one text is written: at Done the text of a journal that is legal, in which no granule of a region that is
+    // not shareable ever has two hosts, and which has each line of the script once, in rising order.
     ensures written { IfWhole result (IsWritten (accepts words.now) (S.left source.old) (K.taken sink.old) (K.taken sink.new)) }
     ensures begun { OnWriteFault result (IsBegun (accepts words.now) (S.left source.old) (K.taken sink.old) (K.taken sink.new)) }
     ensures nothing { OnNothing result (K.taken sink.new ≡ K.taken sink.old) }

@@ -8,7 +8,7 @@ ghost use Rattle.script_runner.specs.Statuses.{IfWhole, OnDone, OnNothing, OnRea
 ghost use Rattle.std.specs.Prelude.{◌≡◌, ◌≤◌, IfOk, length, true};
 
 use crate::input::{InputFault, fill};
-use crate::lines::{is_built_script, run_lines};
+use crate::lines::run_lines;
 use crate::status::Status;
 use dcd_base::{Bytes, Failed, NoMemory, Sink, Source};
 use report::{refusal, render};
@@ -40,22 +40,13 @@ fn run_input<K: Sink>(alloc: Global, input: Bytes, sink: &mut K) -> Status
     ensures { EndsFor input (K.taken sink.old) (K.faults sink.old) (K.taken sink.new) (K.faults sink.new) result }
 {
     match script_of(alloc, input) {
-        Ok(script) => {
-            if is_built_script(&script) {
-                match run_lines(alloc, script) {
-                    Ok(device) => match render(device.control(), device.journal(), sink) {
-                        Ok(()) => Status::Done,
-                        Err(Failed) => Status::WriteFault,
-                    },
-                    Err(NoMemory) => Status::NoMemory,
-                }
-            } else {
-                match refusal(&ScriptFault::NotBuilt, sink) {
-                    Ok(()) => Status::ScriptRefused(ScriptFault::NotBuilt),
-                    Err(Failed) => Status::WriteFault,
-                }
-            }
-        }
+        Ok(script) => match run_lines(alloc, script) {
+            Ok(device) => match render(device.control(), device.journal(), sink) {
+                Ok(()) => Status::Done,
+                Err(Failed) => Status::WriteFault,
+            },
+            Err(NoMemory) => Status::NoMemory,
+        },
         Err(ScriptFault::NoMemory) => Status::NoMemory,
         Err(fault) => match refusal(&fault, sink) {
             Ok(()) => Status::ScriptRefused(fault),

@@ -1,9 +1,8 @@
-use Rattle.std.proofs.Common.{inl, inr, rules, ◌≡◌, refl, sym, ap, subst, ◌∙◌}
+use Rattle.std.proofs.Common.{rules, ◌≡◌, refl, sym, ap, subst, ◌∙◌}
 use Rattle.region_config.specs.Configurations.{Configuration}
-use Rattle.device_rules.specs.Legal.{Legal}
+use Rattle.device_rules.specs.Legal.{Exclusive, Legal}
 use Rattle.report.specs.Texts.{text}
 use Rattle.report.specs.Refusals.{refusal_line}
-use Rattle.script_codec.specs.declared.faults.ScriptFault.{ScriptFault}
 use Rattle.script_runner.specs.declared.status.Status.{Status}
 use Rattle.script_runner.proofs.whole.run_input.Goals as goal
 
@@ -21,6 +20,7 @@ returns-in-Ok-run_lines g c =
           reads = c.in-Ok.ensures.reads;
           runs = record {
             legal = subst (λ (k : Configuration). Legal k c.in-Ok-run_lines.device.journal) c.in-Ok-run_lines.ensures.config c.journal.ensures.legal;
+            exclusive = subst (λ (k : Configuration). Exclusive k c.in-Ok-run_lines.device.journal) c.in-Ok-run_lines.ensures.config c.journal.ensures.exclusive;
             covers = c.in-Ok-run_lines.ensures.covers;
             rising = c.in-Ok-run_lines.ensures.rising;
           };
@@ -31,38 +31,15 @@ returns-in-Ok-run_lines g c =
       c.in-Err-render.ensures.failed,
     )
 
--- A write failed while the line went out that the script is not built.
-pub returns-in-Ok : goal.returns-in-Ok
-returns-in-Ok g c = (
-  record {
-    status = Status.ScriptRefused ScriptFault.NotBuilt;
-    printed = refusal_line ScriptFault.NotBuilt;
-    rest = c.in-Err-refusal.ensures.front.0;
-    planned = (
-      inr (
-        record {
-          script = c.in-Ok.script;
-          reads = c.in-Ok.ensures.cases;
-          unbuilt = sym c.is_built_script.ensures ∙ c.if-is_built_script.false;
-        },
-        refl,
-      ),
-      refl,
-    );
-    took = c.in-Err-refusal.ensures.front.1;
-  },
-  c.in-Err-refusal.ensures.failed,
-)
-
 -- A write failed while the line on the fault went out.
 pub returns : goal.returns
 returns g c = (
   record {
     status = Status.ScriptRefused c.in-Err.fault;
     printed = refusal_line c.in-Err.fault;
-    rest = c.in-Err-refusal-2.ensures.front.0;
-    planned = (inl (search rules), refl);
-    took = c.in-Err-refusal-2.ensures.front.1;
+    rest = c.in-Err-refusal.ensures.front.0;
+    planned = (search rules, refl);
+    took = c.in-Err-refusal.ensures.front.1;
   },
-  c.in-Err-refusal-2.ensures.failed,
+  c.in-Err-refusal.ensures.failed,
 )

@@ -1,4 +1,4 @@
-use Rattle.std.proofs.Common.{◌≡◌, take}
+use Rattle.std.proofs.Common.{◌≡◌, ◌≤◌, take}
 use Rattle.std.specs.List.{list_any}
 use Rattle.extent_list.specs.ExtentLists.{has_extent_of}
 use Rattle.tag_laws.specs.Tables.{told_anew}
@@ -8,5 +8,6 @@ use Rattle.device_state.proofs.state.State.tell_anew.Given as goal
 abbrev pub invariant-loop-i : goal.invariant-loop-i
 invariant-loop-i l = record {
   tags : l.self.tags.entries ≡ told_anew l.host (λ t. has_extent_of t (part_of l.fn.self l.host).lists.accepted) (λ t. list_any (has_extent_of t) (part_of l.fn.self l.host).lists.offers) (take l.i l.tags) l.fn.self.tags.entries;
+  spare : l.fn.self.tags.spare ≤ l.self.tags.spare;
   kept : l.self ≡ record l.fn.self { tags = l.self.tags };
 }

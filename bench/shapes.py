@@ -1,0 +1,317 @@
+"""Scripts of many lines whose lists are near the limits of the device, for bench/run.
+
+Each function takes how many lines or commands it is to have, so that a small one can be looked at, and answers a head and the lines. A device
+here has 16 hosts, all with the same addresses, and up to 4,096 granules. Each command is answered with Success, and no access is refused.
+"""
+import os
+import sys
+
+sys.dont_write_bytecode = True
+sys.path.insert(0, os.path.join(os.path.dirname(os.path.dirname(os.path.abspath(__file__))), "examples"))
+from dcds import *
+
+HOSTS = 16
+MOST_LINES = 65536
+MOST_BYTES = 16777216
+GRANULES = 4096
+
+
+def script(start, lines):
+    """The bytes of a script."""
+    whole = start + b"".join(lines) + b"\0"
+    assert len(lines) <= MOST_LINES and len(whole) <= MOST_BYTES, (len(lines), len(whole))
+    return whole
+
+
+def device(regions):
+    """The head of a device of 16 hosts; a region is its length and block in MiB and what else it is."""
+    parts, bases, base = [], [], 0
+    for number, (length, block, *rest) in enumerate(regions):
+        units = -(-length // 256)
+        shareable = "shareable" in rest
+        parts.append(region(units, length * MIB, block * MIB, MIB | block * MIB, number, True, shareable))
+        bases.append(base)
+        base += units << 28
+    return head(HOSTS, parts, bases * HOSTS)
+
+
+def blocks(first, count, step=1, size=1):
+    """Extents of a block each: so many, from a granule on, a step of granules apart."""
+    return [((first + n * step) * MIB, size * MIB) for n in range(count)]
+
+
+def tag_of(number):
+    return (number + 1).to_bytes(16, "little")
+
+
+def draws():
+    """Numbers that look drawn: those of the generated script of docs/formats.md."""
+    x = 5
+    while True:
+        x = (x * 6364136223846793005 + 1442695040888963407) % 2**64
+        yield x
+
+
+class Lines(list):
+    """The lines of a script, with the records that each host's log has: the handle of the oldest, and how many."""
+
+    def __init__(self):
+        super().__init__()
+        self.logs = [(1, 0)] * HOSTS
+
+    def manager(self, request):
+        self.append(command(MANAGER, request))
+
+    def host(self, host, request):
+        self.append(command(host, request))
+
+    def told(self, host, request, records):
+        """A command of the manager that puts so many records into the host's log."""
+        self.manager(request)
+        oldest, count = self.logs[host]
+        self.logs[host] = oldest, count + records
+
+    def clear(self, host):
+        """The host clears its whole log."""
+        oldest, count = self.logs[host]
+        self.host(host, clear_events([1 + (oldest - 1 + n) % 65535 for n in range(count)]))
+        self.logs[host] = oldest + count, 0
+
+
+# Replies of about 2 KiB
+
+
+def full_hosts():
+    """Each host accepts 64 extents of a block; their logs are full."""
+    lines = Lines()
+    for host in range(HOSTS):
+        extents = blocks(64 * host, 64)
+        lines.told(host, offer(host, PRESCRIPTIVE, 0, extents=extents), 64)
+        lines.host(host, respond(extents))
+    return device([(GRANULES, 1)]), lines
+
+
+def extent_pages(count):
+    """4801h: the last 50 of 64 extents."""
+    start, lines = full_hosts()
+    for n in range(count - len(lines)):
+        lines.host(n % HOSTS, get_extents(50, 14))
+    return start, lines
+
+
+def host_extent_pages(count):
+    """5603h: the last 50 of 64 extents of a host."""
+    start, lines = full_hosts()
+    for n in range(count - len(lines)):
+        lines.manager(get_host_extents(n % HOSTS, 50, 14))
+    return start, lines
+
+
+def log_pages(count):
+    """0100h: 15 of 64 records."""
+    start, lines = full_hosts()
+    for n in range(count - len(lines)):
+        lines.host(n % HOSTS, get_events())
+    return start, lines
+
+
+def full_tags():
+    """Eight regions, and 512 tags in the last one: each host holds 32 of two extents; their logs are full."""
+    lines = Lines()
+    base = 7 << 28
+    for host in range(HOSTS):
+        for n in range(32):
+            tag = tag_of(32 * host + n)
+            extents = [(base + first, length) for first, length in blocks(64 * host + 2 * n, 2)]
+            lines.told(host, offer(host, PRESCRIPTIVE, 7, tag=tag, extents=extents), 2)
+            lines.host(host, respond(extents))
+    return device([(256, 1)] * 7 + [(1024, 1, "shareable")]), lines
+
+
+def tag_pages(count):
+    """5608h: the last 84 of 512 tags."""
+    start, lines = full_tags()
+    for _ in range(count - len(lines)):
+        lines.manager(list_tags(84, 428))
+    return start, lines
+
+
+# Loads and stores
+
+
+def spread_accesses(count):
+    """Stores and loads at drawn words of 16 hosts with 64 extents each, in eight regions."""
+    lines = Lines()
+    for host in range(HOSTS):
+        for number in range(8):
+            extents = [(first + (number << 29), length) for first, length in blocks(32 * host, 8, 4, 4)]
+            lines.told(host, offer(host, PRESCRIPTIVE, number, extents=extents), 8)
+            lines.host(host, respond(extents))
+    x = draws()
+    for n in range(count - len(lines)):
+        host, draw = n % HOSTS, next(x) >> 20
+        address = (draw % 8 << 29) + 32 * host * MIB + (draw >> 3) % (4 * MIB) * 8
+        lines.append(load(host, address) if n // HOSTS % 2 else store(host, address, next(x)))
+    return device([(512, 1)] * 8), lines
+
+
+def crowded_accesses(count):
+    """Stores to other words of one granule each, by falling addresses, and then loads of them."""
+    lines = Lines()
+    lines.told(0, offer(0, FREE, 0, MIB), 1)
+    lines.host(0, respond([(0, MIB)]))
+    half = (count - len(lines)) // 2
+    for n in range(half):
+        lines.append(store(0, MIB - 8 * (n + 1), n))
+    for n in range(count - len(lines)):
+        lines.append(load(0, MIB - 8 * (n * 4093 % half + 1)))
+    return device([(GRANULES, 1)]), lines
+
+
+# Offers, answers, releases, forced removals and scrubs: about as many as asked for, in whole rounds; lines that clear logs come on top
+
+
+def whole_device(count):
+    """The whole device in extents of 256 granules: each host gets one, and gives it back or loses it."""
+    lines = Lines()
+    for _ in range(count // (3 * HOSTS + 1)):
+        for host in range(HOSTS):
+            lines.told(host, offer(host, FREE, 0, 256 * MIB), 1)
+        for host in range(HOSTS):
+            extents = blocks(256 * host, 1, size=256)
+            lines.host(host, respond(extents))
+            if host % 2:
+                lines.host(host, give_back(extents))
+            else:
+                lines.told(host, take(host, LISTED | FORCED, extents=extents), 1)
+            lines.clear(host)
+        lines.append(scrub(GRANULES))
+    return device([(GRANULES, 1)]), lines
+
+
+def fragments(count):
+    """Eight hosts hold every other block, so that the others get 64 extents for each 64 blocks of Free."""
+    lines = Lines()
+    for host in range(8):
+        extents = blocks(512 * host, 64, 8, 4)
+        lines.told(host, offer(host, PRESCRIPTIVE, 0, extents=extents), 64)
+        lines.host(host, respond(extents))
+    for _ in range((count - 16) // (3 * 8 + 1)):
+        for host in range(8, HOSTS):
+            lines.told(host, offer(host, FREE, 0, 256 * MIB, tag_of(host)), 64)
+        for host in range(8, HOSTS):
+            extents = blocks(512 * (host - 8) + 4, 64, 8, 4)[::-1]
+            lines.host(host, respond(extents))
+            lines.clear(host)
+            if host % 2:
+                lines.host(host, give_back(extents[::-1]))
+            else:
+                lines.told(host, take(host, BY_TAG | FORCED, tag=tag_of(host)), 64)
+                lines.clear(host)
+        lines.append(scrub(GRANULES))
+    return device([(GRANULES, 4)]), lines
+
+
+def cuts(count):
+    """Each host gets one extent of 127 blocks, gives back 63 blocks out of it, and loses the 64 that are left by their tag."""
+    lines = Lines()
+    for _ in range(count // (4 * HOSTS + 1)):
+        for host in range(HOSTS):
+            lines.told(host, offer(host, CONTIGUOUS, 0, 254 * MIB, tag_of(host)), 1)
+        for host in range(HOSTS):
+            lines.host(host, respond(blocks(254 * host, 1, size=254)))
+            lines.clear(host)
+            lines.host(host, give_back(blocks(254 * host + 2, 63, 4, 2)))
+            lines.told(host, take(host, BY_TAG | FORCED, tag=tag_of(host)), 64)
+            lines.clear(host)
+        lines.append(scrub(GRANULES))
+    return device([(GRANULES, 2)]), lines
+
+
+def shared_device(count):
+    """All hosts share the whole device by one tag of 64 extents."""
+    extents = blocks(0, 64, 64, 64)
+    lines = Lines()
+    for _ in range(count // (3 * HOSTS + 1)):
+        for host in range(HOSTS):
+            policy, listed = (SHARED, []) if host else (PRESCRIPTIVE, extents)
+            lines.told(host, offer(host, policy, 0, tag=tag_of(0), extents=listed), 64)
+            lines.host(host, respond(extents[::-1]))
+            lines.clear(host)
+        for host in range(HOSTS):
+            if host % 2:
+                lines.host(host, give_back(extents))
+            else:
+                lines.told(host, take(host, BY_TAG | FORCED, tag=tag_of(0)), 64)
+                lines.clear(host)
+        lines.append(scrub(GRANULES))
+    return device([(GRANULES, 1, "shareable")]), lines
+
+
+# Commands that read lists and logs
+
+
+def reads(lines, count, pages):
+    """So many commands that read, each kind in turn; the pages are the first index of extents and of tags."""
+    extents, tags = pages
+    for n in range(count):
+        host, kind = n // 7 % HOSTS, n % 7
+        if kind == 0:
+            lines.host(host, get_configuration())
+        elif kind == 1:
+            lines.host(host, get_extents(50, extents))
+        elif kind == 2:
+            lines.host(host, get_events())
+        else:
+            lines.manager([get_info(), get_host_regions(host), get_host_extents(host, 50, extents), list_tags(84, tags)][kind - 3])
+
+
+def short_reads(count):
+    """Lists of one extent, empty logs, no tags."""
+    lines = Lines()
+    for host in range(HOSTS):
+        lines.told(host, offer(host, FREE, 0, 256 * MIB), 1)
+        lines.host(host, respond(blocks(256 * host, 1, size=256)))
+        lines.clear(host)
+    reads(lines, count, (0, 0))
+    return device([(GRANULES, 1)]), lines
+
+
+def long_reads(count):
+    """Lists of 64 extents and of 512 tags, logs of 64 records, eight regions."""
+    start, lines = full_tags()
+    reads(lines, count, (14, 428))
+    return start, lines
+
+
+# A mix that is the same from its first round to its last
+
+
+def mixed(count):
+    """Commands and turns of the sanitizer in rounds of 200 lines: all hosts get, read, give back, lose and clear, and the manager reads."""
+    lines = Lines()
+    while len(lines) < count:
+        for host in range(HOSTS):
+            whole, first = [((254 * host) * MIB, 254 * MIB)], 254 * host
+            lines.told(host, offer(host, CONTIGUOUS, 0, 254 * MIB, tag_of(host)), 1)
+            lines.host(host, get_events())
+            lines.host(host, respond(whole))
+            lines.clear(host)
+            lines.host(host, get_configuration())
+            lines.told(host, take(host, LISTED, extents=blocks(first + 2, 7, 4, 2)), 7)
+            lines.host(host, give_back(blocks(first + 2, 15, 4, 2)))
+            lines.host(host, get_extents())
+            lines.clear(host)
+            lines.manager(get_host_extents(host))
+            lines.told(host, take(host, BY_TAG | FORCED, tag=tag_of(host)), 16)
+            lines.clear(host)
+        lines.manager(get_info())
+        lines.manager(get_host_regions(0))
+        lines.manager(list_tags())
+        lines.manager(get_events())
+        lines.manager(clear_all())
+        lines.manager(get_events())
+        lines.append(scrub(GRANULES))
+        lines.manager(get_info())
+    del lines[count:]
+    return device([(GRANULES, 2)]), lines

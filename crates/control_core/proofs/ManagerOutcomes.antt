@@ -1,0 +1,51 @@
+-- What a 5605h that breaks no rule makes of lists and tags.
+use Rattle.std.proofs.Common.{◌≡◌, ℕ, ◌<◌, true, List, [], ◌∷◌, None, length, map, refl, subst, sym, fold}
+use Rattle.std.specs.Prelude.{All}
+use Rattle.std.specs.List.{list_all}
+use Rattle.dcd_base.specs.declared.capacity.Extent.{Extent}
+use Rattle.dcd_base.specs.declared.capacity.Tag.{Tag}
+use Rattle.dcd_base.specs.declared.ids.HostId.{HostId}
+use Rattle.fm_payloads.specs.declared.requests.FmRequest.{FmRequest}
+use Rattle.region_config.specs.Configurations.{Configuration}
+use Rattle.region_config.specs.Soundness.{IsSound}
+use Rattle.host_commands.specs.Parts.{lists_in, told_in}
+use Rattle.host_commands.specs.declared.drafts.Draft.{Draft}
+use Rattle.host_commands.specs.declared.notices.Notice.{Notice}
+use Rattle.journal_core.specs.Entries.{effects}
+use Rattle.journal_core.specs.declared.entries.Entry.{Entry}
+use Rattle.journal_core.specs.declared.outcome.Effect.{Effect}
+use Rattle.device_rules.specs.Answers.{manager_outcome, manager_rule}
+use Rattle.device_rules.specs.Legal.{Legal}
+use Rattle.device_rules.specs.ReleaseOutcomes.{is_cleaning, is_forced, removals, removed}
+use Rattle.device_rules.specs.Views.{View, view_of}
+use Rattle.device_steps.proofs.EffectKinds.{removals_pass}
+use Rattle.device_steps.proofs.ViewOthers.{remove-leaves}
+use Rattle.tag_laws.proofs.GivingSteps.{table-removal}
+use Rattle.tag_laws.proofs.LeavingSteps.{removal_row}
+use Rattle.control_core.specs.Doing.{IsOfHost}
+use Rattle.device_state.specs.Kept.{IsKept}
+use Rattle.device_state.specs.Updates.{IsOfLog}
+use Rattle.device_state.specs.declared.state.State.{State}
+use Rattle.control_core.proofs.Decisions.{notices_known}
+use Rattle.control_core.proofs.HostOutcomes.{holds_none, own_stay}
+
+pub remove_host : (c : Configuration) (before : List Entry) (h flags r bytes : ℕ) (tag : Tag) (list : List Extent) → manager_rule c (effects before) (λ k. view_of c k before) (FmRequest.Remove h flags r bytes tag list) ≡ None → h < c.hosts
+remove_host c before h flags r bytes tag list row = (removal_row c (λ k. view_of c k before) h flags r tag list row).host
+
+pub remove_of : (c : Configuration) → IsSound c → (before : List Entry) → Legal c before → (h flags r bytes : ℕ) (tag : Tag) (list : List Extent) → manager_rule c (effects before) (λ k. view_of c k before) (FmRequest.Remove h flags r bytes tag list) ≡ None →
+    IsOfHost c before h (manager_outcome c (effects before) (λ k. view_of c k before) (FmRequest.Remove h flags r bytes tag list))
+remove_of c sound before legal h flags r bytes tag list row =
+    let v : View = view_of c h before in
+    let going : List Extent = removed v.accepted flags tag list in
+    let changes : List Effect = (manager_outcome c (effects before) (λ k. view_of c k before) (FmRequest.Remove h flags r bytes tag list)).changes in record {
+      host = remove_host c before h flags r bytes tag list row;
+      others = λ k other. remove-leaves c h k other (effects before) (λ m. view_of c m before) flags tag list;
+      own = own_stay c h v changes (removals_pass holds_none h (λ run. refl) (λ run. refl) c (is_forced flags) (is_cleaning flags) going);
+      told = λ entries table. table-removal c sound before legal entries table h flags r bytes tag list row;
+    }
+
+pub remove_known : (c : Configuration) (before : List Entry) (s : State) → IsKept c before s → (h flags r bytes : ℕ) (tag : Tag) (list : List Extent) → manager_rule c (effects before) (λ k. view_of c k before) (FmRequest.Remove h flags r bytes tag list) ≡ None →
+    (draft : Draft) → map told_in draft.notices ≡ (manager_outcome c (effects before) (λ k. view_of c k before) (FmRequest.Remove h flags r bytes tag list)).notices → All (λ (n : Notice). IsOfLog (length s.hosts.items) n.log) draft.notices
+remove_known c before s kept h flags r bytes tag list row draft is =
+    notices_known (length s.hosts.items) draft.notices (manager_outcome c (effects before) (λ k. view_of c k before) (FmRequest.Remove h flags r bytes tag list)).notices is
+    (subst (λ n. h < n) (sym kept.host_count) (remove_host c before h flags r bytes tag list row), tt)

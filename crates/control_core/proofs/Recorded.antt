@@ -1,0 +1,77 @@
+-- The records of a step are those that its history asks for.
+use Rattle.std.proofs.Common.{◌≡◌, ℕ, suc, ◌+◌, ◌-◌, ◌%◌, ◌<◌, ◌≤◌, append-nil, append_assoc, Bool, true, false, List, [], ◌∷◌, ◌++◌, length, map, flat_map, get_or, take, inl, inr, refl, sym, ap, ◌∙◌, subst, arith}
+use Rattle.std.specs.Prelude.{◌==◌, if◌then◌else◌}
+use Rattle.std.proofs.lemmas.Bool.{cases_eq, ne_eqb}
+use Rattle.std.proofs.lemmas.Grind.{flat_map-append}
+use Rattle.std.proofs.lemmas.List.{length_push, take_more}
+use Rattle.std.proofs.Math.Nat.{mod-add-mod}
+use Rattle.dcd_base.specs.declared.ids.HostId.{HostId}
+use Rattle.dcd_base.specs.declared.steps.LogId.{LogId}
+use Rattle.event_log.specs.LogStates.{LogState, handle_after}
+use Rattle.event_log.specs.Logs.{IsHistory, Log, missed_by, next_handle, places_in, recorded, records_in, room_in, state_of}
+use Rattle.event_records.specs.declared.events.Event.{Event}
+use Rattle.journal_core.specs.Entries.{effects}
+use Rattle.journal_core.specs.declared.entries.Entry.{Entry}
+use Rattle.journal_core.specs.declared.outcome.Effect.{Effect}
+use Rattle.region_config.specs.Configurations.{Configuration}
+use Rattle.host_commands.specs.Parts.{IsLogOf, told_in}
+use Rattle.host_commands.specs.declared.notices.Notice.{Notice}
+use Rattle.device_rules.specs.Logs.{log_after, log_of, same_log}
+use Rattle.device_rules.specs.Outcomes.{entered, entered_all}
+use Rattle.device_steps.proofs.LogSteps.{IsSound, IsSound-recorded, room-recorded, same_log-self}
+use Rattle.device_state.specs.Kept.{IsKept}
+use Rattle.control_core.specs.Recording.{next_by, record_by, records_by, told}
+use Rattle.device_state.specs.Updates.{IsOfLog, log_in}
+use Rattle.device_state.specs.declared.state.State.{State}
+
+-- the next handle goes on
+handle-recorded : (log : Log) (e : Event) → next_handle (recorded log e) ≡ handle_after (next_handle log)
+handle-recorded log e =
+    let more : length (recorded log e).ever ≡ length log.ever + 1 = length_push log.ever (record e { handle = next_handle log }) in
+    ap (λ n. 1 + n % 65535) more ∙ ap (λ n. 1 + n) (sym (mod-add-mod (length log.ever) 65535 1)) ∙ ap (λ n. 1 + n % 65535) (omega arith)
+
+pub records_are : (l : LogId) (log : Log) → IsSound log → (events : List Event) → records_by l (next_handle log) (room_in l log) events ≡ entered_all l log events
+records_are l log sound [] = refl
+records_are l log sound (e ∷ events) = elim (cases_eq (room_in l log) 0) [
+  | inl full ↦ (
+      let test : (room_in l log == 0) ≡ true = rw full refl in
+      let one : entered l log e ≡ Effect.Missed l = ap (λ b. if b then Effect.Missed l else Effect.Logged l (record e { handle = next_handle log })) test in
+      let after : log_after l log (entered l log e) ≡ missed_by log = ap (log_after l log) one ∙ ap (λ b. if b then missed_by log else log) (same_log-self l) in
+      ap (λ b. (if b then Effect.Missed l else Effect.Logged l (record e { handle = next_handle log })) ∷ records_by l (if b then next_handle log else handle_after (next_handle log)) (room_in l log - 1) events) test
+      ∙ ap (λ n. Effect.Missed l ∷ records_by l (next_handle log) n events) (omega (arith, full))
+      ∙ ap (λ es. Effect.Missed l ∷ es) (records_are l (missed_by log) sound events)
+      ∙ sym ((λ i. one i ∷ entered_all l (log_after l log (entered l log e)) events) ∙ ap (λ log'. Effect.Missed l ∷ entered_all l log' events) after))
+  | inr some ↦ (
+      let test : (room_in l log == 0) ≡ false = ne_eqb (room_in l log) 0 some in
+      let it : Effect = Effect.Logged l (record e { handle = next_handle log }) in
+      let one : entered l log e ≡ Effect.Logged l (record e { handle = next_handle log }) = ap (λ b. if b then Effect.Missed l else Effect.Logged l (record e { handle = next_handle log })) test in
+      let after : log_after l log (entered l log e) ≡ recorded log e = ap (log_after l log) one ∙ ap (λ b. if b then recorded log e else log) (same_log-self l) in
+      ap (λ b. (if b then Effect.Missed l else Effect.Logged l (record e { handle = next_handle log })) ∷ records_by l (if b then next_handle log else handle_after (next_handle log)) (room_in l log - 1) events) test
+      ∙ (λ i. Effect.Logged l (record e { handle = next_handle log }) ∷ records_by l (sym (handle-recorded log e) i) (sym (room-recorded l log e sound) i) events)
+      ∙ ap (λ es. Effect.Logged l (record e { handle = next_handle log }) ∷ es) (records_are l (recorded log e) (IsSound-recorded log e sound) events)
+      ∙ sym ((λ i. one i ∷ entered_all l (log_after l log (entered l log e)) events) ∙ ap (λ log'. Effect.Logged l (record e { handle = next_handle log }) ∷ entered_all l log' events) after))
+]
+
+-- the log that is kept is that of its history
+pub kept_log : (c : Configuration) (journal : List Entry) (s : State) → IsKept c journal s → (l : LogId) → IsOfLog (length s.hosts.items) l → IsLogOf l (log_of l (effects journal)) (log_in s l)
+kept_log c journal s kept (LogId.Host h) known = (kept.parts h (subst (λ n. h < n) kept.host_count known)).log_is
+kept_log c journal s kept LogId.Manager known = kept.manager_log
+
+-- so its records are entered
+pub entered_by : (l : LogId) (history : Log) (log : LogState) → IsLogOf l history log → (events : List Event) → records_by l log.next (log.capacity - length log.records) events ≡ entered_all l history events
+entered_by l history log of events =
+    ap (λ (s : LogState). records_by l s.next (s.capacity - length s.records) events) of.is ∙ records_are l history of.told.sound events
+
+-- the same of notices as outcomes have them
+pub told_is : (past : List Effect) (notices : List Notice) → told past notices ≡ flat_map (λ n. entered_all n.0 (log_of n.0 past) n.1) (map told_in notices)
+told_is past [] = refl
+told_is past (n ∷ notices) = ap (λ es. entered_all n.log (log_of n.log past) n.events ++ es) (told_is past notices)
+
+-- one notice more
+pub told_more : (past : List Effect) (notices : List Notice) (i : ℕ) (n : Notice) → i < length notices → n ≡ get_or notices i n →
+    told past (take (i + 1) notices) ≡ told past (take i notices) ++ entered_all n.log (log_of n.log past) n.events
+told_more past notices i n below is =
+    let f : Notice → List Effect = λ (m : Notice). entered_all m.log (log_of m.log past) m.events in
+    ap (told past) (take_more notices i n below)
+    ∙ flat_map-append f (take i notices) (get_or notices i n ∷ [])
+    ∙ ap (λ es. told past (take i notices) ++ es) (append-nil (f (get_or notices i n)) ∙ ap f (sym is))

@@ -1,0 +1,17 @@
+use Rattle.std.proofs.Common.{◌≤◌, ◌-◌, max}
+use Rattle.std.specs.Prelude.{All}
+use Rattle.region_config.specs.Granules.{granule_total}
+use Rattle.control_core.specs.ChangedRuns.{LiesIn}
+use Rattle.control_core.specs.PutChanges.{AreAdded}
+use Rattle.control_core.proofs.changing.put_runs.Given as goal
+
+abbrev pub invariant-loop-at : goal.invariant-loop-at
+invariant-loop-at l = record {
+  added : AreAdded (granule_total l.config) l.holders l.effect l.run.first l.at l.fn.changes l.changes;
+  inside : All (LiesIn (granule_total l.config)) l.fn.changes → All (LiesIn (granule_total l.config)) l.changes;
+  from : l.run.first ≤ l.at;
+  most : l.at ≤ max l.run.first l.end;
+}
+
+abbrev pub decreases-loop-at : goal.decreases-loop-at
+decreases-loop-at l = l.end - l.at

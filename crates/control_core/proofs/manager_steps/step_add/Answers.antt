@@ -1,0 +1,50 @@
+use Rattle.std.proofs.Common.{◌≡◌, [], ◌∷◌, ◌<◌, ◌≤◌, ◌∙◌, ap, arith, refl, subst, sym}
+use Rattle.fm_payloads.specs.declared.requests.FmRequest.{FmRequest}
+use Rattle.host_commands.specs.Parts.{Drafts}
+use Rattle.journal_core.specs.Entries.{effects}
+use Rattle.journal_core.specs.declared.outcome.Effect.{Effect}
+use Rattle.device_rules.specs.Adding.{offered}
+use Rattle.device_rules.specs.Answers.{manager_outcome, manager_rule}
+use Rattle.device_rules.specs.Views.{view_of}
+use Rattle.control_core.specs.Offers.{OffersGranular}
+use Rattle.control_core.proofs.Managed.{decided_manager, manages_err}
+use Rattle.control_core.proofs.Offers.{add_granular, add_host, add_known, add_of, add_region}
+use Rattle.control_core.proofs.manager_steps.step_add.Goals as goal
+
+pub overflow_cast-host : goal.overflow_cast-host
+overflow_cast-host c =
+    let cfg = c.args.config.now in
+    let reached = c.requires.reached in
+    let sound = reached.sound in
+    let known = add_host cfg sound reached.journal reached.legal c.args.host c.args.policy c.args.region c.args.bytes c.args.tag.now c.args.extents.now (c.in-Ok.ensures reached.journal reached.legal reached.kept).0 in
+    omega (arith, known, sound.hosts)
+
+pub added-requires : goal.added-requires
+added-requires c =
+    let cfg = c.args.config.now in
+    let reached = c.requires.reached in
+    let it = c.in-Ok.ensures reached.journal reached.legal reached.kept in
+    record {
+      host = add_host cfg reached.sound reached.journal reached.legal c.args.host c.args.policy c.args.region c.args.bytes c.args.tag.now c.args.extents.now it.0;
+      region = add_region cfg reached.sound reached.journal reached.legal c.args.host c.args.policy c.args.region c.args.bytes c.args.tag.now c.args.extents.now it.0;
+      granular = subst (OffersGranular cfg c.args.host) (sym it.1.changes) (add_granular cfg reached.sound reached.journal reached.legal c.args.host c.args.policy c.args.region c.args.bytes c.args.tag.now c.args.extents.now it.0);
+      known = add_known cfg reached.sound reached.journal reached.legal c.args.host c.args.policy c.args.region c.args.bytes c.args.tag.now c.args.extents.now it.0 c.args.state.now reached.kept c.in-Ok.draft it.1.notices;
+    }
+
+pub returns-in-Err : goal.returns-in-Err
+returns-in-Err c =
+    let cfg = c.args.config.now in
+    let q = FmRequest.Add c.args.host c.args.policy c.args.region c.args.bytes c.args.tag.now c.args.extents.now in
+    manages_err cfg c.args.state.now c.args.request.now q c.requires.asked
+    (λ before d. Drafts cfg c.args.host (view_of cfg c.args.host before) (manager_outcome cfg (effects before) (λ h. view_of cfg h before) q) d) _ c.in-Err.ensures
+
+pub returns-in_ok-added-in-Ok : goal.returns-in_ok-added-in-Ok
+returns-in_ok-added-in-Ok c = λ before legal kept.
+    let cfg = c.args.config.now in
+    let q = FmRequest.Add c.args.host c.args.policy c.args.region c.args.bytes c.args.tag.now c.args.extents.now in
+    let it = c.in-Ok.ensures before legal kept in
+    decided_manager cfg before c.args.request.now q c.requires.asked it.0 c.in_ok-added-in-Ok.field-0
+    (c.in_ok-added-in-Ok.ensures before (offered cfg (effects before) c.args.host c.args.policy c.args.region c.args.bytes c.args.tag.now c.args.extents.now)
+    (manager_outcome cfg (effects before) (λ h. view_of cfg h before) q) kept
+    (add_of cfg c.requires.reached.sound before legal c.args.host c.args.policy c.args.region c.args.bytes c.args.tag.now c.args.extents.now it.0) it.1)
+    (omega arith)

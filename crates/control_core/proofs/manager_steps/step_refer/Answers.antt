@@ -1,0 +1,34 @@
+use Rattle.std.proofs.Common.{◌≡◌, [], ◌∷◌, ◌<◌, ◌∙◌, List, ap, arith, length, subst, sym}
+use Rattle.std.specs.Prelude.{if◌then◌else◌}
+use Rattle.dcd_base.specs.declared.capacity.Tag.{Tag}
+use Rattle.fm_payloads.specs.declared.requests.FmRequest.{FmRequest}
+use Rattle.host_commands.specs.Parts.{Drafts, IsOutcome}
+use Rattle.journal_core.specs.Entries.{effects}
+use Rattle.device_rules.specs.Answers.{manager_outcome, manager_rule}
+use Rattle.device_rules.specs.Views.{view_of}
+use Rattle.control_core.proofs.Managed.{decided_manager, manages_err, no_notices, quiet_notices, quiet_of, refer_of, refused_manager, unrefer_of}
+use Rattle.control_core.proofs.Shortness.{short_manager}
+use Rattle.control_core.proofs.manager_steps.step_refer.Goals as goal
+
+pub entered-requires : goal.entered-requires
+entered-requires c = record {
+  known =
+      let reached = c.requires.reached in
+      no_notices (length c.args.state.now.hosts.items) c.in-Ok.draft (c.in-Ok.ensures reached.journal reached.legal reached.kept).1.notices;
+}
+
+pub returns-in-Err : goal.returns-in-Err
+returns-in-Err c =
+    let cfg = c.args.config.now in
+    let q = FmRequest.AddReference c.args.tag.now in
+    manages_err cfg c.args.state.now c.args.request.now q c.requires.asked
+    (λ before d. IsOutcome (manager_outcome cfg (effects before) (λ h. view_of cfg h before) q) d) _ c.in-Err.ensures
+
+pub returns-in_ok-entered-in-Ok : goal.returns-in_ok-entered-in-Ok
+returns-in_ok-entered-in-Ok c = λ before legal kept.
+    let cfg = c.args.config.now in
+    let q = FmRequest.AddReference c.args.tag.now in
+    let it = c.in-Ok.ensures before legal kept in
+    decided_manager cfg before c.args.request.now q c.requires.asked it.0 c.in_ok-entered-in-Ok.field-0
+    (c.in_ok-entered-in-Ok.ensures cfg before (manager_outcome cfg (effects before) (λ h. view_of cfg h before) q) kept (refer_of cfg before c.args.tag.now) it.1)
+    (omega arith)

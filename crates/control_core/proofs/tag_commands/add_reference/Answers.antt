@@ -1,0 +1,20 @@
+use Rattle.std.proofs.Common.{not, sym, ap, true, ◌∙◌}
+use Rattle.std.specs.Prelude.{if◌then◌else◌, [], ◌∷◌}
+use Rattle.dcd_codes.specs.Rules.{◌breaks◌}
+use Rattle.dcd_codes.specs.declared.rules.Rule.{Rule}
+use Rattle.journal_core.specs.declared.outcome.Effect.{Effect}
+use Rattle.control_core.proofs.Drafting.{changes_alone}
+use Rattle.control_core.proofs.TagReadings.{tags_open, tags_referenced}
+use Rattle.control_core.proofs.tag_commands.add_reference.Goals as goal
+
+pub returns-then-not-is_live : goal.returns-then-not-is_live
+returns-then-not-is_live c journal legal kept =
+    ap (λ b. not b breaks Rule.NoSuchTag) (tags_open c.args.config.now journal c.args.state.now.tags.entries c.requires.reached.sound legal kept.tags_are c.args.tag.now ∙ sym c.is_live.ensures ∙ c.if-not-is_live.true)
+
+pub returns : goal.returns
+returns c journal legal kept = (
+  ap (λ b. not b breaks Rule.NoSuchTag) (tags_open c.args.config.now journal c.args.state.now.tags.entries c.requires.reached.sound legal kept.tags_are c.args.tag.now ∙ sym c.is_live.ensures ∙ c.if-not-is_live.false),
+  changes_alone _ _ c.changing.result c.changing.ensures
+      (c.in_ok-changes.ensures
+      ∙ ap (λ b. if b then [] else Effect.Ref c.args.tag.now true ∷ []) (sym (tags_referenced c.args.config.now journal c.args.state.now.tags.entries c.requires.reached.sound legal kept.tags_are c.args.tag.now))),
+)

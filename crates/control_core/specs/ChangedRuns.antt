@@ -1,0 +1,38 @@
+-- What a step changes of holders and words, as a list of runs.
+use Rattle.std.specs.Prelude.{◌≡◌, ℕ, ◌+◌, ◌<◌, ◌≤◌, Bool, true, false, ◌&&◌, List, ◌++◌, fold, if◌then◌else◌}
+use Rattle.std.specs.List.{list_any}
+use Rattle.dcd_base.specs.Words.{has_granule}
+use Rattle.dcd_base.specs.declared.ids.HostId.{HostId}
+use Rattle.dcd_base.specs.declared.media.Change.{Change}
+use Rattle.region_config.specs.Configurations.{Configuration}
+use Rattle.region_config.specs.Granules.{granule_total}
+use Rattle.journal_core.specs.Holders.{holds}
+use Rattle.journal_core.specs.declared.outcome.Effect.{Effect}
+use Rattle.device_rules.specs.Legal.{is_zeroing}
+use Rattle.tag_refs.specs.Hosts.{has_host}
+
+-- the holders of a granule after one change, a bit for each host
+abbrev pub holders_after : ℕ → ℕ → Change → ℕ
+holders_after g bits change = if has_granule change.run g then change.holders else bits
+
+-- whether the effect gives or takes the granule, or zeroes it
+abbrev pub touches : ℕ → Effect → Bool
+touches g (Effect.Take h run) = has_granule run g
+touches g (Effect.Leave h run) = has_granule run g
+touches g (Effect.Zero run) = has_granule run g
+touches g e = false
+
+-- The change names granules of the device alone, which has so many.
+abbrev pub LiesIn : ℕ → Change → Type 0
+LiesIn n change = change.run.first + change.run.count ≤ n
+
+-- The bits say which hosts hold the granule.
+abbrev pub AreHolders : Configuration → ℕ → List Effect → ℕ → Type 0
+AreHolders c g past bits = (h : HostId) → h < c.hosts → has_host bits h ≡ holds h g past
+
+-- One after another the changes leave the holders that the effects leave, they zero the granules that the effects
+-- zero, and name no others than those that the effects give, take or zero.
+pub record AreChanges (c : Configuration) (past new : List Effect) (changes : List Change) : Type 0 where
+  pub holders : (g : ℕ) → g < granule_total c → (bits : ℕ) → AreHolders c g past bits → AreHolders c g (past ++ new) (fold (holders_after g) bits changes)
+  pub zeroed : (g : ℕ) → g < granule_total c → list_any (λ (change : Change). change.zero && has_granule change.run g) changes ≡ list_any (is_zeroing g) new
+  pub touched : (g : ℕ) → g < granule_total c → list_any (λ (change : Change). has_granule change.run g) changes ≡ list_any (touches g) new

@@ -1,0 +1,44 @@
+-- What a step comes to.
+use Rattle.std.specs.Prelude.{◌≡◌, ◌^◌, ◌<◌, List, length, All}
+use Rattle.dcd_base.specs.declared.steps.Actor.{Actor}
+use Rattle.region_config.specs.Configurations.{Configuration}
+use Rattle.region_config.specs.Soundness.{IsSound}
+use Rattle.journal_core.specs.declared.acts.Act.{Act}
+use Rattle.journal_core.specs.declared.acts.Reply.{Reply}
+use Rattle.journal_core.specs.declared.entries.Entry.{Entry}
+use Rattle.device_rules.specs.Answers.{answer}
+use Rattle.device_rules.specs.Legal.{Legal}
+use Rattle.device_state.specs.Kept.{IsKept}
+use Rattle.device_state.specs.Updates.{IsUpdate}
+use Rattle.control_core.specs.declared.decided.Decided.{Decided}
+use Rattle.device_state.specs.declared.state.State.{State}
+
+-- The payload of a response has a length that the message can say.
+abbrev pub IsShort : Reply → Type 0
+IsShort (Reply.Answer s) = length s.payload < 2 ^ 21
+IsShort (Reply.Word n) = Unit {0}
+IsShort Reply.Stored = Unit {0}
+IsShort (Reply.Refused fault) = Unit {0}
+IsShort (Reply.Scrubbed n) = Unit {0}
+
+-- So it is in each of the entries.
+abbrev pub AreShort : List Entry → Type 0
+AreShort journal = All (λ (e : Entry). IsShort e.reply) journal
+
+-- It is the answer to the act, and what has to be put in place for it.
+pub record IsDecidedBy (c : Configuration) (before : List Entry) (actor : Actor) (act : Act) (d : Decided) : Type 0 where
+  pub reply : d.reply ≡ (answer c before actor act).0
+  pub effects : d.effects ≡ (answer c before actor act).1
+  pub update : IsUpdate c before d.effects d.update
+  pub short : IsShort d.reply
+
+-- So it is by every legal journal that leads to what is kept.
+abbrev pub IsDecided : Configuration → State → Actor → Act → Decided → Type 0
+IsDecided c s actor act d = (before : List Entry) → Legal c before → IsKept c before s → IsDecidedBy c before actor act d
+
+-- What every control keeps: its entries are legal, what is kept is what they say, and all responses are short.
+pub record Holds (c : Configuration) (journal : List Entry) (s : State) : Type 0 where
+  pub sound : IsSound c
+  pub legal : Legal c journal
+  pub kept : IsKept c journal s
+  pub short : AreShort journal

@@ -1,0 +1,25 @@
+-- Tags that have sixteen bytes, as all have that the device keeps.
+use Rattle.std.specs.Prelude.{◌≡◌, ℕ, ◌<◌, All, length}
+use Rattle.dcd_base.specs.declared.capacity.Extent.{Extent}
+use Rattle.dcd_base.specs.declared.capacity.Tag.{Tag}
+use Rattle.dcd_base.specs.declared.ids.HostId.{HostId}
+use Rattle.event_records.specs.declared.events.Event.{Event}
+use Rattle.tag_refs.specs.declared.entries.TagEntry.{TagEntry}
+use Rattle.device_state.specs.Kept.{part_of}
+use Rattle.device_state.specs.declared.parts.HostPart.{HostPart}
+use Rattle.device_state.specs.declared.state.State.{State}
+
+-- The tag has sixteen bytes.
+abbrev pub TagFits : Tag → Type 0
+TagFits t = length t.0 ≡ 16
+
+-- So has that of each accepted extent of a host, and of each record in its log.
+pub record PartFits (part : HostPart) : Type 0 where
+  pub accepted : All (λ (x : Extent). TagFits x.tag) part.lists.accepted
+  pub records : All (λ (e : Event). TagFits e.extent.tag) part.log.records
+
+-- So has each tag that the device keeps.
+pub record TagsFit (s : State) : Type 0 where
+  pub hosts : (h : HostId) → h < length s.hosts.items → PartFits (part_of s h)
+  pub manager : All (λ (e : Event). TagFits e.extent.tag) s.manager.records
+  pub tags : All (λ (e : TagEntry). TagFits e.tag) s.tags.entries

@@ -1,0 +1,77 @@
+-- Changes put one after another, from the holders before the step.
+use Rattle.std.specs.Prelude.{◌≡◌, ℕ, ◌<◌, Bool, true, false, ◌&&◌, ◌||◌, ◌==◌, nat_le, nat_lt, List, [], ◌∷◌, ◌++◌, fold, Option, Some, None, slice_index_or, if◌then◌else◌}
+use Rattle.std.specs.List.{list_all, list_any}
+use Rattle.dcd_base.specs.Words.{has_granule}
+use Rattle.dcd_base.specs.declared.ids.HostId.{HostId}
+use Rattle.dcd_base.specs.declared.media.Change.{Change}
+use Rattle.dcd_base.specs.declared.media.Run.{Run}
+use Rattle.journal_core.specs.declared.outcome.Effect.{Effect}
+use Rattle.device_rules.specs.Legal.{is_zeroing}
+use Rattle.tag_refs.specs.Hosts.{with_host, without_host}
+use Rattle.control_core.specs.ChangedRuns.{holders_after, touches}
+
+-- the granules that the effect gives, takes or zeroes
+abbrev pub touched_by : Effect → Option Run
+touched_by (Effect.Take h run) = Some run
+touched_by (Effect.Leave h run) = Some run
+touched_by (Effect.Zero run) = Some run
+touched_by e = None
+
+-- their holders after it
+abbrev pub bits_by : Effect → ℕ → ℕ
+bits_by (Effect.Take h run) bits = with_host bits h
+bits_by (Effect.Leave h run) bits = without_host bits h
+bits_by e bits = bits
+
+abbrev pub is_zero : Effect → Bool
+is_zero (Effect.Zero run) = true
+is_zero e = false
+
+-- whether the granule lies from the first up to the one before the end
+abbrev pub lies_between : ℕ → ℕ → ℕ → Bool
+lies_between first end g = nat_le first g && nat_lt g end
+
+-- whether a change names the granule, and whether one zeroes it
+abbrev pub is_named : ℕ → List Change → Bool
+is_named g changes = list_any (λ (change : Change). has_granule change.run g) changes
+
+abbrev pub is_zeroed : ℕ → List Change → Bool
+is_zeroed g changes = list_any (λ (change : Change). change.zero && has_granule change.run g) changes
+
+-- More changes: each granule from the first up to the one before the end is changed as the effect says, from the
+-- holders before the step.
+pub record AreAdded (n : ℕ) (holders : List ℕ) (e : Effect) (first end : ℕ) (old new : List Change) : Type 0 where
+  pub bits : (g : ℕ) → g < n → (bits : ℕ) → fold (holders_after g) bits new
+      ≡ (if lies_between first end g then bits_by e (slice_index_or holders g 0) else fold (holders_after g) bits old)
+  pub zeroed : (g : ℕ) → g < n → is_zeroed g new ≡ (is_zeroed g old || (is_zero e && lies_between first end g))
+  pub named : (g : ℕ) → g < n → is_named g new ≡ (is_named g old || lies_between first end g)
+
+-- the holders of a granule after an effect, from those before the step
+abbrev pub bits_after : List ℕ → ℕ → ℕ → Effect → ℕ
+bits_after holders g bits e = if touches g e then bits_by e (slice_index_or holders g 0) else bits
+
+-- The changes are those of the effects.
+pub record ArePut (n : ℕ) (holders : List ℕ) (effects : List Effect) (changes : List Change) : Type 0 where
+  pub bits : (g : ℕ) → g < n → (bits : ℕ) → fold (holders_after g) bits changes ≡ fold (bits_after holders g) bits effects
+  pub zeroed : (g : ℕ) → g < n → is_zeroed g changes ≡ list_any (is_zeroing g) effects
+  pub named : (g : ℕ) → g < n → is_named g changes ≡ list_any (touches g) effects
+
+-- With one more effect the changes go on.
+abbrev pub PutOne : ℕ → List ℕ → Effect → List Change → List Change → Type 0
+PutOne n holders e old new = (effects : List Effect) → ArePut n holders effects old → ArePut n holders (effects ++ e ∷ []) new
+
+-- ---- one host
+
+-- the effect gives or takes granules of this host alone, and zeroes none; without a host it gives and takes none
+abbrev pub is_of : Option HostId → Effect → Bool
+is_of (Some h) (Effect.Take k run) = k == h
+is_of (Some h) (Effect.Leave k run) = k == h
+is_of (Some h) (Effect.Zero run) = false
+is_of None (Effect.Take k run) = false
+is_of None (Effect.Leave k run) = false
+is_of host e = true
+
+-- All of them do, so that the holders before the step say what each change leaves.
+pub record AreOfOneHost (effects : List Effect) : Type 0 where
+  pub host : Option HostId
+  pub each : list_all (is_of host) effects ≡ true

@@ -1,0 +1,66 @@
+-- What the manager takes from a host, and what is told of it.
+use Rattle.std.specs.Prelude.{◌≡◌, ℕ, ◌+◌, ◌≤◌, ◌==◌, ◌&&◌, Bool, not, nat_le, nat_lt, All, IsTrue, List, [], ◌∷◌, fold, length, map, Option, if◌then◌else◌}
+use Rattle.dcd_base.specs.Words.{◌or◌}
+use Rattle.dcd_base.specs.declared.capacity.Extent.{Extent}
+use Rattle.dcd_base.specs.declared.capacity.Tag.{Tag}
+use Rattle.dcd_base.specs.declared.ids.HostId.{HostId}
+use Rattle.dcd_base.specs.declared.steps.LogId.{LogId}
+use Rattle.dcd_codes.specs.Rules.{◌breaks◌}
+use Rattle.dcd_codes.specs.declared.rules.Rule.{Rule}
+use Rattle.event_records.specs.declared.events.EventKind.{EventKind}
+use Rattle.extent_list.specs.ExtentLists.{count_in, cut_all, tags_of}
+use Rattle.host_commands.specs.Parts.{lists_in, told_in}
+use Rattle.host_commands.specs.declared.drafts.Draft.{Draft}
+use Rattle.host_lists.specs.Answers.{generation_after}
+use Rattle.host_lists.specs.Lists.{Lists}
+use Rattle.journal_core.specs.declared.outcome.Effect.{Effect}
+use Rattle.media_map.specs.Places.{is_granular}
+use Rattle.region_config.specs.Configurations.{Configuration}
+use Rattle.release_core.specs.Leaving.{AllCanLeave}
+use Rattle.release_core.specs.Removals.{by_tag_rule, listed_rule}
+use Rattle.device_rules.specs.Hosts.{accepted_after, offers_after}
+use Rattle.device_rules.specs.Outcomes.{Outcome, notices_of}
+use Rattle.device_rules.specs.ReleaseOutcomes.{is_cleaning, is_forced, policy_in, removals}
+use Rattle.device_rules.specs.Views.{View, view_after}
+
+-- the rules of the host and of the flags
+abbrev pub choice_rule : ℕ → ℕ → ℕ → Option Rule
+choice_rule hosts h flags =
+    nat_le hosts h breaks Rule.NoSuchHost h
+    or (is_cleaning flags && not (is_forced flags)) breaks Rule.UnsupportedFlag
+    or nat_lt 1 (policy_in flags) breaks Rule.NoSuchPolicy (policy_in flags)
+
+-- the rules of what is meant
+abbrev pub meant_rule : Configuration → HostId → Lists → ℕ → ℕ → Tag → List Extent → Option Rule
+meant_rule present h l flags r tag list =
+    if policy_in flags == 0 then by_tag_rule l.accepted tag else listed_rule present h l.accepted (count_in l.offers) r list (is_forced flags)
+
+-- the lists once these have left
+abbrev pub removed_lists : Lists → List Extent → Lists
+removed_lists l leaving = record l { accepted = cut_all leaving l.accepted; generation = generation_after leaving l.generation }
+
+-- These extents can be taken from the host.
+pub record Departs (c : Configuration) (h : HostId) (l : Lists) (clean : Bool) (leaving : List Extent) : Type 0 where
+  pub can : AllCanLeave l.accepted leaving
+  pub granular : All (λ x. IsTrue (is_granular c h x.start x.length)) leaving
+  pub accepted : fold (accepted_after c h) l.accepted (removals c h clean leaving) ≡ cut_all leaving l.accepted
+  pub offers : fold (offers_after h) l.offers (removals c h clean leaving) ≡ l.offers
+  pub few : length (cut_all leaving l.accepted) + count_in l.offers ≤ 64
+
+-- The draft changes so much, and tells the host of each of these, by the lists that it has then.
+pub record IsDrafted (h : HostId) (kind : EventKind) (changes : List Effect) (new : Lists) (lists : Option Lists) (leaving : List Extent) (d : Draft) : Type 0 where
+  pub payload : d.payload ≡ []
+  pub changes_are : d.changes ≡ changes
+  pub tags : d.tags ≡ tags_of leaving
+  pub lists_are : d.lists ≡ lists
+  pub notices : (v : View) → new ≡ lists_in v → map told_in d.notices ≡ (LogId.Host h, notices_of h v kind leaving) ∷ []
+
+-- what a removal of these does
+abbrev pub removal_outcome : Configuration → HostId → View → ℕ → List Extent → Outcome
+removal_outcome c h v flags all =
+    let changes = if is_forced flags then removals c h (is_cleaning flags) all else [] in record {
+      payload = [];
+      changes = changes;
+      tags = tags_of all;
+      notices = (LogId.Host h, notices_of h (view_after c h v changes) (if is_forced flags then EventKind.Forced else EventKind.Release) all) ∷ [];
+    }

@@ -1,0 +1,162 @@
+//! What a step changes of the granules' holders and words.
+
+ghost use Rattle.control_core.specs.ChangedRuns.{AreChanges, LiesIn};
+ghost use Rattle.device_state.specs.Kept.{IsKept};
+ghost use Rattle.control_core.specs.PutChanges.{AreAdded, AreOfOneHost, ArePut, PutOne, bits_by, is_zero, touched_by};
+ghost use Rattle.device_state.specs.Updates.{IsOfDevice};
+ghost use Rattle.journal_core.specs.Entries.{effects as effects_of};
+ghost use Rattle.journal_core.specs.declared.entries.Entry.{Entry};
+ghost use Rattle.region_config.specs.Granules.{granule_total};
+ghost use Rattle.std.specs.Prelude.{◌≡◌, ◌+◌, ◌-◌, ◌<◌, ◌≤◌, All, IfOk, List, OnOk, Some, slice_index_or, ℕ};
+
+use dcd_base::{Change, Changes, Granule, NoMemory, Run};
+use device_state::{Holders, State, with_bit};
+use journal_core::Effect;
+use region_config::Config;
+use std::alloc::Global;
+
+/// The runs that a host takes or loses, with the hosts that hold them then, and those that are zeroed.
+///
+/// All granules of a change have the same holders.
+pub(crate) fn changes_of(
+    alloc: Global,
+    config: &Config,
+    state: &State,
+    effects: &[Effect],
+) -> Result<Changes, NoMemory>
+    requires of_device { All (IsOfDevice config.now) effects.now }
+    requires one { AreOfOneHost effects.now }
+    ensures changes { IfOk result (λ changes. (before : List Entry) → IsKept config.now before state.now → AreChanges config.now (effects_of before) effects.now changes) }
+    ensures inside { IfOk result (λ changes. All (LiesIn (granule_total config.now)) changes) }
+{
+    let changes = put_all(alloc, config, &state.holders, effects)?;
+    Ok(changes)
+}
+
+/// The changes of all the effects, from these holders on.
+fn put_all(
+    alloc: Global,
+    config: &Config,
+    holders: &Holders,
+    effects: &[Effect],
+) -> Result<Changes, NoMemory>
+    requires { All (IsOfDevice config.now) effects.now }
+    ensures put { IfOk result (λ changes. ArePut (granule_total config.now) holders.now effects.now changes) }
+    ensures inside { IfOk result (λ changes. All (LiesIn (granule_total config.now)) changes) }
+{
+    let mut changes = Changes::new(alloc);
+    for i in 0..effects.len() {
+        put_change(config, holders, &effects[i], &mut changes)?;
+    }
+    Ok(changes)
+}
+
+/// Puts what one effect changes.
+fn put_change(
+    config: &Config,
+    holders: &Holders,
+    effect: &Effect,
+    changes: &mut Changes,
+) -> Result<(), NoMemory>
+    requires { IsOfDevice config.now effect.now }
+    ensures put { OnOk result (PutOne (granule_total config.now) holders.now effect.now changes.old changes.new) }
+    ensures inside { OnOk result (All (LiesIn (granule_total config.now)) changes.old → All (LiesIn (granule_total config.now)) changes.new) }
+{
+    match touched_run(effect) {
+        Some(run) => put_runs(config, holders, effect, &run, changes),
+        None => Ok(()),
+    }
+}
+
+/// The granules that the effect gives, takes or zeroes.
+fn touched_run(effect: &Effect) -> Option<Run>
+    ensures { result ≡ touched_by effect.now }
+{
+    match effect {
+        Effect::Take(_, run) => Some(*run),
+        Effect::Leave(_, run) => Some(*run),
+        Effect::Zero(run) => Some(*run),
+        _ => None,
+    }
+}
+
+/// Puts the longest runs of granules of one set of holders that the run has, changed so. Granules past the last of the
+/// device are left out.
+fn put_runs(
+    config: &Config,
+    holders: &Holders,
+    effect: &Effect,
+    run: &Run,
+    changes: &mut Changes,
+) -> Result<(), NoMemory>
+    requires { IsOfDevice config.now effect.now }
+    ensures added { OnOk result (AreAdded (granule_total config.now) holders.now effect.now run.now.first (run.now.first + run.now.count) changes.old changes.new) }
+    ensures inside { OnOk result (All (LiesIn (granule_total config.now)) changes.old → All (LiesIn (granule_total config.now)) changes.new) }
+{
+    let granules = config.granules();
+    let end = run.first.0.saturating_add(run.count).min(granules);
+    let mut at = run.first.0;
+    while at < end {
+        let next = run_end(holders, at, end);
+        changes.push(change_of(config, holders, effect, at, next))?;
+        at = next;
+    }
+    Ok(())
+}
+
+/// The number of the first granule behind one that others hold, or the end.
+fn run_end(holders: &Holders, at: u32, end: u32) -> u32
+    requires { at < end }
+    ensures later { at < result }
+    ensures within { result ≤ end }
+    ensures same { (g : ℕ) → at ≤ g → g < result → slice_index_or holders.now g 0 ≡ slice_index_or holders.now at 0 }
+{
+    let bits = holders.at(Granule(at));
+    for next in at + 1..end {
+        if holders.at(Granule(next)) != bits {
+            return next;
+        }
+    }
+    end
+}
+
+/// The change of the granules from one up to the one before another, which all have the holders of the first.
+fn change_of(config: &Config, holders: &Holders, effect: &Effect, at: u32, next: u32) -> Change
+    requires rising { at < next }
+    requires of_device { IsOfDevice config.now effect.now }
+    ensures { result ≡ record { run = record { first = at; count = next - at }; holders = bits_by effect.now (slice_index_or holders.now at 0); zero = is_zero effect.now } }
+{
+    let bits = holders.at(Granule(at));
+    Change {
+        run: Run {
+            first: Granule(at),
+            count: next - at,
+        },
+        holders: holders_by(config, effect, bits),
+        zero: is_zeroing(effect),
+    }
+}
+
+/// The holders after the effect.
+fn holders_by(config: &Config, effect: &Effect, bits: u16) -> u16
+    requires { IsOfDevice config.now effect.now }
+    ensures { result ≡ bits_by effect.now bits }
+{
+    // There are 16 hosts at most.
+    let _hosts = config.hosts();
+    match effect {
+        Effect::Take(host, _) => with_bit(bits, *host, true),
+        Effect::Leave(host, _) => with_bit(bits, *host, false),
+        _ => bits,
+    }
+}
+
+/// Whether the effect zeroes granules.
+fn is_zeroing(effect: &Effect) -> bool
+    ensures { result ≡ is_zero effect.now }
+{
+    match effect {
+        Effect::Zero(_) => true,
+        _ => false,
+    }
+}

@@ -1,0 +1,223 @@
+//! A command of a host, from its message to its response and effects.
+
+ghost use Rattle.control_core.specs.Deciding.{IsDecided};
+ghost use Rattle.control_core.specs.Doing.{AnswersHost, Does, Drafted, FewHandles, Refuses, dropped_by};
+ghost use Rattle.device_state.specs.Kept.{IsKept, IsReached};
+ghost use Rattle.control_core.specs.Recording.{told};
+ghost use Rattle.device_state.specs.Updates.{IsOfLog};
+ghost use Rattle.dcd_base.specs.declared.steps.Actor.{Actor};
+ghost use Rattle.extent_list.specs.ExtentLists.{has_extent_of};
+ghost use Rattle.host_commands.specs.declared.notices.Notice.{Notice};
+ghost use Rattle.journal_core.specs.Entries.{effects as effects_in};
+ghost use Rattle.journal_core.specs.declared.acts.Act.{Act};
+ghost use Rattle.journal_core.specs.declared.entries.Entry.{Entry};
+ghost use Rattle.journal_core.specs.declared.outcome.Effect.{Effect};
+ghost use Rattle.region_config.specs.Configurations.{Configuration};
+ghost use Rattle.std.specs.List.{list_any};
+ghost use Rattle.std.specs.Prelude.{◌≡◌, ◌++◌, ◌<◌, All, IfOk, List, length, map};
+ghost use Rattle.tag_laws.specs.Tables.{ending as ending_by};
+
+use crate::decided::Decided;
+use crate::ending::ending;
+use crate::recording::{put_ends, put_notices};
+use crate::replies::{answer, refused, tags_fit};
+use cci_codec::Request;
+use dcd_base::{HostId, LogId, NoMemory, Seq, Tag};
+use dcd_codes::{Code, Refusal, Rule};
+use device_state::{NewLists, State, TagChange, Update};
+use host_commands::{
+    Draft, Notice, add_response, clear_events, get_configuration, get_events, get_extents,
+    give_back, unhold,
+};
+use host_lists::HostLists;
+use host_payloads::{HostRequest, PayloadFault, decode};
+use journal_core::{Effects, HeldKind};
+use region_config::Config;
+use std::alloc::Global;
+
+/// The opcodes whose refusal ends a held list: Add Dynamic Capacity Response and Release Dynamic Capacity.
+const ADD_RESPONSE: u16 = 0x4802;
+
+const GIVE_BACK: u16 = 0x4803;
+
+/// What a message of a host comes to.
+pub(crate) fn host_step(
+    alloc: Global,
+    config: &Config,
+    state: &State,
+    host: HostId,
+    request: &Request,
+) -> Result<Decided, NoMemory>
+    requires host { host < config.now.hosts }
+    requires reached { IsReached config.now state.now }
+    ensures { IfOk result (IsDecided config.now state.now (Actor.Host host) (Act.Command request.now)) }
+{
+    tags_fit(state);
+    match draft_of(alloc, config, state, host, request) {
+        Ok(draft) => Ok(done(alloc, state, host, request, draft)?),
+        Err(Refusal::Broken(rule)) => Ok(broken(alloc, config, state, host, request, &rule)?),
+        Err(Refusal::NoMemory) => Err(NoMemory),
+    }
+}
+
+/// The draft of a message, or the first rule that it breaks.
+fn draft_of(
+    alloc: Global,
+    config: &Config,
+    state: &State,
+    host: HostId,
+    request: &Request,
+) -> Result<Draft, Refusal>
+    requires host { host < config.now.hosts }
+    requires reached { IsReached config.now state.now }
+    ensures { Drafted config.now state.now host request.now result }
+{
+    match decode(alloc, request.opcode, request.payload.as_slice()) {
+        Ok(asked) => draft_asked(alloc, config, state, host, &asked),
+        Err(PayloadFault::UnknownOpcode(opcode)) => {
+            Err(Refusal::Broken(Rule::UnknownOpcode(opcode)))
+        }
+        Err(PayloadFault::WrongLength { need, have }) => {
+            Err(Refusal::Broken(Rule::WrongLength { need, have }))
+        }
+        Err(PayloadFault::NoMemory) => Err(Refusal::NoMemory),
+    }
+}
+
+/// The draft of what a host asks.
+fn draft_asked(
+    alloc: Global,
+    config: &Config,
+    state: &State,
+    host: HostId,
+    asked: &HostRequest,
+) -> Result<Draft, Refusal>
+    requires host { host < config.now.hosts }
+    requires reached { IsReached config.now state.now }
+    requires few { FewHandles asked.now }
+    ensures { AnswersHost config.now state.now host asked.now result }
+{
+    let part = state.part(host);
+    let present = &state.present;
+    match asked {
+        HostRequest::GetEvents { log } => get_events(alloc, *log, &part.log),
+        HostRequest::ClearEvents { log, all, handles } => {
+            clear_events(alloc, LogId::Host(host), *log, &part.log, *all, handles)
+        }
+        HostRequest::GetConfiguration { count, first } => {
+            get_configuration(alloc, present, host, &part.lists, *count, *first)
+        }
+        HostRequest::GetExtents { count, first } => {
+            get_extents(alloc, &part.lists, *count, *first)
+        }
+        HostRequest::AddResponse { more, extents } => {
+            add_response(alloc, config, present, host, &part.lists, *more, extents)
+        }
+        HostRequest::GiveBack { more, extents } => {
+            give_back(alloc, config, present, host, &part.lists, *more, extents)
+        }
+    }
+}
+
+/// A command that breaks no rule, by whose draft the host has these lists, or the ones that it had.
+pub(crate) fn done(
+    alloc: Global,
+    state: &State,
+    host: HostId,
+    request: &Request,
+    draft: Draft,
+) -> Result<Decided, NoMemory>
+    requires host { host < length state.now.hosts.items }
+    requires few { host < 16 }
+    requires known { All (λ (n : Notice). IsOfLog (length state.now.hosts.items) n.log) draft.notices }
+    ensures { IfOk result (Does state.now host request.now draft) }
+{
+    let Draft {
+        payload,
+        changes,
+        tags,
+        notices,
+        lists,
+    } = draft;
+    match lists {
+        Some(lists) => {
+            let effects = told(alloc, state, host, &lists, changes, &tags, &notices)?;
+            Ok(Decided {
+                reply: answer(request, Code::Success, payload),
+                effects,
+                update: Update {
+                    lists: Some(NewLists { host, lists }),
+                    tags: TagChange::OfHost { host, tags },
+                },
+            })
+        }
+        None => {
+            let lists = &state.part(host).lists;
+            let effects = told(alloc, state, host, lists, changes, &tags, &notices)?;
+            Ok(Decided {
+                reply: answer(request, Code::Success, payload),
+                effects,
+                update: Update {
+                    lists: None,
+                    tags: TagChange::OfHost { host, tags },
+                },
+            })
+        }
+    }
+}
+
+/// The changes, the ends of those of the tags that end once the host has these lists, and the records.
+fn told(
+    alloc: Global,
+    state: &State,
+    host: HostId,
+    lists: &HostLists,
+    changes: Effects,
+    tags: &Seq<Tag>,
+    notices: &Seq<Notice>,
+) -> Result<Effects, NoMemory>
+    requires few { host < 16 }
+    requires known { All (λ (n : Notice). IsOfLog (length state.now.hosts.items) n.log) notices.now }
+    ensures { IfOk result (λ all. (c : Configuration) (journal : List Entry) → IsKept c journal state.now →
+        all ≡ (changes ++ map Effect.TagEnd (ending_by host (λ t. has_extent_of t lists.now.accepted) (λ t. list_any (has_extent_of t) lists.now.offers) state.now.tags.entries tags.now)) ++ told (effects_in journal) notices.now) }
+{
+    let mut effects = changes;
+    let ended = ending(alloc, state, host, lists, tags.as_slice())?;
+    put_ends(ended.as_slice(), &mut effects)?;
+    put_notices(state, notices, &mut effects)?;
+    Ok(effects)
+}
+
+/// A command that breaks a rule: where it is a response or a release, its held list ends.
+fn broken(
+    alloc: Global,
+    config: &Config,
+    state: &State,
+    host: HostId,
+    request: &Request,
+    rule: &Rule,
+) -> Result<Decided, NoMemory>
+    requires host { host < config.now.hosts }
+    requires reached { IsReached config.now state.now }
+    ensures { IfOk result (Refuses config.now state.now host request.now rule.now) }
+{
+    let lists = &state.part(host).lists;
+    Ok(Decided {
+        reply: refused(alloc, request, rule),
+        effects: dropped(alloc, host, lists, request.opcode)?,
+        update: Update::nothing(),
+    })
+}
+
+/// The held list of the command ends, where there is one.
+fn dropped(alloc: Global, host: HostId, lists: &HostLists, opcode: u16) -> Result<Effects, NoMemory>
+    ensures { IfOk result (λ effects. effects ≡ dropped_by host lists.now opcode) }
+{
+    if opcode == ADD_RESPONSE {
+        return unhold(alloc, host, HeldKind::Responses, lists.responses());
+    }
+    if opcode == GIVE_BACK {
+        return unhold(alloc, host, HeldKind::Releases, lists.releases());
+    }
+    Ok(Effects::new(alloc))
+}

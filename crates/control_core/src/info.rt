@@ -1,0 +1,47 @@
+//! Get DCD Info, 5600h.
+
+ghost use Rattle.control_core.specs.Answering.{Answers};
+ghost use Rattle.device_state.specs.Kept.{IsReached};
+ghost use Rattle.fm_payloads.specs.declared.requests.FmRequest.{FmRequest};
+ghost use Rattle.std.specs.Prelude.{◌≡◌, ◌≤◌, IfOk, length, map};
+
+use dcd_base::{Bytes, NoMemory, RegionId, Seq};
+use dcd_codes::Refusal;
+use device_state::State;
+use fm_payloads::write_info;
+use host_commands::Draft;
+use region_config::Config;
+use std::alloc::Global;
+
+/// How many hosts and granules there are, how many granules are free and dirty, and the block sizes that each region
+/// supports (profile). It breaks no rule.
+pub(crate) fn get_info(alloc: Global, config: &Config, state: &State) -> Result<Draft, Refusal>
+    requires reached { IsReached config.now state.now }
+    ensures { Answers config.now state.now FmRequest.GetInfo result }
+{
+    let sizes = sizes_of(alloc, config)?;
+    let mut payload = Bytes::new(alloc);
+    let (free, dirty) = (state.granules.free(), state.granules.dirty());
+    write_info(
+        config.hosts(),
+        config.granules(),
+        free,
+        dirty,
+        sizes.as_slice(),
+        &mut payload,
+    )?;
+    Ok(Draft::only(alloc, payload))
+}
+
+/// The mask of the block sizes of each region.
+fn sizes_of(alloc: Global, config: &Config) -> Result<Seq<u64>, NoMemory>
+    ensures sizes { IfOk result (λ sizes. sizes ≡ map (λ spec. spec.sizes) config.now.regions) }
+    ensures some { IfOk result (λ sizes. 1 ≤ length sizes) }
+    ensures few { IfOk result (λ sizes. length sizes ≤ 8) }
+{
+    let mut sizes = Seq::new(alloc);
+    for region in 0..config.regions() {
+        sizes.push(config.region(RegionId(region)).sizes)?;
+    }
+    Ok(sizes)
+}

@@ -1,0 +1,28 @@
+//! Room in the log of a host.
+
+ghost use Rattle.device_state.specs.Kept.{part_of};
+ghost use Rattle.dcd_base.specs.declared.steps.LogId.{LogId};
+ghost use Rattle.device_rules.specs.Outcomes.{log_full};
+ghost use Rattle.event_log.specs.Logs.{Log};
+ghost use Rattle.host_commands.specs.Parts.{IsLogOf};
+ghost use Rattle.std.specs.Prelude.{◌≡◌, ◌<◌, length};
+
+use dcd_base::HostId;
+use dcd_codes::Rule;
+use device_state::State;
+
+/// The rule that is broken where the host's log has fewer free places than records are due.
+pub(crate) fn log_full(state: &State, host: HostId, need: u32) -> Option<Rule>
+    requires { host < length state.now.hosts.items }
+    ensures { (log : Log) → IsLogOf (LogId.Host host) log (part_of state.now host).log → result ≡ log_full host log need }
+{
+    let have = state.part(host).log.room();
+    if have < need {
+        return Some(Rule::LogFull {
+            host: host.0,
+            need,
+            have,
+        });
+    }
+    None
+}

@@ -1,0 +1,426 @@
+//! A command of the Fabric Manager, from its message to its response and effects.
+
+ghost use Rattle.control_core.specs.Answering.{Answers};
+ghost use Rattle.control_core.specs.Deciding.{IsDecided};
+ghost use Rattle.device_state.specs.Kept.{IsReached};
+ghost use Rattle.control_core.specs.Managing.{Enters, FewCleared, Manages};
+ghost use Rattle.control_core.specs.Offers.{AreGranular, Offers, OffersGranular, lists_for, offer_change};
+ghost use Rattle.device_state.specs.Updates.{IsOfLog};
+ghost use Rattle.device_state.specs.declared.updates.TagChange.{TagChange};
+ghost use Rattle.dcd_base.specs.declared.capacity.Extent.{Extent};
+ghost use Rattle.dcd_base.specs.declared.steps.Actor.{Actor};
+ghost use Rattle.fm_payloads.specs.ManagerPayloads.{manager_request};
+ghost use Rattle.fm_payloads.specs.declared.requests.FmRequest.{FmRequest};
+ghost use Rattle.host_commands.specs.declared.notices.Notice.{Notice};
+ghost use Rattle.journal_core.specs.declared.acts.Act.{Act};
+ghost use Rattle.journal_core.specs.declared.outcome.Effect.{Effect};
+ghost use Rattle.media_map.specs.Places.{run_of};
+ghost use Rattle.std.specs.Prelude.{◌≡◌, ◌<◌, ◌∷◌, List, map, [], All, IfOk, false, if◌then◌else◌, length, not, true};
+ghost use Rattle.std.specs.declared.result.Result.TheVariants.{Ok};
+ghost use Rattle.tag_laws.specs.QuietRequests.{is_quiet_manager};
+ghost use Rattle.tag_refs.specs.Tables.{is_live, is_used, passes, with_reference};
+
+use crate::decided::Decided;
+use crate::extent_lists::get_extent_lists;
+use crate::host_steps::done;
+use crate::info::get_info;
+use crate::offering::add;
+use crate::recording::{put_ends, put_notices};
+use crate::region_replies::get_regions;
+use crate::removing::remove;
+use crate::replies::{answer, refused, tags_fit};
+use crate::setting::set_region;
+use crate::tag_commands::{add_reference, list_tags, remove_reference};
+use cci_codec::Request;
+use dcd_base::{Extents, HostId, LogId, NoMemory, RegionId, Runs, Seq, Tag};
+use dcd_codes::{Code, Refusal, Rule};
+use device_state::{NewLists, State, TagChange, Update};
+use fm_payloads::{FmRequest, PayloadFault, decode};
+use host_commands::{Draft, clear_events, get_events, run_of};
+use host_lists::HostLists;
+use journal_core::{Effect, Effects};
+use region_config::Config;
+use std::alloc::Global;
+
+/// What a message of the manager comes to.
+pub(crate) fn manager_step(
+    alloc: Global,
+    config: &Config,
+    state: &State,
+    request: &Request,
+) -> Result<Decided, NoMemory>
+    requires reached { IsReached config.now state.now }
+    ensures { IfOk result (IsDecided config.now state.now Actor.Manager (Act.Command request.now)) }
+{
+    match step_of(alloc, config, state, request) {
+        Ok(decided) => Ok(decided),
+        Err(Refusal::Broken(rule)) => Ok(Decided {
+            reply: refused(alloc, request, &rule),
+            effects: Effects::new(alloc),
+            update: Update::nothing(),
+        }),
+        Err(Refusal::NoMemory) => Err(NoMemory),
+    }
+}
+
+/// What a message comes to, or the first rule that it breaks.
+fn step_of(
+    alloc: Global,
+    config: &Config,
+    state: &State,
+    request: &Request,
+) -> Result<Decided, Refusal>
+    requires reached { IsReached config.now state.now }
+    ensures { Manages config.now state.now request.now result }
+{
+    match decode(alloc, request.opcode, request.payload.as_slice()) {
+        Ok(asked) => step_asked(alloc, config, state, request, &asked),
+        Err(PayloadFault::UnknownOpcode(opcode)) => {
+            Err(Refusal::Broken(Rule::UnknownOpcode(opcode)))
+        }
+        Err(PayloadFault::WrongLength { need, have }) => {
+            Err(Refusal::Broken(Rule::WrongLength { need, have }))
+        }
+        Err(PayloadFault::NoMemory) => Err(Refusal::NoMemory),
+    }
+}
+
+/// What the manager's request comes to.
+fn step_asked(
+    alloc: Global,
+    config: &Config,
+    state: &State,
+    request: &Request,
+    asked: &FmRequest,
+) -> Result<Decided, Refusal>
+    requires reached { IsReached config.now state.now }
+    requires asked { manager_request request.now.opcode request.now.payload ≡ Ok asked.now }
+    requires few { FewCleared asked.now }
+    ensures { Manages config.now state.now request.now result }
+{
+    match asked {
+        FmRequest::Add {
+            host,
+            policy,
+            region,
+            length,
+            tag,
+            extents,
+        } => step_add(
+            alloc, config, state, request, *host, *policy, *region, *length, tag, extents,
+        ),
+        FmRequest::Remove {
+            host,
+            flags,
+            region,
+            length,
+            tag,
+            extents,
+        } => step_remove(
+            alloc, config, state, request, *host, *flags, *region, *length, tag, extents,
+        ),
+        FmRequest::AddReference { tag } => step_refer(alloc, config, state, request, tag),
+        FmRequest::RemoveReference { tag } => step_unrefer(alloc, config, state, request, tag),
+        _ => step_read(alloc, config, state, request, asked),
+    }
+}
+
+/// What a request comes to that changes no extents and no tags.
+fn step_read(
+    alloc: Global,
+    config: &Config,
+    state: &State,
+    request: &Request,
+    asked: &FmRequest,
+) -> Result<Decided, Refusal>
+    requires reached { IsReached config.now state.now }
+    requires asked { manager_request request.now.opcode request.now.payload ≡ Ok asked.now }
+    requires few { FewCleared asked.now }
+    requires quiet { is_quiet_manager asked.now ≡ true }
+    ensures { Manages config.now state.now request.now result }
+{
+    tags_fit(state);
+    match read_draft(alloc, config, state, asked) {
+        Ok(draft) => Ok(entered(state, request, draft, &[], TagChange::Nothing)?),
+        Err(refusal) => Err(refusal),
+    }
+}
+
+/// The draft of a request that changes no extents and no tags.
+fn read_draft(
+    alloc: Global,
+    config: &Config,
+    state: &State,
+    asked: &FmRequest,
+) -> Result<Draft, Refusal>
+    requires reached { IsReached config.now state.now }
+    requires few { FewCleared asked.now }
+    requires quiet { is_quiet_manager asked.now ≡ true }
+    ensures { Answers config.now state.now asked.now result }
+{
+    match asked {
+        FmRequest::GetEvents { log } => get_events(alloc, *log, &state.manager),
+        FmRequest::ClearEvents { log, all, handles } => {
+            clear_events(alloc, LogId::Manager, *log, &state.manager, *all, handles)
+        }
+        FmRequest::GetInfo => get_info(alloc, config, state),
+        FmRequest::GetRegions { host, count, first } => {
+            get_regions(alloc, config, state, *host, *count, *first)
+        }
+        FmRequest::SetRegion {
+            region,
+            sanitize,
+            block,
+        } => set_region(alloc, config, state, *region, *sanitize, *block),
+        FmRequest::GetExtentLists { host, count, first } => {
+            get_extent_lists(alloc, config, state, *host, *count, *first)
+        }
+        FmRequest::ListTags { first, count } => list_tags(alloc, config, state, *first, *count),
+        _ => unreachable!(),
+    }
+}
+
+/// What a 5605h comes to.
+fn step_remove(
+    alloc: Global,
+    config: &Config,
+    state: &State,
+    request: &Request,
+    host: u16,
+    flags: u8,
+    region: u8,
+    bytes: u64,
+    tag: &Tag,
+    extents: &Extents,
+) -> Result<Decided, Refusal>
+    requires reached { IsReached config.now state.now }
+    requires asked { manager_request request.now.opcode request.now.payload ≡ Ok (FmRequest.Remove host flags region bytes tag.now extents.now) }
+    ensures { Manages config.now state.now request.now result }
+{
+    match remove(
+        alloc, config, state, host, flags, region, bytes, tag, extents,
+    ) {
+        Ok(draft) => Ok(done(alloc, state, HostId(host as u8), request, draft)?),
+        Err(refusal) => Err(refusal),
+    }
+}
+
+/// What a 5606h comes to.
+fn step_refer(
+    alloc: Global,
+    config: &Config,
+    state: &State,
+    request: &Request,
+    tag: &Tag,
+) -> Result<Decided, Refusal>
+    requires reached { IsReached config.now state.now }
+    requires asked { manager_request request.now.opcode request.now.payload ≡ Ok (FmRequest.AddReference tag.now) }
+    ensures { Manages config.now state.now request.now result }
+{
+    match add_reference(alloc, config, state, tag) {
+        Ok(draft) => Ok(entered(state, request, draft, &[], TagChange::Refer(*tag))?),
+        Err(refusal) => Err(refusal),
+    }
+}
+
+/// What a 5607h comes to: the reference is taken away, by which the tag may end.
+fn step_unrefer(
+    alloc: Global,
+    config: &Config,
+    state: &State,
+    request: &Request,
+    tag: &Tag,
+) -> Result<Decided, Refusal>
+    requires reached { IsReached config.now state.now }
+    requires asked { manager_request request.now.opcode request.now.payload ≡ Ok (FmRequest.RemoveReference tag.now) }
+    ensures { Manages config.now state.now request.now result }
+{
+    let over = over(alloc, state, tag)?;
+    match remove_reference(alloc, config, state, tag) {
+        Ok(draft) => Ok(entered(
+            state,
+            request,
+            draft,
+            over.as_slice(),
+            TagChange::Unrefer(*tag),
+        )?),
+        Err(refusal) => Err(refusal),
+    }
+}
+
+/// The tag, where it ends without the manager's reference.
+fn over(alloc: Global, state: &State, tag: &Tag) -> Result<Seq<Tag>, NoMemory>
+    ensures { IfOk result (λ tags. tags ≡ (if passes tag.now (λ e. not (is_used (with_reference false e))) state.now.tags.entries then tag.now ∷ [] else [])) }
+{
+    let mut tags = Seq::new(alloc);
+    if state.tags.ends_unreferenced(tag) {
+        tags.push(*tag)?;
+    }
+    Ok(tags)
+}
+
+/// What a 5604h comes to.
+fn step_add(
+    alloc: Global,
+    config: &Config,
+    state: &State,
+    request: &Request,
+    host: u16,
+    policy: u8,
+    region: u8,
+    bytes: u64,
+    tag: &Tag,
+    extents: &Extents,
+) -> Result<Decided, Refusal>
+    requires reached { IsReached config.now state.now }
+    requires asked { manager_request request.now.opcode request.now.payload ≡ Ok (FmRequest.Add host policy region bytes tag.now extents.now) }
+    ensures { Manages config.now state.now request.now result }
+{
+    match add(
+        alloc, config, state, host, policy, region, bytes, tag, extents,
+    ) {
+        Ok(draft) => {
+            let host = HostId(host as u8);
+            let region = RegionId(region);
+            Ok(added(alloc, config, state, request, host, region, tag, draft)?)
+        }
+        Err(refusal) => Err(refusal),
+    }
+}
+
+/// An offer is entered.
+fn added(
+    alloc: Global,
+    config: &Config,
+    state: &State,
+    request: &Request,
+    host: HostId,
+    region: RegionId,
+    tag: &Tag,
+    draft: Draft,
+) -> Result<Decided, NoMemory>
+    requires host { host < config.now.hosts }
+    requires region { region < length config.now.regions }
+    requires granular { OffersGranular config.now host draft.changes }
+    requires known { All (λ (n : Notice). IsOfLog (length state.now.hosts.items) n.log) draft.notices }
+    ensures { IfOk result (Offers config.now state.now host region tag.now request.now draft) }
+{
+    let change = tag_change(alloc, config, state, host, region, tag, &draft.changes)?;
+    let Draft {
+        payload,
+        changes,
+        tags: _,
+        notices,
+        lists,
+    } = draft;
+    let mut effects = changes;
+    put_notices(state, &notices, &mut effects)?;
+    Ok(Decided {
+        reply: answer(request, Code::Success, payload),
+        effects,
+        update: Update {
+            lists: new_lists(host, lists),
+            tags: change,
+        },
+    })
+}
+
+/// The lists of the host, where they are new.
+fn new_lists(host: HostId, lists: Option<HostLists>) -> Option<NewLists>
+    ensures { result ≡ lists_for host lists }
+{
+    match lists {
+        Some(lists) => Some(NewLists { host, lists }),
+        None => None,
+    }
+}
+
+/// What an offer changes of the open tags: nothing outside shareable regions; else the tag is opened, or told anew.
+fn tag_change(
+    alloc: Global,
+    config: &Config,
+    state: &State,
+    host: HostId,
+    region: RegionId,
+    tag: &Tag,
+    changes: &Effects,
+) -> Result<TagChange, NoMemory>
+    requires host { host < config.now.hosts }
+    requires region { region < length config.now.regions }
+    requires granular { OffersGranular config.now host changes.now }
+    ensures { IfOk result (λ change. (new : List Extent) → changes.now ≡ Effect.Offer host new ∷ [] → change ≡ offer_change config.now host region tag.now new (is_live tag.now state.now.tags.entries)) }
+{
+    if !config.region(region).shareable {
+        return Ok(TagChange::Nothing);
+    }
+    if state.tags.is_live(tag) {
+        return told_again(alloc, host, tag);
+    }
+    match changes.as_slice().first() {
+        Some(Effect::Offer(_, extents)) => Ok(TagChange::Begin {
+            tag: *tag,
+            region,
+            runs: runs_of(alloc, config, host, extents)?,
+            host,
+        }),
+        _ => Ok(TagChange::Nothing),
+    }
+}
+
+/// The tag alone is told anew for the host.
+fn told_again(alloc: Global, host: HostId, tag: &Tag) -> Result<TagChange, NoMemory>
+    ensures { IfOk result (λ change. change ≡ TagChange.OfHost host (tag.now ∷ [])) }
+{
+    let mut tags = Seq::new(alloc);
+    tags.push(*tag)?;
+    Ok(TagChange::OfHost { host, tags })
+}
+
+/// The runs of the extents.
+fn runs_of(
+    alloc: Global,
+    config: &Config,
+    host: HostId,
+    extents: &Extents,
+) -> Result<Runs, NoMemory>
+    requires host { host < config.now.hosts }
+    requires granular { AreGranular config.now host extents.now }
+    ensures { IfOk result (λ runs. runs ≡ map (run_of config.now host) extents.now) }
+{
+    let mut runs = Runs::new(alloc);
+    for i in 0..extents.len() {
+        runs.push(run_of(config, host, &extents.as_slice()[i]))?;
+    }
+    Ok(runs)
+}
+
+/// A command that changes no lists is entered, by which these tags end.
+fn entered(
+    state: &State,
+    request: &Request,
+    draft: Draft,
+    over: &[Tag],
+    change: TagChange,
+) -> Result<Decided, NoMemory>
+    requires known { All (λ (n : Notice). IsOfLog (length state.now.hosts.items) n.log) draft.notices }
+    ensures { IfOk result (Enters state.now request.now draft over.now change) }
+{
+    let Draft {
+        payload,
+        changes,
+        tags: _,
+        notices,
+        lists: _,
+    } = draft;
+    let mut effects = changes;
+    put_ends(over, &mut effects)?;
+    put_notices(state, &notices, &mut effects)?;
+    Ok(Decided {
+        reply: answer(request, Code::Success, payload),
+        effects,
+        update: Update {
+            lists: None,
+            tags: change,
+        },
+    })
+}

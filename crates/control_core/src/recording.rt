@@ -1,0 +1,108 @@
+//! The effects of a step: its changes, the ends of tags, and its records.
+
+ghost use Rattle.device_state.specs.Kept.{IsKept};
+ghost use Rattle.control_core.specs.Recording.{next_by, record_by, records_by, told};
+ghost use Rattle.device_state.specs.Updates.{IsOfLog};
+ghost use Rattle.device_rules.specs.Logs.{log_of};
+ghost use Rattle.device_rules.specs.Outcomes.{entered_all};
+ghost use Rattle.host_commands.specs.declared.notices.Notice.{Notice};
+ghost use Rattle.journal_core.specs.Entries.{effects as effects_in};
+ghost use Rattle.journal_core.specs.declared.entries.Entry.{Entry};
+ghost use Rattle.journal_core.specs.declared.outcome.Effect.{Effect};
+ghost use Rattle.region_config.specs.Configurations.{Configuration};
+ghost use Rattle.std.specs.Prelude.{◌≡◌, ◌++◌, ◌-◌, All, List, OnOk, length, map};
+
+use dcd_base::{LogId, NoMemory, Seq, Tag};
+use device_state::State;
+use event_log::EventLog;
+use event_records::Event;
+use host_commands::Notice;
+use journal_core::{Effect, Effects};
+
+/// The greatest handle of a record.
+const LAST_HANDLE: u16 = 65_535;
+
+/// Puts the ends of tags behind the changes.
+pub(crate) fn put_ends(tags: &[Tag], effects: &mut Effects) -> Result<(), NoMemory>
+    ensures { OnOk result (effects.new ≡ effects.old ++ map Effect.TagEnd tags.now) }
+{
+    for i in 0..tags.len() {
+        effects.push(Effect::TagEnd(tags[i]))?;
+    }
+    Ok(())
+}
+
+/// Puts the records of all notices behind the changes.
+pub(crate) fn put_notices(
+    state: &State,
+    notices: &Seq<Notice>,
+    effects: &mut Effects,
+) -> Result<(), NoMemory>
+    requires known { All (λ (n : Notice). IsOfLog (length state.now.hosts.items) n.log) notices.now }
+    ensures { OnOk result ((c : Configuration) (journal : List Entry) → IsKept c journal state.now → effects.new ≡ effects.old ++ told (effects_in journal) notices.now) }
+{
+    for i in 0..notices.len() {
+        put_notice(state, &notices.as_slice()[i], effects)?;
+    }
+    Ok(())
+}
+
+/// Puts the records of a notice behind the changes.
+fn put_notice(state: &State, notice: &Notice, effects: &mut Effects) -> Result<(), NoMemory>
+    requires known { IsOfLog (length state.now.hosts.items) notice.now.log }
+    ensures { OnOk result ((c : Configuration) (journal : List Entry) → IsKept c journal state.now → effects.new ≡ effects.old ++ entered_all notice.now.log (log_of notice.now.log (effects_in journal)) notice.now.events) }
+{
+    put_records(
+        state.log(notice.log),
+        &notice.log,
+        notice.events.as_slice(),
+        effects,
+    )
+}
+
+/// Puts the records for one log: each under the next handle, or counted as missed where the log is full.
+fn put_records(
+    log: &EventLog,
+    id: &LogId,
+    events: &[Event],
+    effects: &mut Effects,
+) -> Result<(), NoMemory>
+    ensures { OnOk result (effects.new ≡ effects.old ++ records_by id.now log.now.next (log.now.capacity - length log.now.records) events.now) }
+{
+    let mut next = log.next_handle();
+    let mut room = log.room();
+    for i in 0..events.len() {
+        effects.push(record_of(id, next, room, &events[i]))?;
+        next = next_behind(next, room);
+        room = room.saturating_sub(1);
+    }
+    Ok(())
+}
+
+/// A record for a log with this next handle and so much room.
+fn record_of(id: &LogId, next: u16, room: u32, event: &Event) -> Effect
+    ensures { result ≡ record_by id.now next room event.now }
+{
+    if room == 0 {
+        Effect::Missed(*id)
+    } else {
+        Effect::Logged(
+            *id,
+            Event {
+                handle: next,
+                ..*event
+            },
+        )
+    }
+}
+
+/// The next handle after a record.
+fn next_behind(next: u16, room: u32) -> u16
+    ensures { result ≡ next_by next room }
+{
+    if room == 0 {
+        next
+    } else {
+        1 + next % LAST_HANDLE
+    }
+}

@@ -1,0 +1,301 @@
+-- What every device keeps is kept by one more entry.
+use Rattle.std.proofs.Common.{◌≡◌, ℕ, ◌+◌, ◌<◌, Bool, true, false, get_or, leb, ◌&&◌, ◌==◌, List, [], ◌∷◌, ◌++◌, length, refl, sym, ap, subst, ◌∙◌, append-nil, add-zero, arith}
+use Rattle.std.specs.Prelude.{All, IfOk, IsFalse, IsTrue, fold, if◌then◌else◌}
+use Rattle.std.specs.List.{filter, list_any}
+use Rattle.std.specs.Option.{option_to_list}
+use Rattle.std.proofs.Common.{None, Some}
+use Rattle.std.specs.declared.result.Result.{Result}
+use Rattle.std.specs.declared.result.Result.TheVariants.{Ok, Err}
+use Rattle.std.proofs.lemmas.Bool.{and_from, eq-eqb, le-leb, lt-ltb}
+use Rattle.std.proofs.lemmas.Nat.Bits.{bit_at-zero}
+use Rattle.std.proofs.lemmas.List.{length-append}
+use Rattle.std.proofs.lemmas.List.Elements.{All-nil, All-push, All-weaker}
+use Rattle.std.proofs.lemmas.List.Sums.{fold_push}
+use Rattle.dcd_base.specs.declared.failures.AccessFault.{AccessFault}
+use Rattle.dcd_base.specs.declared.ids.HostId.{HostId}
+use Rattle.dcd_base.specs.declared.media.Change.{Change}
+use Rattle.dcd_base.specs.declared.media.Place.{Place}
+use Rattle.dcd_base.specs.declared.steps.Actor.{Actor}
+use Rattle.dcd_base.specs.declared.steps.Stamp.{Stamp}
+use Rattle.granule_mem.specs.Contents.{IsFresh, Media, holders_in, word_in}
+use Rattle.journal_core.specs.declared.acts.Act.{Act}
+use Rattle.journal_core.specs.declared.acts.Reply.{Reply}
+use Rattle.journal_core.specs.declared.entries.Entry.{Entry}
+use Rattle.journal_core.specs.Entries.{effects, is_control}
+use Rattle.journal_core.specs.Holders.{holds}
+use Rattle.journal_core.specs.Merging.{commands_in, is_later}
+use Rattle.journal_core.proofs.EachSteps.{Each-push}
+use Rattle.journal_core.proofs.JournalSteps.{Numbered-push, commands_in-push, effects-push}
+use Rattle.media_map.specs.Places.{locate}
+use Rattle.region_config.specs.Configurations.{Configuration}
+use Rattle.region_config.specs.Granules.{granule_total}
+use Rattle.region_config.specs.Soundness.{IsSound}
+use Rattle.tag_refs.specs.Hosts.{has_host}
+use Rattle.device_rules.specs.Hosts.{changes_of, moves}
+use Rattle.device_rules.specs.Legal.{Meets, access_at, granted_reply, is_zeroing, stored_at, word_after, word_by, word_of, written_by}
+use Rattle.control_core.specs.ChangedRuns.{AreChanges, AreHolders, holders_after}
+use Rattle.control_core.specs.Deciding.{IsShort}
+use Rattle.control_core.specs.Steps.{MayStep, entry_of}
+use Rattle.device_plain.specs.Accesses.{AreMade, StoresAt, access_entry, granted_in, held_at, load_said, store_said, word_from}
+use Rattle.device_plain.specs.Keeping.{Keeps}
+use Rattle.device_plain.specs.Numbering.{IsCounted, IsReachedBy}
+use Rattle.device_plain.proofs.Answered.{answer_same}
+use Rattle.device_plain.proofs.Numbered.{before_access, before_command, commands-push, reached_access, reached_command, since-push}
+
+never : IsTrue false → ⊥
+never e = cc
+
+-- the journal grows by the entry, be it the device's own or the control's
+pub grown : (is_own : Bool) (own control : List Entry) (e : Entry) →
+    (if is_own then own ++ option_to_list (if is_own then Some e else None) else control ++ e ∷ []) ≡ (if is_own then own else control) ++ e ∷ []
+grown true own control e = refl
+grown false own control e = refl
+
+-- a fresh device
+pub keeps_first : (c : Configuration) (m : Media) → IsSound c → length m.holders ≡ granule_total c → IsFresh m → Keeps c [] m [] 0
+keeps_first c m sound granules fresh = record {
+  sound = sound;
+  legal = tt;
+  numbered = record { stamped = tt; rising = λ i j d under below. absurd (omega (arith, below)) };
+  counted = tt;
+  short = All-nil (λ (x : Entry). IsShort x.reply);
+  commands = refl;
+  count = refl;
+  effects_are = refl;
+  changes = λ h. refl;
+  since = refl;
+  few = omega arith;
+  reached = All-nil (λ (x : Entry). IsReachedBy 0 0 x.stamp);
+  granules = granules;
+  holders = λ g below h host. ap (λ bits. has_host bits h) (fresh.unheld g) ∙ nobody h;
+  words = λ g w below. fresh.zeroed g w;
+}
+  where
+    nobody : (h : HostId) → has_host 0 h ≡ false
+    nobody h = ap (λ n. n == 1) (bit_at-zero h)
+
+module _ (c : Configuration) (control : List Entry) (m : Media) (journal : List Entry) (since : ℕ) (k : Keeps c control m journal since) where
+  -- ---- a command or a scrub
+
+  -- the answer over the commands and scrubs is that over all entries
+  command_meets : (pass line : ℕ) (actor : Actor) (act : Act) → MayStep c actor act → Meets c journal (entry_of c control pass line actor act)
+  command_meets pass line (Actor.Host h) (Act.Command q) may = record {
+    allowed = may.fits;
+    reply = ap (λ r. r.0) (answer_same c control journal k.effects_are k.changes (Actor.Host h) (Act.Command q));
+    effects = ap (λ r. r.1) (answer_same c control journal k.effects_are k.changes (Actor.Host h) (Act.Command q));
+  }
+  command_meets pass line (Actor.Host h) (Act.Load d) may = absurd (never may.control)
+  command_meets pass line (Actor.Host h) (Act.Store d value) may = absurd (never may.control)
+  command_meets pass line (Actor.Host h) (Act.Scrub n) may = absurd (never may.fits)
+  command_meets pass line Actor.Manager act may = record {
+    allowed = may.fits;
+    reply = ap (λ r. r.0) (answer_same c control journal k.effects_are k.changes Actor.Manager act);
+    effects = ap (λ r. r.1) (answer_same c control journal k.effects_are k.changes Actor.Manager act);
+  }
+  command_meets pass line Actor.Sanitizer act may = record {
+    allowed = may.fits;
+    reply = ap (λ r. r.0) (answer_same c control journal k.effects_are k.changes Actor.Sanitizer act);
+    effects = ap (λ r. r.1) (answer_same c control journal k.effects_are k.changes Actor.Sanitizer act);
+  }
+
+  -- it stores no word
+  stores_nothing : (g w value : ℕ) (actor : Actor) (act : Act) (reply : Reply) → IsTrue (is_control act) → word_by c g w value actor act reply ≡ value
+  stores_nothing g w value (Actor.Host h) (Act.Command q) reply is = refl
+  stores_nothing g w value (Actor.Host h) (Act.Load d) reply is = refl
+  stores_nothing g w value (Actor.Host h) (Act.Store d new) reply is = absurd (never is)
+  stores_nothing g w value (Actor.Host h) (Act.Scrub n) reply is = refl
+  stores_nothing g w value Actor.Manager act reply is = refl
+  stores_nothing g w value Actor.Sanitizer act reply is = refl
+
+  module _ (pass line : ℕ) (actor : Actor) (act : Act) (may : MayStep c actor act) where
+    abbrev next : Entry
+    next = entry_of c control pass line actor act
+
+    pub keeps_command : IsShort next.reply → (changes : List Change) → AreChanges c (effects control) next.effects changes →
+        (made : Media) → AreMade m made changes → Keeps c (control ++ next ∷ []) made (journal ++ next ∷ []) 0
+    keeps_command short changes are made is = record {
+      sound = k.sound;
+      legal = Each-push (Meets c) journal next k.legal (command_meets pass line actor act may);
+      numbered = Numbered-push journal next k.numbered
+          (ap (λ b. if b then ((length control + 1) == (commands_in journal + 1)) && (0 == 0) else ((length control + 1) == commands_in journal) && false) may.control
+          ∙ and_from ((length control + 1) == (commands_in journal + 1)) true (eq-eqb (length control + 1) (commands_in journal + 1) (ap (λ n. n + 1) (sym k.count))) refl)
+          (All-weaker (λ (x : Entry). IsReachedBy (length control) since x.stamp) (λ (x : Entry). IsFalse (is_later x.stamp next.stamp)) (λ x r. before_command (length control) since x.stamp r) journal k.reached);
+      counted = Each-push IsCounted journal next k.counted (
+          (λ i. record { number = counted_is i + 1; count = 0 })
+          ∙ sym (ap (λ b. if b then first else other) may.control));
+      short = All-push (λ (x : Entry). IsShort x.reply) journal next k.short short;
+      commands = ap (λ cs. cs ++ next ∷ []) k.commands
+          ∙ sym (commands-push journal next ∙ ap (λ b. commands ++ (if b then next ∷ [] else [])) may.control);
+      count = commands_in-push journal next ∙ ap (λ b. commands_in journal + (if b then 1 else 0)) may.control ∙ ap (λ n. n + 1) k.count ∙ sym longer;
+      effects_are = effects-push control next ∙ past;
+      changes = λ h.
+          fold_push (moved h) 0 control next
+          ∙ ap (λ n. moved h n next) (k.changes h)
+          ∙ sym (fold_push (moved h) 0 journal next);
+      since = sym (since-push journal next ∙ ap (λ b. if b then 0 else since_now + 1) may.control);
+      few = omega arith;
+      reached = subst (λ n. All (λ (x : Entry). IsReachedBy n 0 x.stamp) (journal ++ next ∷ [])) (sym longer) (
+          All-push (λ (x : Entry). IsReachedBy (length control + 1) 0 x.stamp) journal next
+          (All-weaker (λ (x : Entry). IsReachedBy (length control) since x.stamp) (λ (x : Entry). IsReachedBy (length control + 1) 0 x.stamp) (λ x r. reached_command (length control) since x.stamp r) journal k.reached)
+          (record { below = omega arith; count = λ e. omega arith }));
+      granules = is.granules ∙ k.granules;
+      holders = λ g below.
+          subst (λ bits. AreHolders c g (effects (journal ++ next ∷ [])) bits) (sym (is.holders g)) (
+          subst (λ es. AreHolders c g es (fold (holders_after g) (holders_in m g) changes)) past (
+          are.holders g below (holders_in m g) (subst (λ es. AreHolders c g es (holders_in m g)) (sym k.effects_are) (k.holders g below))));
+      words = λ g w below.
+          is.words g w
+          ∙ (λ i. if are.zeroed g below i then 0 else k.words g w below i)
+          ∙ ap (λ value. if list_any (is_zeroing g) next.effects then 0 else value) (sym (stores_nothing g w (word_of c journal g w) actor act next.reply may.control))
+          ∙ sym (fold_push (word_after c g w) 0 journal next);
+    }
+      where
+        counted_is : length control ≡ commands_in journal
+        counted_is = sym k.count
+
+        since_now : ℕ
+        since_now = fold (λ n (x : Entry). if is_control x.act then 0 else n + 1) 0 journal
+
+        first : Stamp
+        first = record { number = commands_in journal + 1; count = 0 }
+
+        other : Stamp
+        other = record { number = commands_in journal; count = since_now + 1 }
+
+        commands : List Entry
+        commands = filter (λ (x : Entry). is_control x.act) journal
+
+        longer : length (control ++ next ∷ []) ≡ length control + 1
+        longer = length-append control (next ∷ [])
+
+        past : effects control ++ next.effects ≡ effects (journal ++ next ∷ [])
+        past = ap (λ es. es ++ next.effects) k.effects_are ∙ sym (effects-push journal next)
+
+        moved : HostId → ℕ → Entry → ℕ
+        moved h n x = if list_any (moves h) x.effects then n + 1 else n
+
+  -- ---- a load or a store
+  module _ (e : Entry) (meets : Meets c journal e) (access : is_control e.act ≡ false) (none : e.effects ≡ []) (short : IsShort e.reply)
+      (stamp : e.stamp ≡ record { number = length control; count = since + 1 }) where
+    pub keeps_access : (new : Media) → new.holders ≡ m.holders →
+        ((g w : ℕ) → g < granule_total c → word_in new g w ≡ word_by c g w (word_in m g w) e.actor e.act e.reply) → Keeps c control new (journal ++ e ∷ []) (since + 1)
+    keeps_access new holders words = record {
+      sound = k.sound;
+      legal = Each-push (Meets c) journal e k.legal meets;
+      numbered = Numbered-push journal e k.numbered
+          (ap (λ b. if b then (e.stamp.number == (commands_in journal + 1)) && (e.stamp.count == 0) else (e.stamp.number == commands_in journal) && leb 1 e.stamp.count) access
+          ∙ ap (λ (s : Stamp). (s.number == commands_in journal) && leb 1 s.count) stamp
+          ∙ and_from (length control == commands_in journal) (leb 1 (since + 1)) (eq-eqb (length control) (commands_in journal) (sym k.count)) (le-leb 1 (since + 1) (omega arith)))
+          (All-weaker (λ (x : Entry). IsReachedBy (length control) since x.stamp) (λ (x : Entry). IsFalse (is_later x.stamp e.stamp))
+          (λ x r. subst (λ s. IsFalse (is_later x.stamp s)) (sym stamp) (before_access (length control) since x.stamp r)) journal k.reached);
+      counted = Each-push IsCounted journal e k.counted (
+          stamp ∙ (λ i. record { number = counted_is i; count = k.since i + 1 })
+          ∙ sym (ap (λ b. if b then first else other) access));
+      short = All-push (λ (x : Entry). IsShort x.reply) journal e k.short short;
+      commands = k.commands ∙ sym (commands-push journal e ∙ ap (λ b. commands ++ (if b then e ∷ [] else [])) access ∙ append-nil commands);
+      count = commands_in-push journal e ∙ ap (λ b. commands_in journal + (if b then 1 else 0)) access ∙ add-zero (commands_in journal) ∙ k.count;
+      effects_are = k.effects_are ∙ sym past;
+      changes = λ h. k.changes h ∙ sym (fold_push (moved h) 0 journal e ∙ ap (λ es. if list_any (moves h) es then changes_of h journal + 1 else changes_of h journal) none);
+      since = ap (λ n. n + 1) k.since ∙ sym (since-push journal e ∙ ap (λ b. if b then 0 else since_now + 1) access);
+      few = let long = length-append journal (e ∷ []) in omega (arith, k.few, long);
+      reached = All-push (λ (x : Entry). IsReachedBy (length control) (since + 1) x.stamp) journal e
+          (All-weaker (λ (x : Entry). IsReachedBy (length control) since x.stamp) (λ (x : Entry). IsReachedBy (length control) (since + 1) x.stamp) (λ x r. reached_access (length control) since x.stamp r) journal k.reached)
+          (subst (IsReachedBy (length control) (since + 1)) (sym stamp) (record { below = omega arith; count = λ same. omega arith }));
+      granules = ap length holders ∙ k.granules;
+      holders = λ g below.
+          subst (λ es. AreHolders c g es (holders_in new g)) (sym past) (
+          subst (AreHolders c g (effects journal)) (sym (ap (λ held. get_or held g 0) holders)) (k.holders g below));
+      words = λ g w below.
+          words g w below
+          ∙ ap (λ value. word_by c g w value e.actor e.act e.reply) (k.words g w below)
+          ∙ ap (λ es. if list_any (is_zeroing g) es then 0 else word_by c g w (word_of c journal g w) e.actor e.act e.reply) (sym none)
+          ∙ sym (fold_push (word_after c g w) 0 journal e);
+    }
+      where
+        counted_is : length control ≡ commands_in journal
+        counted_is = sym k.count
+
+        since_now : ℕ
+        since_now = fold (λ n (x : Entry). if is_control x.act then 0 else n + 1) 0 journal
+
+        first : Stamp
+        first = record { number = commands_in journal + 1; count = 0 }
+
+        other : Stamp
+        other = record { number = commands_in journal; count = since_now + 1 }
+
+        commands : List Entry
+        commands = filter (λ (x : Entry). is_control x.act) journal
+
+        past : effects (journal ++ e ∷ []) ≡ effects journal
+        past = effects-push journal e ∙ ap (λ es. effects journal ++ es) none ∙ append-nil (effects journal)
+
+        moved : HostId → ℕ → Entry → ℕ
+        moved h n x = if list_any (moves h) x.effects then n + 1 else n
+
+  -- whether the host holds the granule stands in the memory
+  held_is : (h : HostId) (g : ℕ) → h < c.hosts → g < granule_total c → has_host (holders_in m g) h ≡ holds h g (effects journal)
+  held_is h g host below = k.holders g below h host
+
+  load_at : (h : HostId) (d : ℕ) → h < c.hosts → (r : Result Place AccessFault) → IfOk r (λ (p : Place). p.granule < granule_total c) →
+      load_said (word_from m (held_at h m r)) ≡ access_at c journal h (Act.Load d) r
+  load_at h d host (Err fault) inside = refl
+  load_at h d host (Ok p) inside =
+      ap (λ b. load_said (word_from m (if b then Ok p else Err AccessFault.NotGranted))) (held_is h p.granule host inside)
+      ∙ by (holds h p.granule (effects journal))
+    where
+      by : (b : Bool) → load_said (word_from m (if b then Ok p else Err AccessFault.NotGranted))
+          ≡ (if b then granted_reply c journal p (Act.Load d) else Reply.Refused AccessFault.NotGranted)
+      by true = ap Reply.Word (k.words p.granule p.word inside)
+      by false = refl
+
+  store_at : (h : HostId) (d value : ℕ) → h < c.hosts → (r : Result Place AccessFault) → IfOk r (λ (p : Place). p.granule < granule_total c) →
+      store_said (held_at h m r) ≡ access_at c journal h (Act.Store d value) r
+  store_at h d value host (Err fault) inside = refl
+  store_at h d value host (Ok p) inside =
+      ap (λ b. store_said (if b then Ok p else Err AccessFault.NotGranted)) (held_is h p.granule host inside)
+      ∙ by (holds h p.granule (effects journal))
+    where
+      by : (b : Bool) → store_said (if b then Ok p else Err AccessFault.NotGranted)
+          ≡ (if b then Reply.Stored else Reply.Refused AccessFault.NotGranted)
+      by true = refl
+      by false = refl
+
+  -- a store writes where it was told Stored
+  written : (h : HostId) (d new g w old : ℕ) (r : Result Place AccessFault) → r ≡ locate c h d →
+      stored_at g w old (held_at h m r) new ≡ written_by c h g w old (Act.Store d new) (store_said (held_at h m r))
+  written h d new g w old (Err fault) is = refl
+  written h d new g w old (Ok p) is = by (has_host (holders_in m p.granule) h)
+    where
+      by : (b : Bool) → stored_at g w old (if b then Ok p else Err AccessFault.NotGranted) new
+          ≡ written_by c h g w old (Act.Store d new) (store_said (if b then Ok p else Err AccessFault.NotGranted))
+      by true = ap (λ r. stored_at g w old r new) is
+      by false = refl
+
+  module _ (pass line : ℕ) (h : HostId) (d : ℕ) (host : h < c.hosts) (inside : IfOk (locate c h d) (λ (p : Place). p.granule < granule_total c)) where
+    pub keeps_load : (e : Entry) → e ≡ access_entry pass line h (Act.Load d) (load_said (word_from m (granted_in c m h d))) (length control) (since + 1) →
+        Keeps c control m (journal ++ e ∷ []) (since + 1)
+    keeps_load e is = subst (λ x. Keeps c control m (journal ++ x ∷ []) (since + 1)) (sym is) (
+        keeps_access loaded (record { allowed = lt-ltb h c.hosts host; reply = load_at h d host (locate c h d) inside; effects = refl })
+        refl refl (told (word_from m (granted_in c m h d))) refl m refl (λ g w below. refl))
+      where
+        loaded : Entry
+        loaded = access_entry pass line h (Act.Load d) (load_said (word_from m (granted_in c m h d))) (length control) (since + 1)
+
+        told : (r : Result ℕ AccessFault) → IsShort (load_said r)
+        told (Ok word) = tt
+        told (Err fault) = tt
+
+    pub keeps_store : (value : ℕ) (new : Media) → StoresAt m new (granted_in c m h d) value → new.holders ≡ m.holders →
+        (e : Entry) → e ≡ access_entry pass line h (Act.Store d value) (store_said (granted_in c m h d)) (length control) (since + 1) →
+        Keeps c control new (journal ++ e ∷ []) (since + 1)
+    keeps_store value new stores holders e is = subst (λ x. Keeps c control new (journal ++ x ∷ []) (since + 1)) (sym is) (
+        keeps_access stored (record { allowed = lt-ltb h c.hosts host; reply = store_at h d value host (locate c h d) inside; effects = refl })
+        refl refl (told (granted_in c m h d)) refl new holders (λ g w below. stores g w ∙ written h d value g w (word_in m g w) (locate c h d) refl))
+      where
+        stored : Entry
+        stored = access_entry pass line h (Act.Store d value) (store_said (granted_in c m h d)) (length control) (since + 1)
+
+        told : (r : Result Place AccessFault) → IsShort (store_said r)
+        told (Ok p) = tt
+        told (Err fault) = tt

@@ -1,0 +1,41 @@
+-- The stamps of a journal rise as it grows.
+use Rattle.std.proofs.Common.{◌≡◌, ℕ, ◌+◌, ◌&&◌, ◌==◌, ltb, List, [], ◌∷◌, ◌++◌, sym, inl, inr, arith}
+use Rattle.std.specs.Prelude.{IsFalse, if◌then◌else◌}
+use Rattle.std.proofs.lemmas.Bool.{and_left, and_right, cases_eq, le-ltb, ne_eqb, or_from}
+use Rattle.std.proofs.lemmas.List.Elements.{filter-append}
+use Rattle.std.proofs.lemmas.List.Sums.{fold_push}
+use Rattle.dcd_base.specs.declared.steps.Stamp.{Stamp}
+use Rattle.journal_core.specs.declared.entries.Entry.{Entry}
+use Rattle.journal_core.specs.Entries.{is_control}
+use Rattle.journal_core.specs.Merging.{is_later}
+use Rattle.device_plain.specs.Numbering.{IsReachedBy, accesses_since, commands_of}
+
+-- the next command or scrub has a later stamp, and so has the next access
+pub before_command : (n since : ℕ) (s : Stamp) → IsReachedBy n since s → IsFalse (is_later s (record { number = n + 1; count = 0 }))
+before_command n since s r =
+    or_from (ltb (n + 1) s.number) (((n + 1) == s.number) && ltb 0 s.count)
+    (le-ltb (n + 1) s.number (omega (arith, r.below)))
+    (and_left ((n + 1) == s.number) (ltb 0 s.count) (ne_eqb (n + 1) s.number (λ e. absurd (omega (arith, e, r.below)))))
+
+pub before_access : (n since : ℕ) (s : Stamp) → IsReachedBy n since s → IsFalse (is_later s (record { number = n; count = since + 1 }))
+before_access n since s r =
+    or_from (ltb n s.number) ((n == s.number) && ltb (since + 1) s.count)
+    (le-ltb n s.number r.below)
+    (elim (cases_eq s.number n) [
+      | inl same ↦ and_right (n == s.number) (ltb (since + 1) s.count) (le-ltb (since + 1) s.count (omega (arith, r.count same)))
+      | inr other ↦ and_left (n == s.number) (ltb (since + 1) s.count) (ne_eqb n s.number (λ e. other (sym e)))
+    ])
+
+-- so it is behind them
+pub reached_command : (n since : ℕ) (s : Stamp) → IsReachedBy n since s → IsReachedBy (n + 1) 0 s
+reached_command n since s r = record { below = omega (arith, r.below); count = λ e. absurd (omega (arith, e, r.below)) }
+
+pub reached_access : (n since : ℕ) (s : Stamp) → IsReachedBy n since s → IsReachedBy n (since + 1) s
+reached_access n since s r = record { below = r.below; count = λ e. omega (arith, r.count e) }
+
+-- what one more entry makes of the commands and of the accesses since
+pub commands-push : (journal : List Entry) (e : Entry) → commands_of (journal ++ e ∷ []) ≡ commands_of journal ++ (if is_control e.act then e ∷ [] else [])
+commands-push journal e = filter-append (λ (x : Entry). is_control x.act) journal (e ∷ [])
+
+pub since-push : (journal : List Entry) (e : Entry) → accesses_since (journal ++ e ∷ []) ≡ (if is_control e.act then 0 else accesses_since journal + 1)
+since-push journal e = fold_push (λ n (x : Entry). if is_control x.act then 0 else n + 1) 0 journal e

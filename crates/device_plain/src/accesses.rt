@@ -1,0 +1,138 @@
+//! Loads and stores of hosts.
+
+ghost use Rattle.device_plain.specs.Accesses.{StoresAt, access_entry as access_entry_of, granted_in, load_said, store_said, word_from};
+ghost use Rattle.dcd_base.specs.declared.failures.AccessFault.{AccessFault};
+ghost use Rattle.dcd_base.specs.declared.media.Place.{Place};
+ghost use Rattle.media_map.specs.Places.{locate};
+ghost use Rattle.region_config.specs.Granules.{granule_total};
+ghost use Rattle.std.specs.Prelude.{◌≡◌, ◌+◌, ◌<◌, ◌^◌, IfOk, OnErr, OnOk, length};
+ghost use Rattle.tag_refs.specs.Hosts.{has_host};
+
+use control_core::Control;
+use dcd_base::{AccessFault, Actor, HostId, NoMemory, Place, Stamp};
+use granule_mem::Memory;
+use journal_core::{Act, Effects, Entry, Reply};
+use media_map::locate;
+use region_config::Config;
+use std::alloc::Global;
+
+/// Whether the host, below 16, is among the holders: bit h stands for host h.
+fn is_held_by(holders: u16, host: u8) -> bool
+    requires { host < 16 }
+    ensures { result ≡ has_host holders host }
+{
+    holders >> host & 1 == 1
+}
+
+/// The place of the host's address, where the host holds it, or why there is none.
+#[tactic(auto, using(crate::proofs::MadeChanges::word_inside))]
+pub(crate) fn granted(
+    config: &Config,
+    memory: &Memory,
+    host: HostId,
+    dpa: u64,
+) -> Result<Place, AccessFault>
+    requires host { host < config.now.hosts }
+    requires granules { length memory.now.holders ≡ granule_total config.now }
+    ensures value { result ≡ granted_in config.now memory.now host dpa }
+    ensures inside { IfOk result (λ p. p.granule < granule_total config.now) }
+    ensures placed { IfOk (locate config.now host dpa) (λ p. p.granule < granule_total config.now) }
+{
+    // There are 16 hosts at most.
+    let _hosts = config.hosts();
+    match locate(config, host, dpa) {
+        Ok(place) => {
+            if is_held_by(memory.holders(place.granule), host.0) {
+                Ok(place)
+            } else {
+                Err(AccessFault::NotGranted)
+            }
+        }
+        Err(fault) => Err(fault),
+    }
+}
+
+/// The word at the place.
+pub(crate) fn word_at(
+    memory: &Memory,
+    place: &Result<Place, AccessFault>,
+) -> Result<u64, AccessFault>
+    requires { IfOk place.now (λ p. p.granule < length memory.now.holders) }
+    ensures { result ≡ word_from memory.now place.now }
+{
+    match place {
+        Ok(place) => Ok(memory.read(place.granule, place.word)),
+        Err(fault) => Err(*fault),
+    }
+}
+
+/// Stores a word at the place, if there is one.
+pub(crate) fn store_at(
+    memory: &mut Memory,
+    place: &Result<Place, AccessFault>,
+    value: u64,
+) -> Result<(), NoMemory>
+    requires { IfOk place.now (λ p. p.granule < length memory.old.holders) }
+    ensures words { OnOk result (StoresAt memory.old memory.new place.now value) }
+    ensures holders { memory.new.holders ≡ memory.old.holders }
+    ensures kept { OnErr result (memory.new ≡ memory.old) }
+{
+    match place {
+        Ok(place) => memory.write(place.granule, place.word, value),
+        Err(_) => Ok(()),
+    }
+}
+
+/// What is replied to a load.
+pub(crate) fn load_reply(found: &Result<u64, AccessFault>) -> Reply
+    ensures { result ≡ load_said found.now }
+{
+    match found {
+        Ok(word) => Reply::Word(*word),
+        Err(fault) => Reply::Refused(*fault),
+    }
+}
+
+/// What is replied to a store.
+pub(crate) fn store_reply(place: &Result<Place, AccessFault>) -> Reply
+    ensures { result ≡ store_said place.now }
+{
+    match place {
+        Ok(_) => Reply::Stored,
+        Err(fault) => Reply::Refused(*fault),
+    }
+}
+
+/// The stamp of the next access, where so many came since the last command or scrub.
+pub(crate) fn stamp_of(control: &Control, since: u64) -> Stamp
+    requires { since < 2 ^ 63 }
+    ensures { result ≡ record { number = length control.now.entries; count = since + 1 } }
+{
+    Stamp {
+        number: control.entries().len() as u64,
+        count: since + 1,
+    }
+}
+
+/// The entry of an access, which has no effects.
+pub(crate) fn access_entry(
+    alloc: Global,
+    pass: u32,
+    line: u32,
+    host: HostId,
+    act: Act,
+    reply: Reply,
+    stamp: Stamp,
+) -> Entry
+    ensures { result ≡ access_entry_of pass line host act reply stamp.number stamp.count }
+{
+    Entry {
+        pass,
+        line,
+        actor: Actor::Host(host),
+        act,
+        reply,
+        effects: Effects::new(alloc),
+        stamp,
+    }
+}
