@@ -105,5 +105,5 @@ pub fn usage<K: Sink>(sink: &mut K) -> Result<(), Failed>
 fn put_usage<K: Sink>(printer: &mut Printer, sink: &mut K)
     ensures { Prints (K.taken sink.old) (K.faults sink.old) printer.old (K.taken sink.new) (K.faults sink.new) printer.new usage_line }
 {
-    printer.put(sink, b"usage: dcdsim\n");
+    printer.put(sink, b"usage: dcdsim [--gen N]\n");
 }

@@ -235,5 +235,5 @@ fn words_that_are_not_taken_have_a_line(rt: HostRuntime) {
     let alloc = rt.alloc();
     let mut words = MemSink::new(alloc, 4, Vec::new(alloc));
     assert_eq!(rt; usage(&mut words), Ok(()));
-    assert!(rt; took(&words, b"usage: dcdsim\n"));
+    assert!(rt; took(&words, b"usage: dcdsim [--gen N]\n"));
 }

@@ -1,3 +1,5 @@
+mod Choices
+mod Digits
 mod Endings
 mod Fronts
 mod Inputs

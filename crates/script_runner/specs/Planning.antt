@@ -13,11 +13,6 @@ use Rattle.report.specs.Refusals.{refusal_line, usage_line}
 use Rattle.script_runner.specs.declared.status.Status.{Status}
 use Rattle.script_runner.specs.Running.{IsSerialRun}
 
--- By now no word is accepted.
-abbrev pub accepts : {A : Type 0} → List A → Bool
-accepts [] = true
-accepts (word ∷ words) = false
-
 -- the most bytes that are read: one more than a script may have
 abbrev pub most_read : ℕ
 most_read = 16777217

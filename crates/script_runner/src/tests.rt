@@ -8,6 +8,7 @@ mod cleaning;
 mod configuration;
 mod ends;
 mod four_hosts;
+mod generated;
 mod heads;
 mod logs;
 mod payloads;

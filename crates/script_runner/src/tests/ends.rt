@@ -141,6 +141,9 @@ fn words_are_refused(rt: HostRuntime) -> Result<(), Fail> {
     );
     assert_eq!(rt; status, Status::Usage);
     assert_eq!(rt; status.number(), 2);
-    assert_eq!(rt; sink.taken().as_slice(), b"usage: dcdsim\n".as_slice());
+    assert_eq!(rt;
+        sink.taken().as_slice(),
+        b"usage: dcdsim [--gen N]\n".as_slice()
+    );
     Ok(())
 }

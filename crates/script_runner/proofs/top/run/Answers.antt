@@ -1,14 +1,23 @@
-use Rattle.std.proofs.Common.{refl, sym, ◌∙◌}
+use Rattle.std.proofs.Common.{refl, inl}
 use Rattle.report.specs.Refusals.{usage_line}
+use Rattle.script_runner.specs.Words.{words_of}
 use Rattle.script_runner.specs.declared.status.Status.{Status}
+use Rattle.script_runner.proofs.Choices.{complete_refused}
 use Rattle.script_runner.proofs.top.run.Goals as goal
+
+-- Refused words stand in the way.
+pub returns-in-Ok-clause-complete : goal.returns-in-Ok-clause-complete
+returns-in-Ok-clause-complete g c = complete_refused (words_of c.args.words.now) _ _ _ c.in-None.ensures
 
 -- A write failed while the line on usage went out.
 pub returns-in-Err-clause-begun : goal.returns-in-Err-clause-begun
-returns-in-Err-clause-begun g c = record {
-  status = Status.Usage;
-  printed = usage_line;
-  rest = c.in-Err.ensures.front.0;
-  planned = (sym c.are_accepted.ensures ∙ c.if-are_accepted.false, refl);
-  took = c.in-Err.ensures.front.1;
-}
+returns-in-Err-clause-begun g c = inl (
+  c.in-None.ensures,
+  record {
+    status = Status.Usage;
+    printed = usage_line;
+    rest = c.in-Err.ensures.front.0;
+    planned = (refl, refl);
+    took = c.in-Err.ensures.front.1;
+  },
+)

@@ -1,0 +1,26 @@
+//! The run of a generated script.
+
+ghost use Rattle.script_runner.specs.Choosing.{EndsGenerated};
+
+use crate::lines::run_lines;
+use crate::status::Status;
+use dcd_base::{Failed, NoMemory, Sink};
+use report::summary;
+use script_gen::generate;
+use std::alloc::Global;
+
+/// Runs the generated script of the seed and writes the summary of its journal.
+pub(crate) fn run_generated<K: Sink>(alloc: Global, seed: u64, sink: &mut K) -> Status
+    ensures { EndsGenerated seed (K.taken sink.old) (K.faults sink.old) (K.taken sink.new) (K.faults sink.new) result }
+{
+    match generate(alloc, seed) {
+        Ok(script) => match run_lines(alloc, script) {
+            Ok(device) => match summary(device.control(), device.journal(), sink) {
+                Ok(()) => Status::Done,
+                Err(Failed) => Status::WriteFault,
+            },
+            Err(NoMemory) => Status::NoMemory,
+        },
+        Err(NoMemory) => Status::NoMemory,
+    }
+}
