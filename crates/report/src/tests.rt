@@ -1,9 +1,7 @@
 //! The texts that are printed.
 
-ghost use Rattle.journal_core.specs.Entries.{is_control};
-ghost use Rattle.dcd_base.specs.declared.steps.Actor.{Actor};
 ghost use Rattle.script_codec.specs.declared.faults.ScriptFault.{ScriptFault};
-ghost use Rattle.std.specs.Prelude.{◌≡◌, ◌≢◌, IfOk, IsTrue};
+ghost use Rattle.std.specs.Prelude.{◌≡◌, ◌≢◌, IfOk};
 
 use super::*;
 use cci_codec::{MessageFault, Request};
@@ -49,14 +47,12 @@ fn fresh(alloc: Global) -> Result<Control, Fail>
 }
 
 /// Host 0 asks for up to 8 regions from region 1 on.
-fn get_configuration(alloc: Global) -> Result<Act, NoMemory>
-    ensures { IfOk result (λ act. IsTrue (is_control act)) }
-{
-    Ok(Act::Command(Request {
+fn get_configuration(alloc: Global) -> Result<Request, NoMemory> {
+    Ok(Request {
         tag: 0x2a,
         opcode: 0x4800,
         payload: Bytes::from_slice(alloc, &[8, 1])?,
-    }))
+    })
 }
 
 /// Takes one such step, as line 1 of pass 0.
@@ -64,7 +60,7 @@ fn step(alloc: Global, control: &mut Control) -> Result<(), NoMemory>
     requires { control.old.config.hosts ≡ 2 }
     ensures { control.new.config ≡ control.old.config }
 {
-    let act = get_configuration(alloc)?;
+    let act = Act::Command(get_configuration(alloc)?);
     let plan = control.prepare(0, 1, Actor::Host(HostId(0)), &act)?;
     let _reply = control.apply(plan);
     Ok(())
