@@ -1,0 +1,45 @@
+-- Records of one kind for the host alone: they join its log, and they bring it their extents.
+use Rattle.std.proofs.Common.{◌≡◌, ◌≤◌, List, [], ◌∷◌, length, true, ap, ◌∙◌, arith}
+use Rattle.std.specs.Prelude.{fold, if◌then◌else◌, ◌==◌}
+use Rattle.std.specs.List.{list_all}
+use Rattle.dcd_base.specs.declared.capacity.Extent.{Extent}
+use Rattle.dcd_base.specs.declared.ids.HostId.{HostId}
+use Rattle.dcd_base.specs.declared.steps.LogId.{LogId}
+use Rattle.event_log.specs.Logs.{logged, room_in}
+use Rattle.event_records.specs.Records.{kind_number}
+use Rattle.event_records.specs.declared.events.EventKind.{EventKind}
+use Rattle.journal_core.specs.declared.outcome.Effect.{Effect}
+use Rattle.region_config.specs.Configurations.{Configuration}
+use Rattle.device_rules.specs.Logs.{log_after, log_of}
+use Rattle.device_rules.specs.Outcomes.{Outcome, effects_of, entered_all, notices_of}
+use Rattle.device_rules.specs.Views.{View, view_after}
+use Rattle.device_steps.proofs.LogHistories.{leaves_logs, told as records_for, told_one}
+use Rattle.device_steps.proofs.LogOutcomes.{length-notices}
+use Rattle.device_steps.proofs.LogSteps.{IsSound, entered_all-room}
+use Rattle.isolation_laws.specs.Solo.{told, with_notices}
+use Rattle.isolation_laws.proofs.JoinedViews.{view_after-told}
+use Rattle.isolation_laws.proofs.RecordItems.{told_outcome, told_records}
+
+module _ (c : Configuration) (h : HostId) (v : View) (past : List Effect) (log : log_of (LogId.Host h) past ≡ v.log) (sound : IsSound v.log)
+    (w : View) (kind : EventKind) (xs : List Extent) (room : length xs ≤ room_in (LogId.Host h) v.log) where
+  -- all records of these extents
+  entries : records_for past ((LogId.Host h, notices_of h w kind xs) ∷ []) ≡ entered_all (LogId.Host h) v.log (notices_of h w kind xs)
+  entries = told_one past (LogId.Host h) (notices_of h w kind xs) ∙ ap (λ own. entered_all (LogId.Host h) own (notices_of h w kind xs)) log
+
+  joins_log : fold (log_after (LogId.Host h)) v.log (records_for past ((LogId.Host h, notices_of h w kind xs) ∷ [])) ≡ logged v.log (notices_of h w kind xs)
+  joins_log =
+      ap (fold (log_after (LogId.Host h)) v.log) entries
+      ∙ entered_all-room (LogId.Host h) v.log (notices_of h w kind xs) sound (omega (arith, length-notices h w kind xs, room))
+
+  -- a command that tells them, and no others
+  module _ (o : Outcome) (notices : o.notices ≡ (LogId.Host h, notices_of h w kind xs) ∷ []) (left : list_all leaves_logs o.changes ≡ true) where
+    pub view_after-notices : view_after c h v (effects_of c past o) ≡ with_notices (view_after c h v o.changes) (notices_of h w kind xs)
+    view_after-notices =
+        view_after-told c h v past o (notices_of h w kind xs) left
+        (ap (λ ns. fold (log_after (LogId.Host h)) v.log (records_for past ns)) notices ∙ joins_log)
+
+    pub told_notices : (asked : EventKind) → told h asked (effects_of c past o) ≡ (if kind_number kind == kind_number asked then xs else [])
+    told_notices asked =
+        told_outcome h asked c past o left
+        ∙ ap (told h asked) (ap (records_for past) notices ∙ entries)
+        ∙ told_records h asked kind w v.log xs sound room

@@ -1,0 +1,49 @@
+-- What the manager takes by force is made of granules.
+use Rattle.std.proofs.Common.{◌≡◌, ℕ, ◌<◌, Bool, true, false, List, map, None}
+use Rattle.std.specs.Prelude.{if◌then◌else◌}
+use Rattle.std.specs.List.{AllByRecursion}
+use Rattle.dcd_base.specs.Words.{◌or◌, same_tag}
+use Rattle.dcd_base.specs.declared.capacity.Extent.{Extent}
+use Rattle.dcd_base.specs.declared.capacity.Tag.{Tag}
+use Rattle.dcd_base.specs.declared.ids.HostId.{HostId}
+use Rattle.dcd_codes.specs.Rules.{each_in}
+use Rattle.extent_list.specs.ExtentLists.{count_in, marked}
+use Rattle.list_rules.specs.Listing.{incomplete, too_many_extents}
+use Rattle.media_map.specs.Places.{region_at}
+use Rattle.region_config.specs.Configurations.{Configuration}
+use Rattle.region_config.specs.Granules.{with_blocks}
+use Rattle.region_config.specs.Soundness.{IsSound}
+use Rattle.release_core.specs.Leaving.{count_after}
+use Rattle.release_core.specs.Removals.{by_tag_rule, listed_rule, tagged}
+use Rattle.device_laws.specs.Pictures.{Picture}
+use Rattle.device_laws.specs.Standing.{IsMade, Stands}
+use Rattle.device_laws.proofs.Going.{IsGoing, some_going}
+use Rattle.device_laws.proofs.Holding.{present_whole}
+use Rattle.device_laws.proofs.Homes.{made_bytes, made_starts}
+use Rattle.device_laws.proofs.LeftStanding.{going_of, going_rule}
+use Rattle.device_laws.proofs.ListSteps.{each-change, each-map}
+use Rattle.device_laws.proofs.OneLeave.{loose}
+use Rattle.device_laws.proofs.Overlaps.{neither}
+use Rattle.isolation_laws.proofs.RemovalViews.{IsOwnRun}
+
+module _ (c : Configuration) (sound : IsSound c) (p : Picture) (s : Stands c p) (h : HostId) (known : h < c.hosts) where
+  own_run : (y : Extent) → IsMade c (p.block (region_at c h y.start)) h (region_at c h y.start) y → IsOwnRun c h y
+  own_run y m =
+      let r : ℕ = region_at c h y.start in record {
+        starts = made_starts c h sound known (p.block r) r y (present_whole c sound p s r m.known) m;
+        bytes = made_bytes c h sound known (p.block r) r y (present_whole c sound p s r m.known) m;
+      }
+
+  going_runs : (ys : List Extent) → IsGoing c p h ys → AllByRecursion (IsOwnRun c h) ys
+  going_runs ys going = each-change (λ y. IsMade c (p.block (region_at c h y.start)) h (region_at c h y.start) y) (IsOwnRun c h) own_run ys going.made
+
+  -- by tag, or listed
+  pub removed_runs : (by_tag : Bool) (r : ℕ) (tag : Tag) (list : List Extent)
+      → (if by_tag then by_tag_rule (p.accepted h) tag else listed_rule (with_blocks c p.block) h (p.accepted h) (count_in (p.offers h)) r list true) ≡ None
+      → AllByRecursion (IsOwnRun c h) (if by_tag then tagged tag (p.accepted h) else map (marked (p.accepted h)) list)
+  removed_runs true r tag list row = going_runs (tagged tag (p.accepted h)) (some_going c sound p (loose c p s) h known (λ x. same_tag x.tag tag))
+  removed_runs false r tag list row =
+      let w : Configuration = with_blocks c p.block in
+      let front = neither _ (too_many_extents (count_after (p.accepted h) (count_in (p.offers h)) list)) row in
+      let rules = neither _ (each_in list (going_rule w h (p.accepted h) (λ x. r)) or incomplete w h (p.accepted h) list) front.0 in
+      each-map (IsOwnRun c h) (IsOwnRun c h) (marked (p.accepted h)) (λ y own. record { starts = own.starts; bytes = own.bytes }) list (going_runs list (going_of c sound p s h known (λ x. r) list rules.1))

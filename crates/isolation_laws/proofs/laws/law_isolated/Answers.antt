@@ -1,0 +1,6 @@
+use Rattle.isolation_laws.proofs.CleanJournals.{legal_clean}
+use Rattle.isolation_laws.proofs.Isolation.{isolated_by}
+use Rattle.isolation_laws.proofs.laws.law_isolated.Goals as goal
+
+pub returns : goal.returns
+returns start c sound = isolated_by c sound (legal_clean c sound)
