@@ -1,17 +1,17 @@
 -- What words ask for is what is looked at in them, and a run by it is what is to be written.
-use Rattle.std.proofs.Common.{◌≡◌, ◌⊎◌, ℕ, ◌+◌, ◌≤◌, Bool, true, false, ◌&&◌, leb, List, [], ◌∷◌, ◌++◌, length, take, drop, Option, Some, None, refl, sym, ap, subst, ◌∙◌, inl, inr, arith}
-use Rattle.std.specs.Prelude.{codes, if◌then◌else◌, nat_eq}
-use Rattle.std.specs.Cmp.Lexicographic.{pointwise, same_text}
+use Rattle.std.proofs.Common.{◌≡◌, ℕ, Bool, true, false, ◌&&◌, leb, List, [], ◌∷◌, ◌++◌, length, take, drop, Option, Some, None, refl, sym, ap, subst, ◌∙◌, inl, inr, arith}
+use Rattle.std.specs.Prelude.{codes, if◌then◌else◌}
+use Rattle.std.specs.Cmp.Lexicographic.{same_text}
 use Rattle.std.specs.List.{list_all}
 use Rattle.std.proofs.Math.Seq.{drop-append_seam, take-append_seam}
 use Rattle.std.proofs.lemmas.Bool.{and_from, and_parts, false≢true, le-leb, leb-true}
 use Rattle.std.proofs.lemmas.Cmp.{nat_list_eq_equiv}
 use Rattle.std.proofs.lemmas.List.{take-append-drop}
 use Rattle.dcd_base.specs.Streams.{HasRisen, IsAtEnd}
-use Rattle.script_runner.specs.Choosing.{EndsGenerated, IsBegunBy, IsSoundBy, IsSummedAs, IsWrittenBy}
+use Rattle.script_runner.specs.Choosing.{EndsGenerated, IsBegunBy, IsSoundBy, IsWrittenBy}
 use Rattle.script_runner.specs.Planning.{IsBegun, IsSound, IsWritten}
 use Rattle.script_runner.specs.Statuses.{IfWhole, OnDone, OnNothing, OnReadFault, OnWriteFault, UnlessFinished}
-use Rattle.script_runner.specs.Words.{Accepts, AreRefused, IsChoice, IsGenItem, IsNumber, choice_of, is_digit, is_number, number_in, same_word, seed_of}
+use Rattle.script_runner.specs.Words.{Accepts, AreRefused, IsChoice, IsNumber, choice_of, is_digit, is_number, number_in, same_word}
 use Rattle.script_runner.specs.declared.status.Status.{Status}
 use Rattle.script_runner.specs.declared.words.Choice.{Choice}
 

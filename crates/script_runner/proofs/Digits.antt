@@ -1,10 +1,8 @@
 -- Numbers of few digits.
-use Rattle.std.proofs.Common.{◌≡◌, ℕ, ◌+◌, ◌-◌, ◌*◌, ◌^◌, ◌<◌, ◌≤◌, true, ◌&&◌, leb, List, length, take, get_or, ap, ◌∙◌, arith}
-use Rattle.std.specs.List.{list_all}
+use Rattle.std.proofs.Common.{◌≡◌, ℕ, ◌+◌, ◌-◌, ◌*◌, ◌^◌, ◌<◌, List, length, take, get_or, arith}
 use Rattle.std.proofs.Math.Nat.{pow-le-pow_right}
-use Rattle.std.proofs.lemmas.Bool.{and_parts, leb-true}
 use Rattle.std.proofs.lemmas.List.Sums.{fold_more}
-use Rattle.script_runner.specs.Words.{is_digit, number_in}
+use Rattle.script_runner.specs.Words.{number_in}
 
 -- one more digit
 pub number_more : (digits : List ℕ) (i : ℕ) (d : ℕ) → i < length digits → number_in (take (i + 1) digits) ≡ 10 * number_in (take i digits) + (get_or digits i d - 48)

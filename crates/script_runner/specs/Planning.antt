@@ -1,10 +1,9 @@
 -- What is to be written, and what was.
-use Rattle.std.specs.Prelude.{◌≡◌, ℕ, Bool, true, false, ◌≤◌, List, [], ◌∷◌, length, take, Option, Some}
+use Rattle.std.specs.Prelude.{◌≡◌, ℕ, Bool, true, false, ◌≤◌, List, [], length, take, Option, Some}
 use Rattle.std.specs.Option.{IfSome}
 use Rattle.std.specs.declared.result.Result.TheVariants.{Ok}
 use Rattle.dcd_base.specs.Streams.{Passes, HasRisen}
 use Rattle.journal_core.specs.declared.entries.Entry.{Entry}
-use Rattle.script_codec.specs.declared.faults.ScriptFault.{ScriptFault}
 use Rattle.script_codec.specs.declared.scripts.Script.{Script}
 use Rattle.script_codec.specs.Reading.{script_in, first_fault}
 use Rattle.script_codec.specs.Scripts.{ReadsScript}

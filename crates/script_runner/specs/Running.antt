@@ -3,11 +3,16 @@ use Rattle.std.specs.Prelude.{◌<◌, List, AllPairs}
 use Rattle.journal_core.specs.declared.entries.Entry.{Entry}
 use Rattle.script_codec.specs.declared.scripts.Script.{Script}
 use Rattle.script_codec.specs.Covering.{Covers}
+use Rattle.journal_core.specs.Merging.{Numbered}
+use Rattle.isolation_laws.specs.Solo.{Isolated}
 use Rattle.device_rules.specs.Legal.{Exclusive, Legal}
 
--- The journal is legal and exclusive, has each line of the script that is no mark once, and its lines rise.
+-- The journal is legal, exclusive, numbered and isolated, has each line of the script that is no mark once, and its
+-- lines rise.
 pub record IsSerialRun (s : Script) (journal : List Entry) : Type 0 where
   pub legal : Legal s.config journal
   pub exclusive : Exclusive s.config journal
+  pub numbered : Numbered journal
+  pub isolated : Isolated s.config journal
   pub covers : Covers journal s
   pub rising : AllPairs (λ (e f : Entry). e.line < f.line) journal

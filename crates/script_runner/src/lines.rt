@@ -1,5 +1,6 @@
 //! The lines of a script, one after another on the device of one thread.
 
+ghost use Rattle.isolation_laws.specs.Solo.{Isolated};
 ghost use Rattle.journal_core.specs.declared.entries.Entry.{Entry};
 ghost use Rattle.script_codec.specs.Covering.{Covers};
 ghost use Rattle.script_codec.specs.Scripts.{is_sound_line};
@@ -9,6 +10,7 @@ ghost use Rattle.std.specs.Prelude.{◌≡◌, ◌<◌, ◌≤◌, AllPairs, IfO
 
 use dcd_base::NoMemory;
 use device_plain::Device;
+use isolation_laws::law_isolated;
 use script_codec::{Line, Script, pass_of};
 use std::alloc::Global;
 
@@ -36,6 +38,7 @@ pub(crate) fn run_lines(alloc: Global, script: Script) -> Result<Device, NoMemor
     ensures config { IfOk result (λ device. device.config ≡ script.config) }
     ensures covers { IfOk result (λ device. Covers device.journal script) }
     ensures rising { IfOk result (λ device. AllPairs (λ (e f : Entry). e.line < f.line) device.journal) }
+    ensures isolated { IfOk result (λ device. Isolated device.config device.journal) }
 {
     let Script {
         version: _,
@@ -49,5 +52,16 @@ pub(crate) fn run_lines(alloc: Global, script: Script) -> Result<Device, NoMemor
         number += 1;
         run_line(&mut device, lanes, number, &line)?;
     }
+    is_isolated(&device);
     Ok(device)
+}
+
+/// Each reply to a host is what a device with that host alone replies to its own steps and deliveries. It does nothing.
+fn is_isolated(device: &Device)
+    ensures { Isolated device.now.config device.now.journal }
+{
+    law_isolated();
+    // A configuration is sound, and the journal legal.
+    let _hosts = device.control().config().hosts();
+    let _journal = device.journal();
 }

@@ -29,8 +29,10 @@ pub fn run<R, S: Source, K: Sink, G: Gate>(
     sink: &mut K,
     _gate: &G,
 ) -> Status
-    // All of one text is written: at Done the text or the summary of a journal that is legal and has each line of the
-    // script once, in rising order, and in which no granule of a region that is not shareable ever has two hosts.
+    // All of one text is written: at Done the text or the summary of a journal that is legal and numbered and has each
+    // line of the script once, in rising order; in it no granule of a region that is not shareable ever has two hosts,
+    // and each reply to a host (granted loads in shareable or unsanitized regions aside) is what a device with that host
+    // alone replies to its own steps and deliveries.
     ensures written { IfWhole result (IsWrittenBy (words_of words.now) (S.left source.old) (K.taken sink.old) (K.taken sink.new)) }
     ensures begun { OnWriteFault result (IsBegunBy (words_of words.now) (S.left source.old) (K.taken sink.old) (K.taken sink.new)) }
     ensures nothing { OnNothing result (K.taken sink.new ≡ K.taken sink.old) }

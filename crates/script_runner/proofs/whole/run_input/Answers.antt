@@ -1,5 +1,6 @@
-use Rattle.std.proofs.Common.{rules, ◌≡◌, refl, sym, ap, subst, ◌∙◌}
+use Rattle.std.proofs.Common.{rules, ◌≡◌, refl, ap, subst, ◌∙◌}
 use Rattle.region_config.specs.Configurations.{Configuration}
+use Rattle.isolation_laws.specs.Solo.{Isolated}
 use Rattle.device_rules.specs.Legal.{Exclusive, Legal}
 use Rattle.report.specs.Texts.{text}
 use Rattle.report.specs.Refusals.{refusal_line}
@@ -21,6 +22,8 @@ returns-in-Ok-run_lines g c =
           runs = record {
             legal = subst (λ (k : Configuration). Legal k c.in-Ok-run_lines.device.journal) c.in-Ok-run_lines.ensures.config c.journal.ensures.legal;
             exclusive = subst (λ (k : Configuration). Exclusive k c.in-Ok-run_lines.device.journal) c.in-Ok-run_lines.ensures.config c.journal.ensures.exclusive;
+            numbered = c.journal.ensures.numbered;
+            isolated = subst (λ (k : Configuration). Isolated k c.in-Ok-run_lines.device.journal) c.in-Ok-run_lines.ensures.config c.in-Ok-run_lines.ensures.isolated;
             covers = c.in-Ok-run_lines.ensures.covers;
             rising = c.in-Ok-run_lines.ensures.rising;
           };
