@@ -4,7 +4,7 @@ ghost use Rattle.report.specs.Printing.{Prints, with_byte, with_bytes};
 ghost use Rattle.report.specs.Texts.{hex_of, hex_pair};
 ghost use Rattle.std.specs.Prelude.{◌≡◌, ◌+◌, ◌*◌, ◌<◌, ◌≤◌, [], ◌∷◌, IfSome, None, OnErr, OnOk, Some, decimal, length};
 
-use crate::digits::{hex_digit, write_hex};
+use crate::digits::{hex_digit, write_bytes, write_hex};
 use dcd_base::{Failed, Sink, write_all};
 use itoa::Buffer;
 use std::marker::Model;
@@ -150,9 +150,32 @@ impl Printer {
         }
     }
 
-    /// Puts bytes.
-    #[tactic(auto, using(crate::proofs::Parts::prints_nothing, crate::proofs::Parts::prints_more))]
+    /// Lets bytes wait.
+    fn store_all(&mut self, bytes: &[u8])
+        requires { IfSome self.old (λ waits. length waits + length bytes.now ≤ 4096) }
+        ensures { self.new ≡ with_bytes bytes.now self.old }
+    {
+        if !self.failed {
+            write_bytes(&mut self.buffer, self.len, bytes);
+            self.len += bytes.len();
+        }
+    }
+
+    /// Puts bytes, which mostly fit into the piece.
+    #[tactic(auto, using(crate::proofs::Parts::prints_waiting))]
     pub fn put<K: Sink>(&mut self, sink: &mut K, bytes: &[u8])
+        ensures { Prints (K.taken sink.old) (K.faults sink.old) self.old (K.taken sink.new) (K.faults sink.new) self.new bytes.now }
+    {
+        if bytes.len() <= PIECE - self.len {
+            self.store_all(bytes);
+        } else {
+            self.put_each(sink, bytes);
+        }
+    }
+
+    /// Puts bytes one by one.
+    #[tactic(auto, using(crate::proofs::Parts::prints_nothing, crate::proofs::Parts::prints_more))]
+    fn put_each<K: Sink>(&mut self, sink: &mut K, bytes: &[u8])
         ensures { Prints (K.taken sink.old) (K.faults sink.old) self.old (K.taken sink.new) (K.faults sink.new) self.new bytes.now }
     {
         for byte in bytes {

@@ -1,6 +1,6 @@
 use Rattle.std.proofs.Common.{take}
 use Rattle.report.specs.Printing.{Prints}
-use Rattle.report.proofs.printing.Printer.put.Given as goal
+use Rattle.report.proofs.printing.Printer.put_each.Given as goal
 
 -- The bytes so far are put.
 abbrev pub invariant-loop-byte : goal.invariant-loop-byte
