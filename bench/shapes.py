@@ -171,21 +171,41 @@ def crowded_accesses(count):
 # Offers, answers, releases, forced removals and scrubs: about as many as asked for, in whole rounds; lines that clear logs come on top
 
 
+def use_up(lines, offered):
+    """Each host accepts what it is offered, gives it back or loses it, and clears its log; then the sanitizer has a turn."""
+    for host in range(HOSTS):
+        extents = offered(host)
+        lines.host(host, respond(extents))
+        if host % 2:
+            lines.host(host, give_back(extents))
+        else:
+            lines.told(host, take(host, LISTED | FORCED, extents=extents), 1)
+        lines.clear(host)
+    lines.append(scrub(GRANULES))
+
+
 def whole_device(count):
     """The whole device in extents of 256 granules: each host gets one, and gives it back or loses it."""
     lines = Lines()
     for _ in range(count // (3 * HOSTS + 1)):
         for host in range(HOSTS):
             lines.told(host, offer(host, FREE, 0, 256 * MIB), 1)
+        use_up(lines, lambda host: blocks(256 * host, 1, size=256))
+    return device([(GRANULES, 1)]), lines
+
+
+def full_lists(count):
+    """Each host has 63 extents all the time, and gets a 64th, which it gives back or loses."""
+    lines = Lines()
+    for host in range(HOSTS):
+        extents = blocks(256 * host, 63, 4, 2)
+        lines.told(host, offer(host, PRESCRIPTIVE, 0, extents=extents), 63)
+        lines.host(host, respond(extents))
+        lines.clear(host)
+    for _ in range((count - 2 * HOSTS) // (3 * HOSTS + 1)):
         for host in range(HOSTS):
-            extents = blocks(256 * host, 1, size=256)
-            lines.host(host, respond(extents))
-            if host % 2:
-                lines.host(host, give_back(extents))
-            else:
-                lines.told(host, take(host, LISTED | FORCED, extents=extents), 1)
-            lines.clear(host)
-        lines.append(scrub(GRANULES))
+            lines.told(host, offer(host, PRESCRIPTIVE, 0, extents=blocks(256 * host + 254, 1)), 1)
+        use_up(lines, lambda host: blocks(256 * host + 254, 1))
     return device([(GRANULES, 1)]), lines
 
 
