@@ -2,7 +2,7 @@
 use Rattle.std.proofs.Common.{◌≡◌, ℕ, suc, mul-suc, ◌+◌, ◌*◌, ◌^◌, ◌<◌, ◌≤◌, Bool, true, false, List, [], ◌∷◌, ◌++◌, length, map, flat_map, take, drop, get_or, append-nil, refl, sym, ap, subst, ◌∙◌, arith, leb, None}
 use Rattle.std.specs.Prelude.{◌==◌, ◌-◌, All, if◌then◌else◌, min, nat_lt}
 use Rattle.std.specs.List.{AllByRecursion}
-use Rattle.std.specs.Int.{w8, w16, w32, w64}
+use Rattle.std.specs.Int.{w16, w32, w64}
 use Rattle.std.proofs.lemmas.Bool.{leb-false}
 use Rattle.std.proofs.lemmas.Grind.{flat_map-append}
 use Rattle.std.proofs.lemmas.List.{length-append, length-drop, length-map, length-take}
@@ -36,7 +36,6 @@ use Rattle.journal_core.specs.Entries.{effects}
 use Rattle.journal_core.specs.declared.entries.Entry.{Entry}
 use Rattle.region_config.specs.Configurations.{Configuration}
 use Rattle.region_config.specs.Granules.{regions_of}
-use Rattle.host_commands.specs.Parts.{IsLogOf, lists_in}
 use Rattle.device_rules.specs.Answers.{host_outcome, manager_outcome, manager_rule}
 use Rattle.device_rules.specs.EventCommands.{events_reply, log_named}
 use Rattle.device_rules.specs.Settings.{host_counts, host_flags, lists_reply, manager_flags, page, past_end, region_seen, regions_reply}
@@ -44,8 +43,8 @@ use Rattle.device_rules.specs.Logs.{log_of}
 use Rattle.device_rules.specs.TagCommands.{tag_seen}
 use Rattle.device_rules.specs.Tags.{open_tags}
 use Rattle.device_rules.specs.Views.{View, generation_in, view_of}
-use Rattle.control_core.specs.Fitting.{PartFits, TagFits, TagsFit}
-use Rattle.device_state.specs.Kept.{IsKept, IsPart, part_of}
+use Rattle.control_core.specs.Fitting.{PartFits, RequestFits, TagFits}
+use Rattle.device_state.specs.Kept.{IsKept, IsPart}
 use Rattle.device_state.specs.declared.parts.HostPart.{HostPart}
 use Rattle.device_state.specs.declared.state.State.{State}
 
@@ -247,26 +246,26 @@ entry_tags : (entries : List TagEntry) → AllByRecursion (λ (e : TagEntry). Ta
 entry_tags [] fit = tt
 entry_tags (e ∷ entries) fit = (fit.0, entry_tags entries fit.1)
 
-pub short_manager : (c : Configuration) (before : List Entry) (s : State) → IsKept c before s → TagsFit s → length c.regions ≤ 8 → (q : FmRequest) →
+pub short_manager : (c : Configuration) (before : List Entry) (s : State) → IsKept c before s → length c.regions ≤ 8 → (q : FmRequest) → RequestFits s q →
     manager_rule c (effects before) (λ h. view_of c h before) q ≡ None → length (manager_outcome c (effects before) (λ h. view_of c h before) q).payload < 2 ^ 21
-short_manager c before s kept fits few (FmRequest.GetEvents log) row =
-    short_log log (log_of LogId.Manager (effects before)) (subst (λ (l : LogState). All (λ (e : Event). TagFits e.extent.tag) l.records) kept.manager_log.is fits.manager)
-short_manager c before s kept fits few (FmRequest.ClearEvents log all handles) row = omega arith
-short_manager c before s kept fits few FmRequest.GetInfo row = short_info c.hosts _ _ _ (map (λ (spec : RegionSpec). spec.sizes) c.regions) (omega (arith, few, length-map c.regions (λ (spec : RegionSpec). spec.sizes)))
-short_manager c before s kept fits few (FmRequest.GetRegions host count first) row = short_regions c (λ h. view_of c h before) host count first few
-short_manager c before s kept fits few (FmRequest.SetRegion r sanitize size) row = omega arith
-short_manager c before s kept fits few (FmRequest.GetExtentLists host count first) row =
+short_manager c before s kept few (FmRequest.GetEvents log) fits row =
+    short_log log (log_of LogId.Manager (effects before)) (subst (λ (l : LogState). All (λ (e : Event). TagFits e.extent.tag) l.records) kept.manager_log.is fits)
+short_manager c before s kept few (FmRequest.ClearEvents log all handles) fits row = omega arith
+short_manager c before s kept few FmRequest.GetInfo fits row = short_info c.hosts _ _ _ (map (λ (spec : RegionSpec). spec.sizes) c.regions) (omega (arith, few, length-map c.regions (λ (spec : RegionSpec). spec.sizes)))
+short_manager c before s kept few (FmRequest.GetRegions host count first) fits row = short_regions c (λ h. view_of c h before) host count first few
+short_manager c before s kept few (FmRequest.SetRegion r sanitize size) fits row = omega arith
+short_manager c before s kept few (FmRequest.GetExtentLists host count first) fits row =
     let known : host < c.hosts = leb-false c.hosts host (broken_not (leb c.hosts host) (Rule.NoSuchHost host) (or_parts (leb c.hosts host breaks Rule.NoSuchHost host) (past_end first (length (view_of c host before).accepted)) row).0) in
     let within : host < length s.hosts.items = subst (λ n. host < n) (sym kept.host_count) known in
     short_lists (λ h. view_of c h before) host count first
-    (subst (λ (l : Lists). All (λ (x : Extent). TagFits x.tag) l.accepted) (kept.parts host known).lists_are (fits.hosts host within).accepted)
-short_manager c before s kept fits few (FmRequest.Add host policy r bytes tag list) row = omega arith
-short_manager c before s kept fits few (FmRequest.Remove host flags r bytes tag list) row = omega arith
-short_manager c before s kept fits few (FmRequest.AddReference tag) row = omega arith
-short_manager c before s kept fits few (FmRequest.RemoveReference tag) row = omega arith
-short_manager c before s kept fits few (FmRequest.ListTags first count) row =
+    (subst (λ (l : Lists). All (λ (x : Extent). TagFits x.tag) l.accepted) (kept.parts host known).lists_are (fits within))
+short_manager c before s kept few (FmRequest.Add host policy r bytes tag list) fits row = omega arith
+short_manager c before s kept few (FmRequest.Remove host flags r bytes tag list) fits row = omega arith
+short_manager c before s kept few (FmRequest.AddReference tag) fits row = omega arith
+short_manager c before s kept few (FmRequest.RemoveReference tag) fits row = omega arith
+short_manager c before s kept few (FmRequest.ListTags first count) fits row =
     let tags : List Tag = open_tags c (effects before) in
-    let each : AllByRecursion TagFits (open_tags c (effects before)) = subst (AllByRecursion TagFits) kept.tags_are.tags_are (entry_tags s.tags.entries (recursion_from_All (λ (e : TagEntry). TagFits e.tag) s.tags.entries fits.tags)) in
+    let each : AllByRecursion TagFits (open_tags c (effects before)) = subst (AllByRecursion TagFits) kept.tags_are.tags_are (entry_tags s.tags.entries (recursion_from_All (λ (e : TagEntry). TagFits e.tag) s.tags.entries fits)) in
     let shown : AllByRecursion TagFits (page first (min count 84) (open_tags c (effects before))) = recursion_from_All TagFits (page first (min count 84) tags) (page_all TagFits first (min count 84) tags (All-from_recursion TagFits tags each)) in
     short_tags first (length tags) (map (tag_seen c (effects before)) (page first (min count 84) tags))
     (omega (arith, length-map (page first (min count 84) tags) (tag_seen c (effects before)), page_few first (min count 84) tags))

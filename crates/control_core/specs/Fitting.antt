@@ -1,9 +1,10 @@
 -- Tags that have sixteen bytes, as all have that the device keeps.
-use Rattle.std.specs.Prelude.{◌≡◌, ℕ, ◌<◌, All, length}
+use Rattle.std.specs.Prelude.{◌≡◌, ◌<◌, All, length}
 use Rattle.dcd_base.specs.declared.capacity.Extent.{Extent}
 use Rattle.dcd_base.specs.declared.capacity.Tag.{Tag}
 use Rattle.dcd_base.specs.declared.ids.HostId.{HostId}
 use Rattle.event_records.specs.declared.events.Event.{Event}
+use Rattle.fm_payloads.specs.declared.requests.FmRequest.{FmRequest}
 use Rattle.tag_refs.specs.declared.entries.TagEntry.{TagEntry}
 use Rattle.device_state.specs.Kept.{part_of}
 use Rattle.device_state.specs.declared.parts.HostPart.{HostPart}
@@ -18,8 +19,13 @@ pub record PartFits (part : HostPart) : Type 0 where
   pub accepted : All (λ (x : Extent). TagFits x.tag) part.lists.accepted
   pub records : All (λ (e : Event). TagFits e.extent.tag) part.log.records
 
--- So has each tag that the device keeps.
-pub record TagsFit (s : State) : Type 0 where
-  pub hosts : (h : HostId) → h < length s.hosts.items → PartFits (part_of s h)
-  pub manager : All (λ (e : Event). TagFits e.extent.tag) s.manager.records
-  pub tags : All (λ (e : TagEntry). TagFits e.tag) s.tags.entries
+-- So has that of each extent that a host has accepted, where there is this host.
+abbrev pub AcceptedFit : State → HostId → Type 0
+AcceptedFit s h = h < length s.hosts.items → All (λ (x : Extent). TagFits x.tag) (part_of s h).lists.accepted
+
+-- So has each tag that a request of the manager reads.
+abbrev pub RequestFits : State → FmRequest → Type 0
+RequestFits s (FmRequest.GetEvents log) = All (λ (e : Event). TagFits e.extent.tag) s.manager.records
+RequestFits s (FmRequest.GetExtentLists host count first) = AcceptedFit s host
+RequestFits s (FmRequest.ListTags first count) = All (λ (e : TagEntry). TagFits e.tag) s.tags.entries
+RequestFits s q = Unit {0}

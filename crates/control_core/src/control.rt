@@ -17,7 +17,7 @@ use crate::plan::Plan;
 use crate::scrub_steps::scrub_step;
 use dcd_base::{Actor, NoMemory, Stamp};
 use device_state::State;
-use journal_core::{Act, Entry, Reply};
+use journal_core::{Act, Entry};
 use region_config::Config;
 use std::alloc::Global;
 use std::marker::Model;
@@ -86,20 +86,20 @@ impl Control {
     /// Takes all the memory that a step needs and decides it. The control is seen as before, but that it has room for
     /// an entry.
     ///
-    /// The act is a command or a scrub that fits its actor. The plan is for the next `apply` alone.
+    /// The act is a command or a scrub that fits its actor. It goes into the plan's entry; without memory it is gone. The
+    /// plan is for the next `apply` alone.
     pub fn prepare(
         &mut self,
         pass: u32,
         line: u32,
         actor: Actor,
-        act: &Act,
+        act: Act,
     ) -> Result<Plan, NoMemory>
-        requires { MayStep self.old.config actor act.now }
+        requires { MayStep self.old.config actor act }
         ensures config { self.new.config ≡ self.old.config }
         ensures entries { self.new.entries ≡ self.old.entries }
         ensures room { OnOk result (0 < self.new.spare) }
-        ensures entry { IfOk result (λ plan. plan.entry ≡ entry_of self.old.config self.old.entries pass line actor act.now) }
-        ensures reply { IfOk result (λ plan. plan.reply ≡ plan.entry.reply) }
+        ensures entry { IfOk result (λ plan. plan.entry ≡ entry_of self.old.config self.old.entries pass line actor act) }
         ensures short { IfOk result (λ plan. IsShort plan.entry.reply) }
         ensures changes { IfOk result (λ plan. AreChanges self.old.config (effects self.old.entries) plan.entry.effects plan.changes) }
         ensures inside { IfOk result (λ plan. All (LiesIn (granule_total self.old.config)) plan.changes) }
@@ -109,30 +109,26 @@ impl Control {
         self.planned(pass, line, actor, act)
     }
 
-    /// Enters the step of a plan and answers its reply. It takes no memory.
+    /// Enters the step of a plan. Its reply stands in the entry. It takes no memory.
     ///
     /// The plan was prepared on this control, and no other was entered since.
-    pub fn apply(&mut self, plan: Plan) -> Reply
+    pub fn apply(&mut self, plan: Plan)
         requires room { 0 < self.old.spare }
         requires next { IsNext self.old plan.entry }
-        requires reply { plan.reply ≡ plan.entry.reply }
         requires short { IsShort plan.entry.reply }
         requires update { IsUpdate self.old.config self.old.entries plan.entry.effects plan.update }
         ensures config { self.new.config ≡ self.old.config }
         ensures entered { self.new.entries ≡ self.old.entries ++ plan.entry ∷ [] }
         ensures room_left { self.old.spare ≤ self.new.spare + 1 }
-        ensures reply { result ≡ plan.entry.reply }
     {
         let Plan {
             entry,
-            reply,
             changes: _,
             update,
         } = plan;
         self.state
             .enter(&self.config, entry.effects.as_slice(), update);
         self.entries.push_reserved(entry);
-        reply
     }
 
     /// Makes room for an entry, and for a tag that it opens.
@@ -146,17 +142,16 @@ impl Control {
     }
 
     /// The step, decided.
-    fn planned(&self, pass: u32, line: u32, actor: Actor, act: &Act) -> Result<Plan, NoMemory>
-        requires { MayStep self.now.config actor act.now }
-        ensures entry { IfOk result (λ plan. plan.entry ≡ entry_of self.now.config self.now.entries pass line actor act.now) }
-        ensures reply { IfOk result (λ plan. plan.reply ≡ plan.entry.reply) }
+    fn planned(&self, pass: u32, line: u32, actor: Actor, act: Act) -> Result<Plan, NoMemory>
+        requires { MayStep self.now.config actor act }
+        ensures entry { IfOk result (λ plan. plan.entry ≡ entry_of self.now.config self.now.entries pass line actor act) }
         ensures short { IfOk result (λ plan. IsShort plan.entry.reply) }
         ensures changes { IfOk result (λ plan. AreChanges self.now.config (effects self.now.entries) plan.entry.effects plan.changes) }
         ensures inside { IfOk result (λ plan. All (LiesIn (granule_total self.now.config)) plan.changes) }
         ensures update { IfOk result (λ plan. IsUpdate self.now.config self.now.entries plan.entry.effects plan.update) }
     {
-        let decided = self.decide(&actor, act)?;
-        self.plan(pass, line, &actor, act, decided)
+        let decided = self.decide(&actor, &act)?;
+        self.plan(pass, line, actor, act, decided)
     }
 
     /// What a step comes to.
@@ -189,14 +184,13 @@ impl Control {
         &self,
         pass: u32,
         line: u32,
-        actor: &Actor,
-        act: &Act,
+        actor: Actor,
+        act: Act,
         decided: Decided,
     ) -> Result<Plan, NoMemory>
-        requires may { MayStep self.now.config actor.now act.now }
-        requires decided { IsDecidedBy self.now.config self.now.entries actor.now act.now decided }
-        ensures entry { IfOk result (λ plan. plan.entry ≡ entry_of self.now.config self.now.entries pass line actor.now act.now) }
-        ensures reply { IfOk result (λ plan. plan.reply ≡ plan.entry.reply) }
+        requires may { MayStep self.now.config actor act }
+        requires decided { IsDecidedBy self.now.config self.now.entries actor act decided }
+        ensures entry { IfOk result (λ plan. plan.entry ≡ entry_of self.now.config self.now.entries pass line actor act) }
         ensures short { IfOk result (λ plan. IsShort plan.entry.reply) }
         ensures changes { IfOk result (λ plan. AreChanges self.now.config (effects self.now.entries) plan.entry.effects plan.changes) }
         ensures inside { IfOk result (λ plan. All (LiesIn (granule_total self.now.config)) plan.changes) }
@@ -211,9 +205,9 @@ impl Control {
         let entry = Entry {
             pass,
             line,
-            actor: *actor,
-            act: act.copy()?,
-            reply: reply.copy()?,
+            actor,
+            act,
+            reply,
             effects,
             stamp: Stamp {
                 number: self.entries.as_slice().len() as u64 + 1,
@@ -222,7 +216,6 @@ impl Control {
         };
         Ok(Plan {
             entry,
-            reply,
             changes,
             update,
         })

@@ -1,7 +1,7 @@
 //! A command of a host, from its message to its response and effects.
 
 ghost use Rattle.control_core.specs.Deciding.{IsDecided};
-ghost use Rattle.control_core.specs.Doing.{AnswersHost, Does, Drafted, FewHandles, Refuses, dropped_by};
+ghost use Rattle.control_core.specs.Doing.{Does, Drafted, Refuses};
 ghost use Rattle.device_state.specs.Kept.{IsKept, IsReached};
 ghost use Rattle.control_core.specs.Recording.{told};
 ghost use Rattle.device_state.specs.Updates.{IsOfLog};
@@ -19,26 +19,17 @@ ghost use Rattle.tag_laws.specs.Tables.{ending as ending_by};
 
 use crate::decided::Decided;
 use crate::ending::ending;
+use crate::fitting::part_fits;
 use crate::recording::{put_ends, put_notices};
-use crate::replies::{answer, refused, tags_fit};
 use cci_codec::Request;
-use dcd_base::{HostId, LogId, NoMemory, Seq, Tag};
+use dcd_base::{HostId, NoMemory, Seq, Tag};
 use dcd_codes::{Code, Refusal, Rule};
 use device_state::{NewLists, State, TagChange, Update};
-use host_commands::{
-    Draft, Notice, add_response, clear_events, get_configuration, get_events, get_extents,
-    give_back, unhold,
-};
+use host_commands::{Draft, Notice, answer, draft_of, dropped, refused};
 use host_lists::HostLists;
-use host_payloads::{HostRequest, PayloadFault, decode};
-use journal_core::{Effects, HeldKind};
+use journal_core::Effects;
 use region_config::Config;
 use std::alloc::Global;
-
-/// The opcodes whose refusal ends a held list: Add Dynamic Capacity Response and Release Dynamic Capacity.
-const ADD_RESPONSE: u16 = 0x4802;
-
-const GIVE_BACK: u16 = 0x4803;
 
 /// What a message of a host comes to.
 pub(crate) fn host_step(
@@ -52,8 +43,8 @@ pub(crate) fn host_step(
     requires reached { IsReached config.now state.now }
     ensures { IfOk result (IsDecided config.now state.now (Actor.Host host) (Act.Command request.now)) }
 {
-    tags_fit(state);
-    match draft_of(alloc, config, state, host, request) {
+    part_fits(state.part(host));
+    match drafted(alloc, config, state, host, request) {
         Ok(draft) => Ok(done(alloc, state, host, request, draft)?),
         Err(Refusal::Broken(rule)) => Ok(broken(alloc, config, state, host, request, &rule)?),
         Err(Refusal::NoMemory) => Err(NoMemory),
@@ -61,7 +52,7 @@ pub(crate) fn host_step(
 }
 
 /// The draft of a message, or the first rule that it breaks.
-fn draft_of(
+fn drafted(
     alloc: Global,
     config: &Config,
     state: &State,
@@ -72,51 +63,16 @@ fn draft_of(
     requires reached { IsReached config.now state.now }
     ensures { Drafted config.now state.now host request.now result }
 {
-    match decode(alloc, request.opcode, request.payload.as_slice()) {
-        Ok(asked) => draft_asked(alloc, config, state, host, &asked),
-        Err(PayloadFault::UnknownOpcode(opcode)) => {
-            Err(Refusal::Broken(Rule::UnknownOpcode(opcode)))
-        }
-        Err(PayloadFault::WrongLength { need, have }) => {
-            Err(Refusal::Broken(Rule::WrongLength { need, have }))
-        }
-        Err(PayloadFault::NoMemory) => Err(Refusal::NoMemory),
-    }
-}
-
-/// The draft of what a host asks.
-fn draft_asked(
-    alloc: Global,
-    config: &Config,
-    state: &State,
-    host: HostId,
-    asked: &HostRequest,
-) -> Result<Draft, Refusal>
-    requires host { host < config.now.hosts }
-    requires reached { IsReached config.now state.now }
-    requires few { FewHandles asked.now }
-    ensures { AnswersHost config.now state.now host asked.now result }
-{
     let part = state.part(host);
-    let present = &state.present;
-    match asked {
-        HostRequest::GetEvents { log } => get_events(alloc, *log, &part.log),
-        HostRequest::ClearEvents { log, all, handles } => {
-            clear_events(alloc, LogId::Host(host), *log, &part.log, *all, handles)
-        }
-        HostRequest::GetConfiguration { count, first } => {
-            get_configuration(alloc, present, host, &part.lists, *count, *first)
-        }
-        HostRequest::GetExtents { count, first } => {
-            get_extents(alloc, &part.lists, *count, *first)
-        }
-        HostRequest::AddResponse { more, extents } => {
-            add_response(alloc, config, present, host, &part.lists, *more, extents)
-        }
-        HostRequest::GiveBack { more, extents } => {
-            give_back(alloc, config, present, host, &part.lists, *more, extents)
-        }
-    }
+    draft_of(
+        alloc,
+        config,
+        &state.present,
+        host,
+        &part.lists,
+        &part.log,
+        request,
+    )
 }
 
 /// A command that breaks no rule, by whose draft the host has these lists, or the ones that it had.
@@ -207,17 +163,4 @@ fn broken(
         effects: dropped(alloc, host, lists, request.opcode)?,
         update: Update::nothing(),
     })
-}
-
-/// The held list of the command ends, where there is one.
-fn dropped(alloc: Global, host: HostId, lists: &HostLists, opcode: u16) -> Result<Effects, NoMemory>
-    ensures { IfOk result (λ effects. effects ≡ dropped_by host lists.now opcode) }
-{
-    if opcode == ADD_RESPONSE {
-        return unhold(alloc, host, HeldKind::Responses, lists.responses());
-    }
-    if opcode == GIVE_BACK {
-        return unhold(alloc, host, HeldKind::Releases, lists.releases());
-    }
-    Ok(Effects::new(alloc))
 }

@@ -22,13 +22,13 @@ ghost use Rattle.tag_refs.specs.Tables.{is_live, is_used, passes, with_reference
 
 use crate::decided::Decided;
 use crate::extent_lists::get_extent_lists;
+use crate::fitting::request_fits;
 use crate::host_steps::done;
 use crate::info::get_info;
 use crate::offering::add;
 use crate::recording::{put_ends, put_notices};
 use crate::region_replies::get_regions;
 use crate::removing::remove;
-use crate::replies::{answer, refused, tags_fit};
 use crate::setting::set_region;
 use crate::tag_commands::{add_reference, list_tags, remove_reference};
 use cci_codec::Request;
@@ -36,7 +36,7 @@ use dcd_base::{Extents, HostId, LogId, NoMemory, RegionId, Runs, Seq, Tag};
 use dcd_codes::{Code, Refusal, Rule};
 use device_state::{NewLists, State, TagChange, Update};
 use fm_payloads::{FmRequest, PayloadFault, decode};
-use host_commands::{Draft, clear_events, get_events, run_of};
+use host_commands::{Draft, answer, clear_events, get_events, refused, run_of};
 use host_lists::HostLists;
 use journal_core::{Effect, Effects};
 use region_config::Config;
@@ -139,7 +139,7 @@ fn step_read(
     requires quiet { is_quiet_manager asked.now ≡ true }
     ensures { Manages config.now state.now request.now result }
 {
-    tags_fit(state);
+    request_fits(state, asked);
     match read_draft(alloc, config, state, asked) {
         Ok(draft) => Ok(entered(state, request, draft, &[], TagChange::Nothing)?),
         Err(refusal) => Err(refusal),

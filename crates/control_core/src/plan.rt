@@ -4,13 +4,12 @@ ghost use Rattle.std.specs.Prelude.{◌≡◌};
 
 use dcd_base::Changes;
 use device_state::Update;
-use journal_core::{Entry, Reply};
+use journal_core::Entry;
 
 /// A step of the control with all the memory that it needs: `Control::apply` takes it.
 #[derive(Drop)]
 pub struct Plan {
     pub(crate) entry: Entry,
-    pub(crate) reply: Reply,
     pub(crate) changes: Changes,
     pub(crate) update: Update,
 }
@@ -23,7 +22,7 @@ impl Plan {
         self.entry.stamp.number
     }
 
-    /// The entry that it will make.
+    /// The entry that it will make, with the act and the reply.
     pub fn entry(&self) -> &Entry
         ensures { result.now ≡ self.now.entry }
     {

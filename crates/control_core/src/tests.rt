@@ -94,13 +94,15 @@ fn device(alloc: Global) -> Result<Control, Fail>
     Ok(Control::new(alloc, config)?)
 }
 
-/// A step, prepared and entered.
-fn enter(control: &mut Control, line: u32, actor: Actor, act: &Act) -> Result<Reply, NoMemory>
-    requires { MayStep control.old.config actor act.now }
+/// A step, prepared and entered: whether it succeeded.
+fn enter(control: &mut Control, line: u32, actor: Actor, act: Act) -> Result<bool, NoMemory>
+    requires { MayStep control.old.config actor act }
     ensures { control.new.config ≡ control.old.config }
 {
     let plan = control.prepare(0, line, actor, act)?;
-    Ok(control.apply(plan))
+    let success = is_success(&plan.entry().reply);
+    control.apply(plan);
+    Ok(success)
 }
 
 /// Whether the host alone holds the block after the second step, on line 2.
@@ -147,12 +149,12 @@ fn a_block_is_offered_and_accepted(rt: HostRuntime) -> Result<(), Fail> {
     let alloc = rt.alloc();
     let mut control = device(alloc)?;
     let act = Act::Command(offer(alloc)?);
-    let reply = enter(&mut control, 1, Actor::Manager, &act)?;
-    assert!(rt; is_success(&reply));
+    assert!(rt; enter(&mut control, 1, Actor::Manager, act)?);
     let act = Act::Command(response(alloc)?);
-    let plan = control.prepare(0, 2, Actor::Host(HOST), &act)?;
+    let plan = control.prepare(0, 2, Actor::Host(HOST), act)?;
     assert!(rt; is_second(&plan));
-    assert!(rt; is_success(&control.apply(plan)));
+    assert!(rt; is_success(&plan.entry().reply));
+    control.apply(plan);
     assert_eq!(rt; counts(&control), [15, 0, 1, 1, 1, 1]);
     assert!(rt; is_told(&control));
     assert_eq!(rt; control.entries().len(), 2);

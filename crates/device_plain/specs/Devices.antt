@@ -11,7 +11,7 @@ pub record Plain : Type 0 where
   pub config : Configuration
   pub journal : List Entry
 
--- The step appended one entry, of this pass, line, actor and act, and answered its reply.
+-- The step appended one entry, of this pass, line, actor, act and reply.
 pub record Enters (old new : Plain) (its_pass its_line : ℕ) (its_actor : Actor) (its_act : Act) (its_reply : Reply) : Type 0 where
   pub entry : Entry
   pub pass : entry.pass ≡ its_pass
@@ -21,3 +21,7 @@ pub record Enters (old new : Plain) (its_pass its_line : ℕ) (its_actor : Actor
   pub reply : entry.reply ≡ its_reply
   pub config : new.config ≡ old.config
   pub journal : new.journal ≡ old.journal ++ entry ∷ []
+
+-- It did so, and its reply stands in the entry alone.
+abbrev pub Appends : Plain → Plain → ℕ → ℕ → Actor → Act → Type 0
+Appends old new pass line actor act = (reply : Reply) × Enters old new pass line actor act reply

@@ -3,3 +3,4 @@ pub mod Devices
 pub mod Histories
 pub mod Keeping
 pub mod Numbering
+pub mod Readied

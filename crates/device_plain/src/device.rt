@@ -3,19 +3,19 @@
 ghost use Rattle.control_core.specs.Deciding.{AreShort};
 ghost use Rattle.control_core.specs.Steps.{MayStep};
 ghost use Rattle.dcd_base.specs.declared.steps.Actor.{Actor};
-ghost use Rattle.device_plain.specs.Devices.{Enters};
+ghost use Rattle.device_plain.specs.Devices.{Appends, Enters};
 ghost use Rattle.device_plain.specs.Numbering.{IsCounted, commands_of};
 ghost use Rattle.device_rules.specs.Legal.{Exclusive, Legal};
 ghost use Rattle.journal_core.specs.declared.acts.Act.{Act};
 ghost use Rattle.journal_core.specs.Entries.{Each, effects, fits};
 ghost use Rattle.journal_core.specs.Merging.{Numbered};
-ghost use Rattle.std.specs.Prelude.{◌≡◌, ◌<◌, [], IfOk, IsTrue, OnErr};
+ghost use Rattle.std.specs.Prelude.{◌≡◌, ◌<◌, [], IfOk, IsTrue, OnErr, OnOk};
 
 use crate::accesses::{
     access_entry, granted, load_reply, stamp_of, store_at, store_reply, word_at,
 };
+use crate::commands::{enter_ready, make_ready};
 use crate::history::History;
-use crate::making::make_all;
 use control_core::Control;
 use dcd_base::{Actor, HostId, NoMemory};
 use device_laws::law_exclusive;
@@ -96,7 +96,7 @@ impl Device {
 
     /// Takes a step: enters it at the end of the journal and answers its reply. Without memory nothing has changed.
     ///
-    /// The act fits its actor. The pass and the line are the caller's own numbers.
+    /// The act fits its actor. The pass and the line are the caller's own numbers. The journal has a copy of the act.
     pub fn step(&mut self, pass: u32, line: u32, actor: Actor, act: &Act) -> Result<Reply, NoMemory>
         requires { IsTrue (fits self.old.config.hosts actor act.now) }
         ensures entered { IfOk result (Enters self.old self.new pass line actor act.now) }
@@ -116,20 +116,74 @@ impl Device {
         }
     }
 
-    /// Takes a command or a scrub.
+    /// Takes a step as `step` does, of an act that is handed over. Its reply stands in the journal.
+    ///
+    /// The act goes into the journal; without memory it is gone.
+    pub fn enter(&mut self, pass: u32, line: u32, actor: Actor, act: Act) -> Result<(), NoMemory>
+        requires { IsTrue (fits self.old.config.hosts actor act) }
+        ensures entered { OnOk result (Appends self.old self.new pass line actor act) }
+        ensures kept { OnErr result (self.new ≡ self.old) }
+    {
+        match act {
+            Act::Command(_) => self.enter_command(pass, line, actor, act),
+            Act::Scrub(_) => self.enter_command(pass, line, actor, act),
+            Act::Load(dpa) => match actor {
+                Actor::Host(host) => {
+                    let _reply = self.load(pass, line, host, dpa)?;
+                    Ok(())
+                }
+                _ => unreachable!(),
+            },
+            Act::Store(dpa, value) => match actor {
+                Actor::Host(host) => {
+                    let _reply = self.store(pass, line, host, dpa, value)?;
+                    Ok(())
+                }
+                _ => unreachable!(),
+            },
+        }
+    }
+
+    /// Takes a command or a scrub. The reply is copied before anything changes.
     fn command(&mut self, pass: u32, line: u32, actor: Actor, act: &Act) -> Result<Reply, NoMemory>
         requires { MayStep self.old.config actor act.now }
         ensures entered { IfOk result (Enters self.old self.new pass line actor act.now) }
         ensures kept { OnErr result (self.new ≡ self.old) }
     {
-        self.history.reserve()?;
-        let plan = self.control.prepare(pass, line, actor, act)?;
-        let copy = self.history.copy_of(plan.entry())?;
-        make_all(&mut self.memory, plan.changes().as_slice());
-        let reply = self.control.apply(plan);
-        self.since = 0;
-        self.history.push_copy(copy);
+        let act = act.copy()?;
+        let ready = make_ready(&mut self.control, &mut self.history, pass, line, actor, act)?;
+        let reply = ready.plan.entry().reply.copy()?;
+        enter_ready(
+            &mut self.control,
+            &mut self.memory,
+            &mut self.history,
+            &mut self.since,
+            ready,
+        );
         Ok(reply)
+    }
+
+    /// Takes a command or a scrub that is handed over.
+    fn enter_command(
+        &mut self,
+        pass: u32,
+        line: u32,
+        actor: Actor,
+        act: Act,
+    ) -> Result<(), NoMemory>
+        requires { MayStep self.old.config actor act }
+        ensures entered { OnOk result (Appends self.old self.new pass line actor act) }
+        ensures kept { OnErr result (self.new ≡ self.old) }
+    {
+        let ready = make_ready(&mut self.control, &mut self.history, pass, line, actor, act)?;
+        enter_ready(
+            &mut self.control,
+            &mut self.memory,
+            &mut self.history,
+            &mut self.since,
+            ready,
+        );
+        Ok(())
     }
 
     /// Takes a load of a host.

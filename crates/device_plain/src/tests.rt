@@ -40,6 +40,20 @@ fn a_step_is_entered_in_the_journal(rt: HostRuntime) -> Result<(), Fail> {
 }
 
 #[test]
+fn an_act_is_handed_over(rt: HostRuntime) -> Result<(), Fail> {
+    let alloc = rt.alloc();
+    let mut device = Device::new(alloc, Config::new(alloc, 1, &[REGION], &[0])?)?;
+    device.enter(3, 5, Actor::Sanitizer, Act::Scrub(2))?;
+    device.enter(4, 6, Actor::Host(HostId(0)), Act::Load(8))?;
+    let journal = device.journal();
+    assert_eq!(rt; journal.len(), 2);
+    assert_eq!(rt; journal[0].line, 5);
+    assert!(rt; matches!(journal[0].reply, Reply::Scrubbed(0)));
+    assert!(rt; matches!(journal[1].reply, Reply::Refused(AccessFault::NotGranted)));
+    Ok(())
+}
+
+#[test]
 fn what_nobody_holds_is_refused(rt: HostRuntime) -> Result<(), Fail> {
     let alloc = rt.alloc();
     let mut device = Device::new(alloc, Config::new(alloc, 1, &[REGION], &[0])?)?;

@@ -60,7 +60,7 @@ room_none l log (Effect.Ref t on) none = tt
 room_none l log (Effect.TagEnd t) none = tt
 room_none l log (Effect.Block r size) none = tt
 
-rooms_none : (l : LogId) (log : Log) (new : List Effect) → list_all records_none new ≡ true → HaveRoom l log new
+pub rooms_none : (l : LogId) (log : Log) (new : List Effect) → list_all records_none new ≡ true → HaveRoom l log new
 rooms_none l log [] none = tt
 rooms_none l log (e ∷ new) none =
     let parts = and_parts (records_none e) (list_all records_none new) none in

@@ -19,5 +19,6 @@ mod updates;
 pub use holders::{Holders, with_bit};
 pub use laws::law_kept_entered;
 pub use parts::HostPart;
+pub use records::change_log_named;
 pub use state::State;
 pub use updates::{NewLists, TagChange, Update};

@@ -1,5 +1,6 @@
 //! What an effect makes of the logs, the block sizes, the held lists and the holders.
 
+ghost use Rattle.device_rules.specs.Logs.{same_log};
 ghost use Rattle.device_state.specs.Changes.{AreLogged, AreUnheld, IsOfLogs, log_changed, log_told};
 ghost use Rattle.device_state.specs.Entered.{holders_by, log_by, present_by, put_in, unheld};
 ghost use Rattle.device_state.specs.Kept.{part_of};
@@ -100,6 +101,31 @@ fn log_of(effect: &Effect) -> Option<LogId>
         Effect::Cleared(log, _) => Some(*log),
         Effect::Reset(log) => Some(*log),
         _ => None,
+    }
+}
+
+/// Changes the log of this name as the effect says, where the effect is one of that log.
+pub fn change_log_named(log: &mut EventLog, name: &LogId, effect: &Effect)
+    ensures { log.new ≡ log_by name.now log.old effect.now }
+{
+    match log_of(effect) {
+        Some(told) => {
+            if is_log(&told, name) {
+                change_log(log, effect);
+            }
+        }
+        None => (),
+    }
+}
+
+/// Whether both are the same log.
+fn is_log(first: &LogId, second: &LogId) -> bool
+    ensures { result ≡ same_log first.now second.now }
+{
+    match (first, second) {
+        (LogId::Host(a), LogId::Host(b)) => a.0 == b.0,
+        (LogId::Manager, LogId::Manager) => true,
+        _ => false,
     }
 }
 

@@ -93,14 +93,18 @@ few_handles number own all handles rule fourth listed =
     checked all fourth = let log = if fourth then own else empty_log in
         if all then (log.missed == 0) breaks Rule.NotOverflowed else out_of_place handles (records_in log)
 
--- Each log stays one that its history tells.
+-- The log that is cleared stays one that its history tells.
+pub own_clear-history : (l : LogId) (log : Log) (number : ℕ) (all : Bool) (handles : List ℕ) → IsHistory log → clear_rule number log all handles ≡ None →
+    IsHistory (fold (log_after l) log (clear_changes l number log all handles))
+own_clear-history l log number all handles is rule = own_history l log (number == 4) all handles is (few_handles number log all handles rule)
+
+-- And so does each log.
 pub clear-history : (past : List Effect) (k : LogId) (number : ℕ) (all : Bool) (handles : List ℕ) → clear_rule number (log_of k past) all handles ≡ None →
     (l : LogId) → IsHistory (log_of l past) → IsHistory (fold (log_after l) (log_of l past) (clear_changes k number (log_of k past) all handles))
 clear-history past k number all handles rule l is = elim (cases_Bool (same_log k l)) [
   | inr apart ↦ subst IsHistory (sym (other_same k l (log_of l past) (log_of k past) (number == 4) all handles apart)) is
   | inl same ↦ subst (λ m. IsHistory (fold (log_after l) (log_of l past) (clear_changes m number (log_of m past) all handles))) (sym (one_log k l same))
-      (own_history l (log_of l past) (number == 4) all handles is
-      (few_handles number (log_of l past) all handles (subst (λ m. clear_rule number (log_of m past) all handles ≡ None) (one_log k l same) rule)))
+      (own_clear-history l (log_of l past) number all handles is (subst (λ m. clear_rule number (log_of m past) all handles ≡ None) (one_log k l same) rule))
 ]
 
 -- and no record finds one full

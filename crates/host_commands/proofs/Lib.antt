@@ -1,5 +1,6 @@
 pub mod Answered
 pub mod GivenUp
+pub mod HostDrafts
 pub mod Listed
 pub mod ListsAfter
 pub mod LogRules

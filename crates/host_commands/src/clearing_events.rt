@@ -6,7 +6,7 @@ ghost use Rattle.event_log.specs.Logs.{Log};
 ghost use Rattle.host_commands.specs.Clearing.{changing, clearing_outcome, clearing_rule, empty_rule, listed_outcome, listed_rule, rule_of, whole_outcome, whole_rule};
 ghost use Rattle.host_commands.specs.Parts.{IsLogOf, IsOutcome};
 ghost use Rattle.journal_core.specs.declared.outcome.Effect.{Effect};
-ghost use Rattle.std.specs.Prelude.{◌≡◌, ◌++◌, ◌≤◌, [], OnOk, length};
+ghost use Rattle.std.specs.Prelude.{◌≡◌, ◌++◌, ◌≤◌, [], IfOk, None, OnOk, length};
 
 use crate::drafts::Draft;
 use crate::reading_events::{DYNAMIC_CAPACITY, LOGS};
@@ -29,8 +29,9 @@ pub fn clear_events(
     handles: &Handles,
 ) -> Result<Draft, Refusal>
     requires { length handles.now ≤ 255 }
-    ensures { (own : Log) → IsLogOf id own log.now →
+    ensures drafts { (own : Log) → IsLogOf id own log.now →
         ByRow (clear_rule number own all handles.now) (IsOutcome (clear_outcome id number own all handles.now)) result }
+    ensures no_lists { IfOk result (λ draft. draft.lists ≡ None) }
 {
     if number >= LOGS {
         return Err(Refusal::Broken(Rule::NoSuchLog(number)));

@@ -8,7 +8,7 @@ ghost use Rattle.host_commands.specs.Parts.{IsOutcome, lists_in};
 ghost use Rattle.host_lists.specs.Lists.{extent_total};
 ghost use Rattle.region_config.specs.Configurations.{Configuration};
 ghost use Rattle.region_config.specs.Granules.{with_blocks};
-ghost use Rattle.std.specs.Prelude.{◌≡◌, ◌<◌, ◌≤◌};
+ghost use Rattle.std.specs.Prelude.{◌≡◌, ◌<◌, ◌≤◌, IfOk, None};
 
 use crate::drafts::Draft;
 use crate::seen::{Flags, host_counts, regions_seen};
@@ -33,8 +33,9 @@ pub fn get_configuration(
 ) -> Result<Draft, Refusal>
     requires host { host < present.now.hosts }
     requires few { extent_total lists.now ≤ 64 }
-    ensures { (c : Configuration) (v : View) → present.now ≡ with_blocks c v.block → lists.now ≡ lists_in v →
+    ensures drafts { (c : Configuration) (v : View) → present.now ≡ with_blocks c v.block → lists.now ≡ lists_in v →
         ByRow (no_such_region c first) (IsOutcome (only (configuration_reply c host v count first))) result }
+    ensures no_lists { IfOk result (λ draft. draft.lists ≡ None) }
 {
     if first >= present.regions() {
         return Err(Refusal::Broken(Rule::NoSuchRegion(first)));

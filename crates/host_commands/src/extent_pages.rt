@@ -6,7 +6,7 @@ ghost use Rattle.device_rules.specs.Settings.{extents_reply, page, past_end};
 ghost use Rattle.device_rules.specs.Views.{View};
 ghost use Rattle.host_commands.specs.Parts.{IsOutcome, lists_in};
 ghost use Rattle.host_lists.specs.Lists.{extent_total};
-ghost use Rattle.std.specs.Prelude.{◌≡◌, ◌≤◌, IfOk, length, min};
+ghost use Rattle.std.specs.Prelude.{◌≡◌, ◌≤◌, IfOk, None, length, min};
 
 use crate::drafts::Draft;
 use dcd_base::{Bytes, Extents, NoMemory};
@@ -27,7 +27,8 @@ pub fn get_extents(
     first: u32,
 ) -> Result<Draft, Refusal>
     requires { extent_total lists.now ≤ 64 }
-    ensures { (v : View) → lists.now ≡ lists_in v → ByRow (past_end first (length v.accepted)) (IsOutcome (only (extents_reply v count first))) result }
+    ensures drafts { (v : View) → lists.now ≡ lists_in v → ByRow (past_end first (length v.accepted)) (IsOutcome (only (extents_reply v count first))) result }
+    ensures no_lists { IfOk result (λ draft. draft.lists ≡ None) }
 {
     let total = lists.accepted().len() as u32;
     if first > total {

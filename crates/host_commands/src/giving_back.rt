@@ -15,7 +15,7 @@ ghost use Rattle.journal_core.specs.declared.outcome.HeldKind.{HeldKind};
 ghost use Rattle.media_map.specs.Places.{is_granular};
 ghost use Rattle.region_config.specs.Granules.{with_blocks};
 ghost use Rattle.release_core.specs.Releases.{give_back_rule};
-ghost use Rattle.std.specs.Prelude.{◌≡◌, ◌++◌, ◌∷◌, ◌<◌, ◌≤◌, All, IfOk, IsTrue, OnOk, false};
+ghost use Rattle.std.specs.Prelude.{◌≡◌, ◌++◌, ◌∷◌, ◌<◌, ◌≤◌, All, IfOk, IfSome, IsTrue, OnOk, false};
 
 use crate::drafts::Draft;
 use crate::held_lists::{hold, unhold};
@@ -48,9 +48,10 @@ pub fn give_back(
     requires host { host < config.now.hosts }
     requires hosts { present.now.hosts ≡ config.now.hosts }
     requires few { extent_total lists.now ≤ 64 }
-    ensures { (v : View) → present.now ≡ with_blocks config.now v.block → lists.now ≡ lists_in v →
+    ensures drafts { (v : View) → present.now ≡ with_blocks config.now v.block → lists.now ≡ lists_in v →
         ByRow (give_back_rule (with_blocks config.now v.block) host v.accepted (count_in v.offers) (v.releases ++ list.now) more)
         (Drafts config.now host v (give_back_outcome config.now host v more list.now)) result }
+    ensures few { IfOk result (λ draft. IfSome draft.lists (λ new. extent_total new ≤ 64)) }
 {
     // What is made of present blocks is made of granules, in every configuration.
     let _regions = present.regions();
@@ -69,7 +70,9 @@ pub fn give_back(
 
 /// More is to come.
 fn held(alloc: Global, host: HostId, list: &Extents, after: HostLists) -> Result<Draft, NoMemory>
-    ensures { IfOk result (λ draft. draft ≡ changed (hold host HeldKind.Releases list.now) after) }
+    requires few { extent_total after ≤ 64 }
+    ensures drafts { IfOk result (λ draft. draft ≡ changed (hold host HeldKind.Releases list.now) after) }
+    ensures few { IfOk result (λ draft. IfSome draft.lists (λ new. extent_total new ≤ 64)) }
 {
     let mut draft = Draft::changing(alloc, hold(alloc, host, HeldKind::Releases, list)?);
     draft.lists = Some(after);
@@ -88,11 +91,12 @@ fn done(
     requires host { host < present.now.hosts }
     requires granular { All (λ x. IsTrue (is_granular present.now host x.start x.length)) leaving.now }
     requires few { extent_total after ≤ 64 }
-    ensures { IfOk result (Tells
+    ensures drafts { IfOk result (Tells
         (unhold host HeldKind.Releases lists.now.releases ++ removals present.now host false leaving.now)
         (tags_of leaving.now)
         (λ w. notices_of host w EventKind.Released leaving.now)
         after) }
+    ensures few { IfOk result (λ draft. IfSome draft.lists (λ new. extent_total new ≤ 64)) }
 {
     let mut changes = unhold(alloc, host, HeldKind::Releases, lists.releases())?;
     put_leaves(present, host, false, leaving, &mut changes)?;

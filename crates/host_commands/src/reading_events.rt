@@ -6,7 +6,7 @@ ghost use Rattle.device_rules.specs.Outcomes.{only};
 ghost use Rattle.event_log.specs.Logs.{Log};
 ghost use Rattle.host_commands.specs.Parts.{IsLogOf, IsOutcome};
 ghost use Rattle.host_payloads.specs.HostPayloads.{events_payload};
-ghost use Rattle.std.specs.Prelude.{◌≡◌, ◌≤◌, IfOk, [], length, nat_lt, take, false};
+ghost use Rattle.std.specs.Prelude.{◌≡◌, ◌≤◌, IfOk, None, [], length, nat_lt, take, false};
 
 use crate::drafts::Draft;
 use dcd_base::{Bytes, LogId, NoMemory, Seq};
@@ -28,7 +28,8 @@ const RECORDS: usize = 15;
 /// The oldest records of the log, 15 at most; nothing of a log whose number is below that of dynamic capacity.
 /// `NoSuchLog` comes exactly where the number is 5 or more.
 pub fn get_events(alloc: Global, number: u8, log: &EventLog) -> Result<Draft, Refusal>
-    ensures { (l : LogId) (own : Log) → IsLogOf l own log.now → ByRow (no_such_log number) (IsOutcome (only (events_reply (log_named number own)))) result }
+    ensures drafts { (l : LogId) (own : Log) → IsLogOf l own log.now → ByRow (no_such_log number) (IsOutcome (only (events_reply (log_named number own)))) result }
+    ensures no_lists { IfOk result (λ draft. draft.lists ≡ None) }
 {
     if number >= LOGS {
         return Err(Refusal::Broken(Rule::NoSuchLog(number)));

@@ -14,7 +14,7 @@ ghost use Rattle.media_map.specs.Places.{is_granular};
 ghost use Rattle.offer_core.specs.Offerings.{oldest_of};
 ghost use Rattle.offer_core.specs.Responses.{respond_rule};
 ghost use Rattle.region_config.specs.Granules.{with_blocks};
-ghost use Rattle.std.specs.Prelude.{◌≡◌, ◌++◌, ◌∷◌, ◌<◌, ◌≤◌, [], All, IfOk, IsTrue, OnOk, length};
+ghost use Rattle.std.specs.Prelude.{◌≡◌, ◌++◌, ◌∷◌, ◌<◌, ◌≤◌, [], All, IfOk, IfSome, IsTrue, OnOk, length};
 
 use crate::drafts::Draft;
 use crate::held_lists::{hold, unhold};
@@ -46,9 +46,10 @@ pub fn add_response(
     requires host { host < config.now.hosts }
     requires hosts { present.now.hosts ≡ config.now.hosts }
     requires few { extent_total lists.now ≤ 64 }
-    ensures { (v : View) → present.now ≡ with_blocks config.now v.block → lists.now ≡ lists_in v →
+    ensures drafts { (v : View) → present.now ≡ with_blocks config.now v.block → lists.now ≡ lists_in v →
         ByRow (respond_rule (with_blocks config.now v.block) host (length v.accepted) v.offers v.responses more list.now)
         (Drafts config.now host v (respond_outcome config.now host v more list.now)) result }
+    ensures few { IfOk result (λ draft. IfSome draft.lists (λ new. extent_total new ≤ 64)) }
 {
     // What is made of present blocks is made of granules, in every configuration.
     let _regions = present.regions();
@@ -62,7 +63,9 @@ pub fn add_response(
 
 /// More is to come.
 fn held(alloc: Global, host: HostId, list: &Extents, after: HostLists) -> Result<Draft, NoMemory>
-    ensures { IfOk result (λ draft. draft ≡ changed (hold host HeldKind.Responses list.now) after) }
+    requires few { extent_total after ≤ 64 }
+    ensures drafts { IfOk result (λ draft. draft ≡ changed (hold host HeldKind.Responses list.now) after) }
+    ensures few { IfOk result (λ draft. IfSome draft.lists (λ new. extent_total new ≤ 64)) }
 {
     let mut draft = Draft::changing(alloc, hold(alloc, host, HeldKind::Responses, list)?);
     draft.lists = Some(after);
@@ -76,7 +79,9 @@ fn nothing(
     lists: &HostLists,
     after: HostLists,
 ) -> Result<Draft, NoMemory>
-    ensures { IfOk result (λ draft. draft ≡ changed (unhold host HeldKind.Responses lists.now.responses) after) }
+    requires few { extent_total after ≤ 64 }
+    ensures drafts { IfOk result (λ draft. draft ≡ changed (unhold host HeldKind.Responses lists.now.responses) after) }
+    ensures few { IfOk result (λ draft. IfSome draft.lists (λ new. extent_total new ≤ 64)) }
 {
     let changes = unhold(alloc, host, HeldKind::Responses, lists.responses())?;
     let mut draft = Draft::changing(alloc, changes);
@@ -96,11 +101,12 @@ fn done(
     requires host { host < present.now.hosts }
     requires granular { All (λ x. IsTrue (is_granular present.now host x.start x.length)) accepted }
     requires few { extent_total after ≤ 64 }
-    ensures { IfOk result (Tells
+    ensures drafts { IfOk result (Tells
         (unhold host HeldKind.Responses lists.now.responses ++ Effect.Answer host accepted ∷ takes present.now host accepted)
         (tags_of (oldest_of lists.now.offers))
         (λ w. told_of host w accepted)
         after) }
+    ensures few { IfOk result (λ draft. IfSome draft.lists (λ new. extent_total new ≤ 64)) }
 {
     let mut changes = unhold(alloc, host, HeldKind::Responses, lists.responses())?;
     changes.push(Effect::Answer(host, accepted.copy()?))?;

@@ -1,4 +1,5 @@
 pub mod Departures
+pub mod Holding
 pub mod Offered
 pub mod TagCounting
 pub mod Withdrawals

@@ -4,7 +4,7 @@ ghost use Rattle.extent_list.specs.ExtentLists.{cut, cut_all, holder_of};
 ghost use Rattle.host_lists.specs.Answers.{generation_after};
 ghost use Rattle.host_lists.specs.Lists.{next_generation};
 ghost use Rattle.release_core.specs.Leaving.{AllCanLeave};
-ghost use Rattle.std.specs.Prelude.{◌≡◌, ◌++◌, ◌+◌, ◌^◌, ◌<◌, ◌≤◌, IsSome, length};
+ghost use Rattle.std.specs.Prelude.{◌≡◌, ◌++◌, ◌+◌, ◌^◌, ◌<◌, ◌≤◌, All, IsSome, length};
 
 use dcd_base::Extent;
 use extent_list::ExtentList;
@@ -46,6 +46,30 @@ pub(crate) fn cut_out(accepted: &mut ExtentList, leaving: &[Extent])
 {
     for extent in leaving {
         cut_one(accepted, extent);
+    }
+}
+
+/// Cuts those of the extents out of accepted ones that lie in one when their turn comes. It takes no memory.
+pub(crate) fn cut_held(accepted: &mut ExtentList, extents: &[Extent])
+    requires room { length extents.now ≤ accepted.old.spare }
+    requires ends { All (λ x. x.start + x.length < 2 ^ 64) extents.now }
+    ensures { accepted.new.extents ≡ cut_all extents.now accepted.old.extents }
+{
+    for extent in extents {
+        cut_where_held(accepted, extent);
+    }
+}
+
+/// Cuts an extent out where it lies in one.
+fn cut_where_held(accepted: &mut ExtentList, extent: &Extent)
+    requires spare { 0 < accepted.old.spare }
+    requires ends { extent.now.start + extent.now.length < 2 ^ 64 }
+    ensures cut { accepted.new.extents ≡ cut extent.now.start extent.now.length accepted.old.extents }
+    ensures spare { accepted.old.spare ≤ accepted.new.spare + 1 }
+{
+    match accepted.holder_of(extent.start, extent.length) {
+        Some(_) => cut_one(accepted, extent),
+        None => (),
     }
 }
 

@@ -3,12 +3,12 @@
 ghost use Rattle.dcd_codes.specs.Rules.{ByRow};
 ghost use Rattle.extent_list.specs.ExtentLists.{count_in, cut_all};
 ghost use Rattle.host_lists.specs.Answers.{GivesUp, LeavesReleases, generation_after};
-ghost use Rattle.host_lists.specs.Lists.{extent_total};
+ghost use Rattle.host_lists.specs.Lists.{extent_total, next_generation};
 ghost use Rattle.release_core.specs.Leaving.{AllCanLeave};
 ghost use Rattle.release_core.specs.Releases.{give_back_rule};
-ghost use Rattle.std.specs.Prelude.{◌≡◌, ◌++◌, ◌<◌, ◌≤◌, OnErr, OnOk};
+ghost use Rattle.std.specs.Prelude.{◌≡◌, ◌++◌, ◌+◌, ◌^◌, ◌<◌, ◌≤◌, All, OnErr, OnOk};
 
-use crate::changes::{cut_out, generation_after, next_generation};
+use crate::changes::{cut_held, cut_out, generation_after, next_generation};
 use crate::lists::HostLists;
 use dcd_base::{Extents, HostId, NoMemory};
 use dcd_codes::Refusal;
@@ -73,6 +73,22 @@ impl HostLists {
         self.accepted.reserve(leaving.len())?;
         cut_out(&mut self.accepted, leaving.as_slice());
         self.generation = generation_after(leaving.as_slice(), self.generation);
+        Ok(())
+    }
+
+    /// Takes those of these extents out of the accepted ones that lie in one when their turn comes, which counts as
+    /// one change. Each ends below 2^64. Without memory nothing changes.
+    pub fn take_out(&mut self, extents: &Extents) -> Result<(), NoMemory>
+        requires ends { All (λ x. x.start + x.length < 2 ^ 64) extents.now }
+        ensures taken { OnOk result (self.new ≡ record self.old {
+          accepted = cut_all extents.now self.old.accepted;
+          generation = next_generation self.old.generation;
+        }) }
+        ensures kept { OnErr result (self.new ≡ self.old) }
+    {
+        self.accepted.reserve(extents.len())?;
+        cut_held(&mut self.accepted, extents.as_slice());
+        self.generation = next_generation(self.generation);
         Ok(())
     }
 }

@@ -1,7 +1,7 @@
 //! Each call once, for a host of a device with one region.
 
 ghost use Rattle.host_lists.specs.Lists.{extent_total};
-ghost use Rattle.std.specs.Prelude.{◌≡◌, ◌<◌, ◌≤◌, IfOk, length};
+ghost use Rattle.std.specs.Prelude.{◌≡◌, ◌+◌, ◌^◌, ◌<◌, ◌≤◌, IfOk, length};
 
 use crate::{HostLists, Responded};
 use dcd_base::{Extent, Extents, HostId, NoMemory, RegionId, Tag};
@@ -34,6 +34,7 @@ fn one_region(alloc: Global) -> Result<Config, ConfigFault>
 fn extent(first: u64, count: u64, tag: u8) -> Extent
     requires first { first < 1024 }
     requires count { count < 1024 }
+    ensures { result.start + result.length < 2 ^ 64 }
 {
     Extent {
         start: first * M,
@@ -195,6 +196,18 @@ fn an_end_is_taken_out(rt: HostRuntime) -> Result<(), Fail> {
     let mut lists = one_accepted(rt.alloc(), &config)?;
     take_out(&mut lists, &config, &listed(rt.alloc(), 5, 1)?)?;
     assert_eq!(rt; lists.accepted().as_slice(), [extent(0, 5, 7)].as_slice());
+    assert_eq!(rt; lists.generation(), 2);
+    Ok(())
+}
+
+#[test]
+fn only_what_is_held_is_taken_out(rt: HostRuntime) -> Result<(), Fail> {
+    let config = one_region(rt.alloc())?;
+    let mut lists = one_accepted(rt.alloc(), &config)?;
+    let parts = [extent(1, 2, 0), extent(8, 2, 0)];
+    lists.take_out(&Extents::from_slice(rt.alloc(), &parts)?)?;
+    let left = [extent(0, 1, 7), extent(3, 3, 7)];
+    assert_eq!(rt; lists.accepted().as_slice(), left.as_slice());
     assert_eq!(rt; lists.generation(), 2);
     Ok(())
 }

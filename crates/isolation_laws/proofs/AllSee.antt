@@ -1,6 +1,6 @@
 -- After every legal journal each host of the device sees what it would see alone.
-use Rattle.std.proofs.Common.{◌≡◌, ◌<◌, ◌≢◌, List, [], ◌∷◌, inl, inr, refl, sym, ap, subst, ◌∙◌}
-use Rattle.std.specs.Prelude.{fold, if◌then◌else◌}
+use Rattle.std.proofs.Common.{◌<◌, ◌≢◌, List, [], ◌∷◌, inl, inr, refl, sym, subst}
+use Rattle.std.specs.Prelude.{if◌then◌else◌}
 use Rattle.std.proofs.lemmas.Bool.{cases_eq, eq-eqb, ne_eqb}
 use Rattle.dcd_base.specs.declared.ids.HostId.{HostId}
 use Rattle.dcd_base.specs.declared.steps.Actor.{Actor}
@@ -18,7 +18,7 @@ use Rattle.device_laws.proofs.LegalSound.{legal_is_sound}
 use Rattle.device_rules.specs.Answers.{scrubbed, zeroes}
 use Rattle.device_rules.specs.Legal.{Legal, Meets, right_answer}
 use Rattle.device_rules.specs.Logs.{log_of}
-use Rattle.device_rules.specs.Views.{View, view_after, view_of}
+use Rattle.device_rules.specs.Views.{View, view_of}
 use Rattle.device_steps.proofs.EffectKinds.{zeroes_pass}
 use Rattle.device_steps.proofs.LegalLogs.{legal_logs}
 use Rattle.device_steps.proofs.LegalSteps.{by_steps}
@@ -26,9 +26,10 @@ use Rattle.device_steps.proofs.LogSteps.{IsSound as IsSoundLog}
 use Rattle.device_steps.proofs.ViewOthers.{answer-leaves}
 use Rattle.device_steps.proofs.ViewsLeft.{leaves_view}
 use Rattle.isolation_laws.specs.Laws.{AllSeeAlone}
-use Rattle.isolation_laws.specs.Solo.{delivered, is_of, solo_after}
+use Rattle.isolation_laws.specs.Solo.{delivered, is_of}
 use Rattle.isolation_laws.specs.declared.items.Item.{Item}
 use Rattle.isolation_laws.proofs.ManagerSteps.{manager_brings}
+use Rattle.isolation_laws.proofs.OneItem.{BringsItems}
 use Rattle.isolation_laws.proofs.OtherSteps.{brings_nothing}
 use Rattle.isolation_laws.proofs.OwnItems.{StepsAlone, stays_alone}
 use Rattle.isolation_laws.proofs.OwnSteps.{own_step}
@@ -44,19 +45,18 @@ module _ (c : Configuration) (sound : IsSound c) (before : List Entry) (now : So
 
   -- The right answer to the act steps the view as its items do.
   abbrev Answers : Actor → Act → Type 0
-  Answers actor act = view_after c h (view_of c h before) (right_answer c before actor act).1
-      ≡ fold (solo_after c h) (view_of c h before) (items_by h actor act (right_answer c before actor act).1)
+  Answers actor act = BringsItems c h (view_of c h before) (right_answer c before actor act).1 (items_by h actor act (right_answer c before actor act).1)
 
   own_answers : (act : Act) → Answers (Actor.Host h) act
   own_answers act =
-      own_step c h before act
-      ∙ sym (ap (λ b. fold (solo_after c h) v (if b then Item.Own act ∷ [] else delivered h (right_answer c before (Actor.Host h) act).1)) (eq-eqb h h refl))
+      subst (λ b. BringsItems c h (view_of c h before) (right_answer c before (Actor.Host h) act).1 (if b then Item.Own act ∷ [] else delivered h (right_answer c before (Actor.Host h) act).1)) (sym (eq-eqb h h refl))
+      (record { alone = own_step c h before act; few = λ beyond. beyond })
 
   other_answers : (k : HostId) → k ≢ h → (act : Act) → Answers (Actor.Host k) act
   other_answers k other act =
       let new : List Effect = (right_answer c before (Actor.Host k) act).1 in
-      brings_nothing c h v new (answer-leaves c before k h other act)
-      ∙ sym (ap (λ b. fold (solo_after c h) v (if b then Item.Own act ∷ [] else delivered h new)) (ne_eqb k h other))
+      subst (λ b. BringsItems c h (view_of c h before) new (if b then Item.Own act ∷ [] else delivered h new)) (sym (ne_eqb k h other))
+      (brings_nothing c h v new (answer-leaves c before k h other act))
 
   answers : (actor : Actor) (act : Act) → Answers actor act
   answers (Actor.Host k) act = elim (cases_eq k h) [
@@ -64,17 +64,17 @@ module _ (c : Configuration) (sound : IsSound c) (before : List Entry) (now : So
     | inr other ↦ other_answers k other act
   ]
   answers Actor.Manager (Act.Command q) = manager_brings c sound before now h known history (manager_request q.opcode q.payload)
-  answers Actor.Manager (Act.Load d) = refl
-  answers Actor.Manager (Act.Store d value) = refl
-  answers Actor.Manager (Act.Scrub n) = refl
-  answers Actor.Sanitizer (Act.Command q) = refl
-  answers Actor.Sanitizer (Act.Load d) = refl
-  answers Actor.Sanitizer (Act.Store d value) = refl
+  answers Actor.Manager (Act.Load d) = record { alone = refl; few = tt }
+  answers Actor.Manager (Act.Store d value) = record { alone = refl; few = tt }
+  answers Actor.Manager (Act.Scrub n) = record { alone = refl; few = tt }
+  answers Actor.Sanitizer (Act.Command q) = record { alone = refl; few = tt }
+  answers Actor.Sanitizer (Act.Load d) = record { alone = refl; few = tt }
+  answers Actor.Sanitizer (Act.Store d value) = record { alone = refl; few = tt }
   answers Actor.Sanitizer (Act.Scrub n) = brings_nothing c h v (zeroes c (scrubbed c (effects before) n)) (zeroes_pass (leaves_view h) (λ run. refl) c (scrubbed c (effects before) n))
 
   -- so each entry that meets what is asked does
-  steps_alone : (e : Entry) → Meets c before e → StepsAlone c h before e
-  steps_alone e meets = subst (λ new. view_after c h (view_of c h before) new ≡ fold (solo_after c h) (view_of c h before) (items_by h e.actor e.act new)) (sym meets.effects) (answers e.actor e.act)
+  pub steps_alone : (e : Entry) → Meets c before e → StepsAlone c h before e
+  steps_alone e meets = subst (λ new. BringsItems c h (view_of c h before) new (items_by h e.actor e.act new)) (sym meets.effects) (answers e.actor e.act)
 
 -- After every legal journal.
 pub all_see_alone : (c : Configuration) → IsSound c → (journal : List Entry) → Legal c journal → AllSeeAlone c journal

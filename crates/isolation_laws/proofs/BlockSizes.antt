@@ -1,5 +1,5 @@
 -- The manager sets a block size: each host's view is then the one that it has alone, told of it.
-use Rattle.std.proofs.Common.{◌≡◌, ℕ, zero, suc, ◌+◌, ◌<◌, ◌≤◌, Bool, true, false, ◌&&◌, List, [], ◌∷◌, ◌++◌, Some, None, length, inl, inr, refl, sym, ap, ◌∙◌, arith}
+use Rattle.std.proofs.Common.{◌≡◌, ℕ, zero, suc, ◌+◌, ◌<◌, ◌≤◌, Bool, true, false, ◌&&◌, List, [], ◌∷◌, ◌++◌, Some, None, length, inl, inr, refl, sym, ap, subst, ◌∙◌, arith}
 use Rattle.std.specs.Prelude.{fold, map, nat_lt, if◌then◌else◌, ◌==◌}
 use Rattle.std.specs.List.{cons_option, range_with_len}
 use Rattle.std.proofs.lemmas.Bool.{cases_eq, eq-eqb, ne_eqb}
@@ -22,9 +22,10 @@ use Rattle.device_rules.specs.Views.{View, view_after}
 use Rattle.device_steps.proofs.LogHistories.{entered_all-other, told as records_for}
 use Rattle.device_steps.proofs.LogOutcomes.{room_for}
 use Rattle.device_steps.proofs.LogSteps.{IsSound, entered_all-room}
-use Rattle.isolation_laws.specs.Solo.{solo_after, told, told_by, with_notices}
+use Rattle.isolation_laws.specs.Solo.{told, told_by, with_notices}
 use Rattle.isolation_laws.specs.declared.items.Item.{Item}
 use Rattle.isolation_laws.proofs.JoinedViews.{view_after-told}
+use Rattle.isolation_laws.proofs.OneItem.{BringsItems}
 use Rattle.isolation_laws.proofs.OtherSteps.{BringsAlone}
 use Rattle.isolation_laws.proofs.RecordItems.{blocks_outcome, delivered_is, told_outcome}
 
@@ -118,8 +119,12 @@ module _ (c : Configuration) (h : HostId) (view_for : HostId → View) (past : L
       ∙ ap (λ own. recorded own e) log in
       let tells : (kind : EventKind) → (3 == kind_number kind) ≡ false → told h kind (effects_of c past o) ≡ [] = λ kind other.
       told_outcome h kind c past o refl ∙ tells_none past (updated r) h kind (λ k. other) 0 c.hosts in
-      view_after-told c h v past o (e ∷ []) refl joined
-      ∙ ap {A = View} (λ u. with_notices u (e ∷ [])) (set_view r size)
-      ∙ sym (ap (λ b. if b then with_notices (record v { block = λ s. if s == r then size else v.block s }) (e ∷ []) else v) fine)
-      ∙ sym (ap (fold (solo_after c h) v) (delivered_is h (effects_of c past o) [] [] [] (Item.Block r size ∷ [])
-      (tells EventKind.Add refl) (tells EventKind.Release refl) (tells EventKind.Forced refl) (blocks_outcome c past o)))
+      subst (BringsItems c h v (effects_of c past o))
+      (sym (delivered_is h (effects_of c past o) [] [] [] (Item.Block r size ∷ []) (tells EventKind.Add refl) (tells EventKind.Release refl) (tells EventKind.Forced refl) (blocks_outcome c past o)))
+      (record {
+        alone =
+            view_after-told c h v past o (e ∷ []) refl joined
+            ∙ ap {A = View} (λ u. with_notices u (e ∷ [])) (set_view r size)
+            ∙ sym (ap (λ b. if b then with_notices (record v { block = λ s. if s == r then size else v.block s }) (e ∷ []) else v) fine);
+        few = λ beyond. beyond;
+      })

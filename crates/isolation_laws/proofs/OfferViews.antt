@@ -1,6 +1,6 @@
 -- The manager offers extents to the host: its view is then the one that it has alone, given them.
-use Rattle.std.proofs.Common.{◌≡◌, ◌<◌, ◌≤◌, List, [], ◌∷◌, ◌++◌, length, refl, sym, ap, ◌∙◌, arith}
-use Rattle.std.specs.Prelude.{fold, if◌then◌else◌}
+use Rattle.std.proofs.Common.{◌≡◌, ◌<◌, ◌≤◌, List, [], ◌∷◌, ◌++◌, length, refl, sym, ap, subst, ◌∙◌, arith}
+use Rattle.std.specs.Prelude.{if◌then◌else◌}
 use Rattle.std.proofs.lemmas.Bool.{eq-eqb}
 use Rattle.dcd_base.specs.declared.capacity.Extent.{Extent}
 use Rattle.dcd_base.specs.declared.ids.HostId.{HostId}
@@ -13,7 +13,8 @@ use Rattle.device_rules.specs.Logs.{log_of}
 use Rattle.device_rules.specs.Outcomes.{Outcome, effects_of, notices_of}
 use Rattle.device_rules.specs.Views.{View, view_after}
 use Rattle.device_steps.proofs.LogSteps.{IsSound}
-use Rattle.isolation_laws.specs.Solo.{solo_after, with_notices}
+use Rattle.isolation_laws.specs.Solo.{with_notices}
+use Rattle.isolation_laws.proofs.OneItem.{BringsItems}
 use Rattle.isolation_laws.proofs.OtherSteps.{BringsAlone}
 use Rattle.isolation_laws.proofs.OwnRecords.{told_notices, view_after-notices}
 use Rattle.isolation_laws.proofs.RecordItems.{blocks_outcome, delivered_is}
@@ -38,7 +39,11 @@ module _ (c : Configuration) (h : HostId) (v : View) (past : List Effect) (log :
       let o : Outcome = offering c h v (x ∷ xs) in
       let w : View = view_after c h v (Effect.Offer h (x ∷ xs) ∷ []) in
       let tells : (asked : EventKind) → _ = told_notices c h v past log sound w EventKind.Add (x ∷ xs) room o refl refl in
-      view_after-notices c h v past log sound w EventKind.Add (x ∷ xs) room o refl refl
-      ∙ ap {A = View} (λ u. with_notices u (notices_of h u EventKind.Add (x ∷ xs))) (offered_view (x ∷ xs))
-      ∙ sym (ap (fold (solo_after c h) v) (delivered_is h (effects_of c past o) (x ∷ xs) [] [] []
-      (tells EventKind.Add) (tells EventKind.Release) (tells EventKind.Forced) (blocks_outcome c past o)))
+      subst (BringsItems c h v (effects_of c past o))
+      (sym (delivered_is h (effects_of c past o) (x ∷ xs) [] [] [] (tells EventKind.Add) (tells EventKind.Release) (tells EventKind.Forced) (blocks_outcome c past o)))
+      (record {
+        alone =
+            view_after-notices c h v past log sound w EventKind.Add (x ∷ xs) room o refl refl
+            ∙ ap {A = View} (λ u. with_notices u (notices_of h u EventKind.Add (x ∷ xs))) (offered_view (x ∷ xs));
+        few = λ beyond. beyond;
+      })

@@ -1,19 +1,19 @@
 -- Steps that are none of the host's and bring it nothing.
-use Rattle.std.proofs.Common.{◌≡◌, true, List, sym, ap, ◌∙◌}
-use Rattle.std.specs.Prelude.{fold}
+use Rattle.std.proofs.Common.{◌≡◌, true, List, sym, subst}
 use Rattle.std.specs.List.{list_all}
 use Rattle.dcd_base.specs.declared.ids.HostId.{HostId}
 use Rattle.journal_core.specs.declared.outcome.Effect.{Effect}
 use Rattle.region_config.specs.Configurations.{Configuration}
-use Rattle.device_rules.specs.Views.{View, view_after}
+use Rattle.device_rules.specs.Views.{View}
 use Rattle.device_steps.proofs.ViewsLeft.{leaves_view, view_after-left}
-use Rattle.isolation_laws.specs.Solo.{delivered, solo_after}
+use Rattle.isolation_laws.specs.Solo.{delivered}
+use Rattle.isolation_laws.proofs.OneItem.{BringsItems}
 use Rattle.isolation_laws.proofs.RecordItems.{delivered-left}
 
 -- The effects of another actor change the view as what they bring the host changes it alone.
 abbrev pub BringsAlone : Configuration → HostId → View → List Effect → Type 0
-BringsAlone c h v new = view_after c h v new ≡ fold (solo_after c h) v (delivered h new)
+BringsAlone c h v new = BringsItems c h v new (delivered h new)
 
 -- So it is where they leave it.
 pub brings_nothing : (c : Configuration) (h : HostId) (v : View) (new : List Effect) → list_all (leaves_view h) new ≡ true → BringsAlone c h v new
-brings_nothing c h v new all = view_after-left c h v new all ∙ sym (ap (fold (solo_after c h) v) (delivered-left h new all))
+brings_nothing c h v new all = subst (BringsItems c h v new) (sym (delivered-left h new all)) (record { alone = view_after-left c h v new all; few = tt })

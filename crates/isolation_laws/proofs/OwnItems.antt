@@ -6,10 +6,11 @@ use Rattle.std.proofs.lemmas.List.Sums.{fold-append}
 use Rattle.dcd_base.specs.declared.ids.HostId.{HostId}
 use Rattle.journal_core.specs.declared.entries.Entry.{Entry}
 use Rattle.region_config.specs.Configurations.{Configuration}
-use Rattle.device_rules.specs.Views.{first_view, view_after, view_of}
+use Rattle.device_rules.specs.Views.{first_view, view_of}
 use Rattle.device_steps.proofs.ViewSteps.{view_of-push}
 use Rattle.isolation_laws.specs.Laws.{SeesAlone}
 use Rattle.isolation_laws.specs.Solo.{items_of, own_items, solo_after, solo_view}
+use Rattle.isolation_laws.proofs.OneItem.{BringsItems}
 
 pub own_items-push : (h : HostId) (journal : List Entry) (e : Entry) → own_items h (journal ++ e ∷ []) ≡ own_items h journal ++ items_of h e
 own_items-push h journal e = flat_map-append (items_of h) journal (e ∷ []) ∙ ap (λ new. own_items h journal ++ new) (append-nil (items_of h e))
@@ -20,9 +21,9 @@ solo_view-push c h journal e = ap (solo_view c h) (own_items-push h journal e) �
 
 -- The entry changes the view as the items that it brings the host change it alone.
 abbrev pub StepsAlone : Configuration → HostId → List Entry → Entry → Type 0
-StepsAlone c h before e = view_after c h (view_of c h before) e.effects ≡ fold (solo_after c h) (view_of c h before) (items_of h e)
+StepsAlone c h before e = BringsItems c h (view_of c h before) e.effects (items_of h e)
 
 -- So the host sees as alone after it, where it did before it.
 pub stays_alone : (c : Configuration) (h : HostId) (before : List Entry) (e : Entry) → StepsAlone c h before e → SeesAlone c h before → SeesAlone c h (before ++ e ∷ [])
 stays_alone c h before e step alone =
-    view_of-push c h before e ∙ step ∙ ap (λ v. fold (solo_after c h) v (items_of h e)) alone ∙ sym (solo_view-push c h before e)
+    view_of-push c h before e ∙ step.alone ∙ ap (λ v. fold (solo_after c h) v (items_of h e)) alone ∙ sym (solo_view-push c h before e)

@@ -1,8 +1,9 @@
 -- The manager asks the host for extents, or takes them by force: its view is then the one that it has alone.
-use Rattle.std.proofs.Common.{◌≡◌, ◌+◌, ◌≤◌, Bool, true, false, ◌||◌, List, [], ◌∷◌, ◌++◌, None, length, refl, sym, ap, ◌∙◌}
-use Rattle.std.specs.Prelude.{filter_map, fold, if◌then◌else◌}
+use Rattle.std.proofs.Common.{◌≡◌, ◌+◌, ◌^◌, ◌<◌, ◌≤◌, Bool, true, false, ◌||◌, List, [], ◌∷◌, ◌++◌, None, length, refl, sym, ap, subst, ◌∙◌}
+use Rattle.std.specs.Prelude.{All, filter_map, fold, if◌then◌else◌}
 use Rattle.std.specs.List.{AllByRecursion, list_all, list_any}
 use Rattle.std.proofs.lemmas.Bool.{eq-eqb, false≢true}
+use Rattle.std.proofs.lemmas.List.Elements.{All-cons, All-nil}
 use Rattle.dcd_base.specs.declared.capacity.Extent.{Extent}
 use Rattle.dcd_base.specs.declared.ids.HostId.{HostId}
 use Rattle.dcd_base.specs.declared.media.Run.{Run}
@@ -24,6 +25,7 @@ use Rattle.device_steps.proofs.LogHistories.{leaves_logs}
 use Rattle.device_steps.proofs.LogSteps.{IsSound}
 use Rattle.isolation_laws.specs.Solo.{block_item, item_of, solo_after, with_notices}
 use Rattle.isolation_laws.specs.declared.items.Item.{Item}
+use Rattle.isolation_laws.proofs.OneItem.{BringsItems, IsOneAtMost}
 use Rattle.isolation_laws.proofs.OtherSteps.{BringsAlone}
 use Rattle.isolation_laws.proofs.OwnRecords.{told_notices, view_after-notices}
 use Rattle.isolation_laws.proofs.RecordItems.{blocks_outcome, delivered_is, none_found}
@@ -37,10 +39,11 @@ removing c h v forced clean all = let changes : List Effect = if forced then rem
   notices = (LogId.Host h, notices_of h (view_after c h v changes) (if forced then EventKind.Forced else EventKind.Release) all) ∷ [];
 }
 
--- the run of its granules begins where the extent does, and is as long
+-- the run of its granules begins where the extent does, and is as long; the extent ends within the addresses
 pub record IsOwnRun (c : Configuration) (h : HostId) (x : Extent) : Type 0 where
   pub starts : start_of c h (run_of c h x) ≡ x.start
   pub bytes : bytes_in c (run_of c h x) ≡ x.length
+  pub ends : x.start + x.length < 2 ^ 64
 
 -- ---- the changes
 
@@ -76,6 +79,11 @@ view_after-removals c h v clean x xs own = λ i. record {
   block = λ r. over-removals (block_after r) c h (λ b run. refl) (λ b run. refl) clean (x ∷ xs) (v.block r) i;
 }
 
+-- all of them end within the addresses
+ends_within : (c : Configuration) (h : HostId) (xs : List Extent) → AllByRecursion (IsOwnRun c h) xs → All (λ (x : Extent). x.start + x.length < 2 ^ 64) xs
+ends_within c h [] own = All-nil (λ (x : Extent). x.start + x.length < 2 ^ 64)
+ends_within c h (x ∷ xs) own = All-cons (λ (y : Extent). y.start + y.length < 2 ^ 64) x xs own.0.ends (ends_within c h xs own.1)
+
 -- no block size is set
 abbrev no_block : Effect → Bool
 no_block (Effect.Block r size) = false
@@ -101,10 +109,14 @@ module _ (c : Configuration) (h : HostId) (v : View) (past : List Effect) (log :
   brings_request clean all room =
       let o : Outcome = removing c h v false clean all in
       let tells : (asked : EventKind) → _ = told_notices c h v past log sound v EventKind.Release all room o refl refl in
-      view_after-notices c h v past log sound v EventKind.Release all room o refl refl
-      ∙ by all
-      ∙ sym (ap (fold (solo_after c h) v) (delivered_is h (effects_of c past o) [] all [] [] (tells EventKind.Add) (tells EventKind.Release) (tells EventKind.Forced) (no_blocks false clean all)))
+      subst (BringsItems c h v (effects_of c past o))
+      (sym (delivered_is h (effects_of c past o) [] all [] [] (tells EventKind.Add) (tells EventKind.Release) (tells EventKind.Forced) (no_blocks false clean all)))
+      (record { alone = view_after-notices c h v past log sound v EventKind.Release all room o refl refl ∙ by all; few = few all })
     where
+      few : (all : List Extent) → IsOneAtMost (item_of Item.Asked all ++ [] ++ [])
+      few [] = tt
+      few (x ∷ xs) = λ beyond. beyond
+
       by : (all : List Extent) → with_notices v (notices_of h v EventKind.Release all) ≡ fold (solo_after c h) v (item_of Item.Asked all ++ [] ++ [])
       by [] = refl
       by (x ∷ xs) = refl
@@ -115,10 +127,14 @@ module _ (c : Configuration) (h : HostId) (v : View) (past : List Effect) (log :
       let o : Outcome = removing c h v true clean all in
       let w : View = view_after c h v (removals c h clean all) in
       let tells : (asked : EventKind) → _ = told_notices c h v past log sound w EventKind.Forced all room o refl (quiet_logs true clean all) in
-      view_after-notices c h v past log sound w EventKind.Forced all room o refl (quiet_logs true clean all)
-      ∙ by all own
-      ∙ sym (ap (fold (solo_after c h) v) (delivered_is h (effects_of c past o) [] [] all [] (tells EventKind.Add) (tells EventKind.Release) (tells EventKind.Forced) (no_blocks true clean all)))
+      subst (BringsItems c h v (effects_of c past o))
+      (sym (delivered_is h (effects_of c past o) [] [] all [] (tells EventKind.Add) (tells EventKind.Release) (tells EventKind.Forced) (no_blocks true clean all)))
+      (record { alone = view_after-notices c h v past log sound w EventKind.Forced all room o refl (quiet_logs true clean all) ∙ by all own; few = few all own })
     where
+      few : (all : List Extent) → AllByRecursion (IsOwnRun c h) all → IsOneAtMost (item_of Item.Taken all ++ [])
+      few [] own = tt
+      few (x ∷ xs) own = λ beyond. beyond (ends_within c h (x ∷ xs) own)
+
       by : (all : List Extent) → AllByRecursion (IsOwnRun c h) all →
           with_notices (view_after c h v (removals c h clean all)) (notices_of h (view_after c h v (removals c h clean all)) EventKind.Forced all) ≡ fold (solo_after c h) v (item_of Item.Taken all ++ [])
       by [] own = refl

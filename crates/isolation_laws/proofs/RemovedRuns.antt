@@ -1,5 +1,5 @@
 -- What the manager takes by force is made of granules.
-use Rattle.std.proofs.Common.{◌≡◌, ℕ, ◌<◌, Bool, true, false, List, map, None}
+use Rattle.std.proofs.Common.{◌≡◌, ℕ, ◌<◌, Bool, true, false, List, map, None, arith}
 use Rattle.std.specs.Prelude.{if◌then◌else◌}
 use Rattle.std.specs.List.{AllByRecursion}
 use Rattle.dcd_base.specs.Words.{◌or◌, same_tag}
@@ -10,6 +10,7 @@ use Rattle.dcd_codes.specs.Rules.{each_in}
 use Rattle.extent_list.specs.ExtentLists.{count_in, marked}
 use Rattle.list_rules.specs.Listing.{incomplete, too_many_extents}
 use Rattle.media_map.specs.Places.{region_at}
+use Rattle.region_config.proofs.Faultless.{region_ends}
 use Rattle.region_config.specs.Configurations.{Configuration}
 use Rattle.region_config.specs.Granules.{with_blocks}
 use Rattle.region_config.specs.Soundness.{IsSound}
@@ -32,6 +33,7 @@ module _ (c : Configuration) (sound : IsSound c) (p : Picture) (s : Stands c p) 
       let r : ℕ = region_at c h y.start in record {
         starts = made_starts c h sound known (p.block r) r y (present_whole c sound p s r m.known) m;
         bytes = made_bytes c h sound known (p.block r) r y (present_whole c sound p s r m.known) m;
+        ends = let below = region_ends c h r sound known m.known in omega (arith, below, m.within);
       }
 
   going_runs : (ys : List Extent) → IsGoing c p h ys → AllByRecursion (IsOwnRun c h) ys
@@ -46,4 +48,4 @@ module _ (c : Configuration) (sound : IsSound c) (p : Picture) (s : Stands c p) 
       let w : Configuration = with_blocks c p.block in
       let front = neither _ (too_many_extents (count_after (p.accepted h) (count_in (p.offers h)) list)) row in
       let rules = neither _ (each_in list (going_rule w h (p.accepted h) (λ x. r)) or incomplete w h (p.accepted h) list) front.0 in
-      each-map (IsOwnRun c h) (IsOwnRun c h) (marked (p.accepted h)) (λ y own. record { starts = own.starts; bytes = own.bytes }) list (going_runs list (going_of c sound p s h known (λ x. r) list rules.1))
+      each-map (IsOwnRun c h) (IsOwnRun c h) (marked (p.accepted h)) (λ y own. record { starts = own.starts; bytes = own.bytes; ends = own.ends }) list (going_runs list (going_of c sound p s h known (λ x. r) list rules.1))

@@ -1,5 +1,5 @@
 -- What the proof of isolation carries over a legal journal, and what follows for two journals.
-use Rattle.std.specs.Prelude.{◌≡◌, ℕ, ◌<◌, Bool, true, false, ◌||◌, ◌==◌, List, [], ◌∷◌, ◌++◌, fold, if◌then◌else◌, IsTrue, IsFalse}
+use Rattle.std.specs.Prelude.{◌≡◌, ℕ, ◌<◌, Bool, true, false, ◌||◌, ◌==◌, List, [], ◌∷◌, ◌++◌, fold, take, slice_get, Some, if◌then◌else◌, IsTrue, IsFalse}
 use Rattle.std.specs.List.{list_all}
 use Rattle.std.specs.declared.result.Result.{Result}
 use Rattle.std.specs.declared.result.Result.TheVariants.{Ok, Err}
@@ -22,6 +22,7 @@ use Rattle.journal_core.specs.Holders.{holds, is_taken}
 use Rattle.device_rules.specs.Views.{view_of}
 use Rattle.device_rules.specs.Tags.{Status, status, is_free}
 use Rattle.device_rules.specs.Legal.{word_of}
+use Rattle.isolation_laws.specs.Alone.{IsUnlawful}
 use Rattle.isolation_laws.specs.Solo.{is_of, items_of, own_items, solo_view, solo}
 
 -- who has stored into the granule since it was zeroed, before it was last taken and after that
@@ -68,6 +69,10 @@ SeesAlone c h journal = view_of c h journal ≡ solo_view c h (own_items h journ
 
 abbrev pub AllSeeAlone : Configuration → List Entry → Type 0
 AllSeeAlone c journal = (h : HostId) → h < c.hosts → SeesAlone c h journal
+
+-- No item that the journal brings the host is unlawful, after those before it.
+abbrev pub AreLawful : Configuration → HostId → List Item → Type 0
+AreLawful c h items = (i : ℕ) (item : Item) → slice_get items i ≡ Some item → ¬ IsUnlawful c h (solo_view c h (take i items)) item
 
 -- a reply, where something is said alone
 abbrev pub hushed : SoloReply → Reply → SoloReply

@@ -1,2 +1,5 @@
+pub mod Acting
+pub mod Alone
 pub mod Laws
 pub mod Solo
+pub mod Telling

@@ -21,10 +21,13 @@ pub enum Item {
 /// Items in the order in which they happened.
 pub type Items = Seq<Item>;
 
-/// What the device with one host alone replies.
+/// What the device with one host alone replies to an act.
 #[derive(Debug, Drop)]
 pub enum SoloReply {
     Said(Reply),
-    /// Nothing is said of a granted load in a region that hosts can share or that is not sanitized.
+    /// Nothing is said of a granted load in a region that hosts can share or that is not sanitized, and of a scrub.
     Unsaid,
 }
+
+/// Replies in the order of the acts.
+pub type SoloReplies = Seq<SoloReply>;

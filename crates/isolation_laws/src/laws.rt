@@ -1,13 +1,26 @@
 //! The laws on isolation.
 
 ghost use Rattle.dcd_base.specs.declared.ids.HostId.{HostId};
+ghost use Rattle.device_rules.specs.Invariants.{Holdings};
 ghost use Rattle.device_rules.specs.Legal.{Legal};
-ghost use Rattle.isolation_laws.specs.Laws.{AllSeeAlone, Clean, SameReplies};
-ghost use Rattle.isolation_laws.specs.Solo.{Isolated};
+ghost use Rattle.isolation_laws.specs.Laws.{AllSeeAlone, AreLawful, Clean, SameReplies};
+ghost use Rattle.isolation_laws.specs.Solo.{Isolated, own_items};
 ghost use Rattle.journal_core.specs.declared.entries.Entry.{Entry};
 ghost use Rattle.region_config.specs.Configurations.{Configuration};
 ghost use Rattle.region_config.specs.Soundness.{IsSound};
 ghost use Rattle.std.specs.Prelude.{◌<◌, List};
+
+use device_laws::law_legal_holdings;
+
+/// The hosts that hold a granule are those whose accepted extents have it. Where nothing is shared, no granule stands in two
+/// of the accepted and offered extents of all hosts; an extent of a shareable region lies in its open tag, and no two open
+/// tags have a granule in common. A host has 64 extents at most, accepted and offered, each made of whole blocks of the size
+/// that its region has then. It does nothing.
+pub fn law_holdings()
+    ensures { (c : Configuration) → IsSound c → (journal : List Entry) → Legal c journal → Holdings c journal }
+{
+    law_legal_holdings();
+}
 
 /// Where a region is sanitized, nothing of one host is left for another: a granule that is free or offered was not taken
 /// since its last zeroing, one that was not has words that are 0, and one that is held in a region that is not shareable
@@ -30,4 +43,9 @@ pub fn law_isolated()
 /// Two journals that bring a host the same steps and deliveries bring it the same replies. It does nothing.
 pub fn law_two_worlds()
     ensures { (c : Configuration) → IsSound c → (left right : List Entry) → Legal c left → Legal c right → (h : HostId) → h < c.hosts → SameReplies c h left right }
+{}
+
+/// No legal journal brings a host of the device an item that `solo_replies` takes for unlawful. It does nothing.
+pub fn law_lawful()
+    ensures { (c : Configuration) → IsSound c → (journal : List Entry) → Legal c journal → (h : HostId) → h < c.hosts → AreLawful c h (own_items h journal) }
 {}

@@ -1,5 +1,7 @@
 //! The items of a host.
 
+mod alone;
+
 use crate::{Item, own_items};
 use dcd_base::{Actor, Extent, HostId, LogId, RegionId, Stamp, Tag};
 use event_records::{Event, EventKind};

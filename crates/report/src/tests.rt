@@ -61,8 +61,8 @@ fn step(alloc: Global, control: &mut Control) -> Result<(), NoMemory>
     ensures { control.new.config ≡ control.old.config }
 {
     let act = Act::Command(get_configuration(alloc)?);
-    let plan = control.prepare(0, 1, Actor::Host(HostId(0)), &act)?;
-    let _reply = control.apply(plan);
+    let plan = control.prepare(0, 1, Actor::Host(HostId(0)), act)?;
+    control.apply(plan);
     Ok(())
 }
 

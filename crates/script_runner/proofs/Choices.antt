@@ -14,6 +14,7 @@ use Rattle.script_runner.specs.Statuses.{IfWhole, OnDone, OnNothing, OnReadFault
 use Rattle.script_runner.specs.Words.{Accepts, AreRefused, IsChoice, IsNumber, choice_of, is_digit, is_number, number_in, same_word}
 use Rattle.script_runner.specs.declared.status.Status.{Status}
 use Rattle.script_runner.specs.declared.words.Choice.{Choice}
+use Rattle.script_runner.proofs.Endings.{lifted}
 
 -- ---- words
 
@@ -127,14 +128,6 @@ to_the_end_source words now (Status.ScriptRefused fault) ended = tt
 to_the_end_source words now Status.NoMemory ended = tt
 to_the_end_source words now Status.ReadFault ended = tt
 to_the_end_source words now Status.WriteFault ended = tt
-
-lifted : {P Q : Type 0} (status : Status) → (Q → P) → UnlessFinished status (¬ P) → UnlessFinished status (¬ Q)
-lifted Status.Done f unsound = tt
-lifted Status.Usage f unsound = λ q. unsound (f q)
-lifted (Status.ScriptRefused fault) f unsound = λ q. unsound (f q)
-lifted Status.NoMemory f unsound = tt
-lifted Status.ReadFault f unsound = λ q. unsound (f q)
-lifted Status.WriteFault f unsound = λ q. unsound (f q)
 
 sound_source : (words : List (List ℕ)) (left : Option (List ℕ)) (reads writes : ℕ × ℕ) → Accepts words None → IsSoundBy words left reads writes → IsSound true left reads writes
 sound_source words left reads writes asked (inl sound) = sound.1

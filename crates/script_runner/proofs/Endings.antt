@@ -136,7 +136,7 @@ sound_input left input reads writes is sound =
     let told : IsInput (Some sound.input) input = subst (λ l. IsInput l input) sound.told is in
     subst (λ i. IsSoundInput i writes) (sym told) sound.sound
 
-lifted : {P Q : Type 0} (status : Status) → (Q → P) → UnlessFinished status (¬ P) → UnlessFinished status (¬ Q)
+pub lifted : {P Q : Type 0} (status : Status) → (Q → P) → UnlessFinished status (¬ P) → UnlessFinished status (¬ Q)
 lifted Status.Done f unsound = tt
 lifted Status.Usage f unsound = λ q. unsound (f q)
 lifted (Status.ScriptRefused fault) f unsound = λ q. unsound (f q)

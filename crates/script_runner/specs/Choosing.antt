@@ -36,8 +36,7 @@ EndsGenerated seed old faults new count Status.NoMemory = new ≡ old
 EndsGenerated seed old faults new count Status.ReadFault = ⊥
 EndsGenerated seed old faults new count Status.WriteFault = IsSummedInPart seed old new × HasRisen faults count
 
--- All of one text is written: the line on usage where the words are refused, the text of the source's script or the
--- line on its fault without words, and the summary of the generated script with a gen item.
+-- The whole summary is written, and the run is done.
 abbrev pub IsSummedAs : ℕ → Option (List ℕ) → Option (List ℕ) → Status → Type 0
 IsSummedAs seed old new Status.Done = IsSummed seed old new
 IsSummedAs seed old new Status.Usage = ⊥
@@ -46,6 +45,8 @@ IsSummedAs seed old new Status.NoMemory = ⊥
 IsSummedAs seed old new Status.ReadFault = ⊥
 IsSummedAs seed old new Status.WriteFault = ⊥
 
+-- All of one text is written: the line on usage where the words are refused, the text of the source's script or the
+-- line on its fault without words, and the summary of the generated script with a gen item.
 abbrev pub IsWrittenBy : List (List ℕ) → Option (List ℕ) → Option (List ℕ) → Option (List ℕ) → Status → Type 0
 IsWrittenBy words left old new status =
     (AreRefused words × IsWritten false left old new status)

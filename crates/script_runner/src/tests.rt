@@ -1,6 +1,7 @@
 //! Runs over sources and sinks in memory. What they are to print is worked out by hand from the written rules.
 
 mod access;
+mod alone;
 mod answering;
 mod cases;
 mod choosing;

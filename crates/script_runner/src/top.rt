@@ -37,7 +37,7 @@ pub fn run<R, S: Source, K: Sink, G: Gate>(
     ensures begun { OnWriteFault result (IsBegunBy (words_of words.now) (S.left source.old) (K.taken sink.old) (K.taken sink.new)) }
     ensures nothing { OnNothing result (K.taken sink.new ≡ K.taken sink.old) }
     ensures to_the_end { OnDone result (Accepts (words_of words.now) None → IsAtEnd (S.left source.new)) }
-    ensures untouched { (Accepts (words_of words.now) None → ⊥) → S.left source.new ≡ S.left source.old }
+    ensures untouched { (Accepts (words_of words.now) None → ⊥) → source.new ≡ source.old }
     ensures read_fault { OnReadFault result (HasRisen (S.faults source.old) (S.faults source.new)) }
     ensures write_fault { OnWriteFault result (HasRisen (K.faults sink.old) (K.faults sink.new)) }
     ensures complete { UnlessFinished result (¬ IsSoundBy (words_of words.now) (S.left source.old) (S.faults source.old, S.faults source.new) (K.faults sink.old, K.faults sink.new)) }

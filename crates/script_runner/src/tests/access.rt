@@ -8,7 +8,7 @@ use std::alloc::Global;
 use std::test::Fail;
 
 /// Host 0 is offered the block at 2 MiB and accepts it, loads its first word, stores 7 there, and loads it again.
-pub fn a_block_loaded_and_stored(alloc: Global) -> Result<Bytes, Fail> {
+pub(crate) fn a_block_loaded_and_stored(alloc: Global) -> Result<Bytes, Fail> {
     let mut case = Case::new(alloc, two_hosts(alloc)?)?;
     case.offers(H0, &[(2 * MIB, MIB)], SUCCESS)?;
     case.accepts(H0, &[(2 * MIB, MIB)], SUCCESS)?;

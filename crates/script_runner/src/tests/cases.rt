@@ -8,56 +8,56 @@ use std::process::Abort;
 use std::test::Fail;
 
 /// Actor bytes. That of a host is its number.
-pub const H0: u8 = 0;
+pub(crate) const H0: u8 = 0;
 
-pub const H1: u8 = 1;
+pub(crate) const H1: u8 = 1;
 
-pub const FM: u8 = 0xFE;
+pub(crate) const FM: u8 = 0xFE;
 
 /// Return codes.
-pub const SUCCESS: u16 = 0x00;
+pub(crate) const SUCCESS: u16 = 0x00;
 
-pub const INVALID_INPUT: u16 = 0x02;
+pub(crate) const INVALID_INPUT: u16 = 0x02;
 
-pub const UNSUPPORTED: u16 = 0x03;
+pub(crate) const UNSUPPORTED: u16 = 0x03;
 
-pub const RETRY_REQUIRED: u16 = 0x05;
+pub(crate) const RETRY_REQUIRED: u16 = 0x05;
 
-pub const INVALID_HANDLE: u16 = 0x0E;
+pub(crate) const INVALID_HANDLE: u16 = 0x0E;
 
-pub const INVALID_ADDRESS: u16 = 0x0F;
+pub(crate) const INVALID_ADDRESS: u16 = 0x0F;
 
-pub const INVALID_LENGTH: u16 = 0x16;
+pub(crate) const INVALID_LENGTH: u16 = 0x16;
 
-pub const EXHAUSTED: u16 = 0x1D;
+pub(crate) const EXHAUSTED: u16 = 0x1D;
 
-pub const INVALID_LIST: u16 = 0x1E;
+pub(crate) const INVALID_LIST: u16 = 0x1E;
 
 /// Policies of 5604h.
-pub const FREE: u8 = 0;
+pub(crate) const FREE: u8 = 0;
 
-pub const CONTIGUOUS: u8 = 1;
+pub(crate) const CONTIGUOUS: u8 = 1;
 
-pub const PRESCRIPTIVE: u8 = 2;
+pub(crate) const PRESCRIPTIVE: u8 = 2;
 
-pub const SHARED: u8 = 3;
+pub(crate) const SHARED: u8 = 3;
 
 /// Flags of 5605h: by a list and not by a tag, forced, and cleaning.
-pub const BY_LIST: u8 = 0x01;
+pub(crate) const BY_LIST: u8 = 0x01;
 
-pub const FORCED: u8 = 0x10;
+pub(crate) const FORCED: u8 = 0x10;
 
-pub const CLEANING: u8 = 0x20;
+pub(crate) const CLEANING: u8 = 0x20;
 
 /// Why a load or a store is refused.
-pub const MISALIGNED: u8 = 1;
+pub(crate) const MISALIGNED: u8 = 1;
 
-pub const OUTSIDE: u8 = 2;
+pub(crate) const OUTSIDE: u8 = 2;
 
-pub const NOT_GRANTED: u8 = 3;
+pub(crate) const NOT_GRANTED: u8 = 3;
 
 /// Runs the input without words, and answers the status and what the sink took.
-pub fn outcome<R>(
+pub(crate) fn outcome<R>(
     rt: &R,
     alloc: Global,
     input: Bytes,
@@ -73,12 +73,12 @@ pub fn outcome<R>(
 }
 
 /// The same where no read and no write fails.
-pub fn printed<R>(rt: &R, alloc: Global, input: Bytes) -> Result<(Status, Bytes), Fail> {
+pub(crate) fn printed<R>(rt: &R, alloc: Global, input: Bytes) -> Result<(Status, Bytes), Fail> {
     outcome(rt, alloc, input, &[], 4096, &[])
 }
 
 /// The lines, each with its end.
-pub fn lines_of(alloc: Global, lines: &[&str]) -> Result<String, Fail> {
+pub(crate) fn lines_of(alloc: Global, lines: &[&str]) -> Result<String, Fail> {
     let mut text = String::new(alloc);
     for line in lines {
         text.push_str(line)?;
@@ -98,7 +98,7 @@ fn digits_of(alloc: Global, words: &str) -> Result<String, Fail> {
 
 /// A script, and the first lines of the text that its run is to print: those of the entries.
 #[derive(Drop)]
-pub struct Case {
+pub(crate) struct Case {
     alloc: Global,
     script: Bytes,
     text: String,
@@ -109,7 +109,7 @@ pub struct Case {
 
 impl Case {
     /// The script of this head.
-    pub fn new(alloc: Global, head: Bytes) -> Result<Case, Fail> {
+    pub(crate) fn new(alloc: Global, head: Bytes) -> Result<Case, Fail> {
         Ok(Case {
             alloc,
             script: head,
@@ -120,7 +120,7 @@ impl Case {
     }
 
     /// The next command has this message tag, and those behind it the numbers behind it.
-    pub fn counts_tags_from(&mut self, tag: u8) {
+    pub(crate) fn counts_tags_from(&mut self, tag: u8) {
         self.tag = tag;
     }
 
@@ -167,7 +167,7 @@ impl Case {
     }
 
     /// A command that is answered this code and the payload of these digits.
-    pub fn asks(
+    pub(crate) fn asks(
         &mut self,
         actor: u8,
         opcode: u16,
@@ -183,17 +183,22 @@ impl Case {
     }
 
     /// The Fabric Manager adds capacity in region 0 by a list.
-    pub fn offers(&mut self, host: u8, extents: &[(u64, u64)], code: u16) -> Result<(), Fail> {
+    pub(crate) fn offers(
+        &mut self,
+        host: u8,
+        extents: &[(u64, u64)],
+        code: u16,
+    ) -> Result<(), Fail> {
         self.adds(host, PRESCRIPTIVE, 0, 0, NO_TAG, extents, code)
     }
 
     /// The Fabric Manager adds so much of region 0, wherever it is free.
-    pub fn offers_any(&mut self, host: u8, length: u64, code: u16) -> Result<(), Fail> {
+    pub(crate) fn offers_any(&mut self, host: u8, length: u64, code: u16) -> Result<(), Fail> {
         self.adds(host, FREE, 0, length, NO_TAG, &[], code)
     }
 
     /// The Fabric Manager adds capacity by a policy.
-    pub fn adds(
+    pub(crate) fn adds(
         &mut self,
         host: u8,
         policy: u8,
@@ -208,7 +213,7 @@ impl Case {
     }
 
     /// The Fabric Manager takes capacity of region 0 back.
-    pub fn removes(
+    pub(crate) fn removes(
         &mut self,
         host: u8,
         flags: u8,
@@ -221,29 +226,34 @@ impl Case {
     }
 
     /// The Fabric Manager refers to the tag.
-    pub fn refers(&mut self, tag: [u8; 16], code: u16) -> Result<(), Fail> {
+    pub(crate) fn refers(&mut self, tag: [u8; 16], code: u16) -> Result<(), Fail> {
         self.asks(FM, 0x5606, &tag, code, "")
     }
 
     /// The Fabric Manager refers to the tag no more.
-    pub fn lets_go(&mut self, tag: [u8; 16], code: u16) -> Result<(), Fail> {
+    pub(crate) fn lets_go(&mut self, tag: [u8; 16], code: u16) -> Result<(), Fail> {
         self.asks(FM, 0x5607, &tag, code, "")
     }
 
     /// The Fabric Manager sets the block size of region 0.
-    pub fn resizes(&mut self, block: u64, sanitizes: bool, code: u16) -> Result<(), Fail> {
+    pub(crate) fn resizes(&mut self, block: u64, sanitizes: bool, code: u16) -> Result<(), Fail> {
         let payload = sized(self.alloc, 0, block, sanitizes)?;
         self.asks(FM, 0x5602, payload.as_slice(), code, "")
     }
 
     /// The host accepts these extents.
-    pub fn accepts(&mut self, host: u8, extents: &[(u64, u64)], code: u16) -> Result<(), Fail> {
+    pub(crate) fn accepts(
+        &mut self,
+        host: u8,
+        extents: &[(u64, u64)],
+        code: u16,
+    ) -> Result<(), Fail> {
         let payload = listed(self.alloc, false, extents)?;
         self.asks(host, 0x4802, payload.as_slice(), code, "")
     }
 
     /// The host says which extents it accepts, and more are to come.
-    pub fn accepts_with_more(
+    pub(crate) fn accepts_with_more(
         &mut self,
         host: u8,
         extents: &[(u64, u64)],
@@ -254,29 +264,34 @@ impl Case {
     }
 
     /// The host gives these extents back.
-    pub fn gives_back(&mut self, host: u8, extents: &[(u64, u64)], code: u16) -> Result<(), Fail> {
+    pub(crate) fn gives_back(
+        &mut self,
+        host: u8,
+        extents: &[(u64, u64)],
+        code: u16,
+    ) -> Result<(), Fail> {
         let payload = listed(self.alloc, false, extents)?;
         self.asks(host, 0x4803, payload.as_slice(), code, "")
     }
 
     /// The host asks for its accepted extents.
-    pub fn reads_extents(&mut self, host: u8, reply: &str) -> Result<(), Fail> {
+    pub(crate) fn reads_extents(&mut self, host: u8, reply: &str) -> Result<(), Fail> {
         self.asks(host, 0x4801, &[10, 0, 0, 0, 0, 0, 0, 0], SUCCESS, reply)
     }
 
     /// The records of the actor's log are read.
-    pub fn reads_log(&mut self, actor: u8, reply: &str) -> Result<(), Fail> {
+    pub(crate) fn reads_log(&mut self, actor: u8, reply: &str) -> Result<(), Fail> {
         self.asks(actor, 0x0100, &[4], SUCCESS, reply)
     }
 
     /// Records of the host's log are cleared.
-    pub fn clears(&mut self, host: u8, handles: &[u16], code: u16) -> Result<(), Fail> {
+    pub(crate) fn clears(&mut self, host: u8, handles: &[u16], code: u16) -> Result<(), Fail> {
         let payload = cleared(self.alloc, false, handles)?;
         self.asks(host, 0x0101, payload.as_slice(), code, "")
     }
 
     /// All records of the host's log are cleared.
-    pub fn clears_all(&mut self, host: u8, code: u16) -> Result<(), Fail> {
+    pub(crate) fn clears_all(&mut self, host: u8, code: u16) -> Result<(), Fail> {
         let payload = cleared(self.alloc, true, &[])?;
         self.asks(host, 0x0101, payload.as_slice(), code, "")
     }
@@ -289,21 +304,21 @@ impl Case {
     }
 
     /// The host loads this word.
-    pub fn loads(&mut self, host: u8, address: u64, word: u64) -> Result<(), Fail> {
+    pub(crate) fn loads(&mut self, host: u8, address: u64, word: u64) -> Result<(), Fail> {
         self.begin_access(2, host, address)?;
         write!(self.text, " ld {word:016x}\n")?;
         Ok(())
     }
 
     /// The host's load is refused.
-    pub fn loads_not(&mut self, host: u8, address: u64, fault: u8) -> Result<(), Fail> {
+    pub(crate) fn loads_not(&mut self, host: u8, address: u64, fault: u8) -> Result<(), Fail> {
         self.begin_access(2, host, address)?;
         write!(self.text, " ld refused {fault}\n")?;
         Ok(())
     }
 
     /// The host stores a word.
-    pub fn stores(&mut self, host: u8, address: u64, word: u64) -> Result<(), Fail> {
+    pub(crate) fn stores(&mut self, host: u8, address: u64, word: u64) -> Result<(), Fail> {
         self.begin_access(3, host, address)?;
         self.script.extend_from_slice(&word.to_le_bytes())?;
         self.text.push_str(" st ok\n")?;
@@ -311,7 +326,7 @@ impl Case {
     }
 
     /// The sanitizer has a turn, and zeroes so many granules.
-    pub fn scrubs(&mut self, most: u16, zeroed: u32) -> Result<(), Fail> {
+    pub(crate) fn scrubs(&mut self, most: u16, zeroed: u32) -> Result<(), Fail> {
         self.begin("sz")?;
         self.script.push(4)?;
         self.script.extend_from_slice(&most.to_le_bytes())?;
@@ -320,13 +335,13 @@ impl Case {
     }
 
     /// The whole script.
-    pub fn script(mut self) -> Result<Bytes, Fail> {
+    pub(crate) fn script(mut self) -> Result<Bytes, Fail> {
         self.script.push(0)?;
         Ok(self.script)
     }
 
     /// The run prints the entries as they are expected, and these are its last lines.
-    pub fn ends<R: Abort>(mut self, rt: &R, last: &[&str]) -> Result<(), Fail> {
+    pub(crate) fn ends<R: Abort>(mut self, rt: &R, last: &[&str]) -> Result<(), Fail> {
         let end = lines_of(self.alloc, last)?;
         self.script.push(0)?;
         let (status, text) = printed(rt, self.alloc, self.script)?;

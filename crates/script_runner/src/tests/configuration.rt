@@ -9,7 +9,7 @@ use std::process::Abort;
 use std::test::Fail;
 
 /// Host 0 asks for up to eight regions from region 1 on, with the message tag 2Ah.
-pub fn asks_for_regions(case: &mut Case) -> Result<(), Fail> {
+pub(crate) fn asks_for_regions(case: &mut Case) -> Result<(), Fail> {
     let reply =
         "0201000000000000 0000001000000000 0100000000000000 0000400000000000 0000100000000000 01000000 01 000000 40000000 40000000 20000000 20000000";
     case.counts_tags_from(0x2A);

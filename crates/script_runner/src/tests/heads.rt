@@ -4,14 +4,14 @@ use dcd_base::Bytes;
 use std::alloc::Global;
 use std::test::Fail;
 
-pub const MIB: u64 = 0x10_0000;
+pub(crate) const MIB: u64 = 0x10_0000;
 
-pub const GIB: u64 = 0x4000_0000;
+pub(crate) const GIB: u64 = 0x4000_0000;
 
 /// Flags of a region: it sanitizes on release, and it is shareable.
-pub const SANITIZES: u8 = 1;
+pub(crate) const SANITIZES: u8 = 1;
 
-pub const SHAREABLE: u8 = 2;
+pub(crate) const SHAREABLE: u8 = 2;
 
 /// The first 16 bytes of a script, with its hosts and its regions.
 fn head(alloc: Global, hosts: u8, regions: u8) -> Result<Bytes, Fail> {
@@ -49,7 +49,7 @@ fn put_bases(script: &mut Bytes, bases: &[u64]) -> Result<(), Fail> {
 
 /// Two hosts, and two regions with these flags: 16 MiB at 0 and 10000000h, and 4 MiB at 10000000h and 20000000h. The
 /// blocks have 1 MiB. It has 128 bytes.
-pub fn regions_with(alloc: Global, first: u8, second: u8) -> Result<Bytes, Fail> {
+pub(crate) fn regions_with(alloc: Global, first: u8, second: u8) -> Result<Bytes, Fail> {
     let mut script = head(alloc, 2, 2)?;
     put_region(&mut script, 1, 16 * MIB, MIB, MIB, 0, first)?;
     put_region(&mut script, 1, 4 * MIB, MIB, MIB, 1, second)?;
@@ -58,12 +58,12 @@ pub fn regions_with(alloc: Global, first: u8, second: u8) -> Result<Bytes, Fail>
 }
 
 /// Both regions sanitize, and the second one is shareable.
-pub fn two_hosts(alloc: Global) -> Result<Bytes, Fail> {
+pub(crate) fn two_hosts(alloc: Global) -> Result<Bytes, Fail> {
     regions_with(alloc, SANITIZES, SANITIZES | SHAREABLE)
 }
 
 /// One host and 128 MiB that sanitize, with blocks of 1 MiB and these block sizes.
-pub fn sizes_of(alloc: Global, sizes: u64) -> Result<Bytes, Fail> {
+pub(crate) fn sizes_of(alloc: Global, sizes: u64) -> Result<Bytes, Fail> {
     let mut script = head(alloc, 1, 1)?;
     put_region(&mut script, 1, 128 * MIB, MIB, sizes, 0, SANITIZES)?;
     put_bases(&mut script, &[0])?;
@@ -71,12 +71,12 @@ pub fn sizes_of(alloc: Global, sizes: u64) -> Result<Bytes, Fail> {
 }
 
 /// The blocks have 1 MiB and no other size.
-pub fn one_host(alloc: Global) -> Result<Bytes, Fail> {
+pub(crate) fn one_host(alloc: Global) -> Result<Bytes, Fail> {
     sizes_of(alloc, MIB)
 }
 
 /// Four hosts and two regions of 64 GiB that sanitize, at 0 and 1000000000h for each host. The blocks have 256 MiB.
-pub fn four_hosts(alloc: Global) -> Result<Bytes, Fail> {
+pub(crate) fn four_hosts(alloc: Global) -> Result<Bytes, Fail> {
     let mut script = head(alloc, 4, 2)?;
     put_region(&mut script, 256, 64 * GIB, GIB / 4, GIB / 4, 0, SANITIZES)?;
     put_region(&mut script, 256, 64 * GIB, GIB / 4, GIB / 4, 1, SANITIZES)?;

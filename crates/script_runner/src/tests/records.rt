@@ -4,14 +4,14 @@ use std::alloc::Global;
 use std::test::Fail;
 
 /// Kinds of records.
-pub const ADDED: u8 = 0;
+pub(crate) const ADDED: u8 = 0;
 
-pub const RELEASE_ASKED: u8 = 1;
+pub(crate) const RELEASE_ASKED: u8 = 1;
 
-pub const ANSWERED: u8 = 4;
+pub(crate) const ANSWERED: u8 = 4;
 
 /// The digits of the start of a reply to 0100h: flags, how many records were missed, and how many follow.
-pub fn told(alloc: Global, flags: u8, missed: u16, count: u16) -> Result<String, Fail> {
+pub(crate) fn told(alloc: Global, flags: u8, missed: u16, count: u16) -> Result<String, Fail> {
     let missed = missed.swap_bytes();
     let count = count.swap_bytes();
     Ok(format!(in alloc;
@@ -21,7 +21,7 @@ pub fn told(alloc: Global, flags: u8, missed: u16, count: u16) -> Result<String,
 
 /// Puts the digits of a record of host 0 on an extent without a tag, with the extents that are available. All 32 tags
 /// are.
-pub fn put_record(
+pub(crate) fn put_record(
     digits: &mut String,
     handle: u16,
     kind: u8,

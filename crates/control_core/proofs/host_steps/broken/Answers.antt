@@ -1,9 +1,9 @@
-use Rattle.std.proofs.Common.{◌≡◌, ◌∙◌, [], None, ap, subst, sym}
+use Rattle.std.proofs.Common.{◌∙◌, ap, subst, sym}
 use Rattle.dcd_base.specs.declared.steps.Actor.{Actor}
 use Rattle.host_lists.specs.Lists.{Lists}
 use Rattle.journal_core.specs.declared.acts.Act.{Act}
 use Rattle.control_core.specs.Deciding.{IsDecidedBy}
-use Rattle.control_core.specs.Doing.{dropped_by}
+use Rattle.host_commands.specs.Messages.{dropped_by}
 use Rattle.device_state.specs.declared.parts.HostPart.{HostPart}
 use Rattle.device_state.specs.declared.updates.Update.{Update}
 use Rattle.control_core.proofs.Decisions.{refused_host}

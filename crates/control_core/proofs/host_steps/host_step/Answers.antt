@@ -1,7 +1,8 @@
-use Rattle.std.proofs.Common.{◌<◌, length, subst, sym}
+use Rattle.std.proofs.Common.{length, subst}
 use Rattle.device_rules.specs.Answers.{host_outcome}
 use Rattle.device_rules.specs.Views.{view_of}
 use Rattle.device_state.specs.Kept.{part_of}
+use Rattle.control_core.specs.Fitting.{PartFits}
 use Rattle.control_core.proofs.Decisions.{decided_host, host_known, notices_known}
 use Rattle.control_core.proofs.HostOutcomes.{host_of}
 use Rattle.control_core.proofs.Shortness.{short_host}
@@ -23,7 +24,6 @@ returns-in_ok-done-in-Ok c = λ before legal kept.
     let sound = c.requires.reached.sound in
     let v = view_of cfg h before in
     let it = c.in-Ok.ensures before legal kept in
-    let within = subst (λ n. h < n) (sym kept.host_count) c.requires.host in
     decided_host cfg before h c.args.request.now it.request it.asked it.row c.in_ok-done-in-Ok.field-0
     (c.in_ok-done-in-Ok.ensures cfg before (host_outcome cfg h v it.request) kept (host_of cfg sound before legal h c.requires.host it.request it.row) it.drafts)
-    (short_host cfg h v (part_of c.args.state.now h) (kept.parts h c.requires.host) (c.tags_fit.ensures.hosts h within) sound.regions it.request)
+    (short_host cfg h v (part_of c.args.state.now h) (kept.parts h c.requires.host) (subst PartFits c.part.ensures c.part_fits.ensures) sound.regions it.request)

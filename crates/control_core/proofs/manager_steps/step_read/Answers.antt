@@ -30,4 +30,4 @@ returns-in_ok-entered-in-Ok c = λ before legal kept.
     let it = c.in-Ok.ensures before legal kept in
     decided_manager cfg before c.args.request.now q c.requires.asked it.0 c.in_ok-entered-in-Ok.field-0
     (c.in_ok-entered-in-Ok.ensures cfg before (manager_outcome cfg (effects before) (λ h. view_of cfg h before) q) kept (quiet_of cfg before q c.requires.quiet) it.1)
-    (short_manager cfg before c.args.state.now kept c.tags_fit.ensures c.requires.reached.sound.regions q it.0)
+    (short_manager cfg before c.args.state.now kept c.requires.reached.sound.regions q c.request_fits.ensures it.0)

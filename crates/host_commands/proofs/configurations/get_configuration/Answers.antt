@@ -7,13 +7,13 @@ use Rattle.host_commands.specs.Parts.{told_in}
 use Rattle.host_commands.proofs.Showing.{region_known, region_past}
 use Rattle.host_commands.proofs.configurations.get_configuration.Goals as goal
 
-pub returns-then-first-regions : goal.returns-then-first-regions
-returns-then-first-regions c = λ cfg v is lists.
+pub returns-then-first-regions-clause-drafts : goal.returns-then-first-regions-clause-drafts
+returns-then-first-regions-clause-drafts c = λ cfg v is lists.
     let regions = ap (λ (p : Configuration). length p.regions) is ∙ regions_same cfg v.block in
     region_past cfg c.args.first (omega (arith, regions, c.if-first-regions.true, c.regions.ensures.value))
 
-pub returns : goal.returns
-returns c = λ cfg v is lists.
+pub returns-clause-drafts : goal.returns-clause-drafts
+returns-clause-drafts c = λ cfg v is lists.
     let regions = ap (λ (p : Configuration). length p.regions) is ∙ regions_same cfg v.block in
     let total = c.regions-2.ensures.value ∙ regions in
     let views = c.as_slice.ensures ∙ c.in_ok-views.ensures.seen cfg v is in

@@ -1,0 +1,60 @@
+-- A command of the host of a device that has it alone: what is kept is what the host sees after it.
+use Rattle.std.proofs.Common.{◌≡◌, ℕ, ◌≤◌, Option, Some, None, Result, Ok, sym, ap, subst, ◌∙◌}
+use Rattle.std.specs.Prelude.{unwrap_or, IfSome, if◌then◌else◌}
+use Rattle.std.specs.List.{list_any}
+use Rattle.cci_codec.specs.declared.messages.Request.{Request}
+use Rattle.dcd_base.specs.declared.ids.HostId.{HostId}
+use Rattle.dcd_base.specs.declared.steps.LogId.{LogId}
+use Rattle.dcd_codes.specs.declared.codes.Code.{Code}
+use Rattle.dcd_codes.specs.declared.rules.Rule.{Rule}
+use Rattle.host_commands.specs.Messages.{IsDraft}
+use Rattle.host_commands.specs.Parts.{AreAfter, IsLogOf, lists_in}
+use Rattle.host_commands.specs.declared.drafts.Draft.{Draft}
+use Rattle.host_lists.specs.Lists.{Lists, extent_total}
+use Rattle.journal_core.specs.declared.acts.Act.{Act}
+use Rattle.journal_core.specs.declared.acts.Reply.{Reply}
+use Rattle.region_config.specs.Configurations.{Configuration}
+use Rattle.device_rules.specs.Answers.{host_outcome, host_result, host_result_in, reply_with, response, unless}
+use Rattle.device_rules.specs.Outcomes.{Outcome}
+use Rattle.device_rules.specs.Views.{View, view_after}
+use Rattle.isolation_laws.specs.Acting.{IsChanged}
+use Rattle.isolation_laws.specs.Alone.{Does, IsAlone}
+use Rattle.isolation_laws.specs.Solo.{accepts_byte, changes_with}
+use Rattle.isolation_laws.specs.declared.alone.Alone.{Alone}
+use Rattle.isolation_laws.specs.declared.items.SoloReply.{SoloReply}
+use Rattle.isolation_laws.proofs.OwnChanges.{blocks_stay, history_after, log_stays, own_changes}
+
+module _ (c : Configuration) (h : HostId) (q : Request) (old new : Alone) where
+  abbrev Did : View → (ℕ → ℕ) → Reply → Result Outcome Rule → Type 0
+  Did v word reply result =
+      (SoloReply.Said reply ≡ SoloReply.Said (reply_with q result))
+      × IsAlone c h (view_after c h v (changes_with h v q result)) (λ d. if list_any (accepts_byte d) (changes_with h v q result) then 0 else word d) new
+
+  -- what a command does that breaks no rule
+  module _ (draft : Draft) (few : IfSome draft.lists (λ lists. extent_total lists ≤ 64)) (is : IsChanged h draft.changes draft.lists old new) where
+    few_after : (lists : Option Lists) → IfSome lists (λ l. extent_total l ≤ 64) → extent_total old.lists ≤ 64 → extent_total (unwrap_or lists old.lists) ≤ 64
+    few_after None fits was = was
+    few_after (Some l) fits was = fits
+
+    lists_after : (v : View) (o : Outcome) → old.lists ≡ lists_in v → (lists : Option Lists) → AreAfter c h v o lists → unwrap_or lists old.lists ≡ lists_in (view_after c h v o.changes)
+    lists_after v o was None same = was ∙ sym same
+    lists_after v o was (Some l) new_ones = new_ones
+
+    pub command_done : ((v : View) (word : ℕ → ℕ) → IsAlone c h v word old → IsDraft c h v q draft) → Does c h (Act.Command q) old new (SoloReply.Said (response q Code.Success draft.payload))
+    command_done drafted v word was =
+        let d : IsDraft c h v q draft = drafted v word was in
+        let o : Outcome = host_outcome c h v d.request in
+        let own = own_changes c h v d.request in
+        let by : IsChanged h o.changes draft.lists old new = subst (λ es. IsChanged h es draft.lists old new) d.drafts.changes is in
+        let fine : host_result_in c h v q ≡ Ok o = ap (host_result c h v) d.asked ∙ ap (λ rule. unless rule o) d.row in
+        subst (Did v word (response q Code.Success draft.payload)) (sym fine) (
+          ap (λ bytes. SoloReply.Said (response q Code.Success bytes)) d.drafts.payload,
+          record {
+            present_is = by.present_stays ∙ was.present_is ∙ blocks_stay c h v o.changes own;
+            lists_are = by.lists_by ∙ lists_after v o was.lists_are draft.lists d.drafts.lists;
+            few = subst (λ (l : Lists). extent_total l ≤ 64) (sym by.lists_by) (few_after draft.lists few was.few);
+            log_is = subst (IsLogOf (LogId.Host h) (view_after c h v o.changes).log) (sym by.log_by_all)
+                (log_stays c h v old.log o.changes was.log_is own (history_after c h v d.request d.row was.log_is.told));
+            words_are = λ a. by.words_by a ∙ ap (λ n. if list_any (accepts_byte a) o.changes then 0 else n) (was.words_are a);
+          },
+        )

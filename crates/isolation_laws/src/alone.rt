@@ -1,0 +1,62 @@
+//! What a device with one host alone keeps.
+
+ghost use Rattle.dcd_base.specs.declared.ids.HostId.{HostId};
+ghost use Rattle.device_rules.specs.Views.{first_view};
+ghost use Rattle.isolation_laws.specs.Alone.{IsAlone};
+ghost use Rattle.std.specs.Prelude.{IfOk};
+
+use dcd_base::NoMemory;
+use event_log::EventLog;
+use host_lists::HostLists;
+use region_config::Config;
+use std::alloc::Global;
+use std::collections::BTreeMap;
+
+/// How many extents a host may have, accepted and offered together (profile).
+pub(crate) const EXTENTS: usize = 64;
+
+/// How many records a host's log may have (profile).
+const RECORDS: u32 = 64;
+
+/// A device that has one host alone: the present block sizes, the lists and the log of the host, and the words that it
+/// stored, by their DPA, since it last accepted an extent with that DPA.
+#[derive(Drop)]
+pub(crate) struct Alone {
+    pub(crate) present: Config,
+    pub(crate) lists: HostLists,
+    pub(crate) log: EventLog,
+    pub(crate) words: BTreeMap<u64, u64>,
+}
+
+/// Why an item is not taken.
+#[derive(Clone, Copy, Debug, PartialEq, Eq)]
+pub(crate) enum Stop {
+    /// No legal journal brings it.
+    Unlawful,
+    NoMemory,
+}
+
+impl From<NoMemory> for Stop {
+    ghost use Rattle.isolation_laws.specs.declared.alone.Stop.TheVariants.{NoMemory as OutOfMemory};
+    ghost use Rattle.std.specs.Prelude.{◌≡◌};
+
+    ghost from_gives = { λ _ e. e ≡ OutOfMemory };
+
+    fn from(_: NoMemory) -> Stop {
+        Stop::NoMemory
+    }
+}
+
+impl Alone {
+    /// Nothing is offered, accepted, logged or stored, and the regions have their first block sizes.
+    pub(crate) fn new(alloc: Global, config: &Config) -> Result<Alone, NoMemory>
+        ensures { (h : HostId) → IfOk result (IsAlone config.now h (first_view config.now) (λ _. 0)) }
+    {
+        Ok(Alone {
+            present: config.copy()?,
+            lists: HostLists::new(alloc),
+            log: EventLog::new(alloc, RECORDS)?,
+            words: BTreeMap::new(alloc),
+        })
+    }
+}
