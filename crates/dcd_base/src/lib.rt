@@ -5,6 +5,7 @@
 //! program reads and writes.
 #![tactic(auto)]
 
+mod boxed;
 mod capacity;
 mod failures;
 mod gates;
@@ -20,6 +21,7 @@ mod tags;
 mod tests;
 mod writing;
 
+pub use boxed::Boxed;
 pub use capacity::{Extent, Tag, is_no_tag, no_tag};
 pub use failures::{AccessFault, Failed, NoMemory};
 pub use gates::{Gate, NoGate};

@@ -51,6 +51,16 @@ impl<T> Seq<T> {
         }
     }
 
+    /// An empty list with room for so many items, so that the first ones take no more memory.
+    pub fn with_capacity(alloc: Global, items: usize) -> Result<Seq<T>, NoMemory>
+        ensures { IfOk result (λ list. list ≡ []) }
+    {
+        Ok(Seq {
+            alloc,
+            items: Vec::with_capacity(alloc, items)?,
+        })
+    }
+
     /// The list of the items of a `Vec`. It takes no memory.
     pub fn from_vec(alloc: Global, items: Vec<T>) -> Seq<T>
         ensures { result ≡ items.items }
@@ -154,6 +164,19 @@ impl<T: Copy> Seq<T> {
     {
         self.items.extend_from_slice(items)?;
         Ok(())
+    }
+
+    /// Puts another list at the end. Where this one is empty, the other takes its place and none of its items is copied.
+    /// Without memory the list is as it was, and the other is let go.
+    pub fn append(&mut self, other: Seq<T>) -> Result<(), NoMemory>
+        ensures appended { OnOk result (self.new ≡ self.old ++ other) }
+        ensures kept { OnErr result (self.new ≡ self.old) }
+    {
+        if self.is_empty() {
+            *self = other;
+            return Ok(());
+        }
+        self.extend_from_slice(other.as_slice())
     }
 }
 

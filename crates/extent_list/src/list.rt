@@ -154,6 +154,15 @@ impl ExtentList {
         }
     }
 
+    /// The extents from the index `first` on, without copying: `count` of them, or all where there are fewer.
+    pub fn part(&self, first: usize, count: usize) -> &[Extent]
+        ensures { result.now ≡ take count (drop first self.now.extents) }
+    {
+        let (_, rest) = self.kept.as_slice().split_at(first.min(self.kept.len()));
+        let (page, _) = rest.split_at(count.min(rest.len()));
+        page
+    }
+
     /// Appends the extents from the index `first` on to `out`: `count` of them, or all where there are fewer.
     ///
     /// Without memory `out` is as it was.
@@ -161,9 +170,7 @@ impl ExtentList {
         ensures appended { OnOk result (out.new ≡ out.old ++ take count (drop first self.now.extents)) }
         ensures kept { OnErr result (out.new ≡ out.old) }
     {
-        let (_, rest) = self.kept.as_slice().split_at(first.min(self.kept.len()));
-        let (page, _) = rest.split_at(count.min(rest.len()));
-        out.extend_from_slice(page)
+        out.extend_from_slice(self.part(first, count))
     }
 }
 

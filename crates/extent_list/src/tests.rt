@@ -144,6 +144,7 @@ fn readers_and_pages(rt: HostRuntime) -> Result<(), Fail> {
         assert_eq!(rt; copy.at(1), mib(2, 1));
     }
 
+    assert_eq!(rt; list.part(1, 9), [mib(2, 1), mib(4, 1)].as_slice());
     let mut page = Extents::from_slice(alloc, &[mib(9, 1)])?;
     list.page(1, 9, &mut page)?;
     assert_eq!(rt;

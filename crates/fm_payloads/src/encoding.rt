@@ -139,5 +139,5 @@ pub fn encode(request: &FmRequest, out: &mut Bytes) -> Result<(), NoMemory>
         ≡ Ok request.now) }
 {
     let payload = payload_of(out.allocator(), request)?;
-    out.extend_from_slice(payload.as_slice())
+    out.append(payload)
 }

@@ -68,7 +68,8 @@ fn info_payload(
     ensures { IfOk result (λ bytes. bytes ≡ info_payload hosts granules free dirty sizes.now) }
 {
     let head = info_head(hosts, sizes.len() as u8, granules, free, dirty);
-    let mut payload = Bytes::from_slice(alloc, &head)?;
+    let mut payload = Bytes::with_capacity(alloc, 24 + 8 * sizes.len())?;
+    payload.extend_from_slice(&head)?;
     put_sizes(&mut payload, sizes)?;
     Ok(payload)
 }
@@ -92,7 +93,7 @@ pub fn write_info(
     ensures kept { OnErr result (out.new ≡ out.old) }
 {
     let payload = info_payload(out.allocator(), hosts, granules, free, dirty, sizes)?;
-    out.extend_from_slice(payload.as_slice())
+    out.append(payload)
 }
 
 /// The eight bytes before the regions in the reply to Get Host DC Region Configuration (profile): the host, how many
@@ -204,7 +205,8 @@ fn tags_payload(alloc: Global, first: u32, total: u32, tags: &[TagView]) -> Resu
     requires { length tags.now ≤ 84 }
     ensures { IfOk result (λ bytes. bytes ≡ tags_payload first total tags.now) }
 {
-    let mut payload = Bytes::from_slice(alloc, &tags_head(first, tags.len() as u32, total))?;
+    let mut payload = Bytes::with_capacity(alloc, 16 + 24 * tags.len())?;
+    payload.extend_from_slice(&tags_head(first, tags.len() as u32, total))?;
     put_tags(&mut payload, tags)?;
     Ok(payload)
 }
@@ -217,5 +219,5 @@ pub fn write_tags(first: u32, total: u32, tags: &[TagView], out: &mut Bytes) -> 
     ensures kept { OnErr result (out.new ≡ out.old) }
 {
     let payload = tags_payload(out.allocator(), first, total, tags)?;
-    out.extend_from_slice(payload.as_slice())
+    out.append(payload)
 }

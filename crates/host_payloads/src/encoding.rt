@@ -94,5 +94,5 @@ pub fn encode(request: &HostRequest, out: &mut Bytes) -> Result<(), NoMemory>
         (host_request (host_opcode request.now) (spelling (host_fields request.now)) ≡ Ok request.now) }
 {
     let payload = payload_of(out.allocator(), request)?;
-    out.extend_from_slice(payload.as_slice())
+    out.append(payload)
 }

@@ -40,7 +40,7 @@ pub fn extents_of(alloc: Global, count: usize, bytes: &[u8]) -> Result<Extents, 
     requires { 40 * count ≤ length bytes.now }
     ensures { IfOk result (λ extents. extents ≡ map whole_extent (pieces 40 count bytes.now)) }
 {
-    let mut extents = Extents::new(alloc);
+    let mut extents = Extents::with_capacity(alloc, count)?;
     let mut rest = bytes;
     for _ in 0..count {
         let (piece, after) = rest.split_at(40);

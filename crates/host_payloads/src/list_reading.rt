@@ -14,7 +14,7 @@ pub fn handles_of(alloc: Global, count: usize, bytes: &[u8]) -> Result<Handles, 
     requires { 2 * count ≤ length bytes.now }
     ensures { IfOk result (λ handles. handles ≡ map (from_le_bytes w16) (pieces 2 count bytes.now)) }
 {
-    let mut handles = Handles::new(alloc);
+    let mut handles = Handles::with_capacity(alloc, count)?;
     let mut rest = bytes;
     for _ in 0..count {
         let (piece, after) = rest.split_at(2);
@@ -42,7 +42,7 @@ pub fn listed_of(alloc: Global, count: usize, bytes: &[u8]) -> Result<Extents, N
     requires { 24 * count ≤ length bytes.now }
     ensures { IfOk result (λ extents. extents ≡ map listed_extent (pieces 24 count bytes.now)) }
 {
-    let mut extents = Extents::new(alloc);
+    let mut extents = Extents::with_capacity(alloc, count)?;
     let mut rest = bytes;
     for _ in 0..count {
         let (piece, after) = rest.split_at(24);

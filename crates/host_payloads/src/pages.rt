@@ -89,7 +89,7 @@ fn page_payload(
     ensures spelled { IfOk result (λ bytes. bytes ≡ extents_payload total generation extents.now) }
     ensures fits { OnOk result (AllByRecursion FitsField (page_fields total generation extents.now)) }
 {
-    let mut payload = Bytes::new(alloc);
+    let mut payload = Bytes::with_capacity(alloc, 16 + 40 * extents.len())?;
     payload.extend_from_slice(&page_head(extents.len() as u32, total, generation))?;
     put_extents(&mut payload, extents)?;
     Ok(payload)
@@ -111,5 +111,5 @@ pub fn write_extents(
         ≡ Ok (record { total = total; generation = generation; extents = extents.now })) }
 {
     let payload = page_payload(out.allocator(), total, generation, extents)?;
-    out.extend_from_slice(payload.as_slice())
+    out.append(payload)
 }

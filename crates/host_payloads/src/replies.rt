@@ -43,7 +43,7 @@ fn events_payload(
     requires { length events.now ≤ 15 }
     ensures { IfOk result (λ bytes. bytes ≡ events_payload missed more events.now) }
 {
-    let mut payload = Bytes::new(alloc);
+    let mut payload = Bytes::with_capacity(alloc, 32 + 128 * events.len())?;
     payload.extend_from_slice(&events_head(missed, more, events.len() as u16))?;
     put_records(&mut payload, events)?;
     Ok(payload)
@@ -64,7 +64,7 @@ pub fn write_events(
     ensures kept { OnErr result (out.new ≡ out.old) }
 {
     let payload = events_payload(out.allocator(), missed, more, events)?;
-    out.extend_from_slice(payload.as_slice())
+    out.append(payload)
 }
 
 /// The eight bytes before the regions.
@@ -94,7 +94,7 @@ fn configuration_payload(
     requires { length regions.now ≤ 8 }
     ensures { IfOk result (λ bytes. bytes ≡ configuration_payload total regions.now counts.now) }
 {
-    let mut payload = Bytes::from_vec(alloc, Vec::with_capacity(alloc, 24 + 40 * regions.len())?);
+    let mut payload = Bytes::with_capacity(alloc, 24 + 40 * regions.len())?;
     payload.extend_from_slice(&configuration_head(total, regions.len() as u8))?;
     put_regions(&mut payload, regions)?;
     payload.extend_from_slice(&counts_bytes(counts))?;
@@ -115,5 +115,5 @@ pub fn write_configuration(
     ensures kept { OnErr result (out.new ≡ out.old) }
 {
     let payload = configuration_payload(out.allocator(), total, regions, counts)?;
-    out.extend_from_slice(payload.as_slice())
+    out.append(payload)
 }

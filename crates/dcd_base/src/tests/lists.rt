@@ -1,20 +1,20 @@
 //! Lists of items that are copied and of items that are not.
 
-use crate::{Bytes, Duplicate, NoMemory, Seq};
+use crate::{Boxed, Bytes, Duplicate, NoMemory, Seq};
 use std::alloc::Global;
 use std::test::Fail;
 
 /// An item that is not `Copy`, as an effect of the journal is.
 #[derive(Debug, Drop)]
-struct Boxed {
+struct Named {
     text: Bytes,
 }
 
-impl Duplicate for Boxed {
-    fn duplicate_all(alloc: Global, items: &[Boxed]) -> Result<Vec<Boxed>, NoMemory> {
+impl Duplicate for Named {
+    fn duplicate_all(alloc: Global, items: &[Named]) -> Result<Vec<Named>, NoMemory> {
         let mut copy = Vec::new(alloc);
         for item in items {
-            copy.push(Boxed {
+            copy.push(Named {
                 text: item.text.copy()?,
             })?;
         }
@@ -42,15 +42,21 @@ fn a_list_of_bytes(rt: HostRuntime) -> Result<(), Fail> {
         Bytes::from_vec(alloc, same.into_vec()).as_slice(),
         [7, 8, 9].as_slice()
     );
+    list.append(copy)?;
+    let mut more = Bytes::with_capacity(alloc, 1)?;
+    assert!(rt; more.is_empty());
+    more.push(6)?;
+    list.append(more)?;
+    assert_eq!(rt; list.as_slice(), [7, 8, 9, 6].as_slice());
     Ok(())
 }
 
 #[test]
 fn a_list_of_items_that_own_memory(rt: HostRuntime) -> Result<(), Fail> {
     let alloc = rt.alloc();
-    let mut list: Seq<Boxed> = Seq::new(alloc);
+    let mut list: Seq<Named> = Seq::new(alloc);
     for byte in 0..3u8 {
-        list.push(Boxed {
+        list.push(Named {
             text: Bytes::from_slice(alloc, &[byte; 2])?,
         })?;
     }
@@ -58,5 +64,13 @@ fn a_list_of_items_that_own_memory(rt: HostRuntime) -> Result<(), Fail> {
     list.clear();
     assert_eq!(rt; copy.len(), 3);
     assert_eq!(rt; copy.iter().filter(|item| item.text.len() == 2).count(), 3);
+    Ok(())
+}
+
+#[test]
+fn a_value_on_the_heap(rt: HostRuntime) -> Result<(), Fail> {
+    let boxed = Boxed::new(rt.alloc(), 7u64)?;
+    assert_eq!(rt; *boxed.get(), 7);
+    assert_eq!(rt; boxed.into_inner(), 7);
     Ok(())
 }
