@@ -1,6 +1,6 @@
 -- The row of an add, and what is offered, by what is kept.
 use Rattle.std.proofs.Common.{◌≡◌, ℕ, zero, suc, ◌+◌, ◌%◌, ◌/◌, ◌<◌, ◌≤◌, Bool, true, false, not, ◌==◌, ◌&&◌, ◌||◌, List, [], ◌∷◌, ◌++◌, map, length, Option, Some, None, inl, inr, refl, sym, ap, subst, ◌∙◌, arith, leb, ltb}
-use Rattle.std.specs.Prelude.{All, IsTrue, count_by, flat_map, if◌then◌else◌}
+use Rattle.std.specs.Prelude.{All, count_by, flat_map, if◌then◌else◌}
 use Rattle.std.specs.List.{AllByRecursion, list_any, range_with_len}
 use Rattle.std.specs.Option.{is_some}
 use Rattle.std.proofs.lemmas.Bool.{cases_Bool, eq-eqb, eqb-false, false≢true, leb-false, ltb-false, not-false}
@@ -17,7 +17,7 @@ use Rattle.dcd_base.specs.declared.steps.LogId.{LogId}
 use Rattle.event_records.specs.declared.events.EventKind.{EventKind}
 use Rattle.dcd_codes.specs.Rules.{◌breaks◌}
 use Rattle.dcd_codes.specs.declared.rules.Rule.{Rule}
-use Rattle.extent_list.specs.ExtentLists.{count_in, has_extent_of, real_tags}
+use Rattle.extent_list.specs.ExtentLists.{has_extent_of, real_tags}
 use Rattle.granule_map.specs.StateLists.{is_free_at}
 use Rattle.host_commands.specs.Parts.{AreAfter, Drafts, lists_in}
 use Rattle.host_commands.specs.declared.drafts.Draft.{Draft}
@@ -28,12 +28,12 @@ use Rattle.journal_core.specs.declared.outcome.Effect.{Effect}
 use Rattle.list_rules.specs.Listing.{too_many_extents}
 use Rattle.media_map.specs.Places.{IsRun, run_of}
 use Rattle.region_config.specs.Configurations.{Configuration}
-use Rattle.region_config.specs.Granules.{first_granule, granule_size, granule_total, granules_in, hosts_of, region_of, region_spec, with_blocks}
+use Rattle.region_config.specs.Granules.{first_granule, granule_size, granule_total, hosts_of, region_of, region_spec}
 use Rattle.region_config.specs.Soundness.{IsSound}
 use Rattle.region_config.specs.declared.region_spec.RegionSpec.{RegionSpec}
 use Rattle.region_config.proofs.Faultless.{granules_within}
 use Rattle.selection.proofs.Agreeing.{Agree, contiguous_runs_agree, free_blocks_agree, free_runs_agree, longest_free_agree, prescribed_rule_agree}
-use Rattle.selection.specs.Selections.{contiguous_runs, free_runs, prescribed_rule, too_few_free}
+use Rattle.selection.specs.Selections.{prescribed_rule, too_few_free}
 use Rattle.tag_refs.specs.Tables.{entry_of, is_live, passes, some_passes}
 use Rattle.tag_refs.specs.declared.entries.TagEntry.{TagEntry}
 use Rattle.tag_laws.specs.Tables.{IsEntry}
@@ -43,8 +43,8 @@ use Rattle.device_rules.specs.Legal.{Legal}
 use Rattle.device_rules.specs.Outcomes.{log_full, notices_of}
 use Rattle.device_rules.specs.Tags.{last_offer, open_tags, tag_runs, is_live as is_tag_live}
 use Rattle.device_rules.specs.Views.{View, extents_in, view_after, view_of}
-use Rattle.device_laws.specs.Pictures.{count_on, picture_of}
-use Rattle.device_laws.specs.Standing.{IsMade, IsOpen, Stands}
+use Rattle.device_laws.specs.Pictures.{picture_of}
+use Rattle.device_laws.specs.Standing.{IsMade, Stands}
 use Rattle.device_laws.proofs.Homes.{first_same, made_is_run, region_of_same, supported_whole}
 use Rattle.device_laws.proofs.ListSteps.{each-change, each-map}
 use Rattle.device_laws.proofs.Overlaps.{neither, not_broken}
@@ -55,7 +55,7 @@ use Rattle.control_core.proofs.TagReadings.{tags_live, tags_open, tags_open_in}
 use Rattle.control_core.proofs.Reached.{hosts_kept, region_kept, regions_kept, stands_by, total_kept}
 use Rattle.control_core.specs.Asking.{IsOffered, chosen_rule, is_used_tag, is_with_hosts, lists_have, named_rule, offered_lists, offered_now, room_rule, tag_rule}
 use Rattle.device_state.specs.Entered.{runs_found, runs_in}
-use Rattle.device_state.specs.Kept.{IsKept, IsReached, part_of}
+use Rattle.device_state.specs.Kept.{IsKept, part_of}
 use Rattle.device_state.specs.declared.state.State.{State}
 
 -- ---- searches

@@ -1,5 +1,5 @@
 -- Free blocks as they are chosen: by what is kept, and as runs of the device.
-use Rattle.std.proofs.Common.{◌≡◌, ℕ, zero, suc, ◌+◌, ◌-◌, ◌%◌, ◌/◌, ◌<◌, ◌≤◌, Bool, true, false, not, ◌==◌, ◌||◌, List, [], ◌∷◌, length, get_or, Option, None, Result, refl, sym, ap, subst, ◌∙◌, arith}
+use Rattle.std.proofs.Common.{◌≡◌, ℕ, zero, suc, ◌+◌, ◌%◌, ◌/◌, ◌<◌, ◌≤◌, Bool, true, false, not, ◌==◌, ◌||◌, List, [], ◌∷◌, length, Result, sym, ap, subst, ◌∙◌, arith}
 use Rattle.std.specs.Prelude.{All, if◌then◌else◌}
 use Rattle.dcd_base.specs.Words.{◌or◌}
 use Rattle.dcd_base.specs.declared.media.Run.{Run}
@@ -11,8 +11,7 @@ use Rattle.granule_map.specs.StateLists.{is_free_at}
 use Rattle.granule_map.specs.declared.states.GranuleState.{GranuleState}
 use Rattle.media_map.specs.Places.{IsRun}
 use Rattle.region_config.specs.Configurations.{Configuration}
-use Rattle.region_config.specs.Granules.{first_granule, granule_total, granules_in, region_of, region_spec}
-use Rattle.region_config.specs.Soundness.{IsSound}
+use Rattle.region_config.specs.Granules.{first_granule, granules_in, region_of, region_spec}
 use Rattle.region_config.proofs.Faultless.{granules_within}
 use Rattle.region_config.proofs.GranuleLemmas.{region_is}
 use Rattle.selection.specs.Selections.{AreBetween, contiguous_runs, free_runs, too_few_free}

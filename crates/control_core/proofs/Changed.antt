@@ -1,8 +1,8 @@
 -- The changes of a step are those of its effects.
-use Rattle.std.proofs.Common.{◌≡◌, ◌≢◌, ◌⊎◌, ℕ, ◌+◌, ◌-◌, ◌*◌, ◌^◌, ◌<◌, ◌≤◌, Bool, true, false, ◌&&◌, ◌||◌, ◌==◌, leb, ltb, List, [], ◌∷◌, ◌++◌, length, get_or, take, max, min, Option, Some, None, refl, sym, ap, subst, ◌∙◌, inl, inr, arith}
+use Rattle.std.proofs.Common.{◌≡◌, ◌⊎◌, ℕ, ◌+◌, ◌-◌, ◌<◌, ◌≤◌, Bool, true, false, ◌&&◌, ◌||◌, leb, List, [], ◌∷◌, ◌++◌, get_or, max, min, Option, Some, None, refl, sym, ap, subst, ◌∙◌, inl, inr, arith}
 use Rattle.std.specs.Prelude.{All, fold, if◌then◌else◌}
-use Rattle.std.specs.List.{list_all, list_any}
-use Rattle.std.proofs.lemmas.Bool.{and_right, cases_lt, false≢true, le-leb, le-ltb, lt-leb, lt-ltb}
+use Rattle.std.specs.List.{list_any}
+use Rattle.std.proofs.lemmas.Bool.{and_right, cases_lt, le-leb, le-ltb, lt-leb, lt-ltb}
 use Rattle.std.proofs.lemmas.List.Elements.{All-push}
 use Rattle.std.proofs.lemmas.List.Folds.{list_any-append}
 use Rattle.std.proofs.lemmas.List.Sums.{fold_push}
@@ -12,7 +12,7 @@ use Rattle.dcd_base.specs.declared.media.Run.{Run}
 use Rattle.journal_core.specs.declared.outcome.Effect.{Effect}
 use Rattle.device_rules.specs.Legal.{is_zeroing}
 use Rattle.control_core.specs.ChangedRuns.{LiesIn, holders_after, touches}
-use Rattle.control_core.specs.PutChanges.{AreAdded, ArePut, PutOne, bits_after, bits_by, is_named, is_zero, is_zeroed, lies_between, touched_by}
+use Rattle.control_core.specs.PutChanges.{AreAdded, PutOne, bits_after, bits_by, is_named, is_zero, is_zeroed, lies_between, touched_by}
 
 -- ---- numbers
 

@@ -1,5 +1,5 @@
 -- The holders that the changes of a step leave are those that its effects leave.
-use Rattle.std.proofs.Common.{◌≡◌, ◌≢◌, ◌⊎◌, ℕ, ◌+◌, ◌-◌, ◌*◌, ◌%◌, ◌^◌, ◌<◌, ◌≤◌, Bool, true, false, ◌&&◌, ◌==◌, List, [], ◌∷◌, ◌++◌, get_or, max, bit_and, bit_or, Option, Some, None, refl, sym, ap, subst, ◌∙◌, inl, inr, arith}
+use Rattle.std.proofs.Common.{◌≡◌, ◌≢◌, ◌⊎◌, ℕ, ◌+◌, ◌-◌, ◌*◌, ◌%◌, ◌^◌, Bool, true, false, ◌==◌, List, [], ◌∷◌, get_or, max, bit_and, bit_or, Option, Some, None, refl, sym, ap, subst, ◌∙◌, inl, inr, arith}
 use Rattle.std.specs.Prelude.{fold, if◌then◌else◌}
 use Rattle.std.specs.Int.{bit_at}
 use Rattle.std.specs.Int.Bits.{or_add_and}
@@ -19,9 +19,9 @@ use Rattle.region_config.specs.Configurations.{Configuration}
 use Rattle.region_config.specs.Granules.{granule_total}
 use Rattle.tag_laws.proofs.Bits.{with_has, without_has}
 use Rattle.tag_refs.specs.Hosts.{has_host, with_host, without_host}
-use Rattle.control_core.specs.ChangedRuns.{AreChanges, AreHolders, holders_after, touches}
+use Rattle.control_core.specs.ChangedRuns.{AreChanges}
 use Rattle.device_state.specs.Kept.{IsKept}
-use Rattle.control_core.specs.PutChanges.{AreOfOneHost, ArePut, bits_after, bits_by, is_of}
+use Rattle.control_core.specs.PutChanges.{AreOfOneHost, ArePut, bits_after, is_of}
 use Rattle.device_state.specs.declared.state.State.{State}
 
 -- ---- bits of the other hosts

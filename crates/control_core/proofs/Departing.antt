@@ -1,6 +1,6 @@
 -- Extents that may leave their host can be taken, and what is left then.
-use Rattle.std.proofs.Common.{◌≡◌, ℕ, zero, suc, ◌+◌, ◌*◌, ◌/◌, ◌%◌, ◌^◌, ◌<◌, ◌≤◌, Bool, true, false, not, ◌&&◌, ◌||◌, ◌==◌, List, [], ◌∷◌, ◌++◌, length, get_or, take, map, Option, Some, None, Result, Ok, Err, refl, sym, ap, subst, ◌∙◌, inl, inr, arith, leb, ltb}
-use Rattle.std.specs.Prelude.{All, IfOk, IsTrue, filter, flat_map, fold, if◌then◌else◌, nat_le}
+use Rattle.std.proofs.Common.{◌≡◌, ℕ, zero, suc, ◌+◌, ◌*◌, ◌/◌, ◌%◌, ◌^◌, ◌<◌, ◌≤◌, Bool, true, false, not, ◌&&◌, ◌||◌, ◌==◌, List, [], ◌∷◌, ◌++◌, length, get_or, take, map, Option, Some, None, Result, Ok, Err, refl, sym, ap, subst, ◌∙◌, arith, leb, ltb}
+use Rattle.std.specs.Prelude.{All, IfOk, filter, flat_map, fold, if◌then◌else◌, nat_le}
 use Rattle.std.specs.List.{AllByRecursion, list_all, list_any}
 use Rattle.std.proofs.Math.Nat.{add-mul-mod_self_right, mod-add-div'}
 use Rattle.std.proofs.lemmas.Bool.{eq-eqb, leb-false, ltb-false}
@@ -27,17 +27,17 @@ use Rattle.media_map.specs.Places.{is_granular, region_at, run_of}
 use Rattle.region_config.specs.Configurations.{Configuration}
 use Rattle.region_config.specs.Granules.{region_spec, with_blocks}
 use Rattle.region_config.specs.Soundness.{IsSound}
-use Rattle.release_core.specs.Leaving.{AllCanLeave, CanLeave, count_after}
+use Rattle.release_core.specs.Leaving.{AllCanLeave, count_after}
 use Rattle.release_core.specs.Removals.{by_tag_rule, listed_rule, tagged}
 use Rattle.device_rules.specs.Hosts.{accepted_after, block_of, held_after, moves, offers_after}
 use Rattle.device_rules.specs.Outcomes.{log_full, notices_of}
 use Rattle.device_rules.specs.ReleaseOutcomes.{is_cleaning, is_forced, policy_in, remove_rule, removals, removed, soils}
 use Rattle.device_rules.specs.Views.{View, view_after, view_of}
-use Rattle.device_laws.specs.Pictures.{Picture, picture_after, picture_of}
+use Rattle.device_laws.specs.Pictures.{Picture, picture_of}
 use Rattle.device_laws.specs.Standing.{IsMade, Stands}
-use Rattle.device_laws.proofs.AllLeave.{Behind, IsLeft, all_leave}
+use Rattle.device_laws.proofs.AllLeave.{Behind, all_leave}
 use Rattle.device_laws.proofs.Going.{IsGoing, going_ready, own_whole, some_going, some_owned}
-use Rattle.device_laws.proofs.Homes.{made_granular, made_region}
+use Rattle.device_laws.proofs.Homes.{made_granular}
 use Rattle.device_laws.proofs.LeftStanding.{going_of, going_rule}
 use Rattle.device_laws.proofs.ListSteps.{each-change, each-map}
 use Rattle.device_laws.proofs.OneLeave.{loose, whole_blocks}

@@ -1,5 +1,5 @@
 -- A draft that is entered is its outcome, and puts in place what its effects make of lists and tags.
-use Rattle.std.proofs.Common.{◌≡◌, ◌≢◌, ℕ, ◌+◌, ◌%◌, ◌^◌, ◌<◌, Bool, true, false, ◌&&◌, ◌||◌, not, List, [], ◌∷◌, ◌++◌, ◌⊎◌, length, map, flat_map, fold, Option, Some, None, append_assoc, inl, inr, refl, sym, ap, ◌∙◌, subst, arith}
+use Rattle.std.proofs.Common.{◌≡◌, ◌≢◌, ◌+◌, ◌%◌, ◌^◌, Bool, true, false, ◌||◌, not, List, [], ◌∷◌, ◌++◌, ◌⊎◌, map, flat_map, fold, Option, Some, None, append_assoc, inl, inr, refl, sym, ap, ◌∙◌, subst}
 use Rattle.std.specs.Prelude.{◌==◌, if◌then◌else◌}
 use Rattle.std.specs.List.{list_all, list_any}
 use Rattle.std.proofs.lemmas.Bool.{and_parts, cases_eq, eq-eqb, false≢true, ne_eqb, not-true}
@@ -9,9 +9,7 @@ use Rattle.cci_codec.specs.declared.messages.Request.{Request}
 use Rattle.dcd_base.specs.declared.capacity.Extent.{Extent}
 use Rattle.dcd_base.specs.declared.capacity.Tag.{Tag}
 use Rattle.dcd_base.specs.declared.ids.HostId.{HostId}
-use Rattle.dcd_base.specs.declared.steps.LogId.{LogId}
 use Rattle.dcd_codes.specs.declared.codes.Code.{Code}
-use Rattle.event_records.specs.declared.events.Event.{Event}
 use Rattle.extent_list.specs.ExtentLists.{has_extent_of}
 use Rattle.region_config.specs.Configurations.{Configuration}
 use Rattle.host_lists.specs.Lists.{Lists}
@@ -20,7 +18,7 @@ use Rattle.journal_core.specs.declared.acts.Reply.{Reply}
 use Rattle.journal_core.specs.declared.entries.Entry.{Entry}
 use Rattle.journal_core.specs.declared.outcome.Effect.{Effect}
 use Rattle.journal_core.specs.declared.outcome.HeldKind.{HeldKind}
-use Rattle.host_commands.specs.Parts.{AreAfter, Drafts, lists_in, told_in}
+use Rattle.host_commands.specs.Parts.{AreAfter, Drafts, lists_in}
 use Rattle.host_commands.specs.declared.drafts.Draft.{Draft}
 use Rattle.device_rules.specs.Answers.{response}
 use Rattle.device_rules.specs.Hosts.{accepted_after, accepted_of, held_after, moves, offers_after, offers_of}
@@ -31,19 +29,16 @@ use Rattle.device_steps.proofs.EffectKinds.{any_log, tells_any, told_passes}
 use Rattle.device_steps.proofs.Leaving.{both_pass, map_passes, over-leaving}
 use Rattle.device_steps.proofs.OutcomeSteps.{over-outcome}
 use Rattle.device_steps.proofs.ViewsLeft.{leaves_view, view_after-left}
-use Rattle.tag_laws.specs.Steps.{IsToldAnew}
 use Rattle.tag_laws.specs.Tables.{IsTable, among, among_offers, ending, told_anew}
 use Rattle.tag_refs.specs.declared.entries.TagEntry.{TagEntry}
-use Rattle.control_core.specs.Doing.{IsDone, IsOfHost}
+use Rattle.control_core.specs.Doing.{IsDone, IsOfHost, told_change}
 use Rattle.device_state.specs.Entered.{lists_by, lists_put, unheld}
 use Rattle.device_state.specs.Kept.{IsKept}
 use Rattle.control_core.specs.Recording.{told}
 use Rattle.device_state.specs.Updates.{IsUpdate, lists_after}
-use Rattle.control_core.specs.declared.decided.Decided.{Decided}
 use Rattle.device_state.specs.declared.state.State.{State}
 use Rattle.device_state.specs.declared.updates.NewLists.{NewLists}
 use Rattle.device_state.specs.declared.updates.TagChange.{TagChange}
-use Rattle.device_state.specs.declared.updates.Update.{Update}
 use Rattle.control_core.proofs.Recorded.{told_is}
 
 -- ---- ends of tags and records change no lists
@@ -100,6 +95,17 @@ pub others_stay : (c : Configuration) (k : HostId) (v : View) (new : List Effect
 others_stay c k v new all = over-leaving (lists_by k) (leaves_view k) (lists-kept k) (lists_in v) new all ∙ sym (ap lists_in (view_after-left c k v new all))
 
 -- ---- the update
+
+-- to tell no tags anew is to change none
+told_less : (c : Configuration) (before : List Entry) (new : List Effect) (lists : Option NewLists) (h : HostId) (tags : List Tag) →
+    IsUpdate c before new (record { lists = lists; tags = TagChange.OfHost h tags }) → IsUpdate c before new (record { lists = lists; tags = told_change h tags })
+told_less c before new lists h [] update = record {
+  of_hosts = update.of_hosts;
+  lists = update.lists;
+  can_change = λ entries table. tt;
+  tags = update.tags;
+}
+told_less c before new lists h (t ∷ ts) update = update
 
 module _ (c : Configuration) (before : List Entry) (h : HostId) (o : Outcome) (of : IsOfHost c before h o) where
   -- the host's own lists, as the changes leave them
@@ -177,25 +183,25 @@ module _ (c : Configuration) (before : List Entry) (s : State) (kept : IsKept c 
 
   pub done_new : (lists : Lists) → draft.lists ≡ Some lists → (reply : Reply) (new : List Effect) → reply ≡ response q Code.Success draft.payload →
       new ≡ (draft.changes ++ map Effect.TagEnd (ending h (λ t. has_extent_of t lists.accepted) (λ t. list_any (has_extent_of t) lists.offers) s.tags.entries draft.tags)) ++ told (effects before) draft.notices →
-      IsDone c before q o (record { reply = reply; effects = new; update = record { lists = Some (record { host = h; lists = lists }); tags = TagChange.OfHost h draft.tags } })
+      IsDone c before q o (record { reply = reply; effects = new; update = record { lists = Some (record { host = h; lists = lists }); tags = told_change h draft.tags } })
   done_new lists some reply new answers is =
       let its_lists : lists ≡ lists_in (view_after c h (view_of c h before) o.changes) = subst (AreAfter c h (view_of c h before) o) some drafts.lists in
       let effects_are : new ≡ effects_of c (effects before) o = is ∙ all_effects lists its_lists in record {
         reply = answers ∙ ap (response q Code.Success) drafts.payload;
         effects = effects_are;
-        update = subst (λ (x : List Effect × List Tag). IsUpdate c before x.0 (record { lists = Some (record { host = h; lists = lists }); tags = TagChange.OfHost h x.1 }))
-            (λ i. (sym effects_are i, sym drafts.tags i)) (update_new c before h o of lists its_lists);
+        update = subst (λ (x : List Effect × List Tag). IsUpdate c before x.0 (record { lists = Some (record { host = h; lists = lists }); tags = told_change h x.1 }))
+            (λ i. (sym effects_are i, sym drafts.tags i)) (told_less c before (effects_of c (effects before) o) (Some (record { host = h; lists = lists })) h o.tags (update_new c before h o of lists its_lists));
       }
 
   pub done_same : draft.lists ≡ None → (reply : Reply) (new : List Effect) → reply ≡ response q Code.Success draft.payload →
       (lists : Lists) → lists ≡ lists_in (view_of c h before) →
       new ≡ (draft.changes ++ map Effect.TagEnd (ending h (λ t. has_extent_of t lists.accepted) (λ t. list_any (has_extent_of t) lists.offers) s.tags.entries draft.tags)) ++ told (effects before) draft.notices →
-      IsDone c before q o (record { reply = reply; effects = new; update = record { lists = None; tags = TagChange.OfHost h draft.tags } })
+      IsDone c before q o (record { reply = reply; effects = new; update = record { lists = None; tags = told_change h draft.tags } })
   done_same none reply new answers lists is_lists is =
       let stay : lists_in (view_after c h (view_of c h before) o.changes) ≡ lists_in (view_of c h before) = subst (AreAfter c h (view_of c h before) o) none drafts.lists in
       let effects_are : new ≡ effects_of c (effects before) o = is ∙ all_effects lists (is_lists ∙ sym stay) in record {
         reply = answers ∙ ap (response q Code.Success) drafts.payload;
         effects = effects_are;
-        update = subst (λ (x : List Effect × List Tag). IsUpdate c before x.0 (record { lists = None; tags = TagChange.OfHost h x.1 }))
-            (λ i. (sym effects_are i, sym drafts.tags i)) (update_same c before h o of stay);
+        update = subst (λ (x : List Effect × List Tag). IsUpdate c before x.0 (record { lists = None; tags = told_change h x.1 }))
+            (λ i. (sym effects_are i, sym drafts.tags i)) (told_less c before (effects_of c (effects before) o) None h o.tags (update_same c before h o of stay));
       }

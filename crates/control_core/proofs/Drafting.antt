@@ -1,9 +1,9 @@
 -- Drafts of one kind of thing alone.
-use Rattle.std.proofs.Common.{◌≡◌, ℕ, List, [], None, refl, sym, ap, subst, ◌∙◌}
+use Rattle.std.proofs.Common.{◌≡◌, ℕ, List, [], None, refl, sym, subst}
 use Rattle.journal_core.specs.declared.outcome.Effect.{Effect}
 use Rattle.host_commands.specs.Parts.{IsOutcome}
 use Rattle.host_commands.specs.declared.drafts.Draft.{Draft}
-use Rattle.device_rules.specs.Outcomes.{Outcome, only}
+use Rattle.device_rules.specs.Outcomes.{only}
 
 -- of changes
 pub changes_alone : (changes new : List Effect) (d : Draft) → d ≡ record { payload = []; changes = changes; tags = []; notices = []; lists = None } → changes ≡ new →

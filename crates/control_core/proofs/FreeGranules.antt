@@ -1,10 +1,10 @@
 -- The states of the granules that are kept tell which of them are free, and which are dirty.
-use Rattle.std.proofs.Common.{◌≡◌, ℕ, zero, suc, ◌+◌, ◌<◌, Bool, true, false, List, [], ◌∷◌, length, get_or, refl, sym, ap, ◌∙◌, arith, inl, inr}
+use Rattle.std.proofs.Common.{◌≡◌, ℕ, zero, suc, ◌+◌, ◌<◌, Bool, List, [], ◌∷◌, length, get_or, refl, sym, ap, ◌∙◌, arith, inl, inr}
 use Rattle.std.specs.Prelude.{count_by, filter}
 use Rattle.std.specs.List.{range_with_len}
 use Rattle.std.proofs.lemmas.Bool.{cases_Bool}
 use Rattle.std.proofs.lemmas.List.Sums.{length-filter}
-use Rattle.granule_map.specs.StateLists.{count_of, is_dirty_state, is_free_state, same_state}
+use Rattle.granule_map.specs.StateLists.{count_of, is_free_state, same_state}
 use Rattle.granule_map.specs.declared.states.GranuleState.{GranuleState}
 use Rattle.granule_table.specs.Tables.{Table, cell_at}
 use Rattle.granule_laws.specs.Cells.{IsCell, status_of}

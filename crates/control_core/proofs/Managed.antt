@@ -1,8 +1,7 @@
 -- A command of the Fabric Manager that changes no lists is entered as its outcome.
-use Rattle.std.proofs.Common.{◌≡◌, ℕ, ◌+◌, ◌%◌, ◌^◌, ◌<◌, Bool, true, false, not, ◌||◌, ◌≤◌, Some, List, [], ◌∷◌, ◌++◌, length, map, flat_map, fold, Option, None, append-nil, refl, sym, ap, ◌∙◌, subst, arith, zero, suc}
-use Rattle.std.specs.Prelude.{◌==◌, All, if◌then◌else◌}
+use Rattle.std.proofs.Common.{◌≡◌, ℕ, ◌+◌, ◌%◌, ◌^◌, ◌<◌, true, false, not, ◌||◌, ◌≤◌, Some, List, [], ◌∷◌, ◌++◌, length, map, flat_map, None, append-nil, refl, sym, ap, ◌∙◌, subst, arith, zero, suc}
+use Rattle.std.specs.Prelude.{All, if◌then◌else◌}
 use Rattle.std.specs.List.{AllByRecursion, list_all, list_any, range_with_len}
-use Rattle.std.specs.declared.result.Result.{Result}
 use Rattle.std.specs.declared.result.Result.TheVariants.{Ok, Err}
 use Rattle.std.proofs.lemmas.Bool.{and_parts, false≢true}
 use Rattle.cci_codec.specs.declared.messages.Request.{Request}
@@ -19,7 +18,6 @@ use Rattle.event_records.specs.declared.events.Event.{Event}
 use Rattle.fm_payloads.specs.ManagerPayloads.{manager_request}
 use Rattle.fm_payloads.specs.declared.requests.FmRequest.{FmRequest}
 use Rattle.region_config.specs.Configurations.{Configuration}
-use Rattle.region_config.specs.Granules.{hosts_of}
 use Rattle.region_config.specs.Soundness.{IsSound}
 use Rattle.host_lists.specs.Lists.{Lists}
 use Rattle.journal_core.specs.Entries.{effects}
@@ -46,14 +44,13 @@ use Rattle.tag_laws.proofs.ReferenceSteps.{ended-reference, table-add_reference,
 use Rattle.device_laws.proofs.LegalSound.{legal_is_sound}
 use Rattle.device_rules.specs.Tags.{is_referenced}
 use Rattle.tag_refs.specs.Tables.{is_used, passes, with_reference}
-use Rattle.tag_refs.specs.declared.entries.TagEntry.{TagEntry}
 use Rattle.control_core.specs.Deciding.{IsDecidedBy, IsShort}
 use Rattle.control_core.specs.Doing.{IsDone}
 use Rattle.device_state.specs.Entered.{lists_by}
 use Rattle.device_state.specs.Kept.{IsKept}
 use Rattle.control_core.specs.Managing.{IsOfNone, Manages, leaves_lists}
 use Rattle.control_core.specs.Recording.{told}
-use Rattle.device_state.specs.Updates.{IsOfLog, IsUpdate, lists_after}
+use Rattle.device_state.specs.Updates.{IsOfLog, IsUpdate}
 use Rattle.control_core.specs.declared.decided.Decided.{Decided}
 use Rattle.device_state.specs.declared.state.State.{State}
 use Rattle.device_state.specs.declared.updates.TagChange.{TagChange}

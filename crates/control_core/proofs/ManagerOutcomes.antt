@@ -1,14 +1,12 @@
 -- What a 5605h that breaks no rule makes of lists and tags.
-use Rattle.std.proofs.Common.{◌≡◌, ℕ, ◌<◌, true, List, [], ◌∷◌, None, length, map, refl, subst, sym, fold}
+use Rattle.std.proofs.Common.{◌≡◌, ℕ, ◌<◌, List, None, length, map, refl, subst, sym}
 use Rattle.std.specs.Prelude.{All}
-use Rattle.std.specs.List.{list_all}
 use Rattle.dcd_base.specs.declared.capacity.Extent.{Extent}
 use Rattle.dcd_base.specs.declared.capacity.Tag.{Tag}
-use Rattle.dcd_base.specs.declared.ids.HostId.{HostId}
 use Rattle.fm_payloads.specs.declared.requests.FmRequest.{FmRequest}
 use Rattle.region_config.specs.Configurations.{Configuration}
 use Rattle.region_config.specs.Soundness.{IsSound}
-use Rattle.host_commands.specs.Parts.{lists_in, told_in}
+use Rattle.host_commands.specs.Parts.{told_in}
 use Rattle.host_commands.specs.declared.drafts.Draft.{Draft}
 use Rattle.host_commands.specs.declared.notices.Notice.{Notice}
 use Rattle.journal_core.specs.Entries.{effects}
@@ -16,7 +14,7 @@ use Rattle.journal_core.specs.declared.entries.Entry.{Entry}
 use Rattle.journal_core.specs.declared.outcome.Effect.{Effect}
 use Rattle.device_rules.specs.Answers.{manager_outcome, manager_rule}
 use Rattle.device_rules.specs.Legal.{Legal}
-use Rattle.device_rules.specs.ReleaseOutcomes.{is_cleaning, is_forced, removals, removed}
+use Rattle.device_rules.specs.ReleaseOutcomes.{is_cleaning, is_forced, removed}
 use Rattle.device_rules.specs.Views.{View, view_of}
 use Rattle.device_steps.proofs.EffectKinds.{removals_pass}
 use Rattle.device_steps.proofs.ViewOthers.{remove-leaves}

@@ -12,15 +12,15 @@ use Rattle.journal_core.proofs.EachSteps.{Each-push}
 use Rattle.region_config.specs.Configurations.{Configuration}
 use Rattle.region_config.specs.Soundness.{IsSound}
 use Rattle.device_rules.specs.Answers.{answer}
-use Rattle.device_rules.specs.Legal.{Legal, Meets}
-use Rattle.control_core.specs.Deciding.{AreShort, Holds, IsShort}
+use Rattle.device_rules.specs.Legal.{Meets}
+use Rattle.control_core.specs.Deciding.{Holds, IsShort}
 use Rattle.device_state.specs.Entered.{IsEntered}
 use Rattle.device_state.specs.Kept.{IsKept, IsReached}
 use Rattle.control_core.specs.PutChanges.{AreOfOneHost}
 use Rattle.control_core.specs.Steps.{Controlled, IsNext, MayStep, entry_of}
 use Rattle.device_state.specs.Updates.{IsOfDevice, IsUpdate}
 use Rattle.device_state.specs.declared.state.State.{State}
-use Rattle.device_state.specs.declared.updates.Update.{Update}
+use Rattle.device_state.specs.declared.updates.NewParts.{NewParts}
 use Rattle.control_core.proofs.OneHost.{of_one_host}
 use Rattle.device_state.proofs.EnteredSteps.{kept-entered, of_device}
 
@@ -50,7 +50,7 @@ pub holds_first : (c : Configuration) (entries : List Entry) (s : State) → ent
 holds_first c entries s none sound kept = subst (λ es. Holds c es s) (sym none) (record { sound = sound; legal = tt; kept = kept; short = λ k e below. absurd (omega (arith, below)) })
 
 -- What every control keeps is kept by an entry that is entered.
-pub holds_entered : (c : Configuration) (before : List Entry) (e : Entry) (u : Update) (old now : State) → Holds c before old → Meets c before e → IsShort e.reply →
+pub holds_entered : (c : Configuration) (before : List Entry) (e : Entry) (u : NewParts) (old now : State) → Holds c before old → Meets c before e → IsShort e.reply →
     IsUpdate c before e.effects u → IsEntered c e.effects u old now → Holds c (before ++ e ∷ []) now
 holds_entered c before e u old now holds meets short update entered = record {
   sound = holds.sound;

@@ -1,8 +1,8 @@
 -- An offer of the Fabric Manager is entered as its outcome.
-use Rattle.std.proofs.Common.{◌≡◌, ◌≢◌, ◌⊎◌, ℕ, ◌<◌, ◌≤◌, Bool, true, false, ◌||◌, not, List, [], ◌∷◌, ◌++◌, length, map, flat_map, fold, Option, Some, None, append-nil, inl, inr, refl, sym, ap, ◌∙◌, subst, arith, zero, suc}
-use Rattle.std.specs.Prelude.{◌==◌, All, IsTrue, if◌then◌else◌}
+use Rattle.std.proofs.Common.{◌≡◌, ◌≢◌, ℕ, ◌<◌, Bool, true, false, ◌||◌, not, List, [], ◌∷◌, ◌++◌, length, map, flat_map, fold, Option, Some, None, append-nil, inl, inr, refl, sym, ap, ◌∙◌, subst, arith}
+use Rattle.std.specs.Prelude.{All, IsTrue, if◌then◌else◌}
 use Rattle.std.specs.List.{AllByRecursion, list_any}
-use Rattle.std.proofs.lemmas.Bool.{cases_Bool, cases_eq, eq-eqb, ne_eqb}
+use Rattle.std.proofs.lemmas.Bool.{cases_eq, eq-eqb, ne_eqb}
 use Rattle.std.proofs.lemmas.List.Elements.{All-from_recursion}
 use Rattle.std.proofs.lemmas.List.Folds.{list_any-append}
 use Rattle.cci_codec.specs.declared.messages.Request.{Request}
@@ -18,7 +18,7 @@ use Rattle.host_commands.specs.Parts.{AreAfter, Drafts, lists_in, told_in}
 use Rattle.host_commands.specs.declared.drafts.Draft.{Draft}
 use Rattle.host_commands.specs.declared.notices.Notice.{Notice}
 use Rattle.region_config.specs.Configurations.{Configuration}
-use Rattle.region_config.specs.Granules.{granule_size, region_spec}
+use Rattle.region_config.specs.Granules.{region_spec}
 use Rattle.region_config.specs.Soundness.{IsSound}
 use Rattle.media_map.specs.Places.{is_granular, run_of}
 use Rattle.journal_core.specs.Entries.{effects}
@@ -33,14 +33,13 @@ use Rattle.device_laws.proofs.Homes.{made_granular, made_region}
 use Rattle.device_laws.proofs.LegalSound.{legal_is_sound}
 use Rattle.device_rules.specs.Adding.{offered}
 use Rattle.device_rules.specs.Answers.{manager_outcome, manager_rule, response}
-use Rattle.device_rules.specs.Hosts.{accepted_of, offers_of}
+use Rattle.device_rules.specs.Hosts.{accepted_of}
 use Rattle.device_rules.specs.Legal.{Legal}
 use Rattle.device_rules.specs.Logs.{log_of}
 use Rattle.device_rules.specs.Outcomes.{Outcome, effects_of, ended, entered_all}
-use Rattle.device_rules.specs.Views.{View, view_after, view_of}
+use Rattle.device_rules.specs.Views.{view_after, view_of}
 use Rattle.device_steps.proofs.ViewOthers.{add-leaves}
-use Rattle.tag_laws.specs.Steps.{IsOffered}
-use Rattle.tag_laws.specs.Tables.{IsTable, told_anew}
+use Rattle.tag_laws.specs.Tables.{IsTable}
 use Rattle.tag_laws.proofs.AddSteps.{table-add}
 use Rattle.tag_laws.proofs.Entries.{table_live}
 use Rattle.tag_refs.specs.Tables.{changed, is_live, set_by, still_used}

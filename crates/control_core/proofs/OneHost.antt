@@ -1,16 +1,13 @@
 -- The effects of a step give and take granules of one host, or zero granules.
-use Rattle.std.proofs.Common.{◌≡◌, ℕ, Bool, true, false, ◌&&◌, ◌==◌, List, [], ◌∷◌, Option, Some, None, refl, ap}
-use Rattle.std.specs.Prelude.{if◌then◌else◌}
+use Rattle.std.proofs.Common.{◌≡◌, true, List, Option, Some, None, refl}
 use Rattle.std.specs.List.{list_all}
 use Rattle.std.proofs.lemmas.Bool.{eq-eqb}
-use Rattle.dcd_base.specs.declared.capacity.Extent.{Extent}
 use Rattle.dcd_base.specs.declared.ids.HostId.{HostId}
 use Rattle.dcd_base.specs.declared.steps.LogId.{LogId}
 use Rattle.fm_payloads.specs.declared.requests.FmRequest.{FmRequest}
 use Rattle.journal_core.specs.Entries.{effects}
 use Rattle.journal_core.specs.declared.entries.Entry.{Entry}
 use Rattle.journal_core.specs.declared.outcome.Effect.{Effect}
-use Rattle.journal_core.specs.declared.outcome.HeldKind.{HeldKind}
 use Rattle.region_config.specs.Configurations.{Configuration}
 use Rattle.device_rules.specs.Answers.{manager_outcome, scrubbed}
 use Rattle.device_rules.specs.Legal.{Meets}
@@ -19,8 +16,8 @@ use Rattle.device_rules.specs.Outcomes.{Outcome, effects_of}
 use Rattle.device_rules.specs.ReleaseOutcomes.{is_cleaning, is_forced, removed}
 use Rattle.device_rules.specs.Tags.{is_referenced}
 use Rattle.device_rules.specs.Views.{View, view_of}
-use Rattle.device_steps.proofs.EffectKinds.{PassClearing, PassHeld, PassLists, PassRecords, any_log, clear_passes, host_passes, outcome_passes, reference_passes, removals_pass, tells_any, unhold_passes, zeroes_pass}
-use Rattle.device_steps.proofs.LegalSteps.{Cases, step_case}
+use Rattle.device_steps.proofs.EffectKinds.{PassClearing, PassHeld, PassRecords, any_log, clear_passes, host_passes, outcome_passes, reference_passes, removals_pass, tells_any, unhold_passes, zeroes_pass}
+use Rattle.device_steps.proofs.LegalSteps.{step_case}
 use Rattle.control_core.specs.PutChanges.{AreOfOneHost, is_of}
 
 -- what is of no host is of any

@@ -1,6 +1,6 @@
 -- What the state says of the device that it is a state of.
-use Rattle.std.proofs.Common.{◌≡◌, ℕ, ◌+◌, ◌<◌, ◌≤◌, List, length, get_or, refl, sym, ap, subst, ◌∙◌, arith}
-use Rattle.std.specs.Prelude.{◌++◌, flat_map, map}
+use Rattle.std.proofs.Common.{◌≡◌, ℕ, ◌+◌, ◌<◌, ◌≤◌, List, length, sym, ap, subst, ◌∙◌, arith}
+use Rattle.std.specs.Prelude.{◌++◌, flat_map}
 use Rattle.std.specs.List.{enumerate_from}
 use Rattle.std.proofs.lemmas.List.{length-map, length-append}
 use Rattle.std.proofs.lemmas.List.Concat.{length-flat_map}
@@ -9,7 +9,6 @@ use Rattle.dcd_base.specs.declared.ids.HostId.{HostId}
 use Rattle.region_config.specs.Configurations.{Configuration}
 use Rattle.region_config.specs.Granules.{first_granule, granule_total, region_spec, with_blocks}
 use Rattle.region_config.specs.Soundness.{IsSound}
-use Rattle.region_config.specs.declared.region_spec.RegionSpec.{RegionSpec}
 use Rattle.region_config.proofs.PresentBlocks.{first_granule-with_blocks, region_spec-with_blocks}
 use Rattle.journal_core.specs.Entries.{effects}
 use Rattle.journal_core.specs.declared.entries.Entry.{Entry}
@@ -22,7 +21,7 @@ use Rattle.device_rules.specs.Hosts.{accepted_of, block_of, offers_of}
 use Rattle.device_rules.specs.Legal.{Legal}
 use Rattle.device_rules.specs.Views.{view_of}
 use Rattle.device_laws.specs.Pictures.{picture_of}
-use Rattle.device_laws.specs.Standing.{Sound, Stands}
+use Rattle.device_laws.specs.Standing.{Stands}
 use Rattle.device_laws.proofs.LegalSound.{legal_is_sound}
 use Rattle.control_core.proofs.CountedTags.{few_tags}
 use Rattle.device_state.specs.Kept.{IsKept, IsReached, part_of}

@@ -1,14 +1,13 @@
 -- The records of a step are those that its history asks for.
-use Rattle.std.proofs.Common.{◌≡◌, ℕ, suc, ◌+◌, ◌-◌, ◌%◌, ◌<◌, ◌≤◌, append-nil, append_assoc, Bool, true, false, List, [], ◌∷◌, ◌++◌, length, map, flat_map, get_or, take, inl, inr, refl, sym, ap, ◌∙◌, subst, arith}
+use Rattle.std.proofs.Common.{◌≡◌, ℕ, ◌+◌, ◌-◌, ◌%◌, ◌<◌, append-nil, true, false, List, [], ◌∷◌, ◌++◌, length, map, flat_map, get_or, take, inl, inr, refl, sym, ap, ◌∙◌, subst, arith}
 use Rattle.std.specs.Prelude.{◌==◌, if◌then◌else◌}
 use Rattle.std.proofs.lemmas.Bool.{cases_eq, ne_eqb}
 use Rattle.std.proofs.lemmas.Grind.{flat_map-append}
 use Rattle.std.proofs.lemmas.List.{length_push, take_more}
 use Rattle.std.proofs.Math.Nat.{mod-add-mod}
-use Rattle.dcd_base.specs.declared.ids.HostId.{HostId}
 use Rattle.dcd_base.specs.declared.steps.LogId.{LogId}
 use Rattle.event_log.specs.LogStates.{LogState, handle_after}
-use Rattle.event_log.specs.Logs.{IsHistory, Log, missed_by, next_handle, places_in, recorded, records_in, room_in, state_of}
+use Rattle.event_log.specs.Logs.{Log, missed_by, next_handle, recorded, room_in}
 use Rattle.event_records.specs.declared.events.Event.{Event}
 use Rattle.journal_core.specs.Entries.{effects}
 use Rattle.journal_core.specs.declared.entries.Entry.{Entry}
@@ -16,11 +15,11 @@ use Rattle.journal_core.specs.declared.outcome.Effect.{Effect}
 use Rattle.region_config.specs.Configurations.{Configuration}
 use Rattle.host_commands.specs.Parts.{IsLogOf, told_in}
 use Rattle.host_commands.specs.declared.notices.Notice.{Notice}
-use Rattle.device_rules.specs.Logs.{log_after, log_of, same_log}
+use Rattle.device_rules.specs.Logs.{log_after, log_of}
 use Rattle.device_rules.specs.Outcomes.{entered, entered_all}
 use Rattle.device_steps.proofs.LogSteps.{IsSound, IsSound-recorded, room-recorded, same_log-self}
 use Rattle.device_state.specs.Kept.{IsKept}
-use Rattle.control_core.specs.Recording.{next_by, record_by, records_by, told}
+use Rattle.control_core.specs.Recording.{records_by, told}
 use Rattle.device_state.specs.Updates.{IsOfLog, log_in}
 use Rattle.device_state.specs.declared.state.State.{State}
 

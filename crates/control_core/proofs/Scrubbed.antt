@@ -1,5 +1,5 @@
 -- A turn of the sanitizer is the answer to a scrub.
-use Rattle.std.proofs.Common.{◌≡◌, ℕ, ◌<◌, ◌≤◌, Bool, true, List, [], ◌∷◌, ◌++◌, length, map, refl, sym, ap, subst, ◌∙◌, None, arith}
+use Rattle.std.proofs.Common.{◌≡◌, ℕ, ◌<◌, ◌≤◌, Bool, List, [], ◌∷◌, length, map, refl, sym, ap, subst, ◌∙◌, None, arith}
 use Rattle.std.specs.Prelude.{fold}
 use Rattle.std.proofs.lemmas.List.{get_or_default, length-take}
 use Rattle.dcd_base.specs.declared.ids.HostId.{HostId}
@@ -21,21 +21,19 @@ use Rattle.journal_core.specs.declared.entries.Entry.{Entry}
 use Rattle.journal_core.specs.declared.outcome.Effect.{Effect}
 use Rattle.device_rules.specs.Answers.{scrubbed as rules_scrubbed, zeroes}
 use Rattle.device_rules.specs.Tags.{is_dirty, status}
-use Rattle.device_rules.specs.Views.{View, view_after, view_of}
+use Rattle.device_rules.specs.Views.{view_of}
 use Rattle.device_steps.proofs.EffectKinds.{zeroes_pass}
 use Rattle.device_steps.proofs.ViewsLeft.{leaves_view, view_after-left}
 use Rattle.sanitizer.specs.Turns.{granules_in, granules_of, same_region, scrub_runs, scrubbed}
 use Rattle.sanitizer.proofs.Scrubbed.{scrub_runs_agree, scrubbed_agree}
 use Rattle.tag_laws.proofs.QuietSteps.{table-scrubbed}
-use Rattle.tag_laws.specs.Tables.{IsTable}
 use Rattle.control_core.specs.Deciding.{IsDecided, IsShort}
-use Rattle.device_state.specs.Entered.{lists_by, lists_put}
+use Rattle.device_state.specs.Entered.{lists_by}
 use Rattle.device_state.specs.Kept.{IsKept}
-use Rattle.device_state.specs.Updates.{IsUpdate, lists_after}
+use Rattle.device_state.specs.Updates.{IsUpdate}
 use Rattle.control_core.specs.declared.decided.Decided.{Decided}
 use Rattle.device_state.specs.declared.state.State.{State}
 use Rattle.device_state.specs.declared.updates.TagChange.{TagChange}
-use Rattle.device_state.specs.declared.updates.Update.{Update}
 
 -- ---- which granules are dirty
 

@@ -1,6 +1,6 @@
 -- Every reply has a payload whose length its message can say.
 use Rattle.std.proofs.Common.{◌≡◌, ℕ, suc, mul-suc, ◌+◌, ◌*◌, ◌^◌, ◌<◌, ◌≤◌, Bool, true, false, List, [], ◌∷◌, ◌++◌, length, map, flat_map, take, drop, get_or, append-nil, refl, sym, ap, subst, ◌∙◌, arith, leb, None}
-use Rattle.std.specs.Prelude.{◌==◌, ◌-◌, All, if◌then◌else◌, min, nat_lt}
+use Rattle.std.specs.Prelude.{◌==◌, All, if◌then◌else◌, min, nat_lt}
 use Rattle.std.specs.List.{AllByRecursion}
 use Rattle.std.specs.Int.{w16, w32, w64}
 use Rattle.std.proofs.lemmas.Bool.{leb-false}

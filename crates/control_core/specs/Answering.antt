@@ -1,5 +1,5 @@
 -- What a command of the Fabric Manager answers.
-use Rattle.std.specs.Prelude.{◌≡◌, ℕ, List}
+use Rattle.std.specs.Prelude.{List}
 use Rattle.std.specs.declared.result.Result.{Result}
 use Rattle.dcd_base.specs.declared.ids.HostId.{HostId}
 use Rattle.dcd_codes.specs.Rules.{ByRow}

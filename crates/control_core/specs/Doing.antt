@@ -1,9 +1,10 @@
 -- What a command comes to that breaks no rule, and how its message is read.
-use Rattle.std.specs.Prelude.{◌≡◌, ◌≢◌, ◌<◌, true, List, fold}
+use Rattle.std.specs.Prelude.{◌≡◌, ◌≢◌, ◌<◌, true, List, [], ◌∷◌, fold}
 use Rattle.std.specs.List.{list_all}
 use Rattle.std.specs.declared.result.Result.{Result}
 use Rattle.std.specs.declared.result.Result.TheVariants.{Err}
 use Rattle.cci_codec.specs.declared.messages.Request.{Request}
+use Rattle.dcd_base.specs.declared.capacity.Tag.{Tag}
 use Rattle.dcd_base.specs.declared.ids.HostId.{HostId}
 use Rattle.dcd_codes.specs.declared.codes.Code.{Code}
 use Rattle.dcd_base.specs.declared.steps.Actor.{Actor}
@@ -30,6 +31,12 @@ use Rattle.device_state.specs.Kept.{IsKept}
 use Rattle.device_state.specs.Updates.{IsUpdate}
 use Rattle.control_core.specs.declared.decided.Decided.{Decided}
 use Rattle.device_state.specs.declared.state.State.{State}
+use Rattle.device_state.specs.declared.updates.TagChange.{TagChange}
+
+-- what the host has of the tags is told anew, where there are any
+abbrev pub told_change : HostId → List Tag → TagChange
+told_change h [] = TagChange.Nothing
+told_change h (t ∷ ts) = TagChange.OfHost h (t ∷ ts)
 
 -- It answers the outcome, has its effects, and puts in place what they make of lists and tags.
 pub record IsDone (c : Configuration) (before : List Entry) (q : Request) (o : Outcome) (d : Decided) : Type 0 where

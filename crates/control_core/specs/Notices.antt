@@ -5,7 +5,6 @@ use Rattle.dcd_base.specs.declared.steps.LogId.{LogId}
 use Rattle.event_records.specs.declared.events.Event.{Event}
 use Rattle.event_records.specs.declared.events.EventKind.{EventKind}
 use Rattle.host_commands.specs.Parts.{IsLogOf, lists_in}
-use Rattle.event_log.specs.Logs.{Log}
 use Rattle.device_rules.specs.Outcomes.{no_extent, notice}
 use Rattle.device_rules.specs.Views.{View}
 use Rattle.device_state.specs.Kept.{part_of}

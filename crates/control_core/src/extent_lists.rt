@@ -57,11 +57,11 @@ fn payload_of(
     ensures { IfOk result (λ payload. (v : View) → (part_of state.now host).lists ≡ lists_in v → payload ≡ lists_reply (λ _. v) host count first) }
 {
     let lists = &state.part(HostId(host as u8)).lists;
-    let extents = extents_page(alloc, lists, count, first)?;
+    let extents = extents_page(lists, count, first);
     let total = lists.accepted().len() as u32;
-    let mut payload = Bytes::new(alloc);
+    let mut payload = Bytes::with_capacity(alloc, 24 + 40 * extents.len())?;
     let head = lists_head(host, first, extents.len() as u32, total, lists.generation());
     payload.extend_from_slice(&head)?;
-    put_extents(&mut payload, extents.as_slice())?;
+    put_extents(&mut payload, extents)?;
     Ok(payload)
 }

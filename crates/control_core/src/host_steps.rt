@@ -1,7 +1,7 @@
 //! A command of a host, from its message to its response and effects.
 
 ghost use Rattle.control_core.specs.Deciding.{IsDecided};
-ghost use Rattle.control_core.specs.Doing.{Does, Drafted, Refuses};
+ghost use Rattle.control_core.specs.Doing.{Does, Drafted, Refuses, told_change};
 ghost use Rattle.device_state.specs.Kept.{IsKept, IsReached};
 ghost use Rattle.control_core.specs.Recording.{told};
 ghost use Rattle.device_state.specs.Updates.{IsOfLog};
@@ -97,28 +97,36 @@ pub(crate) fn done(
     } = draft;
     match lists {
         Some(lists) => {
-            let effects = told(alloc, state, host, &lists, changes, &tags, &notices)?;
+            let effects = told(alloc, state, host, lists.get(), changes, &tags, &notices)?;
+            let change = told_of(host, tags);
+            let update = Update::new(alloc, Some(NewLists { host, lists }), change)?;
             Ok(Decided {
                 reply: answer(request, Code::Success, payload),
                 effects,
-                update: Update {
-                    lists: Some(NewLists { host, lists }),
-                    tags: TagChange::OfHost { host, tags },
-                },
+                update,
             })
         }
         None => {
             let lists = &state.part(host).lists;
             let effects = told(alloc, state, host, lists, changes, &tags, &notices)?;
+            let update = Update::new(alloc, None, told_of(host, tags))?;
             Ok(Decided {
                 reply: answer(request, Code::Success, payload),
                 effects,
-                update: Update {
-                    lists: None,
-                    tags: TagChange::OfHost { host, tags },
-                },
+                update,
             })
         }
+    }
+}
+
+/// What the host has of the tags is told anew, where there are any.
+fn told_of(host: HostId, tags: Seq<Tag>) -> TagChange
+    ensures { result ≡ told_change host tags }
+{
+    if tags.is_empty() {
+        TagChange::Nothing
+    } else {
+        TagChange::OfHost { host, tags }
     }
 }
 

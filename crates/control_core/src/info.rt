@@ -39,7 +39,7 @@ fn sizes_of(alloc: Global, config: &Config) -> Result<Seq<u64>, NoMemory>
     ensures some { IfOk result (λ sizes. 1 ≤ length sizes) }
     ensures few { IfOk result (λ sizes. length sizes ≤ 8) }
 {
-    let mut sizes = Seq::new(alloc);
+    let mut sizes = Seq::with_capacity(alloc, usize::from(config.regions()))?;
     for region in 0..config.regions() {
         sizes.push(config.region(RegionId(region)).sizes)?;
     }

@@ -32,7 +32,7 @@ use crate::removing::remove;
 use crate::setting::set_region;
 use crate::tag_commands::{add_reference, list_tags, remove_reference};
 use cci_codec::Request;
-use dcd_base::{Extents, HostId, LogId, NoMemory, RegionId, Runs, Seq, Tag};
+use dcd_base::{Boxed, Extents, HostId, LogId, NoMemory, RegionId, Runs, Seq, Tag};
 use dcd_codes::{Code, Refusal, Rule};
 use device_state::{NewLists, State, TagChange, Update};
 use fm_payloads::{FmRequest, PayloadFault, decode};
@@ -141,7 +141,7 @@ fn step_read(
 {
     request_fits(state, asked);
     match read_draft(alloc, config, state, asked) {
-        Ok(draft) => Ok(entered(state, request, draft, &[], TagChange::Nothing)?),
+        Ok(draft) => Ok(entered(alloc, state, request, draft, &[], TagChange::Nothing)?),
         Err(refusal) => Err(refusal),
     }
 }
@@ -218,7 +218,7 @@ fn step_refer(
     ensures { Manages config.now state.now request.now result }
 {
     match add_reference(alloc, config, state, tag) {
-        Ok(draft) => Ok(entered(state, request, draft, &[], TagChange::Refer(*tag))?),
+        Ok(draft) => Ok(entered(alloc, state, request, draft, &[], TagChange::Refer(*tag))?),
         Err(refusal) => Err(refusal),
     }
 }
@@ -238,6 +238,7 @@ fn step_unrefer(
     let over = over(alloc, state, tag)?;
     match remove_reference(alloc, config, state, tag) {
         Ok(draft) => Ok(entered(
+            alloc,
             state,
             request,
             draft,
@@ -315,18 +316,16 @@ fn added(
     } = draft;
     let mut effects = changes;
     put_notices(state, &notices, &mut effects)?;
+    let update = Update::new(alloc, new_lists(host, lists), change)?;
     Ok(Decided {
         reply: answer(request, Code::Success, payload),
         effects,
-        update: Update {
-            lists: new_lists(host, lists),
-            tags: change,
-        },
+        update,
     })
 }
 
 /// The lists of the host, where they are new.
-fn new_lists(host: HostId, lists: Option<HostLists>) -> Option<NewLists>
+fn new_lists(host: HostId, lists: Option<Boxed<HostLists>>) -> Option<NewLists>
     ensures { result ≡ lists_for host lists }
 {
     match lists {
@@ -396,6 +395,7 @@ fn runs_of(
 
 /// A command that changes no lists is entered, by which these tags end.
 fn entered(
+    alloc: Global,
     state: &State,
     request: &Request,
     draft: Draft,
@@ -415,12 +415,10 @@ fn entered(
     let mut effects = changes;
     put_ends(over, &mut effects)?;
     put_notices(state, &notices, &mut effects)?;
+    let update = Update::new(alloc, None, change)?;
     Ok(Decided {
         reply: answer(request, Code::Success, payload),
         effects,
-        update: Update {
-            lists: None,
-            tags: change,
-        },
+        update,
     })
 }

@@ -16,7 +16,7 @@ ghost use Rattle.tag_refs.specs.declared.entries.TagEntry.{TagEntry};
 
 use crate::choosing::{Asked, new_extents};
 use crate::logs::log_full;
-use dcd_base::{Bytes, Extents, HostId, LogId, NoMemory, RegionId, Seq, Tag, is_no_tag};
+use dcd_base::{Boxed, Bytes, Extents, HostId, LogId, NoMemory, RegionId, Seq, Tag, is_no_tag};
 use dcd_codes::{Refusal, Rule};
 use device_state::State;
 use event_records::EventKind;
@@ -225,6 +225,6 @@ fn draft_of(
         changes,
         tags: Seq::new(alloc),
         notices: one_notice(alloc, LogId::Host(host), events)?,
-        lists: Some(lists),
+        lists: Some(Boxed::new(alloc, lists)?),
     })
 }

@@ -64,7 +64,7 @@ fn payload_of(
     let id = HostId(host as u8);
     let views = regions_seen(alloc, &state.present, id, Flags::OfManager, count, first)?;
     let counts = host_counts(&state.part(id).lists);
-    let mut payload = Bytes::new(alloc);
+    let mut payload = Bytes::with_capacity(alloc, 24 + 40 * views.len())?;
     let head = regions_head(host, state.present.regions(), views.len() as u8);
     payload.extend_from_slice(&head)?;
     put_regions(views.as_slice(), &mut payload)?;

@@ -19,7 +19,7 @@ ghost use Rattle.release_core.specs.Removals.{listed_rule};
 ghost use Rattle.std.specs.Prelude.{◌≡◌, ◌<◌, ◌≤◌, [], IfOk, IfSome, List, Option, length, map, true};
 
 use crate::logs::log_full;
-use dcd_base::{Bytes, Extents, HostId, LogId, NoMemory, RegionId, Tag};
+use dcd_base::{Boxed, Bytes, Extents, HostId, LogId, NoMemory, RegionId, Tag};
 use dcd_codes::{Refusal, Rule};
 use device_state::State;
 use event_records::EventKind;
@@ -190,7 +190,7 @@ fn taken(
         changes,
         tags: tags_of(alloc, leaving.as_slice())?,
         notices: one_notice(alloc, LogId::Host(host), events)?,
-        lists: Some(lists),
+        lists: Some(Boxed::new(alloc, lists)?),
     })
 }
 

@@ -10,7 +10,7 @@ ghost use Rattle.std.specs.Prelude.{◌≡◌, ◌∷◌, ◌++◌, [], IfOk, le
 use crate::history::History;
 use crate::making::make_all;
 use control_core::{Control, Plan};
-use dcd_base::{Actor, NoMemory};
+use dcd_base::{Actor, Boxed, NoMemory};
 use granule_mem::Memory;
 use journal_core::{Act, Entry};
 
@@ -19,7 +19,7 @@ use journal_core::{Act, Entry};
 pub(crate) struct Ready {
     pub(crate) plan: Plan,
     /// A copy of the plan's entry, where the journal is the device's own.
-    pub(crate) copy: Option<Entry>,
+    pub(crate) copy: Option<Boxed<Entry>>,
 }
 
 /// Decides a command or a scrub and takes all the memory that it needs.

@@ -5,7 +5,7 @@ ghost use Rattle.std.specs.Prelude.{◌≡◌, ◌<◌, ◌∷◌, ◌++◌, ◌
 ghost use Rattle.std.specs.Option.{option_to_list};
 
 use control_core::Control;
-use dcd_base::{Duplicate, NoMemory};
+use dcd_base::{Boxed, Duplicate, NoMemory};
 use journal_core::Entry;
 use std::alloc::Global;
 use std::marker::Model;
@@ -79,24 +79,24 @@ impl History {
     }
 
     /// A copy of the entry, where the journal is the device's own.
-    pub(crate) fn copy_of(&self, entry: &Entry) -> Result<Option<Entry>, NoMemory>
+    pub(crate) fn copy_of(&self, entry: &Entry) -> Result<Option<Boxed<Entry>>, NoMemory>
         ensures { IfOk result (λ copy. copy ≡ (if self.now.is_own then Some entry.now else None)) }
     {
         if self.is_own {
-            Ok(Some(entry.copy()?))
+            Ok(Some(Boxed::new(self.alloc, entry.copy()?)?))
         } else {
             Ok(None)
         }
     }
 
     /// Puts an entry at the end, if there is one.
-    pub(crate) fn push_copy(&mut self, copy: Option<Entry>)
+    pub(crate) fn push_copy(&mut self, copy: Option<Boxed<Entry>>)
         requires { IfSome copy (λ _. 0 < self.old.spare) }
         ensures own { self.new.is_own ≡ self.old.is_own }
         ensures items { self.new.items ≡ self.old.items ++ option_to_list copy }
     {
         if let Some(entry) = copy {
-            self.own.push_reserved(entry);
+            self.own.push_reserved(entry.into_inner());
         }
     }
 

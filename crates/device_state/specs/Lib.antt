@@ -2,6 +2,7 @@ pub mod Changes
 pub mod Entered
 pub mod Granules
 pub mod Kept
+pub mod Placing
 pub mod Rooms
 pub mod Stages
 pub mod Updates

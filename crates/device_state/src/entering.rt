@@ -15,7 +15,7 @@ ghost use Rattle.tag_laws.specs.Tables.{told_anew};
 ghost use Rattle.tag_refs.specs.Tables.{changed, is_live, opened, set_by, still_used, with_reference};
 
 use crate::state::State;
-use crate::updates::{NewLists, TagChange, Update};
+use crate::updates::{NewLists, NewParts, TagChange, Update};
 use dcd_base::{HostId, Tag};
 use journal_core::Effect;
 use region_config::Config;
@@ -39,9 +39,7 @@ impl State {
         self.change_all_granules(config, effects);
         self.change_all_logs(effects);
         self.change_all_others(effects);
-        let Update { lists, tags } = update;
-        self.put_lists(lists);
-        self.put_tags(tags);
+        self.put(update);
     }
 
     /// Changes the granules by each effect in turn.
@@ -82,6 +80,24 @@ impl State {
         }
     }
 
+    /// Puts an update in place.
+    fn put(&mut self, update: Update)
+        requires few { length self.old.hosts.items ≤ 16 }
+        requires of_hosts { IsOfHosts (length self.old.hosts.items) update.lists }
+        requires can_change { CanChange (length self.old.hosts.items) update.tags self.old.tags.entries }
+        requires spare { 0 < self.old.tags.spare }
+        ensures lists { ListsPut update.lists self.old self.new }
+        ensures tags { self.new.tags.entries ≡ tags_put update.tags (λ h. (part_of self.new h).lists) self.old.tags.entries }
+        ensures spare { self.old.tags.spare ≤ self.new.tags.spare + 1 }
+        ensures kept { self.new ≡ record self.old { hosts = self.new.hosts; tags = self.new.tags } }
+    {
+        if let Some(parts) = update.parts {
+            let NewParts { lists, tags } = parts.into_inner();
+            self.put_lists(lists);
+            self.put_tags(tags);
+        }
+    }
+
     /// Puts the new lists of a host in place.
     fn put_lists(&mut self, lists: Option<NewLists>)
         requires { IsOfHosts (length self.old.hosts.items) lists }
@@ -90,7 +106,7 @@ impl State {
     {
         if let Some(new) = lists {
             let NewLists { host, lists } = new;
-            self.hosts[usize::from(host.0)].lists = lists;
+            self.hosts[usize::from(host.0)].lists = lists.into_inner();
         }
     }
 

@@ -3,7 +3,7 @@
 ghost use Rattle.std.specs.Prelude.{◌≡◌, [], None};
 
 use crate::notices::Notice;
-use dcd_base::{Bytes, Seq, Tag};
+use dcd_base::{Boxed, Bytes, Seq, Tag};
 use host_lists::HostLists;
 use journal_core::Effects;
 use std::alloc::Global;
@@ -20,7 +20,7 @@ pub struct Draft {
     /// What it tells, log by log.
     pub notices: Seq<Notice>,
     /// The lists of the host after it, where it changes them.
-    pub lists: Option<HostLists>,
+    pub lists: Option<Boxed<HostLists>>,
 }
 
 impl Draft {

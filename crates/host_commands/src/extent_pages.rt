@@ -9,7 +9,7 @@ ghost use Rattle.host_lists.specs.Lists.{extent_total};
 ghost use Rattle.std.specs.Prelude.{◌≡◌, ◌≤◌, IfOk, None, length, min};
 
 use crate::drafts::Draft;
-use dcd_base::{Bytes, Extents, NoMemory};
+use dcd_base::{Bytes, Extent};
 use dcd_codes::{Refusal, Rule};
 use host_lists::HostLists;
 use host_payloads::write_extents;
@@ -34,25 +34,18 @@ pub fn get_extents(
     if first > total {
         return Err(Refusal::Broken(Rule::PastEnd { first, total }));
     }
-    let extents = extents_page(alloc, lists, count, first)?;
+    let extents = extents_page(lists, count, first);
     let mut payload = Bytes::new(alloc);
-    write_extents(total, lists.generation(), extents.as_slice(), &mut payload)?;
+    write_extents(total, lists.generation(), extents, &mut payload)?;
     Ok(Draft::only(alloc, payload))
 }
 
 /// So many accepted extents from an index on, 50 at most.
-pub fn extents_page(
-    alloc: Global,
-    lists: &HostLists,
-    count: u32,
-    first: u32,
-) -> Result<Extents, NoMemory>
-    ensures page { IfOk result (λ extents. extents ≡ page first (min count 50) lists.now.accepted) }
-    ensures few { IfOk result (λ extents. length extents ≤ 50) }
+pub fn extents_page(lists: &HostLists, count: u32, first: u32) -> &[Extent]
+    ensures page { result.now ≡ page first (min count 50) lists.now.accepted }
+    ensures few { length result.now ≤ 50 }
 {
-    let mut extents = Extents::new(alloc);
     lists
         .accepted()
-        .page(first as usize, count.min(PAGE) as usize, &mut extents)?;
-    Ok(extents)
+        .part(first as usize, count.min(PAGE) as usize)
 }

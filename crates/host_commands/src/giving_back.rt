@@ -22,7 +22,7 @@ use crate::held_lists::{hold, unhold};
 use crate::notices::{notices_of, one_notice};
 use crate::runs::run_of;
 use crate::tags::tags_of;
-use dcd_base::{Bytes, Extent, Extents, HostId, LogId, NoMemory, Run};
+use dcd_base::{Boxed, Bytes, Extent, Extents, HostId, LogId, NoMemory, Run};
 use dcd_codes::Refusal;
 use event_records::EventKind;
 use host_lists::HostLists;
@@ -75,7 +75,7 @@ fn held(alloc: Global, host: HostId, list: &Extents, after: HostLists) -> Result
     ensures few { IfOk result (λ draft. IfSome draft.lists (λ new. extent_total new ≤ 64)) }
 {
     let mut draft = Draft::changing(alloc, hold(alloc, host, HeldKind::Releases, list)?);
-    draft.lists = Some(after);
+    draft.lists = Some(Boxed::new(alloc, after)?);
     Ok(draft)
 }
 
@@ -103,6 +103,7 @@ fn done(
     let tags = tags_of(alloc, leaving)?;
     let events = notices_of(alloc, host, &after, EventKind::Released, leaving)?;
     let notices = one_notice(alloc, LogId::Manager, events)?;
+    let after = Boxed::new(alloc, after)?;
     Ok(Draft {
         payload: Bytes::new(alloc),
         changes,

@@ -21,7 +21,7 @@ use crate::held_lists::{hold, unhold};
 use crate::notices::{event_for, notices_of, one_notice};
 use crate::runs::run_of;
 use crate::tags::tags_of;
-use dcd_base::{Bytes, Extent, Extents, HostId, LogId, NoMemory, Seq, no_tag};
+use dcd_base::{Boxed, Bytes, Extent, Extents, HostId, LogId, NoMemory, Seq, no_tag};
 use dcd_codes::Refusal;
 use event_records::{Event, EventKind};
 use host_lists::{HostLists, Responded};
@@ -68,7 +68,7 @@ fn held(alloc: Global, host: HostId, list: &Extents, after: HostLists) -> Result
     ensures few { IfOk result (λ draft. IfSome draft.lists (λ new. extent_total new ≤ 64)) }
 {
     let mut draft = Draft::changing(alloc, hold(alloc, host, HeldKind::Responses, list)?);
-    draft.lists = Some(after);
+    draft.lists = Some(Boxed::new(alloc, after)?);
     Ok(draft)
 }
 
@@ -85,7 +85,7 @@ fn nothing(
 {
     let changes = unhold(alloc, host, HeldKind::Responses, lists.responses())?;
     let mut draft = Draft::changing(alloc, changes);
-    draft.lists = Some(after);
+    draft.lists = Some(Boxed::new(alloc, after)?);
     Ok(draft)
 }
 
@@ -114,6 +114,7 @@ fn done(
     let tags = tags_of(alloc, lists.oldest())?;
     let events = told(alloc, host, &after, accepted.as_slice())?;
     let notices = one_notice(alloc, LogId::Manager, events)?;
+    let after = Boxed::new(alloc, after)?;
     Ok(Draft {
         payload: Bytes::new(alloc),
         changes,

@@ -159,7 +159,7 @@ fn lists_of(draft: Draft) -> Option<HostLists>
         lists,
     } = draft;
     match lists {
-        Some(lists) => few_of(lists),
+        Some(lists) => few_of(lists.into_inner()),
         None => None,
     }
 }

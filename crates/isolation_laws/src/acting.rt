@@ -95,7 +95,7 @@ impl Alone {
         } = draft;
         self.change(host, changes.as_slice());
         if let Some(lists) = lists {
-            self.lists = lists;
+            self.lists = lists.into_inner();
         }
         answer(request, Code::Success, payload)
     }

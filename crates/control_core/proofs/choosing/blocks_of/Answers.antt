@@ -1,4 +1,4 @@
-use Rattle.std.proofs.Common.{◌≡◌, arith, ap}
+use Rattle.std.proofs.Common.{arith}
 use Rattle.std.proofs.lemmas.Bool.{eq-eqb, ne_eqb}
 use Rattle.control_core.proofs.BlockChoices.{found_free, found_together}
 use Rattle.control_core.proofs.choosing.blocks_of.Goals as goal

@@ -1,11 +1,11 @@
-use Rattle.std.proofs.Common.{◌≡◌, subst, sym}
+use Rattle.std.proofs.Common.{subst, sym}
 use Rattle.dcd_base.specs.declared.steps.Actor.{Actor}
 use Rattle.journal_core.specs.declared.acts.Act.{Act}
 use Rattle.std.specs.declared.result.Result.TheVariants.{Err}
 use Rattle.dcd_codes.specs.declared.refusals.Refusal.{Refusal}
 use Rattle.control_core.specs.Deciding.{IsDecidedBy}
 use Rattle.control_core.specs.Managing.{Manages}
-use Rattle.device_state.specs.declared.updates.Update.{Update}
+use Rattle.device_state.specs.declared.updates.NewParts.{NewParts}
 use Rattle.control_core.proofs.Managed.{refused_manager}
 use Rattle.control_core.proofs.manager_steps.manager_step.Goals as goal
 
@@ -14,5 +14,5 @@ returns-in-Err-Broken c = λ before legal kept.
     let cfg = c.args.config.now in
     let q = c.args.request.now in
     let broke = subst (λ (e : Refusal). Manages cfg c.args.state.now q (Err e)) c.in-Err-Broken.field-0-is c.in-Err-Broken.ensures in
-    subst (λ (u : Update). IsDecidedBy cfg before Actor.Manager (Act.Command q) (record { reply = c.refused.result; effects = c.new.result; update = u })) (sym c.nothing.ensures)
+    subst (λ (u : NewParts). IsDecidedBy cfg before Actor.Manager (Act.Command q) (record { reply = c.refused.result; effects = c.new.result; update = u })) (sym c.nothing.ensures)
     (refused_manager cfg before q c.in-Err-Broken.rule (broke before legal kept) c.refused.result c.new.result c.refused.ensures c.new.ensures)

@@ -1,10 +1,9 @@
-use Rattle.std.proofs.Common.{◌≡◌, [], ◌∷◌, ◌<◌, ◌≤◌, ◌∙◌, ap, arith, refl, subst, sym}
+use Rattle.std.proofs.Common.{arith, subst, sym}
 use Rattle.fm_payloads.specs.declared.requests.FmRequest.{FmRequest}
 use Rattle.host_commands.specs.Parts.{Drafts}
 use Rattle.journal_core.specs.Entries.{effects}
-use Rattle.journal_core.specs.declared.outcome.Effect.{Effect}
 use Rattle.device_rules.specs.Adding.{offered}
-use Rattle.device_rules.specs.Answers.{manager_outcome, manager_rule}
+use Rattle.device_rules.specs.Answers.{manager_outcome}
 use Rattle.device_rules.specs.Views.{view_of}
 use Rattle.control_core.specs.Offers.{OffersGranular}
 use Rattle.control_core.proofs.Managed.{decided_manager, manages_err}

@@ -1,13 +1,10 @@
-use Rattle.std.proofs.Common.{◌≡◌, [], ◌∷◌, ◌<◌, ◌∙◌, List, ap, arith, length, subst, sym}
-use Rattle.std.specs.Prelude.{if◌then◌else◌}
-use Rattle.dcd_base.specs.declared.capacity.Tag.{Tag}
+use Rattle.std.proofs.Common.{arith, length}
 use Rattle.fm_payloads.specs.declared.requests.FmRequest.{FmRequest}
-use Rattle.host_commands.specs.Parts.{Drafts, IsOutcome}
+use Rattle.host_commands.specs.Parts.{IsOutcome}
 use Rattle.journal_core.specs.Entries.{effects}
-use Rattle.device_rules.specs.Answers.{manager_outcome, manager_rule}
+use Rattle.device_rules.specs.Answers.{manager_outcome}
 use Rattle.device_rules.specs.Views.{view_of}
-use Rattle.control_core.proofs.Managed.{decided_manager, manages_err, no_notices, quiet_notices, quiet_of, refer_of, refused_manager, unrefer_of}
-use Rattle.control_core.proofs.Shortness.{short_manager}
+use Rattle.control_core.proofs.Managed.{decided_manager, manages_err, no_notices, refer_of}
 use Rattle.control_core.proofs.manager_steps.step_refer.Goals as goal
 
 pub entered-requires : goal.entered-requires

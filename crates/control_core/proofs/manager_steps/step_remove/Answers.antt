@@ -1,9 +1,8 @@
-use Rattle.std.proofs.Common.{◌≡◌, [], ◌∷◌, ◌<◌, ◌≤◌, ◌∙◌, List, ap, arith, length, subst, sym}
-use Rattle.dcd_base.specs.declared.capacity.Tag.{Tag}
+use Rattle.std.proofs.Common.{arith}
 use Rattle.fm_payloads.specs.declared.requests.FmRequest.{FmRequest}
-use Rattle.host_commands.specs.Parts.{Drafts, IsOutcome}
+use Rattle.host_commands.specs.Parts.{Drafts}
 use Rattle.journal_core.specs.Entries.{effects}
-use Rattle.device_rules.specs.Answers.{manager_outcome, manager_rule}
+use Rattle.device_rules.specs.Answers.{manager_outcome}
 use Rattle.device_rules.specs.Views.{view_of}
 use Rattle.control_core.proofs.Managed.{decided_manager, manages_err}
 use Rattle.control_core.proofs.ManagerOutcomes.{remove_of, remove_known, remove_host}

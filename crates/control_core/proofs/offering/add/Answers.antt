@@ -1,4 +1,4 @@
-use Rattle.std.proofs.Common.{◌≡◌, ◌<◌, ◌≤◌, Some, None, arith, ap, sym, subst, ◌∙◌}
+use Rattle.std.proofs.Common.{◌≡◌, ◌<◌, sym, ◌∙◌}
 use Rattle.control_core.proofs.AddRows.{drafts_offered, named_parts, row_choice, row_names, row_room, row_tag, runs_are_few, runs_are_runs}
 use Rattle.device_rules.specs.Adding.{add_outcome, add_rule}
 use Rattle.device_rules.specs.Views.{view_of}
@@ -7,7 +7,7 @@ use Rattle.journal_core.specs.Entries.{effects}
 use Rattle.control_core.specs.Asking.{IsOffered, chosen_rule, offered_now, room_rule}
 use Rattle.device_state.specs.Kept.{part_of}
 use Rattle.control_core.proofs.Rows.{made_of, passed_on}
-use Rattle.control_core.proofs.Reached.{few_extents, host_count, states_count}
+use Rattle.control_core.proofs.Reached.{few_extents, states_count}
 use Rattle.control_core.proofs.offering.add.Goals as goal
 
 pub new_extents-requires-clause-runs : goal.new_extents-requires-clause-runs

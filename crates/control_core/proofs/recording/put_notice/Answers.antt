@@ -1,6 +1,5 @@
 use Rattle.std.proofs.Common.{◌++◌, ◌-◌, ◌∙◌, ap, length, subst, sym}
 use Rattle.std.proofs.lemmas.Result.{on_ok_weaker}
-use Rattle.event_log.specs.LogStates.{LogState}
 use Rattle.host_commands.specs.Parts.{IsLogOf}
 use Rattle.journal_core.specs.Entries.{effects}
 use Rattle.device_rules.specs.Logs.{log_of}

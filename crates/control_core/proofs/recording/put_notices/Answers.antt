@@ -1,4 +1,4 @@
-use Rattle.std.proofs.Common.{◌≡◌, ◌+◌, ◌++◌, ◌<◌, ◌∙◌, ap, append_assoc, arith, get_or, length, sym, take}
+use Rattle.std.proofs.Common.{◌++◌, ◌<◌, ◌∙◌, ap, append_assoc, arith, get_or, length, sym, take}
 use Rattle.std.proofs.lemmas.List.{take_all}
 use Rattle.journal_core.specs.Entries.{effects}
 use Rattle.device_rules.specs.Logs.{log_of}

@@ -1,9 +1,8 @@
-use Rattle.std.proofs.Common.{◌≡◌, ◌<◌, List, Option, None, arith, ap, length, sym, subst, ◌∙◌}
+use Rattle.std.proofs.Common.{List, Option, arith, sym, subst}
 use Rattle.dcd_base.specs.declared.capacity.Extent.{Extent}
 use Rattle.dcd_codes.specs.Rules.{ByRow}
 use Rattle.dcd_codes.specs.declared.rules.Rule.{Rule}
 use Rattle.host_commands.specs.Parts.{Drafts}
-use Rattle.host_commands.specs.declared.drafts.Draft.{Draft}
 use Rattle.device_rules.specs.ReleaseOutcomes.{remove_rule}
 use Rattle.device_rules.specs.Views.{view_of}
 use Rattle.control_core.proofs.Departing.{chosen_host, meant_departs, removal_row}

@@ -1,4 +1,4 @@
-use Rattle.std.proofs.Common.{◌≡◌, length, map, ap, ◌∙◌}
+use Rattle.std.proofs.Common.{length, map, ap, ◌∙◌}
 use Rattle.granule_map.specs.StateLists.{is_dirty_at}
 use Rattle.journal_core.specs.declared.acts.Reply.{Reply}
 use Rattle.journal_core.specs.declared.outcome.Effect.{Effect}

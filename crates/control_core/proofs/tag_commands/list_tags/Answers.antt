@@ -1,10 +1,5 @@
-use Rattle.std.proofs.Common.{◌≡◌, ◌∷◌, [], ◌++◌, arith, ap, length, map, min, refl, sym, ◌∙◌}
-use Rattle.std.specs.Prelude.{nat_lt}
+use Rattle.std.proofs.Common.{◌≡◌, ◌++◌, arith, ap, length, map, min, sym, ◌∙◌}
 use Rattle.std.proofs.Math.Facts.{Fits-of_lt}
-use Rattle.std.proofs.lemmas.List.{drop-map, take-map}
-use Rattle.dcd_base.specs.declared.tags.TagView.{TagView}
-use Rattle.dcd_codes.specs.Rules.{◌breaks◌}
-use Rattle.dcd_codes.specs.declared.rules.Rule.{Rule}
 use Rattle.fm_payloads.specs.ManagerPayloads.{tags_payload}
 use Rattle.journal_core.specs.Entries.{effects}
 use Rattle.tag_refs.specs.Tables.{view_of}

@@ -1,0 +1,9 @@
+-- What an update puts in place.
+use Rattle.std.specs.Prelude.{Option, Some, None}
+use Rattle.device_state.specs.declared.updates.NewParts.{NewParts}
+use Rattle.device_state.specs.declared.updates.TagChange.{TagChange}
+
+-- the new parts, where there are some; else no lists, and no change of the tags
+abbrev pub parts_in : Option NewParts → NewParts
+parts_in None = record { lists = None; tags = TagChange.Nothing }
+parts_in (Some parts) = parts
