@@ -1,9 +1,11 @@
 pub mod Adding
+pub mod Beginnings
 pub mod CoveringLaws
 pub mod FieldLaws
 pub mod HeadLaws
 pub mod LineLaws
 pub mod Lists
+pub mod NextLines
 pub mod ScriptLaws
 pub mod Spans
 pub mod Writable

@@ -2,7 +2,8 @@
 use Rattle.std.proofs.Common.{◌≡◌, ℕ, zero, suc, List, [], ◌∷◌, ◌++◌, Result, Ok, Err, refl, sym, ap, ◌∙◌, append-nil, append_assoc, eqb, false}
 use Rattle.script_codec.specs.declared.script_line.Line.{Line}
 use Rattle.script_codec.specs.declared.faults.ScriptFault.{ScriptFault}
-use Rattle.script_codec.specs.Fields.{◌>>=◌, Gives, many_from}
+use Rattle.script_codec.specs.Fields.{◌>>=◌, many_from}
+use Rattle.script_codec.specs.LineByLine.{line_then}
 use Rattle.script_codec.specs.Lines.{kind_from, line_from, end_from, lines_from}
 
 -- these before those that are still to come
@@ -46,52 +47,42 @@ abbrev pub with_lines : List Line → Result (List Line) ScriptFault → Result 
 with_lines lines (Ok rest) = Ok (lines ++ rest)
 with_lines lines (Err fault) = Err fault
 
-pub lines_begin : (n hosts lanes : ℕ) (bytes : List ℕ) (place : ℕ) → with_lines [] (lines_from n hosts lanes bytes place) ≡ lines_from n hosts lanes bytes place
-lines_begin n hosts lanes bytes place = by (lines_from n hosts lanes bytes place)
-  where
-    by : (r : Result (List Line) ScriptFault) → with_lines [] r ≡ r
-    by (Ok rest) = refl
-    by (Err fault) = refl
-
 -- the kind of the next line is read first
-no_kind : (n hosts lanes : ℕ) (bytes : List ℕ) (place : ℕ) (fault : ScriptFault) → kind_from bytes place ≡ Err fault → lines_from n hosts lanes bytes place ≡ Err fault
+pub no_kind : (n hosts lanes : ℕ) (bytes : List ℕ) (place : ℕ) (fault : ScriptFault) → kind_from bytes place ≡ Err fault → lines_from n hosts lanes bytes place ≡ Err fault
 unfolding lines_from
 no_kind zero hosts lanes bytes place fault e = rw e refl
 no_kind (suc left) hosts lanes bytes place fault e = rw e refl
 
-pub lines_no_kind : (lines : List Line) (n hosts lanes : ℕ) (bytes : List ℕ) (place : ℕ) (fault : ScriptFault) (whole : Result (List Line) ScriptFault) → kind_from bytes place ≡ Err fault → with_lines lines (lines_from n hosts lanes bytes place) ≡ whole → whole ≡ Err fault
-lines_no_kind lines n hosts lanes bytes place fault whole e is = sym is ∙ ap (with_lines lines) (no_kind n hosts lanes bytes place fault e)
-
-at_end : (n hosts lanes : ℕ) (bytes : List ℕ) (place : ℕ) (kind : ℕ × ℕ) → kind_from bytes place ≡ Ok kind → kind.0 ≡ 0 → lines_from n hosts lanes bytes place ≡ end_from bytes kind.1
+-- what stands behind the end word decides
+pub at_end : (n hosts lanes : ℕ) (bytes : List ℕ) (place : ℕ) (kind : ℕ × ℕ) → kind_from bytes place ≡ Ok kind → kind.0 ≡ 0 → lines_from n hosts lanes bytes place ≡ end_from bytes kind.1
 unfolding lines_from
 at_end zero hosts lanes bytes place kind e is = rw (e, is) refl
 at_end (suc left) hosts lanes bytes place kind e is = rw (e, is) refl
 
-pub lines_end : (lines : List Line) (n hosts lanes : ℕ) (bytes : List ℕ) (place : ℕ) (kind : ℕ × ℕ) (whole : Result (List Line) ScriptFault) → kind_from bytes place ≡ Ok kind → kind.0 ≡ 0 → with_lines lines (lines_from n hosts lanes bytes place) ≡ whole → whole ≡ with_lines lines (end_from bytes kind.1)
-lines_end lines n hosts lanes bytes place kind whole e ends is = sym is ∙ ap (with_lines lines) (at_end n hosts lanes bytes place kind e ends)
-
-pub lines_bad : (lines : List Line) (n left hosts lanes : ℕ) (bytes : List ℕ) (place : ℕ) (kind : ℕ × ℕ) (fault : ScriptFault) (whole : Result (List Line) ScriptFault) → n ≡ suc left → kind_from bytes place ≡ Ok kind → eqb kind.0 0 ≡ false → line_from kind.0 hosts lanes bytes kind.1 ≡ Err fault → with_lines lines (lines_from n hosts lanes bytes place) ≡ whole → whole ≡ Err fault
+pub bad_line : (n left hosts lanes : ℕ) (bytes : List ℕ) (place : ℕ) (kind : ℕ × ℕ) (fault : ScriptFault) → n ≡ suc left → kind_from bytes place ≡ Ok kind → eqb kind.0 0 ≡ false → line_from kind.0 hosts lanes bytes kind.1 ≡ Err fault → lines_from n hosts lanes bytes place ≡ Err fault
 unfolding lines_from
-lines_bad lines n left hosts lanes bytes place kind fault whole more e goes bad is =
-    sym is ∙ ap (λ m. with_lines lines (lines_from m hosts lanes bytes place)) more ∙ rw (e, goes, bad) refl
+bad_line n left hosts lanes bytes place kind fault more e goes bad = ap (λ m. lines_from m hosts lanes bytes place) more ∙ rw (e, goes, bad) refl
 
-pub lines_go_on : (lines : List Line) (n left hosts lanes : ℕ) (bytes : List ℕ) (place : ℕ) (kind : ℕ × ℕ) (line : Line × ℕ) (whole : Result (List Line) ScriptFault) → n ≡ suc left → kind_from bytes place ≡ Ok kind → eqb kind.0 0 ≡ false → line_from kind.0 hosts lanes bytes kind.1 ≡ Ok line → with_lines lines (lines_from n hosts lanes bytes place) ≡ whole → with_lines (lines ++ line.0 ∷ []) (lines_from left hosts lanes bytes line.1) ≡ whole
+pub one_line : (n left hosts lanes : ℕ) (bytes : List ℕ) (place : ℕ) (kind : ℕ × ℕ) (line : Line × ℕ) → n ≡ suc left → kind_from bytes place ≡ Ok kind → eqb kind.0 0 ≡ false → line_from kind.0 hosts lanes bytes kind.1 ≡ Ok line → lines_from n hosts lanes bytes place ≡ line_then line.0 (lines_from left hosts lanes bytes line.1)
 unfolding lines_from
-lines_go_on lines n left hosts lanes bytes place kind line whole more e goes here is =
-    by (lines_from left hosts lanes bytes line.1)
-    ∙ sym (ap (λ m. with_lines lines (lines_from m hosts lanes bytes place)) more ∙ rw (e, goes, here) refl)
-    ∙ is
-  where
-    by : (r : Result (List Line) ScriptFault) → with_lines (lines ++ line.0 ∷ []) r ≡ with_lines lines (r >>= (λ rest. Ok (line.0 ∷ rest)))
-    by (Ok rest) = ap Ok (append_assoc lines (line.0 ∷ []) rest)
-    by (Err fault) = refl
+one_line n left hosts lanes bytes place kind line more e goes here = ap (λ m. lines_from m hosts lanes bytes place) more ∙ rw (e, goes, here) refl
 
-pub lines_too_many : (lines : List Line) (n hosts lanes : ℕ) (bytes : List ℕ) (place : ℕ) (kind : ℕ × ℕ) (whole : Result (List Line) ScriptFault) → n ≡ 0 → kind_from bytes place ≡ Ok kind → eqb kind.0 0 ≡ false → with_lines lines (lines_from n hosts lanes bytes place) ≡ whole → whole ≡ Err (ScriptFault.TooManyLines place)
+pub too_many : (n hosts lanes : ℕ) (bytes : List ℕ) (place : ℕ) (kind : ℕ × ℕ) → n ≡ 0 → kind_from bytes place ≡ Ok kind → eqb kind.0 0 ≡ false → lines_from n hosts lanes bytes place ≡ Err (ScriptFault.TooManyLines place)
 unfolding lines_from
-lines_too_many lines n hosts lanes bytes place kind whole none e goes is =
-    sym is ∙ ap (λ m. with_lines lines (lines_from m hosts lanes bytes place)) none ∙ rw (e, goes) refl
+too_many n hosts lanes bytes place kind none e goes = ap (λ m. lines_from m hosts lanes bytes place) none ∙ rw (e, goes) refl
 
--- what stands behind the end word decides
-pub ends : (r : Result (Unit {0}) ScriptFault) (lines : List Line) (end whole : Result (List Line) ScriptFault) → whole ≡ with_lines lines end → Gives {A = Unit {0}} (λ done. []) r end → Gives {A = Unit {0}} (λ done. lines) r whole
-ends (Ok done) lines end whole is given = is ∙ ap (with_lines lines) given ∙ ap Ok (append-nil lines)
-ends (Err fault) lines end whole is given = λ real. is ∙ ap (with_lines lines) (given real)
+-- ---- lines that were read stand before those that are still to come
+
+pub lines_begin : (rest : Result (List Line) ScriptFault) → with_lines [] rest ≡ rest
+lines_begin (Ok lines) = refl
+lines_begin (Err fault) = refl
+
+pub lines_go_on : (lines : List Line) (line : Line) (rest : Result (List Line) ScriptFault) → with_lines (lines ++ line ∷ []) rest ≡ with_lines lines (line_then line rest)
+lines_go_on lines line (Ok rest) = ap Ok (append_assoc lines (line ∷ []) rest)
+lines_go_on lines line (Err fault) = refl
+
+pub lines_end : (lines : List Line) (rest whole : Result (List Line) ScriptFault) → with_lines lines rest ≡ whole → rest ≡ Ok [] → whole ≡ Ok lines
+lines_end lines rest whole is none = sym is ∙ ap (with_lines lines) none ∙ ap Ok (append-nil lines)
+
+pub lines_fail : (lines : List Line) (rest whole : Result (List Line) ScriptFault) (fault : ScriptFault) → with_lines lines rest ≡ whole → rest ≡ Err fault → whole ≡ Err fault
+lines_fail lines rest whole fault is bad = sym is ∙ ap (with_lines lines) bad

@@ -1,7 +1,9 @@
 pub mod Covering
 pub mod Fields
 pub mod Heads
+pub mod LineByLine
 pub mod Lines
 pub mod Reading
 pub mod Scripts
+pub mod Unread
 pub mod Writing

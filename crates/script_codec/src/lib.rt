@@ -1,7 +1,7 @@
 //! The script: what a user hands in, as bytes and as lines.
 //!
 //! A script has a configuration and lines, each an act of an actor or a mark. `read` reads its bytes or answers
-//! the first fault with its place, and `write` gives the one spelling.
+//! the first fault with its place, a `Reader` does so line by line, and `write` gives the one spelling.
 #![tactic(auto)]
 
 mod faults;
@@ -10,14 +10,17 @@ mod heads;
 mod laws;
 mod line_bytes;
 mod passes;
+mod reader;
 mod reading;
 mod script_line;
 mod scripts;
 mod writing;
 
 pub use faults::ScriptFault;
+pub use heads::Head;
 pub use laws::law_runs_cover;
 pub use passes::{entries_of, pass_of};
+pub use reader::Reader;
 pub use reading::read;
 pub use script_line::{Line, Lines};
 pub use scripts::Script;

@@ -176,3 +176,53 @@ fn a_script_has_65536_lines_at_most(rt: HostRuntime) -> Result<(), Fail> {
     );
     Ok(())
 }
+
+#[test]
+fn a_script_is_read_line_by_line(rt: HostRuntime) -> Result<(), Fail> {
+    let alloc = rt.alloc();
+    let bytes = with_lines(alloc, &[(4, 2), (10, 2)], &[4, 0x20, 0, 5, 0])?;
+    let Ok((head, mut reader)) = Reader::begin(alloc, bytes.as_slice()) else {
+        return Err("these bytes begin as a script".into());
+    };
+    assert_eq!(rt; (head.version, head.lanes), (2, 2));
+    let Ok(
+        Some(
+            Line::Do {
+                act: Act::Scrub(32),
+                ..
+            },
+        ),
+    ) = reader.next()
+    else {
+        return Err("line 1 is a scrub".into());
+    };
+    let Ok(Some(Line::Mark)) = reader.next() else {
+        return Err("line 2 is a mark".into());
+    };
+    for _ in 0..2 {
+        let Ok(None) = reader.next() else {
+            return Err("there are two lines".into());
+        };
+    }
+    Ok(())
+}
+
+#[test]
+fn a_fault_of_the_second_line_comes_behind_the_first(rt: HostRuntime) -> Result<(), Fail> {
+    let alloc = rt.alloc();
+    let bytes = with_lines(alloc, &[], &[5, 6, 0])?;
+    let Ok((head, mut reader)) = Reader::begin(alloc, bytes.as_slice()) else {
+        return Err("these bytes begin as a script".into());
+    };
+    assert_eq!(rt; (head.version, head.lanes), (1, 1));
+    let Ok(Some(Line::Mark)) = reader.next() else {
+        return Err("line 1 is a mark".into());
+    };
+    for _ in 0..2 {
+        let Err(fault) = reader.next() else {
+            return Err("line 2 has a fault".into());
+        };
+        assert_eq!(rt; fault, ScriptFault::UnknownKind(129));
+    }
+    Ok(())
+}

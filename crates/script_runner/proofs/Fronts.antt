@@ -1,5 +1,5 @@
 -- One more line of a serial run, and the whole of it.
-use Rattle.std.proofs.Common.{◌≡◌, Bool, true, ◌&&◌, ℕ, ◌+◌, ◌-◌, ◌<◌, ◌≤◌, cond, List, [], ◌∷◌, ◌++◌, length, take, count_by, Some, refl, sym, ap, subst, ◌∙◌, arith, zero-add}
+use Rattle.std.proofs.Common.{◌≡◌, Bool, true, ◌&&◌, ℕ, ◌+◌, ◌-◌, ◌<◌, ◌≤◌, cond, List, [], ◌∷◌, ◌++◌, length, take, count_by, Some, Err, refl, sym, ap, subst, ◌∙◌, append-nil, arith, zero-add}
 use Rattle.std.specs.Prelude.{slice_get}
 use Rattle.std.specs.List.{AllByRecursion, list_all}
 use Rattle.std.proofs.Common.{get_or}
@@ -12,12 +12,18 @@ use Rattle.std.proofs.lemmas.Option.{slice_get_read}
 use Rattle.std.proofs.lemmas.List.Quantifiers.{all_pairs_push}
 use Rattle.std.proofs.lemmas.List.Sums.{sum_by-append}
 use Rattle.dcd_base.specs.declared.steps.Actor.{Actor}
+use Rattle.region_config.specs.Configurations.{Configuration}
 use Rattle.journal_core.specs.declared.acts.Act.{Act}
 use Rattle.journal_core.specs.declared.entries.Entry.{Entry}
 use Rattle.script_codec.specs.declared.script_line.Line.{Line}
 use Rattle.script_codec.specs.declared.scripts.Script.{Script}
+use Rattle.script_codec.specs.declared.heads.Head.{Head}
+use Rattle.script_codec.specs.declared.faults.ScriptFault.{ScriptFault}
 use Rattle.script_codec.specs.Covering.{Covers, IsOfLine, is_line, pass_of}
-use Rattle.script_runner.specs.Fronts.{AddsEntry, CoversFront, RunsLine}
+use Rattle.script_codec.specs.LineByLine.{Begins, head_then, with_head}
+use Rattle.script_codec.specs.Reading.{fault_of, first_fault}
+use Rattle.script_codec.specs.Unread.{Unread}
+use Rattle.script_runner.specs.Fronts.{AddsEntry, CoversFront, RanLines, RanRest, RanScript, RunsLine}
 
 all_push : {X : Type 0} (P : X → Type 0) (xs : List X) (x : X) → AllByRecursion P xs → P x → AllByRecursion P (xs ++ x ∷ [])
 all_push P [] x all last = (last, tt)
@@ -117,3 +123,37 @@ front_item s done rest l number old new parts counted front ran =
 
 pub moved_on : (lines done rest rest' : List Line) (l : Line) → lines ≡ done ++ rest → rest ≡ l ∷ rest' → lines ≡ (done ++ l ∷ []) ++ rest'
 moved_on lines done rest rest' l parts step = parts ∙ ap (λ xs. done ++ xs) step ∙ sym (append_assoc done (l ∷ []) rest')
+
+-- ---- lines that are read one by one
+
+pub ran_none : (hosts lanes : ℕ) (journal : List Entry) → journal ≡ [] → RanLines hosts lanes [] journal
+ran_none hosts lanes journal fresh = record { front = λ s rest parts hosts_are lanes_are. subst (CoversFront s 0) (sym fresh) (front_start s) }
+
+pub ran_one_more : (hosts lanes : ℕ) (done : List Line) (l : Line) (number : ℕ) (old new : List Entry) → number ≡ length done
+    → RanLines hosts lanes done old → RunsLine hosts lanes (number + 1) l old new → RanLines hosts lanes (done ++ l ∷ []) new
+ran_one_more hosts lanes done l number old new counted before ran = record {
+  front = λ s rest parts hosts_are lanes_are.
+      let here : s.lines ≡ done ++ l ∷ rest = parts ∙ append_assoc done (l ∷ []) rest in
+      let its : RunsLine s.config.hosts s.lanes (number + 1) l old new =
+      subst (λ n. RunsLine n s.lanes (number + 1) l old new) (sym hosts_are) (subst (λ n. RunsLine hosts n (number + 1) l old new) (sym lanes_are) ran) in
+      front_item s done rest l number old new here counted (before.front s (l ∷ rest) here hosts_are lanes_are) its;
+}
+
+-- what was read and what was done make the script
+pub ran_script : (input : List ℕ) (head : Head) (unread : Unread) (config : Configuration) (journal : List Entry) → Begins input head unread
+    → config ≡ head.config → RanRest config.hosts head.lanes unread.rest journal → RanScript input config journal
+ran_script input head unread config journal begun config_is ran =
+    let s : Script = with_head head ran.lines in
+    let hosts : s.config.hosts ≡ config.hosts = ap (λ (k : Configuration). k.hosts) (sym config_is) in
+    let front : CoversFront s (length ran.lines) journal = ran.ran.front s [] (sym (append-nil ran.lines)) hosts refl in
+    record {
+      script = s;
+      reads = begun.reads s (begun.is ∙ ap (head_then head) ran.whole);
+      config_is = config_is;
+      covers = front_end s journal (length ran.lines) (omega arith) front;
+      rising = front.rising;
+    }
+
+pub fault_behind : (input : List ℕ) (head : Head) (unread : Unread) (fault : ScriptFault) → Begins input head unread → unread.rest ≡ Err fault
+    → first_fault input ≡ Some fault
+fault_behind input head unread fault begun bad = ap fault_of (begun.is ∙ ap (head_then head) bad)

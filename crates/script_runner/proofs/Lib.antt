@@ -3,3 +3,4 @@ mod Digits
 mod Endings
 mod Fronts
 mod Inputs
+mod Printed

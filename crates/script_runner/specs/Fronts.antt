@@ -1,12 +1,15 @@
 -- A serial run in its midst.
-use Rattle.std.specs.Prelude.{◌≡◌, ℕ, ◌<◌, ◌≤◌, List, [], ◌∷◌, ◌++◌, length, take, count_by, AllPairs}
+use Rattle.std.specs.Prelude.{◌≡◌, ℕ, ◌<◌, ◌≤◌, List, [], ◌∷◌, ◌++◌, length, take, count_by, AllPairs, Result, Ok}
 use Rattle.std.specs.List.{AllByRecursion, All}
 use Rattle.dcd_base.specs.declared.steps.Actor.{Actor}
+use Rattle.region_config.specs.Configurations.{Configuration}
 use Rattle.journal_core.specs.declared.acts.Act.{Act}
 use Rattle.journal_core.specs.declared.entries.Entry.{Entry}
 use Rattle.script_codec.specs.declared.script_line.Line.{Line}
 use Rattle.script_codec.specs.declared.scripts.Script.{Script}
-use Rattle.script_codec.specs.Covering.{IsOfLine, is_line, pass_of}
+use Rattle.script_codec.specs.declared.faults.ScriptFault.{ScriptFault}
+use Rattle.script_codec.specs.Covering.{Covers, IsOfLine, is_line, pass_of}
+use Rattle.script_codec.specs.Scripts.{ReadsScript}
 
 -- One entry was added: that of the line with this number, actor, lane and act.
 pub record AddsEntry (hosts lanes number : ℕ) (its_actor : Actor) (lane : ℕ) (its_act : Act) (old new : List Entry) : Type 0 where
@@ -27,4 +30,23 @@ pub record CoversFront (s : Script) (count : ℕ) (journal : List Entry) : Type 
   pub counted : length journal ≡ count_by is_line (take count s.lines)
   pub lines : AllByRecursion (IsOfLine s) journal
   pub below : All (λ (e : Entry). e.line ≤ count) journal
+  pub rising : AllPairs (λ (e f : Entry). e.line < f.line) journal
+
+-- ---- a run of lines that are read one by one
+-- The same of lines, whatever script they are the first of.
+pub record RanLines (hosts lanes : ℕ) (done : List Line) (journal : List Entry) : Type 0 where
+  pub front : (s : Script) (rest : List Line) → s.lines ≡ done ++ rest → s.config.hosts ≡ hosts → s.lanes ≡ lanes → CoversFront s (length done) journal
+
+-- All lines that were to come were done.
+pub record RanRest (hosts lanes : ℕ) (rest : Result (List Line) ScriptFault) (journal : List Entry) : Type 0 where
+  pub lines : List Line
+  pub whole : rest ≡ Ok lines
+  pub ran : RanLines hosts lanes lines journal
+
+-- All lines of the script that the input is were done, in their order.
+pub record RanScript (input : List ℕ) (config : Configuration) (journal : List Entry) : Type 0 where
+  pub script : Script
+  pub reads : ReadsScript input script
+  pub config_is : config ≡ script.config
+  pub covers : Covers journal script
   pub rising : AllPairs (λ (e f : Entry). e.line < f.line) journal

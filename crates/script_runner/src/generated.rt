@@ -2,7 +2,7 @@
 
 ghost use Rattle.script_runner.specs.Choosing.{EndsGenerated};
 
-use crate::lines::run_lines;
+use crate::lines::{leave, run_lines};
 use crate::status::Status;
 use dcd_base::{Failed, NoMemory, Sink};
 use report::summary;
@@ -16,7 +16,10 @@ pub(crate) fn run_generated<K: Sink>(alloc: Global, seed: u64, sink: &mut K) -> 
     match generate(alloc, seed) {
         Ok(script) => match run_lines(alloc, script) {
             Ok(device) => match summary(device.control(), device.journal(), sink) {
-                Ok(()) => Status::Done,
+                Ok(()) => {
+                    leave(device);
+                    Status::Done
+                }
                 Err(Failed) => Status::WriteFault,
             },
             Err(NoMemory) => Status::NoMemory,

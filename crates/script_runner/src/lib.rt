@@ -1,6 +1,6 @@
 //! The run of a script, from the bytes of a source to the bytes of a sink.
 //!
-//! `run` reads the script, takes its lines one after another on the serial device, and writes the text of the journal,
+//! `run` reads the script line by line, does each line at once on the serial device, and writes the text of the journal,
 //! or one line that says why not. With a seed among the words it runs the generated script, reads nothing, and writes the
 //! summary.
 #![tactic(auto)]
@@ -8,6 +8,7 @@
 mod generated;
 mod input;
 mod lines;
+mod script;
 mod status;
 mod top;
 mod whole;

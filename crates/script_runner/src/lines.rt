@@ -13,12 +13,18 @@ use device_plain::Device;
 use isolation_laws::law_isolated;
 use script_codec::{Line, Script, pass_of};
 use std::alloc::Global;
+use std::mem::ManuallyDrop;
 
 /// How many lines are done between two times that their room is let go.
 const AT_ONCE: usize = 4096;
 
 /// Does a line: a step of its actor, or nothing for a mark, since there is one thread. Its act goes into the journal.
-fn run_line(device: &mut Device, lanes: u8, number: u32, line: Line) -> Result<(), NoMemory>
+pub(crate) fn run_line(
+    device: &mut Device,
+    lanes: u8,
+    number: u32,
+    line: Line,
+) -> Result<(), NoMemory>
     requires { IsTrue (is_sound_line device.old.config.hosts lanes line) }
     ensures config { device.new.config ≡ device.old.config }
     ensures ran { OnOk result (RunsLine device.old.config.hosts lanes number line device.old.journal device.new.journal) }
@@ -72,11 +78,16 @@ fn let_go(rest: &mut Vec<Line>)
 }
 
 /// Each reply to a host is what a device with that host alone replies to its own steps and deliveries. It does nothing.
-fn is_isolated(device: &Device)
+pub(crate) fn is_isolated(device: &Device)
     ensures { Isolated device.now.config device.now.journal }
 {
     law_isolated();
     // A configuration is sound, and the journal legal.
     let _hosts = device.control().config().hosts();
     let _journal = device.journal();
+}
+
+/// Leaves the memory of the device to the end of the program, when all of it goes back at once.
+pub(crate) fn leave(device: Device) {
+    let _ = ManuallyDrop::new(device);
 }

@@ -18,8 +18,9 @@ use std::alloc::Global;
 /// `--gen=N`, where N is 1 to 18 decimal digits, it runs the generated script of that seed and writes its summary, and
 /// the source is not read.
 ///
-/// The words are tried first, then the source is read, then the script is read, run and written. The first failed read
-/// or write ends the run. All memory is taken before the first write of the text or the summary.
+/// The words are tried first, then the source is read, then each line of the script is read and run, then the text is
+/// written. The first failed read or write ends the run. All memory is taken before the first write of the text or the
+/// summary. What the device of a whole run took is left to the end of the program.
 #[tactic(auto, using(crate::proofs::Choices::written_source, crate::proofs::Choices::begun_source, crate::proofs::Choices::complete_source, crate::proofs::Choices::written_generated, crate::proofs::Choices::begun_generated, crate::proofs::Choices::nothing_generated, crate::proofs::Choices::fault_generated, crate::proofs::Choices::complete_generated, crate::proofs::Choices::no_read_generated))]
 pub fn run<R, S: Source, K: Sink, G: Gate>(
     _rt: &R,

@@ -1,18 +1,21 @@
 //! The steps of a run, each with what is to be written by then.
 
 ghost use Rattle.dcd_base.specs.Streams.{HasRisen, IsAtEnd};
-ghost use Rattle.script_codec.specs.Reading.{IsRead};
-ghost use Rattle.script_codec.specs.Scripts.{ReadsScript};
+ghost use Rattle.isolation_laws.specs.Solo.{Isolated};
+ghost use Rattle.script_codec.specs.Reading.{first_fault};
+ghost use Rattle.script_runner.specs.Fronts.{RanScript};
 ghost use Rattle.script_runner.specs.Planning.{EndsFor, IsBegun, IsSound, IsWritten};
 ghost use Rattle.script_runner.specs.Statuses.{IfWhole, OnDone, OnNothing, OnReadFault, OnUsage, OnWriteFault, UnlessFinished};
-ghost use Rattle.std.specs.Prelude.{◌≡◌, ◌≤◌, IfOk, length, true};
+ghost use Rattle.std.specs.Prelude.{◌≡◌, ◌≢◌, IfErr, IfOk, Some, true};
 
 use crate::input::{InputFault, fill};
-use crate::lines::run_lines;
+use crate::lines::leave;
+use crate::script::run_script;
 use crate::status::Status;
-use dcd_base::{Bytes, Failed, NoMemory, Sink, Source};
+use dcd_base::{Bytes, Failed, Sink, Source};
+use device_plain::Device;
 use report::{refusal, render};
-use script_codec::{Script, ScriptFault, read};
+use script_codec::ScriptFault;
 use std::alloc::Global;
 
 /// Runs what is left in the source, up to one byte more than a script may have.
@@ -39,14 +42,17 @@ pub(crate) fn run_source<S: Source, K: Sink>(alloc: Global, source: &mut S, sink
 fn run_input<K: Sink>(alloc: Global, input: Bytes, sink: &mut K) -> Status
     ensures { EndsFor input (K.taken sink.old) (K.faults sink.old) (K.taken sink.new) (K.faults sink.new) result }
 {
-    match script_of(alloc, input) {
-        Ok(script) => match run_lines(alloc, script) {
-            Ok(device) => match render(device.control(), device.journal(), sink) {
-                Ok(()) => Status::Done,
+    match run_bytes(alloc, input) {
+        Ok(device) => {
+            let control = device.control();
+            match render(control, device.journal(), sink) {
+                Ok(()) => {
+                    leave(device);
+                    Status::Done
+                }
                 Err(Failed) => Status::WriteFault,
-            },
-            Err(NoMemory) => Status::NoMemory,
-        },
+            }
+        }
         Err(ScriptFault::NoMemory) => Status::NoMemory,
         Err(fault) => match refusal(&fault, sink) {
             Ok(()) => Status::ScriptRefused(fault),
@@ -55,12 +61,11 @@ fn run_input<K: Sink>(alloc: Global, input: Bytes, sink: &mut K) -> Status
     }
 }
 
-/// The script that the input is, or its first fault. The bytes are let go.
-fn script_of(alloc: Global, input: Bytes) -> Result<Script, ScriptFault>
-    ensures cases { IsRead input result }
-    ensures reads { IfOk result (λ script. ReadsScript input script) }
-    ensures few { IfOk result (λ script. length script.lines ≤ 65536) }
-    ensures short { IfOk result (λ _. length input ≤ 16777216) }
+/// Does all lines of the script that the input is, or answers its first fault. The bytes are let go.
+fn run_bytes(alloc: Global, input: Bytes) -> Result<Device, ScriptFault>
+    ensures ran { IfOk result (λ device. RanScript input device.config device.journal) }
+    ensures isolated { IfOk result (λ device. Isolated device.config device.journal) }
+    ensures fault { IfErr result (λ fault. fault ≢ ScriptFault.NoMemory → first_fault input ≡ Some fault) }
 {
-    read(alloc, input.as_slice())
+    run_script(alloc, input.as_slice())
 }

@@ -1,0 +1,63 @@
+-- Reading a script line by line: its head, what is still to come, and what the next line takes of it.
+use Rattle.std.specs.Prelude.{◌≡◌, ◌≢◌, ℕ, ◌+◌, ◌-◌, ◌<◌, ◌≤◌, IsTrue, List, [], ◌∷◌, length, Option, Some, None, Result, Ok, Err}
+use Rattle.script_codec.specs.declared.heads.Head.{Head}
+use Rattle.script_codec.specs.declared.script_line.Line.{Line}
+use Rattle.script_codec.specs.declared.scripts.Script.{Script}
+use Rattle.script_codec.specs.declared.faults.ScriptFault.{ScriptFault}
+use Rattle.script_codec.specs.Fields.{◌>>=◌}
+use Rattle.script_codec.specs.Lines.{lines_from}
+use Rattle.script_codec.specs.Reading.{script_in}
+use Rattle.script_codec.specs.Scripts.{is_sound_line, ReadsScript}
+use Rattle.script_codec.specs.Unread.{Unread}
+
+-- the line, then those that come behind it
+abbrev pub line_then : Line → Result (List Line) ScriptFault → Result (List Line) ScriptFault
+line_then line rest = rest >>= (λ lines. Ok (line ∷ lines))
+
+-- the script of a head and its lines
+abbrev pub with_head : Head → List Line → Script
+with_head head lines = record { version = head.version; lanes = head.lanes; config = head.config; lines = lines }
+
+-- the same, unless the lines have a fault
+abbrev pub head_then : Head → Result (List Line) ScriptFault → Result Script ScriptFault
+head_then head rest = rest >>= (λ lines. Ok (with_head head lines))
+
+-- The bytes are the head and what is still to come behind it; where they are a script, they read as it by the layout.
+pub record Begins (bytes : List ℕ) (head : Head) (unread : Unread) : Type 0 where
+  pub is : script_in bytes ≡ head_then head unread.rest
+  pub hosts_are : unread.hosts ≡ head.config.hosts
+  pub lanes_are : unread.lanes ≡ head.lanes
+  pub left_is : unread.left ≡ 65536
+  pub reads : (script : Script) → script_in bytes ≡ Ok script → ReadsScript bytes script
+  pub short : length bytes ≤ 16777216
+
+-- What beginning answers: the head and what is still to come, or the first fault of the bytes. Memory may be wanting at
+-- any time.
+abbrev pub IsBegun : List ℕ → Result (Head × Unread) ScriptFault → Type 0
+IsBegun bytes (Ok begun) = Begins bytes begun.0 begun.1
+IsBegun bytes (Err fault) = fault ≢ ScriptFault.NoMemory → script_in bytes ≡ Err fault
+
+-- The line came first of what was still to come, and it is sound.
+pub record Takes (old new : Unread) (line : Line) : Type 0 where
+  pub is : old.rest ≡ line_then line new.rest
+  pub left_is : old.left ≡ new.left + 1
+  pub sound : IsTrue (is_sound_line old.hosts old.lanes line)
+
+-- What asking for the next line answers: that line, or that none comes, or the fault that comes first.
+abbrev pub IsNext : Unread → Unread → Result (Option Line) ScriptFault → Type 0
+IsNext old new (Ok (Some line)) = Takes old new line
+IsNext old new (Ok None) = (old.rest ≡ Ok []) × (new ≡ old)
+IsNext old new (Err fault) = (fault ≢ ScriptFault.NoMemory → old.rest ≡ Err fault) × (new ≡ old)
+
+-- ---- the same by place
+-- This line begins at the place, and behind it is a place from which so many but one may still come.
+pub record TakesAt (left hosts lanes : ℕ) (bytes : List ℕ) (at : ℕ) (found : Line × ℕ) : Type 0 where
+  pub is : lines_from left hosts lanes bytes at ≡ line_then found.0 (lines_from (left - 1) hosts lanes bytes found.1)
+  pub some : 0 < left
+  pub sound : IsTrue (is_sound_line hosts lanes found.0)
+  pub within : found.1 ≤ length bytes
+
+abbrev pub IsNextAt : ℕ → ℕ → ℕ → List ℕ → ℕ → Result (Option (Line × ℕ)) ScriptFault → Type 0
+IsNextAt left hosts lanes bytes at (Ok (Some found)) = TakesAt left hosts lanes bytes at found
+IsNextAt left hosts lanes bytes at (Ok None) = lines_from left hosts lanes bytes at ≡ Ok []
+IsNextAt left hosts lanes bytes at (Err fault) = fault ≢ ScriptFault.NoMemory → lines_from left hosts lanes bytes at ≡ Err fault

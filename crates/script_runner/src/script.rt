@@ -1,0 +1,44 @@
+//! The script of an input: each line is done as soon as it is read.
+
+ghost use Rattle.isolation_laws.specs.Solo.{Isolated};
+ghost use Rattle.script_codec.specs.Reading.{first_fault};
+ghost use Rattle.script_runner.specs.Fronts.{RanRest, RanScript};
+ghost use Rattle.std.specs.Prelude.{◌≡◌, ◌≢◌, ◌≤◌, [], Err, IfErr, IfOk, OnOk, Some};
+
+use crate::lines::{is_isolated, run_line};
+use device_plain::Device;
+use script_codec::{Reader, ScriptFault};
+use std::alloc::Global;
+
+/// Does the lines that are still to come, in their order, on the fresh device.
+fn run_rest(reader: &mut Reader<'_>, lanes: u8, device: &mut Device) -> Result<(), ScriptFault>
+    requires fresh { device.old.journal ≡ [] }
+    requires hosts { reader.old.hosts ≡ device.old.config.hosts }
+    requires lanes { reader.old.lanes ≡ lanes }
+    requires few { reader.old.left ≤ 65536 }
+    ensures config { device.new.config ≡ device.old.config }
+    ensures ran { OnOk result (RanRest device.old.config.hosts lanes reader.old.rest device.new.journal) }
+    ensures fault { IfErr result (λ fault. fault ≢ ScriptFault.NoMemory → reader.old.rest ≡ Err fault) }
+{
+    let mut number = 0;
+    while let Some(line) = reader.next()? {
+        number += 1;
+        run_line(device, lanes, number, line)?;
+    }
+    Ok(())
+}
+
+/// Does all lines of the script that the input is on a fresh device, or answers the first fault of the input. `NoMemory`
+/// may come in place of any answer.
+pub(crate) fn run_script(alloc: Global, input: &[u8]) -> Result<Device, ScriptFault>
+    ensures ran { IfOk result (λ device. RanScript input.now device.config device.journal) }
+    ensures isolated { IfOk result (λ device. Isolated device.config device.journal) }
+    ensures fault { IfErr result (λ fault. fault ≢ ScriptFault.NoMemory → first_fault input.now ≡ Some fault) }
+{
+    let (head, mut reader) = Reader::begin(alloc, input)?;
+    let lanes = head.lanes;
+    let mut device = Device::new(alloc, head.config)?;
+    run_rest(&mut reader, lanes, &mut device)?;
+    is_isolated(&device);
+    Ok(device)
+}
