@@ -1,11 +1,11 @@
 -- How parts of a text make up the whole.
-use Rattle.std.proofs.Common.{◌*◌, get_or, set, drop, ◌≡◌, Bool, if◌then◌else◌, ℕ, zero, suc, ◌+◌, ◌≤◌, ◌<◌, List, [], ◌∷◌, ◌++◌, Option, Some, None, sym, ap, ◌∙◌, arith, take, length, flat_map, subst}
+use Rattle.std.proofs.Common.{◌*◌, get_or, set, drop, ◌≡◌, Bool, if◌then◌else◌, ℕ, zero, suc, ◌+◌, ◌≤◌, ◌<◌, List, [], ◌∷◌, ◌++◌, Option, Some, None, sym, ap, ◌∙◌, arith, take, length, flat_map, subst, refl}
 use Rattle.std.specs.Prelude.{slice_get, IsFalse, OnErr, OnOk}
 use Rattle.std.specs.declared.result.Result.{Result}
 use Rattle.std.specs.declared.result.Result.TheVariants.{Ok, Err}
 use Rattle.std.specs.List.{enumerate_from, range_with_len}
-use Rattle.std.proofs.Math.Seq.{take-add}
-use Rattle.std.proofs.lemmas.List.{append_assoc, append-nil, flat_map_more, length-set, length-take-le, take_more, take_more_set}
+use Rattle.std.proofs.Math.Seq.{take-add, take-append-add}
+use Rattle.std.proofs.lemmas.List.{append_assoc, append-nil, flat_map_more, length-set, length-take-le, take_more, take_more_set, take-append-drop, take-take}
 use Rattle.std.proofs.lemmas.Option.{get_or_from_slice_get}
 use Rattle.std.proofs.lemmas.Grind.{flat_map-append}
 use Rattle.dcd_base.specs.Layouts.{Field, Raw, spell, spelling}
@@ -84,12 +84,49 @@ pairs_more out out' bytes front at i byte known is done written =
     ap (λ n. take n out') size ∙ written ∙ ap (λ xs. xs ++ hex_pair byte) done ∙ append_assoc front (hex_of (take i bytes)) (hex_pair byte)
     ∙ ap (λ xs. front ++ xs) (sym one)
 
--- the digits of one part more
-pub parts_more : (bytes rest part : List ℕ) (at n : ℕ) → rest ≡ drop at bytes → part ≡ take n rest → n ≤ length rest → hex_of (take (at + length part) bytes) ≡ hex_of (take at bytes) ++ hex_of part
+-- the digits of a front
+pub hex_front : (k : ℕ) (bytes : List ℕ) → k ≤ length bytes → take (2 * k) (hex_of bytes) ≡ hex_of (take k bytes)
+hex_front zero bytes within = refl
+hex_front (suc k) [] within = absurd (omega (arith, within))
+hex_front (suc k) (byte ∷ bytes) within =
+    let size : 2 * suc k ≡ suc (suc (2 * k)) = omega arith in
+    ap (λ n. take n (hex_of (byte ∷ bytes))) size ∙ ap (λ ys. hex_pair byte ++ ys) (hex_front k bytes (omega (arith, within)))
+
+-- the digits of eight bytes more
+pub eight_more : (out out' bytes rest eight front : List ℕ) (at done : ℕ) → rest ≡ drop done bytes → eight ≡ take 8 rest → take (at + 2 * done) out ≡ front ++ hex_of (take done bytes)
+    → take (at + 2 * done + 16) out' ≡ take (at + 2 * done) out ++ hex_of eight → take (at + 2 * (done + 8)) out' ≡ front ++ hex_of (take (done + 8) bytes)
+eight_more out out' bytes rest eight front at done behind is before written =
+    let size : at + 2 * (done + 8) ≡ at + 2 * done + 16 = omega arith in
+    let more : hex_of (take (done + 8) bytes) ≡ hex_of (take done bytes) ++ hex_of eight =
+    ap hex_of (take-add done 8 bytes) ∙ flat_map-append hex_pair (take done bytes) (take 8 (drop done bytes)) ∙ ap (λ xs. hex_of (take done bytes) ++ hex_of xs) (sym (is ∙ ap (take 8) behind)) in
+    ap (λ n. take n out') size ∙ written ∙ ap (λ xs. xs ++ hex_of eight) before ∙ append_assoc front (hex_of (take done bytes)) (hex_of eight)
+    ∙ ap (λ xs. front ++ xs) (sym more)
+
+-- the digits of the last eight bytes, where those before them are done and maybe some of their own
+pub eight_last : (out out' bytes last front : List ℕ) (at done end : ℕ) → end + 8 ≡ length bytes → end ≤ done → done ≤ length bytes → length front ≡ at → last ≡ drop end bytes
+    → take (at + 2 * done) out ≡ front ++ hex_of (take done bytes) → take (at + 2 * end + 16) out' ≡ take (at + 2 * end) out ++ hex_of last → take (at + 2 * length bytes) out' ≡ front ++ hex_of bytes
+eight_last out out' bytes last front at done end count le within long is before written =
+    let size : at + 2 * length bytes ≡ at + 2 * end + 16 = omega (arith, count) in
+    let kept : take (at + 2 * end) out ≡ front ++ hex_of (take end bytes) =
+    sym (take-take (at + 2 * end) (at + 2 * done) out (omega (arith, le))) ∙ ap (take (at + 2 * end)) before
+    ∙ ap (λ n. take (n + 2 * end) (front ++ hex_of (take done bytes))) (sym long) ∙ take-append-add front (hex_of (take done bytes)) (2 * end)
+    ∙ ap (λ xs. front ++ xs) (hex_front end (take done bytes) (omega (arith, le, length-take-le done bytes within)) ∙ ap hex_of (take-take end done bytes le)) in
+    let whole : hex_of (take end bytes) ++ hex_of last ≡ hex_of bytes =
+    ap (λ xs. hex_of (take end bytes) ++ hex_of xs) is ∙ sym (flat_map-append hex_pair (take end bytes) (drop end bytes)) ∙ ap hex_of (take-append-drop end bytes) in
+    ap (λ n. take n out') size ∙ written ∙ ap (λ xs. xs ++ hex_of last) kept ∙ append_assoc front (hex_of (take end bytes)) (hex_of last)
+    ∙ ap (λ xs. front ++ xs) whole
+
+-- the digits of one part more and of the byte behind it
+pub parts_more : (bytes rest part : List ℕ) (at n : ℕ) → rest ≡ drop at bytes → part ≡ take n rest → n < length rest
+    → hex_of (take (at + (length part + 1)) bytes) ≡ hex_of (take at bytes) ++ (hex_of part ++ hex_pair (get_or rest (length part) 0))
 parts_more bytes rest part at n behind is within =
-    let count : length part ≡ n = ap length is ∙ length-take-le n rest within in
-    ap (λ m. hex_of (take (at + m) bytes)) count ∙ ap hex_of (take-add at n bytes) ∙ flat_map-append hex_pair (take at bytes) (take n (drop at bytes))
-    ∙ ap (λ xs. hex_of (take at bytes) ++ hex_of xs) (sym (is ∙ ap (take n) behind))
+    let count : length part ≡ n = ap length is ∙ length-take-le n rest (omega (arith, within)) in
+    let more : take (length part + 1) rest ≡ part ++ get_or rest (length part) 0 ∷ [] =
+    take_more rest (length part) 0 (omega (arith, within, count)) ∙ ap (λ xs. xs ++ get_or rest (length part) 0 ∷ []) (ap (λ m. take m rest) count ∙ sym is) in
+    let digits : hex_of (part ++ get_or rest (length part) 0 ∷ []) ≡ hex_of part ++ hex_pair (get_or rest (length part) 0) =
+    flat_map-append hex_pair part (get_or rest (length part) 0 ∷ []) ∙ ap (λ xs. hex_of part ++ xs) (append-nil (hex_pair (get_or rest (length part) 0))) in
+    ap hex_of (take-add at (length part + 1) bytes) ∙ flat_map-append hex_pair (take at bytes) (take (length part + 1) (drop at bytes))
+    ∙ ap (λ xs. hex_of (take at bytes) ++ hex_of xs) (ap (take (length part + 1)) (sym behind) ∙ more) ∙ ap (λ xs. hex_of (take at bytes) ++ xs) digits
 
 -- a text of which a piece waits, and what is left of it once the sink took some of the piece
 passes_piece : {start t t' : Option (List ℕ)} {piece text rest : List ℕ} → Passes start t piece text → Passes t t' rest piece

@@ -22,15 +22,15 @@ fn fault_number(fault: AccessFault) -> u64
     }
 }
 
-/// How an act is called.
-fn act_name(act: &Act) -> &'static [u8]
-    ensures { result.now ≡ act_name act.now }
+/// Puts a space and the name of an act.
+fn put_act<K: Sink>(printer: &mut Printer, sink: &mut K, act: &Act)
+    ensures { Prints (K.taken sink.old) (K.faults sink.old) printer.old (K.taken sink.new) (K.faults sink.new) printer.new (next_word (act_name act.now)) }
 {
     match act {
-        Act::Command(_) => b"cmd",
-        Act::Load(_) => b"ld",
-        Act::Store(_, _) => b"st",
-        Act::Scrub(_) => b"sc",
+        Act::Command(_) => printer.put_word(sink, b"cmd"),
+        Act::Load(_) => printer.put_word(sink, b"ld"),
+        Act::Store(_, _) => printer.put_word(sink, b"st"),
+        Act::Scrub(_) => printer.put_word(sink, b"sc"),
     }
 }
 
@@ -110,10 +110,9 @@ fn put_entry<K: Sink>(printer: &mut Printer, sink: &mut K, number: u64, entry: &
     requires { IsShort entry.now.reply }
     ensures { Prints (K.taken sink.old) (K.faults sink.old) printer.old (K.taken sink.new) (K.faults sink.new) printer.new (entry_line (number, entry.now)) }
 {
-    printer.put_number(sink, number);
-    printer.put_count(sink, u64::from(entry.line));
+    printer.put_numbers(sink, number, u64::from(entry.line));
     printer.put_actor(sink, entry.actor);
-    printer.put_word(sink, act_name(&entry.act));
+    put_act(printer, sink, &entry.act);
     put_reply(printer, sink, &entry.reply);
 }
 

@@ -2,7 +2,7 @@
 
 ghost use Rattle.report.specs.Printing.{Prints, with_byte, with_bytes};
 ghost use Rattle.report.specs.Texts.{hex_of, hex_pair};
-ghost use Rattle.std.specs.Prelude.{◌≡◌, ◌+◌, ◌*◌, ◌<◌, ◌≤◌, [], ◌∷◌, IfSome, None, OnErr, OnOk, Some, decimal, length};
+ghost use Rattle.std.specs.Prelude.{◌≡◌, ◌+◌, ◌*◌, ◌<◌, ◌≤◌, [], ◌∷◌, ◌++◌, IfSome, None, OnErr, OnOk, Some, decimal, length};
 
 use crate::digits::{hex_digit, write_bytes, write_hex};
 use dcd_base::{Failed, Sink, write_all};
@@ -11,9 +11,6 @@ use std::marker::Model;
 
 /// How many bytes a piece has; the last piece of a text may have fewer.
 const PIECE: usize = 4096;
-
-/// How many bytes are put as digits at a time.
-const HEX_PART: usize = 64;
 
 /// Gathers bytes into pieces of 4,096 and hands them to a sink. After a write that failed it drops all that is put.
 ///
@@ -48,6 +45,8 @@ impl Printer {
     }
 
     /// Hands what waits to the sink. What a write leaves of the piece is handed in next.
+    #[cold]
+    #[inline(never)]
     #[tactic(auto, using(crate::proofs::Parts::prints_nothing, crate::proofs::Parts::prints_sent, crate::proofs::Parts::prints_cut))]
     fn send<K: Sink>(&mut self, sink: &mut K)
         ensures prints { Prints (K.taken sink.old) (K.faults sink.old) self.old (K.taken sink.new) (K.faults sink.new) self.new [] }
@@ -86,6 +85,7 @@ impl Printer {
     }
 
     /// Puts a byte.
+    #[inline]
     #[tactic(auto, using(crate::proofs::Parts::prints_byte))]
     pub fn put_byte<K: Sink>(&mut self, sink: &mut K, byte: u8)
         ensures { Prints (K.taken sink.old) (K.faults sink.old) self.old (K.taken sink.new) (K.faults sink.new) self.new (byte ∷ []) }
@@ -105,29 +105,6 @@ impl Printer {
         }
     }
 
-    /// Puts the digits of at most 64 bytes, which mostly fit into the piece.
-    #[tactic(auto, using(crate::proofs::Parts::prints_waiting))]
-    fn put_hex_part<K: Sink>(&mut self, sink: &mut K, bytes: &[u8])
-        requires { length bytes.now ≤ 64 }
-        ensures { Prints (K.taken sink.old) (K.faults sink.old) self.old (K.taken sink.new) (K.faults sink.new) self.new (hex_of bytes.now) }
-    {
-        if self.len + 2 * bytes.len() <= PIECE {
-            self.store_hex(bytes);
-        } else {
-            self.put_digits(sink, bytes);
-        }
-    }
-
-    /// Puts the digits of bytes one by one.
-    #[tactic(auto, using(crate::proofs::Parts::prints_nothing, crate::proofs::Parts::prints_each))]
-    fn put_digits<K: Sink>(&mut self, sink: &mut K, bytes: &[u8])
-        ensures { Prints (K.taken sink.old) (K.faults sink.old) self.old (K.taken sink.new) (K.faults sink.new) self.new (hex_of bytes.now) }
-    {
-        for byte in bytes {
-            self.put_pair(sink, *byte);
-        }
-    }
-
     /// Puts the two digits of a byte.
     #[tactic(auto, using(crate::proofs::Parts::prints_then))]
     fn put_pair<K: Sink>(&mut self, sink: &mut K, byte: u8)
@@ -137,17 +114,40 @@ impl Printer {
         self.put_byte(sink, hex_digit(byte % 16));
     }
 
-    /// Puts the digits of bytes.
+    /// Puts the digits of bytes, which mostly fit into the piece.
+    #[tactic(auto, using(crate::proofs::Parts::prints_waiting))]
     pub fn put_hex<K: Sink>(&mut self, sink: &mut K, bytes: &[u8])
+        ensures { Prints (K.taken sink.old) (K.faults sink.old) self.old (K.taken sink.new) (K.faults sink.new) self.new (hex_of bytes.now) }
+    {
+        if bytes.len() <= (PIECE - self.len) / 2 {
+            self.store_hex(bytes);
+        } else {
+            self.put_hex_parts(sink, bytes);
+        }
+    }
+
+    /// Puts the digits of bytes: those that fit into the piece, then the byte that does not, and so on.
+    #[cold]
+    #[inline(never)]
+    fn put_hex_parts<K: Sink>(&mut self, sink: &mut K, bytes: &[u8])
         ensures { Prints (K.taken sink.old) (K.faults sink.old) self.old (K.taken sink.new) (K.faults sink.new) self.new (hex_of bytes.now) }
     {
         let mut at = 0;
         while at < bytes.len() {
             let (_, rest) = bytes.split_at(at);
-            let (part, _) = rest.split_at(rest.len().min(HEX_PART));
-            self.put_hex_part(sink, part);
-            at += part.len();
+            let (part, _) = rest.split_at(((PIECE - self.len) / 2).min(rest.len() - 1));
+            self.put_part(sink, part, rest[part.len()]);
+            at += part.len() + 1;
         }
+    }
+
+    /// Puts the digits of bytes that fit, and of one more byte.
+    fn put_part<K: Sink>(&mut self, sink: &mut K, part: &[u8], byte: u8)
+        requires { IfSome self.old (λ waits. length waits + 2 * length part.now ≤ 4096) }
+        ensures { Prints (K.taken sink.old) (K.faults sink.old) self.old (K.taken sink.new) (K.faults sink.new) self.new (hex_of part.now ++ hex_pair byte) }
+    {
+        self.store_hex(part);
+        self.put_pair(sink, byte);
     }
 
     /// Lets bytes wait.
@@ -162,6 +162,7 @@ impl Printer {
     }
 
     /// Puts bytes, which mostly fit into the piece.
+    #[inline]
     #[tactic(auto, using(crate::proofs::Parts::prints_waiting))]
     pub fn put<K: Sink>(&mut self, sink: &mut K, bytes: &[u8])
         ensures { Prints (K.taken sink.old) (K.faults sink.old) self.old (K.taken sink.new) (K.faults sink.new) self.new bytes.now }
@@ -174,6 +175,8 @@ impl Printer {
     }
 
     /// Puts bytes one by one.
+    #[cold]
+    #[inline(never)]
     #[tactic(auto, using(crate::proofs::Parts::prints_nothing, crate::proofs::Parts::prints_more))]
     fn put_each<K: Sink>(&mut self, sink: &mut K, bytes: &[u8])
         ensures { Prints (K.taken sink.old) (K.faults sink.old) self.old (K.taken sink.new) (K.faults sink.new) self.new bytes.now }

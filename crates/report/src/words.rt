@@ -6,6 +6,7 @@ ghost use Rattle.std.specs.Prelude.{◌++◌, [], ◌∷◌, decimal};
 
 use crate::printing::Printer;
 use dcd_base::{Actor, HostId, LogId, Sink};
+use itoa::Buffer;
 
 impl Printer {
     /// Puts a space and a word.
@@ -24,6 +25,30 @@ impl Printer {
     {
         self.put_byte(sink, b' ');
         self.put_number(sink, count);
+    }
+
+    /// Puts two numbers with a space between. The digits of two that are equal are made once.
+    #[tactic(auto, using(crate::proofs::Parts::prints_then))]
+    pub fn put_numbers<K: Sink>(&mut self, sink: &mut K, first: u64, second: u64)
+        ensures { Prints (K.taken sink.old) (K.faults sink.old) self.old (K.taken sink.new) (K.faults sink.new) self.new (decimal first ++ next_word (decimal second)) }
+    {
+        if first == second {
+            self.put_twice(sink, first);
+        } else {
+            self.put_number(sink, first);
+            self.put_count(sink, second);
+        }
+    }
+
+    /// Puts a number twice, with a space between.
+    #[tactic(auto, using(crate::proofs::Parts::prints_then))]
+    fn put_twice<K: Sink>(&mut self, sink: &mut K, number: u64)
+        ensures { Prints (K.taken sink.old) (K.faults sink.old) self.old (K.taken sink.new) (K.faults sink.new) self.new (decimal number ++ next_word (decimal number)) }
+    {
+        let mut buffer = Buffer::new();
+        let digits = buffer.format(number).as_bytes();
+        self.put(sink, digits);
+        self.put_word(sink, digits);
     }
 
     /// Puts what is counted and the count, each behind a space.

@@ -1,6 +1,6 @@
 use Rattle.std.proofs.Common.{◌≡◌, ◌+◌, ◌*◌, ◌++◌, length, take}
 use Rattle.report.specs.Texts.{hex_of}
-use Rattle.report.proofs.digits.write_hex.Given as goal
+use Rattle.report.proofs.digits.write_pairs.Given as goal
 
 -- The digits of the bytes so far are written.
 abbrev pub invariant-loop-i : goal.invariant-loop-i

@@ -1,7 +1,7 @@
 use Rattle.std.proofs.Common.{◌-◌, length, take}
 use Rattle.report.specs.Texts.{hex_of}
 use Rattle.report.specs.Printing.{Prints}
-use Rattle.report.proofs.printing.Printer.put_hex.Given as goal
+use Rattle.report.proofs.printing.Printer.put_hex_parts.Given as goal
 
 -- The digits of the bytes so far are put.
 abbrev pub invariant-loop-at : goal.invariant-loop-at

@@ -1,9 +1,9 @@
 use Rattle.std.proofs.Common.{arith}
 use Rattle.report.proofs.Parts.{parts_more, prints_more}
-use Rattle.report.proofs.printing.Printer.put_hex.Goals as goal
+use Rattle.report.proofs.printing.Printer.put_hex_parts.Goals as goal
 
 pub loop-at-preserved : goal.loop-at-preserved
 loop-at-preserved g c =
-    prints_more c.loop-at.invariant c.put_hex_part.ensures
+    prints_more c.loop-at.invariant c.put_part.ensures
     (parts_more c.args.bytes.now c.split_at.result.1.now c.split_at-in-loop-at.result.0.now c.loop-at.at c.min.result
     c.split_at.ensures.back c.split_at-in-loop-at.ensures.front (omega (arith, c.min.ensures)))
