@@ -20,7 +20,7 @@ use Rattle.dcd_codes.specs.declared.rules.Rule.{Rule}
 use Rattle.extent_list.specs.ExtentLists.{has_extent_of, real_tags}
 use Rattle.granule_map.specs.StateLists.{is_free_at}
 use Rattle.host_commands.specs.Parts.{AreAfter, Drafts, lists_in}
-use Rattle.host_commands.specs.declared.drafts.Draft.{Draft}
+use Rattle.host_commands.specs.declared.draft_parts.DraftParts.{DraftParts}
 use Rattle.host_lists.specs.Lists.{Lists, extent_total}
 use Rattle.journal_core.specs.Entries.{effects}
 use Rattle.journal_core.specs.declared.entries.Entry.{Entry}
@@ -330,7 +330,7 @@ module _ (c : Configuration) (sound : IsSound c) (journal : List Entry) (legal :
             let more : (view_after c h (view_of c h journal) (Effect.Offer h xs ∷ [])).offers ≡ offers_of h (effects journal) ++ xs ∷ [] = ap (λ b. if b then offers_of h (effects journal) ++ xs ∷ [] else offers_of h (effects journal)) (eq-eqb h h refl) in
             λ i. record (lists_in (view_of c h journal)) { offers = sym more i }
 
-        pub drafts_offered : (xs : List Extent) → xs ≡ offered_now s h policy r bytes tag list → (d : Draft) → IsOffered h (part_of s h).lists xs d →
+        pub drafts_offered : (xs : List Extent) → xs ≡ offered_now s h policy r bytes tag list → (d : DraftParts) → IsOffered h (part_of s h).lists xs d →
             Drafts c h (view_of c h journal) (add_outcome c (effects journal) (λ k. view_of c k journal) h policy r bytes tag list) d
         drafts_offered xs are_xs d is =
             subst (λ ys. Drafts c h (view_of c h journal) (record { payload = []; changes = Effect.Offer h ys ∷ []; tags = []; notices = (LogId.Host h, notices_of h (view_after c h (view_of c h journal) (Effect.Offer h ys ∷ [])) EventKind.Add ys) ∷ [] }) d) (are_xs ∙ offered_same)

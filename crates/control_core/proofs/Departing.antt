@@ -49,7 +49,7 @@ use Rattle.control_core.proofs.Reached.{hosts_kept, stands_by}
 use Rattle.device_state.specs.Kept.{IsKept, IsReached, part_of}
 use Rattle.control_core.specs.Takings.{Departs, IsDrafted, choice_rule, meant_rule, removal_outcome, removed_lists}
 use Rattle.device_state.specs.declared.state.State.{State}
-use Rattle.host_commands.specs.declared.drafts.Draft.{Draft}
+use Rattle.host_commands.specs.declared.draft_parts.DraftParts.{DraftParts}
 use Rattle.host_commands.specs.Parts.{AreAfter, Drafts, lists_in}
 
 each_at : (P : Extent → Type 0) (xs : List Extent) → AllByRecursion P xs → All P xs
@@ -243,7 +243,7 @@ meant_departs c s reached h host flags r tag list leaving forced row is =
 
 -- ---- the draft of a removal by force
 
-pub drafts_taken : (c : Configuration) (h : HostId) (v : View) (flags : ℕ) (leaving : List Extent) (l : Lists) (d : Draft) → l ≡ lists_in v → is_forced flags ≡ true →
+pub drafts_taken : (c : Configuration) (h : HostId) (v : View) (flags : ℕ) (leaving : List Extent) (l : Lists) (d : DraftParts) → l ≡ lists_in v → is_forced flags ≡ true →
     Departs c h l (is_cleaning flags) leaving →
     IsDrafted h EventKind.Forced (removals c h (is_cleaning flags) leaving) (removed_lists l leaving) (Some (removed_lists l leaving)) leaving d →
     Drafts c h v (removal_outcome c h v flags leaving) d

@@ -1,5 +1,5 @@
 -- A draft that is entered is its outcome, and puts in place what its effects make of lists and tags.
-use Rattle.std.proofs.Common.{◌≡◌, ◌≢◌, ◌+◌, ◌%◌, ◌^◌, Bool, true, false, ◌||◌, not, List, [], ◌∷◌, ◌++◌, ◌⊎◌, map, flat_map, fold, Option, Some, None, append_assoc, inl, inr, refl, sym, ap, ◌∙◌, subst}
+use Rattle.std.proofs.Common.{◌≡◌, ◌≢◌, ℕ, ◌+◌, ◌%◌, ◌^◌, Bool, true, false, ◌||◌, not, List, [], ◌∷◌, ◌++◌, ◌⊎◌, map, flat_map, fold, Option, Some, None, append_assoc, inl, inr, refl, sym, ap, ◌∙◌, subst}
 use Rattle.std.specs.Prelude.{◌==◌, if◌then◌else◌}
 use Rattle.std.specs.List.{list_all, list_any}
 use Rattle.std.proofs.lemmas.Bool.{and_parts, cases_eq, eq-eqb, false≢true, ne_eqb, not-true}
@@ -19,7 +19,7 @@ use Rattle.journal_core.specs.declared.entries.Entry.{Entry}
 use Rattle.journal_core.specs.declared.outcome.Effect.{Effect}
 use Rattle.journal_core.specs.declared.outcome.HeldKind.{HeldKind}
 use Rattle.host_commands.specs.Parts.{AreAfter, Drafts, lists_in}
-use Rattle.host_commands.specs.declared.drafts.Draft.{Draft}
+use Rattle.host_commands.specs.declared.draft_parts.DraftParts.{DraftParts}
 use Rattle.device_rules.specs.Answers.{response}
 use Rattle.device_rules.specs.Hosts.{accepted_after, accepted_of, held_after, moves, offers_after, offers_of}
 use Rattle.device_rules.specs.Logs.{log_of}
@@ -172,7 +172,7 @@ module _ (c : Configuration) (before : List Entry) (h : HostId) (o : Outcome) (o
 -- ---- the draft
 
 module _ (c : Configuration) (before : List Entry) (s : State) (kept : IsKept c before s) (q : Request) (h : HostId) (o : Outcome) (of : IsOfHost c before h o)
-    (draft : Draft) (drafts : Drafts c h (view_of c h before) o draft) where
+    (draft : DraftParts) (drafts : Drafts c h (view_of c h before) o draft) where
   -- its effects
   all_effects : (lists : Lists) → lists ≡ lists_in (view_after c h (view_of c h before) o.changes) →
       (draft.changes ++ map Effect.TagEnd (ending h (λ t. has_extent_of t lists.accepted) (λ t. list_any (has_extent_of t) lists.offers) s.tags.entries draft.tags)) ++ told (effects before) draft.notices
@@ -205,3 +205,10 @@ module _ (c : Configuration) (before : List Entry) (s : State) (kept : IsKept c 
         update = subst (λ (x : List Effect × List Tag). IsUpdate c before x.0 (record { lists = None; tags = told_change h x.1 }))
             (λ i. (sym effects_are i, sym drafts.tags i)) (told_less c before (effects_of c (effects before) o) None h o.tags (update_same c before h o of stay));
       }
+
+-- a reply alone is done
+pub replied_done : (c : Configuration) (before : List Entry) (s : State) → IsKept c before s → (q : Request) (h : HostId) (o : Outcome) → IsOfHost c before h o → (payload : List ℕ)
+    → Drafts c h (view_of c h before) o (record { payload = payload; changes = []; tags = []; notices = []; lists = None })
+    → IsDone c before q o (record { reply = response q Code.Success payload; effects = []; update = record { lists = None; tags = TagChange.Nothing } })
+replied_done c before s kept q h o of payload drafts =
+    done_same c before s kept q h o of (record { payload = payload; changes = []; tags = []; notices = []; lists = None }) drafts refl (response q Code.Success payload) [] refl (lists_in (view_of c h before)) refl refl

@@ -2,17 +2,17 @@
 use Rattle.std.proofs.Common.{◌≡◌, ℕ, List, [], None, refl, sym, subst}
 use Rattle.journal_core.specs.declared.outcome.Effect.{Effect}
 use Rattle.host_commands.specs.Parts.{IsOutcome}
-use Rattle.host_commands.specs.declared.drafts.Draft.{Draft}
+use Rattle.host_commands.specs.declared.draft_parts.DraftParts.{DraftParts}
 use Rattle.device_rules.specs.Outcomes.{only}
 
 -- of changes
-pub changes_alone : (changes new : List Effect) (d : Draft) → d ≡ record { payload = []; changes = changes; tags = []; notices = []; lists = None } → changes ≡ new →
+pub changes_alone : (changes new : List Effect) (d : DraftParts) → d ≡ record { payload = []; changes = changes; tags = []; notices = []; lists = None } → changes ≡ new →
     IsOutcome (record { payload = []; changes = new; tags = []; notices = [] }) d
 changes_alone changes new d is same =
     subst (IsOutcome (record { payload = []; changes = new; tags = []; notices = [] })) (sym is) (record { payload = refl; changes = same; tags = refl; notices = refl; lists = refl })
 
 -- of a payload
-pub payload_alone : (bytes payload : List ℕ) (d : Draft) → d ≡ record { payload = bytes; changes = []; tags = []; notices = []; lists = None } → bytes ≡ payload →
+pub payload_alone : (bytes payload : List ℕ) (d : DraftParts) → d ≡ record { payload = bytes; changes = []; tags = []; notices = []; lists = None } → bytes ≡ payload →
     IsOutcome (only payload) d
 payload_alone bytes payload d is same =
     subst (IsOutcome (only payload)) (sym is) (record { payload = same; changes = refl; tags = refl; notices = refl; lists = refl })

@@ -27,7 +27,7 @@ use Rattle.journal_core.specs.declared.entries.Entry.{Entry}
 use Rattle.journal_core.specs.declared.outcome.Effect.{Effect}
 use Rattle.journal_core.specs.declared.outcome.HeldKind.{HeldKind}
 use Rattle.host_commands.specs.Parts.{IsOutcome, lists_in, told_in}
-use Rattle.host_commands.specs.declared.drafts.Draft.{Draft}
+use Rattle.host_commands.specs.declared.draft_parts.DraftParts.{DraftParts}
 use Rattle.host_commands.specs.declared.notices.Notice.{Notice}
 use Rattle.device_rules.specs.Answers.{effects_with, manager_outcome, manager_result, manager_rule, reply_with, response, unless}
 use Rattle.device_rules.specs.Hosts.{accepted_after, held_after, moves, offers_after}
@@ -102,7 +102,7 @@ lists_left c k v es left = λ i. record {
 -- ---- the draft
 
 pub entered_done : (c : Configuration) (before : List Entry) (q : Request) (o : Outcome) (over : List Tag) (change : TagChange) → IsOfNone c before o over change →
-    (draft : Draft) → IsOutcome o draft → (reply : Reply) (new : List Effect) → reply ≡ response q Code.Success draft.payload →
+    (draft : DraftParts) → IsOutcome o draft → (reply : Reply) (new : List Effect) → reply ≡ response q Code.Success draft.payload →
     new ≡ (draft.changes ++ map Effect.TagEnd over) ++ told (effects before) draft.notices →
     IsDone c before q o (record { reply = reply; effects = new; update = record { lists = None; tags = change } })
 entered_done c before q o over change of draft is reply new answers new_is =
@@ -120,6 +120,13 @@ entered_done c before q o over change of draft is reply new answers new_is =
         tags = of.table;
       });
     }
+
+-- a reply alone is entered
+pub replied_entered : (c : Configuration) (before : List Entry) (q : Request) (o : Outcome) → IsOfNone c before o [] TagChange.Nothing → (payload : List ℕ)
+    → IsOutcome o (record { payload = payload; changes = []; tags = []; notices = []; lists = None })
+    → IsDone c before q o (record { reply = response q Code.Success payload; effects = []; update = record { lists = None; tags = TagChange.Nothing } })
+replied_entered c before q o of payload is =
+    entered_done c before q o [] TagChange.Nothing of (record { payload = payload; changes = []; tags = []; notices = []; lists = None }) is (response q Code.Success payload) [] refl refl
 
 -- ---- the requests
 
@@ -224,7 +231,7 @@ module _ (c : Configuration) (before : List Entry) where
     refused_rule rule row = ap (manager_result c before) asked ∙ ap (λ broke. unless broke (manager_outcome c (effects before) (λ h. view_of c h before) r)) row
 
 -- a command that is refused
-pub manages_err : (c : Configuration) (s : State) (q : Request) (r : FmRequest) → manager_request q.opcode q.payload ≡ Ok r → (P : List Entry → Draft → Type 0) (e : Refusal) →
+pub manages_err : (c : Configuration) (s : State) (q : Request) (r : FmRequest) → manager_request q.opcode q.payload ≡ Ok r → (P : List Entry → DraftParts → Type 0) (e : Refusal) →
     ((before : List Entry) → Legal c before → IsKept c before s → ByRow (manager_rule c (effects before) (λ h. view_of c h before) r) (P before) (Err e)) → Manages c s q (Err e)
 manages_err c s q r asked P (Refusal.Broken rule) is = λ before legal kept. refused_rule c before q r asked rule (is before legal kept)
 manages_err c s q r asked P Refusal.NoMemory is = tt
@@ -247,10 +254,10 @@ refused_manager c before q rule is reply new answers none = record {
 -- ---- the logs that a draft tells are kept
 
 pub quiet_notices : (c : Configuration) (before : List Entry) (s : State) → IsKept c before s → (q : FmRequest) → is_quiet_manager q ≡ true →
-    (draft : Draft) → IsOutcome (manager_outcome c (effects before) (λ h. view_of c h before) q) draft → All (λ (n : Notice). IsOfLog (length s.hosts.items) n.log) draft.notices
+    (draft : DraftParts) → IsOutcome (manager_outcome c (effects before) (λ h. view_of c h before) q) draft → All (λ (n : Notice). IsOfLog (length s.hosts.items) n.log) draft.notices
 quiet_notices c before s kept q quiet draft is =
     notices_known (length s.hosts.items) draft.notices (manager_outcome c (effects before) (λ h. view_of c h before) q).notices is.notices
     (subst (λ hosts. AllByRecursion (λ (n : LogId × List Event). IsOfLog hosts n.0) (manager_outcome c (effects before) (λ h. view_of c h before) q).notices) (sym kept.host_count) (quiet_known c before q quiet))
 
-pub no_notices : (hosts : ℕ) (draft : Draft) → map told_in draft.notices ≡ [] → All (λ (n : Notice). IsOfLog hosts n.log) draft.notices
+pub no_notices : (hosts : ℕ) (draft : DraftParts) → map told_in draft.notices ≡ [] → All (λ (n : Notice). IsOfLog hosts n.log) draft.notices
 no_notices hosts draft none = notices_known hosts draft.notices [] none tt

@@ -7,7 +7,7 @@ use Rattle.fm_payloads.specs.declared.requests.FmRequest.{FmRequest}
 use Rattle.region_config.specs.Configurations.{Configuration}
 use Rattle.region_config.specs.Soundness.{IsSound}
 use Rattle.host_commands.specs.Parts.{told_in}
-use Rattle.host_commands.specs.declared.drafts.Draft.{Draft}
+use Rattle.host_commands.specs.declared.draft_parts.DraftParts.{DraftParts}
 use Rattle.host_commands.specs.declared.notices.Notice.{Notice}
 use Rattle.journal_core.specs.Entries.{effects}
 use Rattle.journal_core.specs.declared.entries.Entry.{Entry}
@@ -43,7 +43,7 @@ remove_of c sound before legal h flags r bytes tag list row =
     }
 
 pub remove_known : (c : Configuration) (before : List Entry) (s : State) → IsKept c before s → (h flags r bytes : ℕ) (tag : Tag) (list : List Extent) → manager_rule c (effects before) (λ k. view_of c k before) (FmRequest.Remove h flags r bytes tag list) ≡ None →
-    (draft : Draft) → map told_in draft.notices ≡ (manager_outcome c (effects before) (λ k. view_of c k before) (FmRequest.Remove h flags r bytes tag list)).notices → All (λ (n : Notice). IsOfLog (length s.hosts.items) n.log) draft.notices
+    (draft : DraftParts) → map told_in draft.notices ≡ (manager_outcome c (effects before) (λ k. view_of c k before) (FmRequest.Remove h flags r bytes tag list)).notices → All (λ (n : Notice). IsOfLog (length s.hosts.items) n.log) draft.notices
 remove_known c before s kept h flags r bytes tag list row draft is =
     notices_known (length s.hosts.items) draft.notices (manager_outcome c (effects before) (λ k. view_of c k before) (FmRequest.Remove h flags r bytes tag list)).notices is
     (subst (λ n. h < n) (sym kept.host_count) (remove_host c before h flags r bytes tag list row), tt)

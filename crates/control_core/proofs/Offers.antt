@@ -15,7 +15,7 @@ use Rattle.extent_list.specs.ExtentLists.{has_extent_of}
 use Rattle.fm_payloads.specs.declared.requests.FmRequest.{FmRequest}
 use Rattle.host_lists.specs.Lists.{Lists}
 use Rattle.host_commands.specs.Parts.{AreAfter, Drafts, lists_in, told_in}
-use Rattle.host_commands.specs.declared.drafts.Draft.{Draft}
+use Rattle.host_commands.specs.declared.draft_parts.DraftParts.{DraftParts}
 use Rattle.host_commands.specs.declared.notices.Notice.{Notice}
 use Rattle.region_config.specs.Configurations.{Configuration}
 use Rattle.region_config.specs.Granules.{region_spec}
@@ -130,7 +130,7 @@ module _ (c : Configuration) (before : List Entry) (s : State) (kept : IsKept c 
 
   -- ---- the draft
 
-  pub offer_done : (q : Request) (draft : Draft) → Drafts c h (view_of c h before) o draft → (reply : Reply) (all : List Effect) (change : TagChange) →
+  pub offer_done : (q : Request) (draft : DraftParts) → Drafts c h (view_of c h before) o draft → (reply : Reply) (all : List Effect) (change : TagChange) →
       reply ≡ response q Code.Success draft.payload → all ≡ draft.changes ++ told (effects before) draft.notices →
       change ≡ offer_change c h r tag new (is_live tag s.tags.entries) →
       IsDone c before q o (record { reply = reply; effects = all; update = record { lists = lists_for h draft.lists; tags = change } })
@@ -191,7 +191,7 @@ module _ (c : Configuration) (sound : IsSound c) (before : List Entry) (legal : 
     offered = λ entries table. table-add c sound before legal entries table h policy r bytes tag list row;
   }
 
-  pub add_known : (s : State) → IsKept c before s → (draft : Draft) → map told_in draft.notices ≡ (manager_outcome c (effects before) (λ k. view_of c k before) (FmRequest.Add h policy r bytes tag list)).notices →
+  pub add_known : (s : State) → IsKept c before s → (draft : DraftParts) → map told_in draft.notices ≡ (manager_outcome c (effects before) (λ k. view_of c k before) (FmRequest.Add h policy r bytes tag list)).notices →
       All (λ (n : Notice). IsOfLog (length s.hosts.items) n.log) draft.notices
   add_known s kept draft is =
       notices_known (length s.hosts.items) draft.notices (manager_outcome c (effects before) (λ k. view_of c k before) (FmRequest.Add h policy r bytes tag list)).notices is

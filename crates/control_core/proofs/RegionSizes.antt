@@ -32,7 +32,7 @@ use Rattle.control_core.proofs.Reached.{first_kept, hosts_kept, region_kept}
 use Rattle.control_core.proofs.Rows.{kept_rule, not_up_to}
 use Rattle.control_core.specs.Notices.{region_notice}
 use Rattle.host_commands.specs.Parts.{IsOutcome}
-use Rattle.host_commands.specs.declared.drafts.Draft.{Draft}
+use Rattle.host_commands.specs.declared.draft_parts.DraftParts.{DraftParts}
 use Rattle.journal_core.specs.declared.outcome.Effect.{Effect}
 use Rattle.device_state.specs.Kept.{IsKept}
 use Rattle.control_core.specs.Uses.{size_rule, used_in}
@@ -119,7 +119,7 @@ module _ (c : Configuration) (sound : IsSound c) (journal : List Entry) (s : Sta
         ∙ ap (λ n. each_in (range_with_len 0 n) (λ (before : List HostId) h. log_full h (view_for h).log 1)) (sym (hosts_kept c journal s kept)) ∙ logs
 
     -- each host of the device is told
-    pub told_all : (d : Draft) → IsOutcome (set_outcome s.present view_for r size) d → IsOutcome (set_outcome c view_for r size) d
+    pub told_all : (d : DraftParts) → IsOutcome (set_outcome s.present view_for r size) d → IsOutcome (set_outcome c view_for r size) d
     told_all d is =
         subst (λ n. IsOutcome (record { payload = []; changes = Effect.Block r size ∷ []; tags = []; notices = map (region_notice view_for r) (range_with_len 0 n) }) d) (hosts_kept c journal s kept) is
 

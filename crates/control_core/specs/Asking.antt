@@ -14,7 +14,7 @@ use Rattle.event_records.specs.declared.events.EventKind.{EventKind}
 use Rattle.extent_list.specs.ExtentLists.{has_extent_of, real_tags}
 use Rattle.granule_map.specs.StateLists.{is_free_at}
 use Rattle.host_commands.specs.Parts.{lists_in, told_in}
-use Rattle.host_commands.specs.declared.drafts.Draft.{Draft}
+use Rattle.host_commands.specs.declared.draft_parts.DraftParts.{DraftParts}
 use Rattle.host_lists.specs.Lists.{Lists, extent_total, extents_in}
 use Rattle.journal_core.specs.declared.outcome.Effect.{Effect}
 use Rattle.list_rules.specs.Listing.{too_many_extents}
@@ -94,7 +94,7 @@ abbrev pub offered_lists : Lists → List Extent → Lists
 offered_lists l new = record l { offers = l.offers ++ new ∷ [] }
 
 -- The draft offers these to the host, and tells it of each.
-pub record IsOffered (h : HostId) (old : Lists) (new : List Extent) (d : Draft) : Type 0 where
+pub record IsOffered (h : HostId) (old : Lists) (new : List Extent) (d : DraftParts) : Type 0 where
   pub payload : d.payload ≡ []
   pub changes_are : d.changes ≡ Effect.Offer h new ∷ []
   pub tags : d.tags ≡ []

@@ -17,7 +17,7 @@ use Rattle.journal_core.specs.Entries.{effects}
 use Rattle.journal_core.specs.declared.entries.Entry.{Entry}
 use Rattle.host_commands.specs.Messages.{IsDrafted}
 use Rattle.host_commands.specs.Parts.{Drafts, lists_in}
-use Rattle.host_commands.specs.declared.drafts.Draft.{Draft}
+use Rattle.host_commands.specs.declared.draft_parts.DraftParts.{DraftParts}
 use Rattle.device_rules.specs.Answers.{host_result_in, response}
 use Rattle.device_rules.specs.Legal.{Legal}
 use Rattle.device_rules.specs.Outcomes.{Outcome, effects_of}
@@ -54,14 +54,14 @@ pub record IsOfHost (c : Configuration) (before : List Entry) (h : HostId) (o : 
   pub told : (entries : List TagEntry) → IsTable c (effects before) entries → IsToldAnew c (effects before) h o entries
 
 -- The draft is done: for each outcome of the host that it is, by every journal that leads to what is kept.
-abbrev pub Does : State → HostId → Request → Draft → Decided → Type 0
+abbrev pub Does : State → HostId → Request → DraftParts → Decided → Type 0
 Does s h q draft d = (c : Configuration) (before : List Entry) (o : Outcome) → IsKept c before s → IsOfHost c before h o →
     Drafts c h (view_of c h before) o draft → IsDone c before q o d
 
 -- ---- a host's message
 
 -- By every legal journal that leads to what is kept, the message is drafted so, or refused by this rule.
-abbrev pub Drafted : Configuration → State → HostId → Request → Result Draft Refusal → Type 0
+abbrev pub Drafted : Configuration → State → HostId → Request → Result DraftParts Refusal → Type 0
 Drafted c s h q result = (before : List Entry) → Legal c before → IsKept c before s → IsDrafted c h (view_of c h before) q result
 
 -- ---- a host's message that is refused

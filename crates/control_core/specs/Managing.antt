@@ -15,7 +15,7 @@ use Rattle.journal_core.specs.declared.acts.Act.{Act}
 use Rattle.journal_core.specs.declared.entries.Entry.{Entry}
 use Rattle.journal_core.specs.declared.outcome.Effect.{Effect}
 use Rattle.host_commands.specs.Parts.{IsOutcome}
-use Rattle.host_commands.specs.declared.drafts.Draft.{Draft}
+use Rattle.host_commands.specs.declared.draft_parts.DraftParts.{DraftParts}
 use Rattle.device_rules.specs.Answers.{manager_result}
 use Rattle.device_rules.specs.Legal.{Legal}
 use Rattle.device_rules.specs.Outcomes.{Outcome, effects_of, ended}
@@ -61,5 +61,5 @@ pub record IsOfNone (c : Configuration) (before : List Entry) (o : Outcome) (ove
       IsTable c (effects before ++ effects_of c (effects before) o) (tags_put change (λ h. lists_after c h before (effects_of c (effects before) o)) entries)
 
 -- The draft is done: for each such outcome that it is, by every journal that leads to what is kept.
-abbrev pub Enters : State → Request → Draft → List Tag → TagChange → Decided → Type 0
+abbrev pub Enters : State → Request → DraftParts → List Tag → TagChange → Decided → Type 0
 Enters s q draft over change d = (c : Configuration) (before : List Entry) (o : Outcome) → IsKept c before s → IsOfNone c before o over change → IsOutcome o draft → IsDone c before q o d

@@ -14,7 +14,7 @@ use Rattle.journal_core.specs.Entries.{effects}
 use Rattle.journal_core.specs.declared.entries.Entry.{Entry}
 use Rattle.journal_core.specs.declared.outcome.Effect.{Effect}
 use Rattle.host_commands.specs.Parts.{Drafts}
-use Rattle.host_commands.specs.declared.drafts.Draft.{Draft}
+use Rattle.host_commands.specs.declared.draft_parts.DraftParts.{DraftParts}
 use Rattle.device_rules.specs.Outcomes.{Outcome, effects_of}
 use Rattle.device_rules.specs.Views.{view_of}
 use Rattle.device_steps.proofs.ViewsLeft.{leaves_view}
@@ -59,6 +59,6 @@ pub record IsOfOffer (c : Configuration) (before : List Entry) (h : HostId) (r :
   pub offered : (entries : List TagEntry) → IsTable c (effects before) entries → IsOffered c (effects before) h r tag new o entries
 
 -- The draft is done: for each such outcome that it is, by every journal that leads to what is kept.
-abbrev pub Offers : Configuration → State → HostId → ℕ → Tag → Request → Draft → Decided → Type 0
+abbrev pub Offers : Configuration → State → HostId → ℕ → Tag → Request → DraftParts → Decided → Type 0
 Offers c s h r tag q draft d = (before : List Entry) (new : List Extent) (o : Outcome) → IsKept c before s → IsOfOffer c before h r tag new o →
     Drafts c h (view_of c h before) o draft → IsDone c before q o d

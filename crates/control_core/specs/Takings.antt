@@ -10,7 +10,7 @@ use Rattle.dcd_codes.specs.declared.rules.Rule.{Rule}
 use Rattle.event_records.specs.declared.events.EventKind.{EventKind}
 use Rattle.extent_list.specs.ExtentLists.{count_in, cut_all, tags_of}
 use Rattle.host_commands.specs.Parts.{lists_in, told_in}
-use Rattle.host_commands.specs.declared.drafts.Draft.{Draft}
+use Rattle.host_commands.specs.declared.draft_parts.DraftParts.{DraftParts}
 use Rattle.host_lists.specs.Answers.{generation_after}
 use Rattle.host_lists.specs.Lists.{Lists}
 use Rattle.journal_core.specs.declared.outcome.Effect.{Effect}
@@ -48,7 +48,7 @@ pub record Departs (c : Configuration) (h : HostId) (l : Lists) (clean : Bool) (
   pub few : length (cut_all leaving l.accepted) + count_in l.offers ≤ 64
 
 -- The draft changes so much, and tells the host of each of these, by the lists that it has then.
-pub record IsDrafted (h : HostId) (kind : EventKind) (changes : List Effect) (new : Lists) (lists : Option Lists) (leaving : List Extent) (d : Draft) : Type 0 where
+pub record IsDrafted (h : HostId) (kind : EventKind) (changes : List Effect) (new : Lists) (lists : Option Lists) (leaving : List Extent) (d : DraftParts) : Type 0 where
   pub payload : d.payload ≡ []
   pub changes_are : d.changes ≡ changes
   pub tags : d.tags ≡ tags_of leaving

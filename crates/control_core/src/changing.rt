@@ -18,6 +18,7 @@ use std::alloc::Global;
 /// The runs that a host takes or loses, with the hosts that hold them then, and those that are zeroed.
 ///
 /// All granules of a change have the same holders.
+#[inline(always)]
 pub(crate) fn changes_of(
     alloc: Global,
     config: &Config,
@@ -34,6 +35,7 @@ pub(crate) fn changes_of(
 }
 
 /// The changes of all the effects, from these holders on.
+#[inline(always)]
 fn put_all(
     alloc: Global,
     config: &Config,

@@ -2,12 +2,13 @@
 
 ghost use Rattle.control_core.specs.ChangedRuns.{AreChanges, LiesIn};
 ghost use Rattle.control_core.specs.Deciding.{AreShort, IsDecidedBy, IsShort};
+ghost use Rattle.device_rules.specs.Answers.{answer as answer_to};
 ghost use Rattle.device_rules.specs.Legal.{Legal};
 ghost use Rattle.control_core.specs.Steps.{IsNext, MayStep, entry_of};
 ghost use Rattle.device_state.specs.Updates.{IsUpdate};
-ghost use Rattle.journal_core.specs.Entries.{effects};
+ghost use Rattle.journal_core.specs.Entries.{effects, effects as effects_in};
 ghost use Rattle.region_config.specs.Granules.{granule_total};
-ghost use Rattle.std.specs.Prelude.{◌≡◌, ◌+◌, ◌++◌, ◌∷◌, ◌<◌, ◌≤◌, [], All, IfOk, OnOk};
+ghost use Rattle.std.specs.Prelude.{◌≡◌, ◌+◌, ◌++◌, ◌∷◌, ◌<◌, ◌≤◌, [], All, IfOk, OnErr, OnOk};
 
 use crate::changing::changes_of;
 use crate::decided::Decided;
@@ -15,9 +16,9 @@ use crate::host_steps::host_step;
 use crate::manager_steps::manager_step;
 use crate::plan::Plan;
 use crate::scrub_steps::scrub_step;
-use dcd_base::{Actor, NoMemory, Stamp};
-use device_state::State;
-use journal_core::{Act, Entry};
+use dcd_base::{Actor, Changes, NoMemory, Stamp};
+use device_state::{State, Update};
+use journal_core::{Act, Effects, Entry};
 use region_config::Config;
 use std::alloc::Global;
 use std::marker::Model;
@@ -126,6 +127,73 @@ impl Control {
             changes: _,
             update,
         } = plan;
+        self.take(entry, update);
+    }
+
+    /// Takes a step at once, as `apply` does with a plan that `prepare` made, and answers the runs whose holders it
+    /// changes or whose words it zeroes, with the holders after it. Without memory the control is seen as before.
+    ///
+    /// The act is a command or a scrub that fits its actor. It goes into the entry; without memory it is gone.
+    pub fn step(
+        &mut self,
+        pass: u32,
+        line: u32,
+        actor: Actor,
+        act: Act,
+    ) -> Result<Changes, NoMemory>
+        requires { MayStep self.old.config actor act }
+        ensures config { self.new.config ≡ self.old.config }
+        ensures entered { OnOk result (self.new.entries ≡ self.old.entries ++ entry_of self.old.config self.old.entries pass line actor act ∷ []) }
+        ensures kept { OnErr result (self.new.entries ≡ self.old.entries) }
+        ensures short { OnOk result (IsShort (entry_of self.old.config self.old.entries pass line actor act).reply) }
+        ensures changes { IfOk result (λ changes. AreChanges self.old.config (effects self.old.entries) (entry_of self.old.config self.old.entries pass line actor act).effects changes) }
+        ensures inside { IfOk result (λ changes. All (LiesIn (granule_total self.old.config)) changes) }
+    {
+        self.make_room()?;
+        let decided = self.decide(&actor, &act)?;
+        let changes = self.changes_by(&actor, &act, &decided.effects)?;
+        self.take_decided(pass, line, actor, act, decided);
+        Ok(changes)
+    }
+
+    /// Enters a step that is decided.
+    #[inline(always)]
+    fn take_decided(&mut self, pass: u32, line: u32, actor: Actor, act: Act, decided: Decided)
+        requires may { MayStep self.old.config actor act }
+        requires room { 0 < self.old.spare }
+        requires decided { IsDecidedBy self.old.config self.old.entries actor act decided }
+        ensures config { self.new.config ≡ self.old.config }
+        ensures entered { self.new.entries ≡ self.old.entries ++ entry_of self.old.config self.old.entries pass line actor act ∷ [] }
+    {
+        let Decided {
+            reply,
+            effects,
+            update,
+        } = decided;
+        let number = self.entries.as_slice().len() as u64 + 1;
+        let entry = Entry {
+            pass,
+            line,
+            actor,
+            act,
+            reply,
+            effects,
+            stamp: Stamp { number, count: 0 },
+        };
+        self.take(entry, update);
+    }
+
+    /// Enters the next entry, and puts its update in place.
+    #[inline(always)]
+    fn take(&mut self, entry: Entry, update: Update)
+        requires room { 0 < self.old.spare }
+        requires next { IsNext self.old entry }
+        requires short { IsShort entry.reply }
+        requires update { IsUpdate self.old.config self.old.entries entry.effects update }
+        ensures config { self.new.config ≡ self.old.config }
+        ensures entered { self.new.entries ≡ self.old.entries ++ entry ∷ [] }
+        ensures room_left { self.old.spare ≤ self.new.spare + 1 }
+    {
         self.state
             .enter(&self.config, entry.effects.as_slice(), update);
         self.entries.push_reserved(entry);
@@ -155,6 +223,7 @@ impl Control {
     }
 
     /// What a step comes to.
+    #[inline(always)]
     fn decide(&self, actor: &Actor, act: &Act) -> Result<Decided, NoMemory>
         requires { MayStep self.now.config actor.now act.now }
         ensures { IfOk result (λ d. IsDecidedBy self.now.config self.now.entries actor.now act.now d) }
@@ -179,6 +248,18 @@ impl Control {
         }
     }
 
+    /// The runs whose holders these effects change or whose words they zero, which are the effects of the step.
+    #[inline(always)]
+    fn changes_by(&self, actor: &Actor, act: &Act, effects: &Effects) -> Result<Changes, NoMemory>
+        requires may { MayStep self.now.config actor.now act.now }
+        requires of_step { effects.now ≡ (answer_to self.now.config self.now.entries actor.now act.now).1 }
+        ensures changes { IfOk result (λ changes. AreChanges self.now.config (effects_in self.now.entries) effects.now changes) }
+        ensures inside { IfOk result (λ changes. All (LiesIn (granule_total self.now.config)) changes) }
+    {
+        let changes = changes_of(self.alloc, &self.config, &self.state, effects.as_slice())?;
+        Ok(changes)
+    }
+
     /// The plan of a step behind the entries so far.
     fn plan(
         &self,
@@ -201,7 +282,7 @@ impl Control {
             effects,
             update,
         } = decided;
-        let changes = changes_of(self.alloc, &self.config, &self.state, effects.as_slice())?;
+        let changes = self.changes_by(&actor, &act, &effects)?;
         let entry = Entry {
             pass,
             line,

@@ -1,7 +1,17 @@
 //! What a step comes to.
 
+ghost use Rattle.dcd_codes.specs.declared.codes.Code.{Code};
+ghost use Rattle.device_rules.specs.Answers.{response};
+ghost use Rattle.device_state.specs.declared.updates.TagChange.{TagChange};
+ghost use Rattle.std.specs.Prelude.{◌≡◌, [], None};
+
+use cci_codec::Request;
+use dcd_base::Bytes;
+use dcd_codes::Code;
 use device_state::Update;
+use host_commands::answer;
 use journal_core::{Effects, Reply};
+use std::alloc::Global;
 
 /// The reply to a step, its effects, and what is put in place beside them.
 #[derive(Drop)]
@@ -9,4 +19,16 @@ pub(crate) struct Decided {
     pub(crate) reply: Reply,
     pub(crate) effects: Effects,
     pub(crate) update: Update,
+}
+
+/// A command that succeeds with this payload and changes nothing. It takes no memory.
+#[inline(always)]
+pub(crate) fn replied(alloc: Global, request: &Request, payload: Bytes) -> Decided
+    ensures { result ≡ record { reply = response request.now Code.Success payload; effects = []; update = record { lists = None; tags = TagChange.Nothing } } }
+{
+    Decided {
+        reply: answer(request, Code::Success, payload),
+        effects: Effects::new(alloc),
+        update: Update::nothing(),
+    }
 }

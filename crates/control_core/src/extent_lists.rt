@@ -40,7 +40,7 @@ pub(crate) fn get_extent_lists(
     if first > total {
         return Err(Refusal::Broken(Rule::PastEnd { first, total }));
     }
-    Ok(Draft::only(alloc, payload_of(alloc, state, host, count, first)?))
+    Ok(Draft::only(payload_of(alloc, state, host, count, first)?))
 }
 
 /// The payload of the reply.

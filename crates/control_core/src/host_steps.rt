@@ -17,7 +17,7 @@ ghost use Rattle.std.specs.List.{list_any};
 ghost use Rattle.std.specs.Prelude.{◌≡◌, ◌++◌, ◌<◌, All, IfOk, List, length, map};
 ghost use Rattle.tag_laws.specs.Tables.{ending as ending_by};
 
-use crate::decided::Decided;
+use crate::decided::{Decided, replied};
 use crate::ending::ending;
 use crate::fitting::part_fits;
 use crate::recording::{put_ends, put_notices};
@@ -25,13 +25,14 @@ use cci_codec::Request;
 use dcd_base::{HostId, NoMemory, Seq, Tag};
 use dcd_codes::{Code, Refusal, Rule};
 use device_state::{NewLists, State, TagChange, Update};
-use host_commands::{Draft, Notice, answer, draft_of, dropped, refused};
+use host_commands::{Content, Draft, DraftParts, Notice, answer, draft_of, dropped, refused};
 use host_lists::HostLists;
 use journal_core::Effects;
 use region_config::Config;
 use std::alloc::Global;
 
 /// What a message of a host comes to.
+#[inline(always)]
 pub(crate) fn host_step(
     alloc: Global,
     config: &Config,
@@ -52,6 +53,7 @@ pub(crate) fn host_step(
 }
 
 /// The draft of a message, or the first rule that it breaks.
+#[inline(always)]
 fn drafted(
     alloc: Global,
     config: &Config,
@@ -76,6 +78,7 @@ fn drafted(
 }
 
 /// A command that breaks no rule, by whose draft the host has these lists, or the ones that it had.
+#[inline(always)]
 pub(crate) fn done(
     alloc: Global,
     state: &State,
@@ -88,13 +91,33 @@ pub(crate) fn done(
     requires known { All (λ (n : Notice). IsOfLog (length state.now.hosts.items) n.log) draft.notices }
     ensures { IfOk result (Does state.now host request.now draft) }
 {
-    let Draft {
+    match draft.into_content() {
+        Content::Reply(payload) => Ok(replied(alloc, request, payload)),
+        Content::Parts(parts) => all_done(alloc, state, host, request, parts.into_inner()),
+    }
+}
+
+/// A command that breaks no rule and may change something, by whose draft the host has these lists, or the ones that it
+/// had.
+fn all_done(
+    alloc: Global,
+    state: &State,
+    host: HostId,
+    request: &Request,
+    parts: DraftParts,
+) -> Result<Decided, NoMemory>
+    requires host { host < length state.now.hosts.items }
+    requires few { host < 16 }
+    requires known { All (λ (n : Notice). IsOfLog (length state.now.hosts.items) n.log) parts.notices }
+    ensures { IfOk result (Does state.now host request.now parts) }
+{
+    let DraftParts {
         payload,
         changes,
         tags,
         notices,
         lists,
-    } = draft;
+    } = parts;
     match lists {
         Some(lists) => {
             let effects = told(alloc, state, host, lists.get(), changes, &tags, &notices)?;

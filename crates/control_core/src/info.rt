@@ -30,7 +30,7 @@ pub(crate) fn get_info(alloc: Global, config: &Config, state: &State) -> Result<
         sizes.as_slice(),
         &mut payload,
     )?;
-    Ok(Draft::only(alloc, payload))
+    Ok(Draft::only(payload))
 }
 
 /// The mask of the block sizes of each region.

@@ -20,7 +20,7 @@ ghost use Rattle.std.specs.declared.result.Result.TheVariants.{Ok};
 ghost use Rattle.tag_laws.specs.QuietRequests.{is_quiet_manager};
 ghost use Rattle.tag_refs.specs.Tables.{is_live, is_used, passes, with_reference};
 
-use crate::decided::Decided;
+use crate::decided::{Decided, replied};
 use crate::extent_lists::get_extent_lists;
 use crate::fitting::request_fits;
 use crate::host_steps::done;
@@ -36,13 +36,16 @@ use dcd_base::{Boxed, Extents, HostId, LogId, NoMemory, RegionId, Runs, Seq, Tag
 use dcd_codes::{Code, Refusal, Rule};
 use device_state::{NewLists, State, TagChange, Update};
 use fm_payloads::{FmRequest, PayloadFault, decode};
-use host_commands::{Draft, answer, clear_events, get_events, refused, run_of};
+use host_commands::{
+    Content, Draft, DraftParts, answer, clear_events, get_events, refused, run_of,
+};
 use host_lists::HostLists;
 use journal_core::{Effect, Effects};
 use region_config::Config;
 use std::alloc::Global;
 
 /// What a message of the manager comes to.
+#[inline(always)]
 pub(crate) fn manager_step(
     alloc: Global,
     config: &Config,
@@ -64,6 +67,7 @@ pub(crate) fn manager_step(
 }
 
 /// What a message comes to, or the first rule that it breaks.
+#[inline(always)]
 fn step_of(
     alloc: Global,
     config: &Config,
@@ -141,8 +145,23 @@ fn step_read(
 {
     request_fits(state, asked);
     match read_draft(alloc, config, state, asked) {
-        Ok(draft) => Ok(entered(alloc, state, request, draft, &[], TagChange::Nothing)?),
+        Ok(draft) => Ok(read(alloc, state, request, draft)?),
         Err(refusal) => Err(refusal),
+    }
+}
+
+/// A command that changes no lists and no tags is entered.
+#[inline(always)]
+fn read(alloc: Global, state: &State, request: &Request, draft: Draft) -> Result<Decided, NoMemory>
+    requires known { All (λ (n : Notice). IsOfLog (length state.now.hosts.items) n.log) draft.notices }
+    ensures { IfOk result (Enters state.now request.now draft [] TagChange.Nothing) }
+{
+    match draft.into_content() {
+        Content::Reply(payload) => Ok(replied(alloc, request, payload)),
+        Content::Parts(parts) => {
+            let parts = parts.into_inner();
+            entered(alloc, state, request, parts, &[], TagChange::Nothing)
+        }
     }
 }
 
@@ -218,7 +237,10 @@ fn step_refer(
     ensures { Manages config.now state.now request.now result }
 {
     match add_reference(alloc, config, state, tag) {
-        Ok(draft) => Ok(entered(alloc, state, request, draft, &[], TagChange::Refer(*tag))?),
+        Ok(draft) => {
+            let parts = draft.into_parts(alloc);
+            Ok(entered(alloc, state, request, parts, &[], TagChange::Refer(*tag))?)
+        }
         Err(refusal) => Err(refusal),
     }
 }
@@ -237,14 +259,11 @@ fn step_unrefer(
 {
     let over = over(alloc, state, tag)?;
     match remove_reference(alloc, config, state, tag) {
-        Ok(draft) => Ok(entered(
-            alloc,
-            state,
-            request,
-            draft,
-            over.as_slice(),
-            TagChange::Unrefer(*tag),
-        )?),
+        Ok(draft) => {
+            let parts = draft.into_parts(alloc);
+            let over = over.as_slice();
+            Ok(entered(alloc, state, request, parts, over, TagChange::Unrefer(*tag))?)
+        }
         Err(refusal) => Err(refusal),
     }
 }
@@ -283,7 +302,8 @@ fn step_add(
         Ok(draft) => {
             let host = HostId(host as u8);
             let region = RegionId(region);
-            Ok(added(alloc, config, state, request, host, region, tag, draft)?)
+            let parts = draft.into_parts(alloc);
+            Ok(added(alloc, config, state, request, host, region, tag, parts)?)
         }
         Err(refusal) => Err(refusal),
     }
@@ -298,22 +318,22 @@ fn added(
     host: HostId,
     region: RegionId,
     tag: &Tag,
-    draft: Draft,
+    parts: DraftParts,
 ) -> Result<Decided, NoMemory>
     requires host { host < config.now.hosts }
     requires region { region < length config.now.regions }
-    requires granular { OffersGranular config.now host draft.changes }
-    requires known { All (λ (n : Notice). IsOfLog (length state.now.hosts.items) n.log) draft.notices }
-    ensures { IfOk result (Offers config.now state.now host region tag.now request.now draft) }
+    requires granular { OffersGranular config.now host parts.changes }
+    requires known { All (λ (n : Notice). IsOfLog (length state.now.hosts.items) n.log) parts.notices }
+    ensures { IfOk result (Offers config.now state.now host region tag.now request.now parts) }
 {
-    let change = tag_change(alloc, config, state, host, region, tag, &draft.changes)?;
-    let Draft {
+    let change = tag_change(alloc, config, state, host, region, tag, &parts.changes)?;
+    let DraftParts {
         payload,
         changes,
         tags: _,
         notices,
         lists,
-    } = draft;
+    } = parts;
     let mut effects = changes;
     put_notices(state, &notices, &mut effects)?;
     let update = Update::new(alloc, new_lists(host, lists), change)?;
@@ -398,20 +418,20 @@ fn entered(
     alloc: Global,
     state: &State,
     request: &Request,
-    draft: Draft,
+    parts: DraftParts,
     over: &[Tag],
     change: TagChange,
 ) -> Result<Decided, NoMemory>
-    requires known { All (λ (n : Notice). IsOfLog (length state.now.hosts.items) n.log) draft.notices }
-    ensures { IfOk result (Enters state.now request.now draft over.now change) }
+    requires known { All (λ (n : Notice). IsOfLog (length state.now.hosts.items) n.log) parts.notices }
+    ensures { IfOk result (Enters state.now request.now parts over.now change) }
 {
-    let Draft {
+    let DraftParts {
         payload,
         changes,
         tags: _,
         notices,
         lists: _,
-    } = draft;
+    } = parts;
     let mut effects = changes;
     put_ends(over, &mut effects)?;
     put_notices(state, &notices, &mut effects)?;

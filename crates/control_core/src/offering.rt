@@ -20,7 +20,7 @@ use dcd_base::{Boxed, Bytes, Extents, HostId, LogId, NoMemory, RegionId, Seq, Ta
 use dcd_codes::{Refusal, Rule};
 use device_state::State;
 use event_records::EventKind;
-use host_commands::{Draft, notices_of, one_notice};
+use host_commands::{Draft, DraftParts, notices_of, one_notice};
 use journal_core::{Effect, Effects};
 use list_rules::too_many_extents;
 use region_config::Config;
@@ -220,11 +220,12 @@ fn draft_of(
     let events = notices_of(alloc, host, &lists, EventKind::Add, extents.as_slice())?;
     let mut changes = Effects::new(alloc);
     changes.push(Effect::Offer(host, extents))?;
-    Ok(Draft {
+    let parts = DraftParts {
         payload: Bytes::new(alloc),
         changes,
         tags: Seq::new(alloc),
         notices: one_notice(alloc, LogId::Host(host), events)?,
         lists: Some(Boxed::new(alloc, lists)?),
-    })
+    };
+    Draft::of(alloc, parts)
 }

@@ -43,7 +43,7 @@ pub(crate) fn get_regions(
     if first >= state.present.regions() {
         return Err(Refusal::Broken(Rule::NoSuchRegion(first)));
     }
-    Ok(Draft::only(alloc, payload_of(alloc, state, host, count, first)?))
+    Ok(Draft::only(payload_of(alloc, state, host, count, first)?))
 }
 
 /// The payload of the reply.

@@ -23,7 +23,7 @@ use dcd_base::{Boxed, Bytes, Extents, HostId, LogId, NoMemory, RegionId, Tag};
 use dcd_codes::{Refusal, Rule};
 use device_state::State;
 use event_records::EventKind;
-use host_commands::{Draft, notices_of, one_notice, put_leaves, tags_of};
+use host_commands::{Draft, DraftParts, notices_of, one_notice, put_leaves, tags_of};
 use journal_core::Effects;
 use region_config::Config;
 use release_core::{by_tag, removal};
@@ -185,13 +185,14 @@ fn taken(
     let mut changes = Effects::new(alloc);
     put_leaves(config, host, cleaning, leaving.as_slice(), &mut changes)?;
     let events = notices_of(alloc, host, &lists, EventKind::Forced, leaving.as_slice())?;
-    Ok(Draft {
+    let parts = DraftParts {
         payload: Bytes::new(alloc),
         changes,
         tags: tags_of(alloc, leaving.as_slice())?,
         notices: one_notice(alloc, LogId::Host(host), events)?,
         lists: Some(Boxed::new(alloc, lists)?),
-    })
+    };
+    Draft::of(alloc, parts)
 }
 
 /// The host is asked to give the extents back.
@@ -202,11 +203,12 @@ fn asked(alloc: Global, state: &State, host: HostId, leaving: Extents) -> Result
 {
     let lists = &state.part(host).lists;
     let events = notices_of(alloc, host, lists, EventKind::Release, leaving.as_slice())?;
-    Ok(Draft {
+    let parts = DraftParts {
         payload: Bytes::new(alloc),
         changes: Effects::new(alloc),
         tags: tags_of(alloc, leaving.as_slice())?,
         notices: one_notice(alloc, LogId::Host(host), events)?,
         lists: None,
-    })
+    };
+    Draft::of(alloc, parts)
 }

@@ -23,7 +23,7 @@ use dcd_base::{Bytes, Granule, HostId, LogId, NoMemory, RegionId, Seq};
 use dcd_codes::{Refusal, Rule};
 use device_state::State;
 use event_records::{Event, EventKind};
-use host_commands::{Draft, Notice, event_for, no_extent};
+use host_commands::{Draft, DraftParts, Notice, event_for, no_extent};
 use journal_core::{Effect, Effects};
 use region_config::{BlockFault, Config};
 use std::alloc::Global;
@@ -131,13 +131,14 @@ fn draft_of(alloc: Global, state: &State, region: RegionId, block: u64) -> Resul
 {
     let mut changes = Effects::new(alloc);
     changes.push(Effect::Block(region, block))?;
-    Ok(Draft {
+    let parts = DraftParts {
         payload: Bytes::new(alloc),
         changes,
         tags: Seq::new(alloc),
         notices: notices_for_all(alloc, state, region)?,
         lists: None,
-    })
+    };
+    Draft::of(alloc, parts)
 }
 
 /// A record for each host.

@@ -12,7 +12,7 @@ use dcd_base::{Bytes, NoMemory, Seq, Tag, TagView};
 use dcd_codes::{Refusal, Rule};
 use device_state::State;
 use fm_payloads::write_tags;
-use host_commands::Draft;
+use host_commands::{Draft, DraftParts};
 use journal_core::{Effect, Effects};
 use region_config::Config;
 use std::alloc::Global;
@@ -35,7 +35,7 @@ pub(crate) fn add_reference(
         return Err(Refusal::Broken(Rule::NoSuchTag));
     }
     let changes = reference_to(alloc, &state.tags, tag)?;
-    Ok(Draft::changing(alloc, changes))
+    Ok(Draft::changing(alloc, changes)?)
 }
 
 /// A reference to the tag, unless there is one.
@@ -65,9 +65,16 @@ pub(crate) fn remove_reference(
     }
     let mut changes = Effects::new(alloc);
     changes.push(Effect::Ref(*tag, false))?;
-    let mut draft = Draft::changing(alloc, changes);
-    draft.tags.push(*tag)?;
-    Ok(draft)
+    let mut tags = Seq::new(alloc);
+    tags.push(*tag)?;
+    let parts = DraftParts {
+        payload: Bytes::new(alloc),
+        changes,
+        tags,
+        notices: Seq::new(alloc),
+        lists: None,
+    };
+    Ok(Draft::of(alloc, parts)?)
 }
 
 /// At most `count` open tags from `first` on, 84 at most (profile). `PastEnd` comes exactly where the first index is
@@ -89,7 +96,7 @@ pub(crate) fn list_tags(
     let views = views_of(alloc, &state.tags, first as usize, count.min(PAGE) as usize)?;
     let mut payload = Bytes::new(alloc);
     write_tags(first, total, views.as_slice(), &mut payload)?;
-    Ok(Draft::only(alloc, payload))
+    Ok(Draft::only(payload))
 }
 
 /// So many open tags from an index on, as they are shown.

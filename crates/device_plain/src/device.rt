@@ -16,6 +16,7 @@ use crate::accesses::{
 };
 use crate::commands::{enter_ready, make_ready};
 use crate::history::History;
+use crate::making::make_all;
 use control_core::Control;
 use dcd_base::{Actor, HostId, NoMemory};
 use device_laws::law_exclusive;
@@ -171,6 +172,22 @@ impl Device {
         actor: Actor,
         act: Act,
     ) -> Result<(), NoMemory>
+        requires { MayStep self.old.config actor act }
+        ensures entered { OnOk result (Appends self.old self.new pass line actor act) }
+        ensures kept { OnErr result (self.new ≡ self.old) }
+    {
+        if self.history.is_own() {
+            return self.enter_twice(pass, line, actor, act);
+        }
+        let changes = self.control.step(pass, line, actor, act)?;
+        make_all(&mut self.memory, changes.as_slice());
+        self.since = 0;
+        Ok(())
+    }
+
+    /// Takes a command or a scrub that is handed over, and enters it in the control and in the device's own journal.
+    #[inline(never)]
+    fn enter_twice(&mut self, pass: u32, line: u32, actor: Actor, act: Act) -> Result<(), NoMemory>
         requires { MayStep self.old.config actor act }
         ensures entered { OnOk result (Appends self.old self.new pass line actor act) }
         ensures kept { OnErr result (self.new ≡ self.old) }

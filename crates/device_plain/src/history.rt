@@ -51,6 +51,13 @@ impl History {
         }
     }
 
+    /// Whether it is the device's own.
+    pub(crate) fn is_own(&self) -> bool
+        ensures { result ≡ self.now.is_own }
+    {
+        self.is_own
+    }
+
     /// Makes it the device's own, with room for one more entry.
     pub(crate) fn make_own(&mut self, control: &Control) -> Result<(), NoMemory>
         ensures own { OnOk result (self.new.is_own ≡ true) }

@@ -23,7 +23,7 @@ use Rattle.device_rules.specs.Hosts.{accepted_after, held_after, moves, offers_a
 use Rattle.device_rules.specs.ResponseOutcomes.{hold, respond_changes, respond_outcome, response_notices, unhold}
 use Rattle.device_rules.specs.Views.{View, generation_in, view_after}
 use Rattle.device_laws.proofs.Homes.{run_same}
-use Rattle.host_commands.specs.declared.drafts.Draft.{Draft}
+use Rattle.host_commands.specs.declared.draft_parts.DraftParts.{DraftParts}
 use Rattle.host_commands.specs.Parts.{AreAfter, Drafts, lists_in}
 use Rattle.host_commands.specs.Told.{Tells, changed, takes, told_of}
 use Rattle.host_commands.proofs.Listed.{Granular, marked_granular, response_few, response_granular}
@@ -99,7 +99,7 @@ module _ (c : Configuration) (h : HostId) (v : View) where
     }
 
   -- the draft, where the offer is the oldest
-  answers : (offer : List Extent) (later : List (List Extent)) (list : List Extent) (after : Lists) (d : Draft)
+  answers : (offer : List Extent) (later : List (List Extent)) (list : List Extent) (after : Lists) (d : DraftParts)
       → after ≡ record {
         accepted = v.accepted ++ map (marked offer) (v.responses ++ list);
         offers = later;
@@ -123,7 +123,7 @@ module _ (c : Configuration) (h : HostId) (v : View) where
       }
 
 -- the oldest offer is answered
-pub answered_drafts : (c p : Configuration) (h : HostId) (v : View) (lists after : Lists) (list accepted : List Extent) (more : Bool) (d : Draft)
+pub answered_drafts : (c p : Configuration) (h : HostId) (v : View) (lists after : Lists) (list accepted : List Extent) (more : Bool) (d : DraftParts)
     → p ≡ with_blocks c v.block → lists ≡ lists_in v → more ≡ false → IsAccepted lists list after accepted
     → Tells (unhold h HeldKind.Responses lists.responses ++ Effect.Answer h accepted ∷ takes p h accepted) (tags_of (oldest_of lists.offers)) (λ w. told_of h w accepted) after d
     → Drafts c h v (respond_outcome c h v more list) d
@@ -144,7 +144,7 @@ answered_drafts c p h v lists after list accepted more d present shows last a te
     (subst (λ (u : View). Drafts c h u (respond_outcome c h u false list) d) (sym same) (answers c h v offer later list after d left told))
 
 -- more is to come
-pub held_response : (c : Configuration) (h : HostId) (v : View) (lists after : Lists) (list : List Extent) (more : Bool) (d : Draft)
+pub held_response : (c : Configuration) (h : HostId) (v : View) (lists after : Lists) (list : List Extent) (more : Bool) (d : DraftParts)
     → lists ≡ lists_in v → more ≡ true → after ≡ record lists { responses = lists.responses ++ list } → d ≡ changed (hold h HeldKind.Responses list) after
     → Drafts c h v (respond_outcome c h v more list) d
 held_response c h v lists after list more d shows goes_on is drafts =
@@ -158,7 +158,7 @@ held_response c h v lists after list more d shows goes_on is drafts =
       generation = (if hold_moves h HeldKind.Responses list i then v.changes + 1 else v.changes) % 2 ^ 32;
     }) in
     subst (λ (b : Bool). Drafts c h v (respond_outcome c h v b list) d) (sym goes_on)
-    (subst (λ (e : Draft). Drafts c h v (respond_outcome c h v true list) e) (sym drafts)
+    (subst (λ (e : DraftParts). Drafts c h v (respond_outcome c h v true list) e) (sym drafts)
     (record { payload = refl; changes = refl; tags = refl; notices = refl; lists = left }))
 
 -- ---- what the lists' answer gives

@@ -24,7 +24,7 @@ use Rattle.device_rules.specs.ReleaseOutcomes.{give_back_outcome, leaves, remova
 use Rattle.device_rules.specs.ResponseOutcomes.{hold, unhold}
 use Rattle.device_rules.specs.Views.{View, view_after}
 use Rattle.device_laws.proofs.Homes.{bytes_same, run_same, start_same}
-use Rattle.host_commands.specs.declared.drafts.Draft.{Draft}
+use Rattle.host_commands.specs.declared.draft_parts.DraftParts.{DraftParts}
 use Rattle.host_commands.specs.Parts.{AreAfter, Drafts, lists_in}
 use Rattle.host_commands.specs.Told.{Tells, changed}
 use Rattle.host_commands.proofs.Listed.{Granular, marked_granular, release_granular}
@@ -71,7 +71,7 @@ module _ (c : Configuration) (h : HostId) (v : View) where
   }
 
 -- the list leaves
-pub given_drafts : (c p : Configuration) (h : HostId) (v : View) (lists after : Lists) (list leaving : List Extent) (more : Bool) (d : Draft)
+pub given_drafts : (c p : Configuration) (h : HostId) (v : View) (lists after : Lists) (list leaving : List Extent) (more : Bool) (d : DraftParts)
     → p ≡ with_blocks c v.block → lists ≡ lists_in v → more ≡ false → IsSound p → h < c.hosts
     → lists.releases ++ list ≢ [] → AllByRecursion (Granular p h) (lists.releases ++ list)
     → leaving ≡ map (marked lists.accepted) (lists.releases ++ list) → after ≡ given_up lists (lists.releases ++ list)
@@ -97,7 +97,7 @@ given_drafts c p h v lists after list leaving more d present shows last sound ho
     })
 
 -- more is to come
-pub held_release : (c : Configuration) (h : HostId) (v : View) (lists after : Lists) (list : List Extent) (more : Bool) (d : Draft)
+pub held_release : (c : Configuration) (h : HostId) (v : View) (lists after : Lists) (list : List Extent) (more : Bool) (d : DraftParts)
     → lists ≡ lists_in v → more ≡ true → after ≡ record lists { releases = lists.releases ++ list } → d ≡ changed (hold h HeldKind.Releases list) after
     → Drafts c h v (give_back_outcome c h v more list) d
 held_release c h v lists after list more d shows goes_on is drafts =
@@ -111,7 +111,7 @@ held_release c h v lists after list more d shows goes_on is drafts =
       generation = (if hold_moves h HeldKind.Releases list i then v.changes + 1 else v.changes) % 2 ^ 32;
     }) in
     subst (λ (b : Bool). Drafts c h v (give_back_outcome c h v b list) d) (sym goes_on)
-    (subst (λ (e : Draft). Drafts c h v (give_back_outcome c h v true list) e) (sym drafts)
+    (subst (λ (e : DraftParts). Drafts c h v (give_back_outcome c h v true list) e) (sym drafts)
     (record { payload = refl; changes = refl; tags = refl; notices = refl; lists = left }))
 
 -- ---- what the lists' answer gives

@@ -13,7 +13,7 @@ use Rattle.event_log.specs.LogStates.{LogState, clear_fault, has_handle, misplac
 use Rattle.device_rules.specs.EventCommands.{clear_outcome, clear_rule, out_of_place}
 use Rattle.host_commands.specs.Clearing.{clearing_outcome, clearing_rule, listed_outcome, rule_of}
 use Rattle.host_commands.specs.Parts.{IsLogOf, IsOutcome}
-use Rattle.host_commands.specs.declared.drafts.Draft.{Draft}
+use Rattle.host_commands.specs.declared.draft_parts.DraftParts.{DraftParts}
 
 -- the fault of a handle in the wrong place
 misplaced_rule : (h oldest : ℕ) (records : List Event) → Some (rule_of (misplaced h oldest records)) ≡ (if has_handle h records then Some (Rule.OlderLeft oldest) else Some (Rule.UnknownHandle h))
@@ -31,7 +31,7 @@ same_fault (h ∷ handles) (e ∷ records) = elim (cases_Bool (eqb h e.handle)) 
 ]
 
 -- what clears the log of dynamic capacity, whose number is 4, clears its history
-pub clears : (l : LogId) (number : ℕ) (own : Log) (log : LogState) (all : Bool) (handles : List ℕ) (r : Result Draft Refusal) → number ≡ 4 → IsLogOf l own log
+pub clears : (l : LogId) (number : ℕ) (own : Log) (log : LogState) (all : Bool) (handles : List ℕ) (r : Result DraftParts Refusal) → number ≡ 4 → IsLogOf l own log
     → ByRow (clearing_rule log all handles) (IsOutcome (clearing_outcome l log all handles)) r
     → ByRow (clear_rule number own all handles) (IsOutcome (clear_outcome l number own all handles)) r
 clears l number own log all handles r four of holds =

@@ -1,4 +1,5 @@
 pub mod Clearing
+pub mod Contents
 pub mod Messages
 pub mod Parts
 pub mod Shown

@@ -18,18 +18,18 @@ use Rattle.host_lists.specs.Lists.{Lists}
 use Rattle.device_rules.specs.Answers.{host_outcome, host_result_in, host_rule}
 use Rattle.device_rules.specs.ResponseOutcomes.{unhold}
 use Rattle.device_rules.specs.Views.{View}
-use Rattle.host_commands.specs.declared.drafts.Draft.{Draft}
+use Rattle.host_commands.specs.declared.draft_parts.DraftParts.{DraftParts}
 use Rattle.host_commands.specs.Parts.{Drafts, IsLogOf, lists_in}
 
 -- The draft is the outcome of the request that the message is, which breaks no rule.
-pub record IsDraft (c : Configuration) (h : HostId) (v : View) (q : Request) (draft : Draft) : Type 0 where
+pub record IsDraft (c : Configuration) (h : HostId) (v : View) (q : Request) (draft : DraftParts) : Type 0 where
   pub request : HostRequest
   pub asked : host_request q.opcode q.payload ≡ Ok request
   pub row : host_rule c h v request ≡ None
   pub drafts : Drafts c h v (host_outcome c h v request) draft
 
 -- So it is, or this is the first rule that the message breaks.
-abbrev pub IsDrafted : Configuration → HostId → View → Request → Result Draft Refusal → Type 0
+abbrev pub IsDrafted : Configuration → HostId → View → Request → Result DraftParts Refusal → Type 0
 IsDrafted c h v q (Ok draft) = IsDraft c h v q draft
 IsDrafted c h v q (Err (Refusal.Broken rule)) = host_result_in c h v q ≡ Err rule
 IsDrafted c h v q (Err Refusal.NoMemory) = Unit {0}
@@ -41,7 +41,7 @@ FewHandles q = Unit {0}
 
 -- A host's request answers by its row, and the draft is its outcome, for each view that the present blocks, the lists and
 -- the log show.
-abbrev pub AnswersHost : Configuration → Configuration → HostId → Lists → LogState → HostRequest → Result Draft Refusal → Type 0
+abbrev pub AnswersHost : Configuration → Configuration → HostId → Lists → LogState → HostRequest → Result DraftParts Refusal → Type 0
 AnswersHost c present h lists log asked result = (v : View) → present ≡ with_blocks c v.block → lists ≡ lists_in v → IsLogOf (LogId.Host h) v.log log →
     ByRow (host_rule c h v asked) (Drafts c h v (host_outcome c h v asked)) result
 

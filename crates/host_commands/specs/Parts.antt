@@ -9,7 +9,7 @@ use Rattle.region_config.specs.Configurations.{Configuration}
 use Rattle.host_lists.specs.Lists.{Lists}
 use Rattle.device_rules.specs.Outcomes.{Outcome}
 use Rattle.device_rules.specs.Views.{View, generation_in, view_after}
-use Rattle.host_commands.specs.declared.drafts.Draft.{Draft}
+use Rattle.host_commands.specs.declared.draft_parts.DraftParts.{DraftParts}
 use Rattle.host_commands.specs.declared.notices.Notice.{Notice}
 
 -- the lists that a view shows
@@ -37,7 +37,7 @@ AreAfter c h v o None = lists_in (view_after c h v o.changes) ≡ lists_in v
 AreAfter c h v o (Some lists) = lists ≡ lists_in (view_after c h v o.changes)
 
 -- The draft is this outcome, and has the lists of this host after it.
-pub record Drafts (c : Configuration) (h : HostId) (v : View) (o : Outcome) (d : Draft) : Type 0 where
+pub record Drafts (c : Configuration) (h : HostId) (v : View) (o : Outcome) (d : DraftParts) : Type 0 where
   pub payload : d.payload ≡ o.payload
   pub changes : d.changes ≡ o.changes
   pub tags : d.tags ≡ o.tags
@@ -45,7 +45,7 @@ pub record Drafts (c : Configuration) (h : HostId) (v : View) (o : Outcome) (d :
   pub lists : AreAfter c h v o d.lists
 
 -- The draft is this outcome, and changes no lists.
-pub record IsOutcome (o : Outcome) (d : Draft) : Type 0 where
+pub record IsOutcome (o : Outcome) (d : DraftParts) : Type 0 where
   pub payload : d.payload ≡ o.payload
   pub changes : d.changes ≡ o.changes
   pub tags : d.tags ≡ o.tags

@@ -12,7 +12,7 @@ use Rattle.media_map.specs.Places.{run_of}
 use Rattle.host_lists.specs.Lists.{Lists}
 use Rattle.device_rules.specs.Outcomes.{no_extent, notice, notices_of}
 use Rattle.device_rules.specs.Views.{View}
-use Rattle.host_commands.specs.declared.drafts.Draft.{Draft}
+use Rattle.host_commands.specs.declared.draft_parts.DraftParts.{DraftParts}
 use Rattle.host_commands.specs.Parts.{lists_in, told_in}
 
 -- the host takes each of the extents
@@ -25,12 +25,12 @@ told_of h w [] = notice h w EventKind.AddResponse false no_extent ∷ []
 told_of h w (x ∷ xs) = notices_of h w EventKind.AddResponse (x ∷ xs)
 
 -- changes, and the lists after them
-abbrev pub changed : List Effect → Lists → Draft
+abbrev pub changed : List Effect → Lists → DraftParts
 changed changes lists = record { payload = []; changes = changes; tags = []; notices = []; lists = Some lists }
 
 -- The draft has these changes, these tags that may end, these lists, and for the manager these events of a view with
 -- these lists.
-pub record Tells (changes : List Effect) (tags : List Tag) (events : View → List Event) (lists : Lists) (d : Draft) : Type 0 where
+pub record Tells (changes : List Effect) (tags : List Tag) (events : View → List Event) (lists : Lists) (d : DraftParts) : Type 0 where
   pub payload : d.payload ≡ []
   pub changes_are : d.changes ≡ changes
   pub tags_are : d.tags ≡ tags

@@ -52,7 +52,7 @@ fn clear_empty(alloc: Global, all: bool, handles: &[u16]) -> Result<Draft, Refus
     }
     match handles.first() {
         Some(handle) => Err(Refusal::Broken(Rule::UnknownHandle(*handle))),
-        None => Ok(Draft::changing(alloc, Effects::new(alloc))),
+        None => Ok(Draft::changing(alloc, Effects::new(alloc))?),
     }
 }
 
@@ -84,7 +84,7 @@ fn clear_whole(alloc: Global, id: &LogId, log: &EventLog) -> Result<Draft, Refus
     let mut changes = Effects::new(alloc);
     put_cleared(id, log.len() as usize, &mut changes)?;
     changes.push(reset_of(id))?;
-    Ok(Draft::changing(alloc, changes))
+    Ok(Draft::changing(alloc, changes)?)
 }
 
 /// Takes the records of the handles out.
@@ -102,7 +102,7 @@ fn clear_listed(
     }
     let mut changes = Effects::new(alloc);
     put_cleared(id, handles.len(), &mut changes)?;
-    Ok(Draft::changing(alloc, changes))
+    Ok(Draft::changing(alloc, changes)?)
 }
 
 /// The rule that is broken where records cannot be cleared.

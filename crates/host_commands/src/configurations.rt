@@ -44,5 +44,5 @@ pub fn get_configuration(
     let counts = host_counts(lists);
     let mut payload = Bytes::new(alloc);
     write_configuration(present.regions(), views.as_slice(), &counts, &mut payload)?;
-    Ok(Draft::only(alloc, payload))
+    Ok(Draft::only(payload))
 }

@@ -37,7 +37,7 @@ pub fn get_extents(
     let extents = extents_page(lists, count, first);
     let mut payload = Bytes::new(alloc);
     write_extents(total, lists.generation(), extents, &mut payload)?;
-    Ok(Draft::only(alloc, payload))
+    Ok(Draft::only(payload))
 }
 
 /// So many accepted extents from an index on, 50 at most.

@@ -17,6 +17,7 @@ ghost use Rattle.region_config.specs.Granules.{with_blocks};
 ghost use Rattle.release_core.specs.Releases.{give_back_rule};
 ghost use Rattle.std.specs.Prelude.{◌≡◌, ◌++◌, ◌∷◌, ◌<◌, ◌≤◌, All, IfOk, IfSome, IsTrue, OnOk, false};
 
+use crate::draft_parts::DraftParts;
 use crate::drafts::Draft;
 use crate::held_lists::{hold, unhold};
 use crate::notices::{notices_of, one_notice};
@@ -74,9 +75,8 @@ fn held(alloc: Global, host: HostId, list: &Extents, after: HostLists) -> Result
     ensures drafts { IfOk result (λ draft. draft ≡ changed (hold host HeldKind.Releases list.now) after) }
     ensures few { IfOk result (λ draft. IfSome draft.lists (λ new. extent_total new ≤ 64)) }
 {
-    let mut draft = Draft::changing(alloc, hold(alloc, host, HeldKind::Releases, list)?);
-    draft.lists = Some(Boxed::new(alloc, after)?);
-    Ok(draft)
+    let changes = hold(alloc, host, HeldKind::Releases, list)?;
+    Draft::relisting(alloc, changes, after)
 }
 
 /// These extents leave the host.
@@ -104,13 +104,16 @@ fn done(
     let events = notices_of(alloc, host, &after, EventKind::Released, leaving)?;
     let notices = one_notice(alloc, LogId::Manager, events)?;
     let after = Boxed::new(alloc, after)?;
-    Ok(Draft {
-        payload: Bytes::new(alloc),
-        changes,
-        tags,
-        notices,
-        lists: Some(after),
-    })
+    Draft::of(
+        alloc,
+        DraftParts {
+            payload: Bytes::new(alloc),
+            changes,
+            tags,
+            notices,
+            lists: Some(after),
+        },
+    )
 }
 
 /// Each of the extents leaves the host; where the removal cleans, its granules are soiled at once.

@@ -6,6 +6,7 @@
 
 mod clearing_events;
 mod configurations;
+mod draft_parts;
 mod drafts;
 mod extent_pages;
 mod giving_back;
@@ -21,6 +22,7 @@ mod tags;
 
 pub use clearing_events::clear_events;
 pub use configurations::get_configuration;
+pub use draft_parts::{Content, DraftParts};
 pub use drafts::Draft;
 pub use extent_pages::{extents_page, get_extents};
 pub use giving_back::{give_back, put_leaves};

@@ -39,7 +39,7 @@ pub fn get_events(alloc: Global, number: u8, log: &EventLog) -> Result<Draft, Re
     } else {
         no_events(alloc)?
     };
-    Ok(Draft::only(alloc, payload))
+    Ok(Draft::only(payload))
 }
 
 /// The payload of an empty log.

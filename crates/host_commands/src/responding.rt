@@ -16,6 +16,7 @@ ghost use Rattle.offer_core.specs.Responses.{respond_rule};
 ghost use Rattle.region_config.specs.Granules.{with_blocks};
 ghost use Rattle.std.specs.Prelude.{◌≡◌, ◌++◌, ◌∷◌, ◌<◌, ◌≤◌, [], All, IfOk, IfSome, IsTrue, OnOk, length};
 
+use crate::draft_parts::DraftParts;
 use crate::drafts::Draft;
 use crate::held_lists::{hold, unhold};
 use crate::notices::{event_for, notices_of, one_notice};
@@ -67,9 +68,8 @@ fn held(alloc: Global, host: HostId, list: &Extents, after: HostLists) -> Result
     ensures drafts { IfOk result (λ draft. draft ≡ changed (hold host HeldKind.Responses list.now) after) }
     ensures few { IfOk result (λ draft. IfSome draft.lists (λ new. extent_total new ≤ 64)) }
 {
-    let mut draft = Draft::changing(alloc, hold(alloc, host, HeldKind::Responses, list)?);
-    draft.lists = Some(Boxed::new(alloc, after)?);
-    Ok(draft)
+    let changes = hold(alloc, host, HeldKind::Responses, list)?;
+    Draft::relisting(alloc, changes, after)
 }
 
 /// There is no offer, and nothing is listed.
@@ -84,9 +84,7 @@ fn nothing(
     ensures few { IfOk result (λ draft. IfSome draft.lists (λ new. extent_total new ≤ 64)) }
 {
     let changes = unhold(alloc, host, HeldKind::Responses, lists.responses())?;
-    let mut draft = Draft::changing(alloc, changes);
-    draft.lists = Some(Boxed::new(alloc, after)?);
-    Ok(draft)
+    Draft::relisting(alloc, changes, after)
 }
 
 /// The oldest offer is answered.
@@ -115,13 +113,16 @@ fn done(
     let events = told(alloc, host, &after, accepted.as_slice())?;
     let notices = one_notice(alloc, LogId::Manager, events)?;
     let after = Boxed::new(alloc, after)?;
-    Ok(Draft {
-        payload: Bytes::new(alloc),
-        changes,
-        tags,
-        notices,
-        lists: Some(after),
-    })
+    Draft::of(
+        alloc,
+        DraftParts {
+            payload: Bytes::new(alloc),
+            changes,
+            tags,
+            notices,
+            lists: Some(after),
+        },
+    )
 }
 
 /// What the Fabric Manager is told: each accepted extent, or one of zeros where none is accepted.

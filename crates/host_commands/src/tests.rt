@@ -75,7 +75,7 @@ fn one_record(alloc: Global) -> Result<EventLog, NoMemory> {
 
 /// How many bytes the reply of a log has; None where it is refused.
 fn reply_of(alloc: Global, number: u8, log: &EventLog) -> Option<usize> {
-    bytes_of(get_events(alloc, number, log))
+    bytes_of(alloc, get_events(alloc, number, log))
 }
 
 #[test]
@@ -106,7 +106,7 @@ fn clears_the_record_of_a_handle(rt: HostRuntime) -> Result<(), Fail> {
     let handles = Handles::from_slice(alloc, &[1])?;
     match clear_events(alloc, LogId::Manager, 4, &log, false, &handles) {
         Ok(draft) => {
-            assert_eq!(rt; cleared_by(draft.changes.get(0)), 1);
+            assert_eq!(rt; cleared_by(draft.into_parts(alloc).changes.get(0)), 1);
             Ok(())
         }
         Err(_) => Err(Fail::new("handle 1")),
@@ -114,9 +114,9 @@ fn clears_the_record_of_a_handle(rt: HostRuntime) -> Result<(), Fail> {
 }
 
 /// How many bytes a reply has; None where it is refused.
-fn bytes_of(answer: Result<Draft, Refusal>) -> Option<usize> {
+fn bytes_of(alloc: Global, answer: Result<Draft, Refusal>) -> Option<usize> {
     match answer {
-        Ok(draft) => Some(draft.payload.len()),
+        Ok(draft) => Some(draft.into_parts(alloc).payload.len()),
         Err(_) => None,
     }
 }
@@ -127,8 +127,11 @@ fn reads_the_regions_and_the_accepted_list(rt: HostRuntime) -> Result<(), Fail> 
     let config = one_region(alloc)?;
     let lists = offered(alloc)?;
     let regions = get_configuration(alloc, &config, HostId(0), &lists, 8, 0);
-    assert_eq!(rt; bytes_of(regions), Some(8 + 40 + 16));
-    assert_eq!(rt; bytes_of(get_extents(alloc, &lists, 50, 0)), Some(16));
+    assert_eq!(rt; bytes_of(alloc, regions), Some(8 + 40 + 16));
+    assert_eq!(rt;
+        bytes_of(alloc, get_extents(alloc, &lists, 50, 0)),
+        Some(16)
+    );
     let counts = host_counts(&lists);
     assert_eq!(rt; counts.extents_available, 63);
     assert_eq!(rt; counts.tags_available, 31);
@@ -148,16 +151,16 @@ fn granules_of(change: Option<&Effect>) -> (u32, u32) {
 }
 
 /// The lists that the draft leaves, where they are few.
-fn lists_of(draft: Draft) -> Option<HostLists>
+fn lists_of(alloc: Global, draft: Draft) -> Option<HostLists>
     ensures { IfSome result (λ lists. extent_total lists ≤ 64) }
 {
-    let Draft {
+    let DraftParts {
         payload: _,
         changes: _,
         tags: _,
         notices: _,
         lists,
-    } = draft;
+    } = draft.into_parts(alloc);
     match lists {
         Some(lists) => few_of(lists.into_inner()),
         None => None,
@@ -190,11 +193,11 @@ fn accept(alloc: Global, config: &Config) -> Result<Draft, Fail>
 fn accepts_a_part_of_an_offer(rt: HostRuntime) -> Result<(), Fail> {
     let alloc = rt.alloc();
     let config = one_region(alloc)?;
-    let draft = accept(alloc, &config)?;
-    assert_eq!(rt; draft.changes.len(), 2);
-    assert_eq!(rt; granules_of(draft.changes.get(1)), (3, 1));
-    assert_eq!(rt; draft.tags.len(), 1);
-    assert_eq!(rt; draft.notices.len(), 1);
+    let parts = accept(alloc, &config)?.into_parts(alloc);
+    assert_eq!(rt; parts.changes.len(), 2);
+    assert_eq!(rt; granules_of(parts.changes.get(1)), (3, 1));
+    assert_eq!(rt; parts.tags.len(), 1);
+    assert_eq!(rt; parts.notices.len(), 1);
     Ok(())
 }
 
@@ -203,12 +206,13 @@ fn gives_the_part_back(rt: HostRuntime) -> Result<(), Fail> {
     let alloc = rt.alloc();
     let config = one_region(alloc)?;
     let part = listed(alloc, 3 * M, M, 0)?;
-    match lists_of(accept(alloc, &config)?) {
+    match lists_of(alloc, accept(alloc, &config)?) {
         Some(lists) => match give_back(alloc, &config, &config, HostId(0), &lists, false, &part) {
             Ok(draft) => {
-                assert_eq!(rt; draft.changes.len(), 1);
-                assert_eq!(rt; granules_of(draft.changes.get(0)), (3, 1));
-                assert_eq!(rt; draft.tags.len(), 1);
+                let parts = draft.into_parts(alloc);
+                assert_eq!(rt; parts.changes.len(), 1);
+                assert_eq!(rt; granules_of(parts.changes.get(0)), (3, 1));
+                assert_eq!(rt; parts.tags.len(), 1);
                 Ok(())
             }
             Err(_) => Err(Fail::new("release")),

@@ -9,7 +9,7 @@ use Rattle.dcd_codes.specs.declared.codes.Code.{Code}
 use Rattle.dcd_codes.specs.declared.rules.Rule.{Rule}
 use Rattle.host_commands.specs.Messages.{IsDraft}
 use Rattle.host_commands.specs.Parts.{AreAfter, IsLogOf, lists_in}
-use Rattle.host_commands.specs.declared.drafts.Draft.{Draft}
+use Rattle.host_commands.specs.declared.draft_parts.DraftParts.{DraftParts}
 use Rattle.host_lists.specs.Lists.{Lists, extent_total}
 use Rattle.journal_core.specs.declared.acts.Act.{Act}
 use Rattle.journal_core.specs.declared.acts.Reply.{Reply}
@@ -31,7 +31,7 @@ module _ (c : Configuration) (h : HostId) (q : Request) (old new : Alone) where
       × IsAlone c h (view_after c h v (changes_with h v q result)) (λ d. if list_any (accepts_byte d) (changes_with h v q result) then 0 else word d) new
 
   -- what a command does that breaks no rule
-  module _ (draft : Draft) (few : IfSome draft.lists (λ lists. extent_total lists ≤ 64)) (is : IsChanged h draft.changes draft.lists old new) where
+  module _ (draft : DraftParts) (few : IfSome draft.lists (λ lists. extent_total lists ≤ 64)) (is : IsChanged h draft.changes draft.lists old new) where
     few_after : (lists : Option Lists) → IfSome lists (λ l. extent_total l ≤ 64) → extent_total old.lists ≤ 64 → extent_total (unwrap_or lists old.lists) ≤ 64
     few_after None fits was = was
     few_after (Some l) fits was = fits

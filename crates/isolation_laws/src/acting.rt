@@ -15,7 +15,7 @@ use cci_codec::Request;
 use dcd_base::{AccessFault, HostId, LogId, NoMemory};
 use dcd_codes::{Code, Refusal};
 use device_state::change_log_named;
-use host_commands::{Draft, answer, draft_of, refused};
+use host_commands::{Draft, DraftParts, answer, draft_of, refused};
 use journal_core::{Act, Effect, Reply};
 use media_map::locate;
 use region_config::Config;
@@ -72,7 +72,7 @@ impl Alone {
             &self.log,
             request,
         ) {
-            Ok(draft) => Ok(self.done(host, request, draft)),
+            Ok(draft) => Ok(self.done(alloc, host, request, draft)),
             Err(Refusal::Broken(rule)) => {
                 self.drop_held(request.opcode);
                 Ok(refused(alloc, request, &rule))
@@ -82,17 +82,17 @@ impl Alone {
     }
 
     /// Puts in place what a command changes that breaks no rule.
-    fn done(&mut self, host: HostId, request: &Request, draft: Draft) -> Reply
+    fn done(&mut self, alloc: Global, host: HostId, request: &Request, draft: Draft) -> Reply
         ensures reply { result ≡ response request.now Code.Success draft.payload }
         ensures changed { IsChanged host draft.changes draft.lists self.old self.new }
     {
-        let Draft {
+        let DraftParts {
             payload,
             changes,
             tags: _,
             notices: _,
             lists,
-        } = draft;
+        } = draft.into_parts(alloc);
         self.change(host, changes.as_slice());
         if let Some(lists) = lists {
             self.lists = lists.into_inner();

@@ -1,26 +1,28 @@
-use Rattle.std.proofs.Common.{◌≡◌, ◌∙◌, None, Some, ap, subst, sym}
-use Rattle.device_state.specs.declared.parts.HostPart.{HostPart}
-use Rattle.device_state.specs.declared.updates.NewParts.{NewParts}
-use Rattle.control_core.specs.Doing.{IsDone, told_change}
-use Rattle.control_core.proofs.Doing.{done_new, done_same}
+use Rattle.std.proofs.Common.{◌∙◌, All, IfOk, length, ap, subst, sym}
+use Rattle.device_rules.specs.Views.{view_of}
+use Rattle.device_state.specs.Updates.{IsOfLog}
+use Rattle.host_commands.specs.Contents.{parts_in}
+use Rattle.host_commands.specs.Parts.{Drafts}
+use Rattle.host_commands.specs.declared.draft_parts.DraftParts.{DraftParts}
+use Rattle.host_commands.specs.declared.notices.Notice.{Notice}
+use Rattle.control_core.specs.Doing.{Does, IsDone}
+use Rattle.control_core.specs.declared.decided.Decided.{Decided}
+use Rattle.control_core.proofs.Doing.{replied_done}
 use Rattle.control_core.proofs.host_steps.done.Goals as goal
 
-pub returns-in-Some : goal.returns-in-Some
-returns-in-Some c = λ cfg before o kept of drafts.
-    let h = c.args.host in
-    let update : c.in_ok-update-in-Some.update ≡ record { lists = Some (record { host = h; lists = c.get.result.now }); tags = told_change h c.args.draft.tags } =
-    c.in_ok-update-in-Some.ensures ∙ (λ i. record { lists = Some (record { host = h; lists = sym c.get.ensures i }); tags = c.told_of-change.ensures i }) in
-    subst (λ (u : NewParts). IsDone cfg before c.args.request.now o (record { reply = c.answer.result; effects = c.in_ok-effects-in-Some.effects; update = u })) (sym update)
-    (done_new cfg before c.args.state.now kept c.args.request.now h o of c.args.draft drafts
-    c.get.result.now (c.in-Some.is ∙ ap Some (sym c.get.ensures)) c.answer.result c.in_ok-effects-in-Some.effects c.answer.ensures
-    (c.in_ok-effects-in-Some.ensures cfg before kept))
+pub all_done-requires-clause-known : goal.all_done-requires-clause-known
+all_done-requires-clause-known c =
+    subst (λ (d : DraftParts). All (λ (n : Notice). IsOfLog (length c.args.state.now.hosts.items) n.log) d.notices)
+    (sym c.into_content.ensures ∙ ap parts_in c.in-Parts.is ∙ sym c.into_inner.ensures) c.requires.known
 
-pub returns : goal.returns
-returns c = λ cfg before o kept of drafts.
-    let update : c.in_ok-update-in-None.update ≡ record { lists = None; tags = told_change c.args.host c.args.draft.tags } =
-    c.in_ok-update-in-None.ensures ∙ (λ i. record { lists = None; tags = c.told_of.ensures i }) in
-    subst (λ (u : NewParts). IsDone cfg before c.args.request.now o (record { reply = c.answer-in-None.result; effects = c.in_ok-effects-in-None.effects; update = u })) (sym update)
-    (done_same cfg before c.args.state.now kept c.args.request.now c.args.host o of c.args.draft drafts
-    c.in-None.is c.answer-in-None.result c.in_ok-effects-in-None.effects c.answer-in-None.ensures
-    c.part.result.now.lists (ap (λ (p : HostPart). p.lists) c.part.ensures ∙ (kept.parts c.args.host of.host).lists_are)
-    (c.in_ok-effects-in-None.ensures cfg before kept))
+pub returns-in-Reply : goal.returns-in-Reply
+returns-in-Reply c = λ cfg before o kept of drafts.
+    let h = c.args.host in
+    subst (λ (d : Decided). IsDone cfg before c.args.request.now o d) (sym c.replied.ensures)
+    (replied_done cfg before c.args.state.now kept c.args.request.now h o of c.in-Reply.payload
+    (subst (Drafts cfg h (view_of cfg h before) o) (sym c.into_content.ensures ∙ ap parts_in c.in-Reply.is) drafts))
+
+pub returns-in-Parts : goal.returns-in-Parts
+returns-in-Parts c =
+    subst (λ (d : DraftParts). IfOk c.all_done.result (Does c.args.state.now c.args.host c.args.request.now d))
+    (c.into_inner.ensures ∙ sym (ap parts_in c.in-Parts.is) ∙ c.into_content.ensures) c.all_done.ensures

@@ -9,5 +9,5 @@ use Rattle.control_core.proofs.manager_steps.entered.Goals as goal
 pub returns : goal.returns
 returns c = λ cfg before o kept of is.
     subst (λ (u : NewParts). IsDone cfg before c.args.request.now o (record { reply = c.answer.result; effects = c.put_notices.new.effects; update = u })) (sym c.in_ok-update.ensures)
-    (entered_done cfg before c.args.request.now o c.args.over.now c.args.change of c.args.draft is c.answer.result c.put_notices.new.effects c.answer.ensures
-    (c.in_ok-put_notices.ensures cfg before kept ∙ ap (λ es. es ++ told (effects before) c.args.draft.notices) c.in_ok-put_ends.ensures))
+    (entered_done cfg before c.args.request.now o c.args.over.now c.args.change of c.args.parts is c.answer.result c.put_notices.new.effects c.answer.ensures
+    (c.in_ok-put_notices.ensures cfg before kept ∙ ap (λ es. es ++ told (effects before) c.args.parts.notices) c.in_ok-put_ends.ensures))

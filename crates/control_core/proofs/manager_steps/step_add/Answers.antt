@@ -22,12 +22,14 @@ pub added-requires : goal.added-requires
 added-requires c =
     let cfg = c.args.config.now in
     let reached = c.requires.reached in
+    let q = FmRequest.Add c.args.host c.args.policy c.args.region c.args.bytes c.args.tag.now c.args.extents.now in
     let it = c.in-Ok.ensures reached.journal reached.legal reached.kept in
+    let drafts = subst (Drafts cfg c.args.host (view_of cfg c.args.host reached.journal) (manager_outcome cfg (effects reached.journal) (λ h. view_of cfg h reached.journal) q)) (sym c.into_parts-parts.ensures) it.1 in
     record {
       host = add_host cfg reached.sound reached.journal reached.legal c.args.host c.args.policy c.args.region c.args.bytes c.args.tag.now c.args.extents.now it.0;
       region = add_region cfg reached.sound reached.journal reached.legal c.args.host c.args.policy c.args.region c.args.bytes c.args.tag.now c.args.extents.now it.0;
-      granular = subst (OffersGranular cfg c.args.host) (sym it.1.changes) (add_granular cfg reached.sound reached.journal reached.legal c.args.host c.args.policy c.args.region c.args.bytes c.args.tag.now c.args.extents.now it.0);
-      known = add_known cfg reached.sound reached.journal reached.legal c.args.host c.args.policy c.args.region c.args.bytes c.args.tag.now c.args.extents.now it.0 c.args.state.now reached.kept c.in-Ok.draft it.1.notices;
+      granular = subst (OffersGranular cfg c.args.host) (sym drafts.changes) (add_granular cfg reached.sound reached.journal reached.legal c.args.host c.args.policy c.args.region c.args.bytes c.args.tag.now c.args.extents.now it.0);
+      known = add_known cfg reached.sound reached.journal reached.legal c.args.host c.args.policy c.args.region c.args.bytes c.args.tag.now c.args.extents.now it.0 c.args.state.now reached.kept c.into_parts-parts.result drafts.notices;
     }
 
 pub returns-in-Err : goal.returns-in-Err
@@ -45,5 +47,6 @@ returns-in_ok-added-in-Ok c = λ before legal kept.
     decided_manager cfg before c.args.request.now q c.requires.asked it.0 c.in_ok-added-in-Ok.field-0
     (c.in_ok-added-in-Ok.ensures before (offered cfg (effects before) c.args.host c.args.policy c.args.region c.args.bytes c.args.tag.now c.args.extents.now)
     (manager_outcome cfg (effects before) (λ h. view_of cfg h before) q) kept
-    (add_of cfg c.requires.reached.sound before legal c.args.host c.args.policy c.args.region c.args.bytes c.args.tag.now c.args.extents.now it.0) it.1)
+    (add_of cfg c.requires.reached.sound before legal c.args.host c.args.policy c.args.region c.args.bytes c.args.tag.now c.args.extents.now it.0)
+    (subst (Drafts cfg c.args.host (view_of cfg c.args.host before) (manager_outcome cfg (effects before) (λ h. view_of cfg h before) q)) (sym c.into_parts-parts.ensures) it.1))
     (omega arith)

@@ -6,8 +6,8 @@ use Rattle.control_core.proofs.Managed.{decided_manager, manages_err, quiet_noti
 use Rattle.control_core.proofs.Shortness.{short_manager}
 use Rattle.control_core.proofs.manager_steps.step_read.Goals as goal
 
-pub entered-requires : goal.entered-requires
-entered-requires c = record {
+pub read-requires : goal.read-requires
+read-requires c = record {
   known =
       let reached = c.requires.reached in
       quiet_notices c.args.config.now reached.journal c.args.state.now reached.kept c.args.asked.now c.requires.quiet c.in-Ok.draft (c.in-Ok.ensures reached.journal reached.legal reached.kept).1;
@@ -19,11 +19,11 @@ returns-in-Err c =
     manages_err cfg c.args.state.now c.args.request.now c.args.asked.now c.requires.asked
     (λ before d. IsOutcome (manager_outcome cfg (effects before) (λ h. view_of cfg h before) c.args.asked.now) d) _ c.in-Err.ensures
 
-pub returns-in_ok-entered-in-Ok : goal.returns-in_ok-entered-in-Ok
-returns-in_ok-entered-in-Ok c = λ before legal kept.
+pub returns-in_ok-read-in-Ok : goal.returns-in_ok-read-in-Ok
+returns-in_ok-read-in-Ok c = λ before legal kept.
     let cfg = c.args.config.now in
     let q = c.args.asked.now in
     let it = c.in-Ok.ensures before legal kept in
-    decided_manager cfg before c.args.request.now q c.requires.asked it.0 c.in_ok-entered-in-Ok.field-0
-    (c.in_ok-entered-in-Ok.ensures cfg before (manager_outcome cfg (effects before) (λ h. view_of cfg h before) q) kept (quiet_of cfg before q c.requires.quiet) it.1)
+    decided_manager cfg before c.args.request.now q c.requires.asked it.0 c.in_ok-read-in-Ok.field-0
+    (c.in_ok-read-in-Ok.ensures cfg before (manager_outcome cfg (effects before) (λ h. view_of cfg h before) q) kept (quiet_of cfg before q c.requires.quiet) it.1)
     (short_manager cfg before c.args.state.now kept c.requires.reached.sound.regions q c.request_fits.ensures it.0)

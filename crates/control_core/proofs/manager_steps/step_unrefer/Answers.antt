@@ -1,4 +1,4 @@
-use Rattle.std.proofs.Common.{◌∙◌, arith, length}
+use Rattle.std.proofs.Common.{◌∙◌, arith, length, subst, sym}
 use Rattle.fm_payloads.specs.declared.requests.FmRequest.{FmRequest}
 use Rattle.host_commands.specs.Parts.{IsOutcome}
 use Rattle.journal_core.specs.Entries.{effects}
@@ -10,8 +10,11 @@ use Rattle.control_core.proofs.manager_steps.step_unrefer.Goals as goal
 pub entered-requires : goal.entered-requires
 entered-requires c = record {
   known =
+      let cfg = c.args.config.now in
       let reached = c.requires.reached in
-      no_notices (length c.args.state.now.hosts.items) c.in-Ok.draft (c.in-Ok.ensures reached.journal reached.legal reached.kept).1.notices;
+      let is = subst (IsOutcome (manager_outcome cfg (effects reached.journal) (λ h. view_of cfg h reached.journal) (FmRequest.RemoveReference c.args.tag.now))) (sym c.into_parts-parts.ensures)
+      (c.in-Ok.ensures reached.journal reached.legal reached.kept).1 in
+      no_notices (length c.args.state.now.hosts.items) c.into_parts-parts.result is.notices;
 }
 
 pub returns : goal.returns
@@ -28,5 +31,6 @@ returns-in-Ok c = λ before legal kept.
     let it = c.in-Ok.ensures before legal kept in
     decided_manager cfg before c.args.request.now q c.requires.asked it.0 c.in_ok-entered-in-Ok.field-0
     (c.in_ok-entered-in-Ok.ensures cfg before (manager_outcome cfg (effects before) (λ h. view_of cfg h before) q) kept
-    (unrefer_of cfg before c.requires.reached.sound legal c.args.state.now kept c.args.tag.now c.as_slice.result.now (c.as_slice.ensures ∙ c.in_ok-over.ensures)) it.1)
+    (unrefer_of cfg before c.requires.reached.sound legal c.args.state.now kept c.args.tag.now c.as_slice-over.result.now (c.as_slice-over.ensures ∙ c.in_ok-over.ensures))
+    (subst (IsOutcome (manager_outcome cfg (effects before) (λ h. view_of cfg h before) q)) (sym c.into_parts-parts.ensures) it.1))
     (omega arith)

@@ -2,7 +2,7 @@ use Rattle.std.proofs.Common.{◌++◌, length, map, ap, ◌∙◌, arith}
 use Rattle.region_config.specs.Configurations.{Configuration}
 use Rattle.host_payloads.specs.HostPayloads.{configuration_payload}
 use Rattle.device_laws.proofs.Homes.{regions_same}
-use Rattle.host_commands.specs.declared.drafts.Draft.{Draft}
+use Rattle.host_commands.specs.declared.draft_parts.DraftParts.{DraftParts}
 use Rattle.host_commands.specs.Parts.{told_in}
 use Rattle.host_commands.proofs.Showing.{region_known, region_past}
 use Rattle.host_commands.proofs.configurations.get_configuration.Goals as goal
@@ -20,12 +20,12 @@ returns-clause-drafts c = λ cfg v is lists.
     let counts = c.host_counts-counts.ensures v lists in (
       region_known cfg c.args.first (omega (arith, regions, c.if-first-regions.false, c.regions.ensures.value)),
       record {
-        payload = ap (λ (d : Draft). d.payload) c.only.ensures ∙ c.in_ok-write_configuration.ensures.appended
+        payload = ap (λ (d : DraftParts). d.payload) c.only.ensures ∙ c.in_ok-write_configuration.ensures.appended
             ∙ ap (λ front. front ++ configuration_payload c.regions-2.result c.as_slice.result.now c.host_counts-counts.result) c.new-payload.ensures
             ∙ (λ i. configuration_payload (total i) (views i) (counts i));
-        changes = ap (λ (d : Draft). d.changes) c.only.ensures;
-        tags = ap (λ (d : Draft). d.tags) c.only.ensures;
-        notices = ap (λ (d : Draft). map told_in d.notices) c.only.ensures;
-        lists = ap (λ (d : Draft). d.lists) c.only.ensures;
+        changes = ap (λ (d : DraftParts). d.changes) c.only.ensures;
+        tags = ap (λ (d : DraftParts). d.tags) c.only.ensures;
+        notices = ap (λ (d : DraftParts). map told_in d.notices) c.only.ensures;
+        lists = ap (λ (d : DraftParts). d.lists) c.only.ensures;
       },
     )
