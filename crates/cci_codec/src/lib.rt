@@ -3,14 +3,17 @@
 
 mod faults;
 mod headers;
+mod held;
 mod laws;
 mod messages;
+mod payloads;
 mod requests;
 mod responses;
 
 pub use faults::MessageFault;
 pub use laws::{law_request_is_spelled, law_spelling_reads};
 pub use messages::{Request, Response};
+pub use payloads::Payload;
 pub use requests::{decode, encode_request};
 pub use responses::{encode_response, response_head};
 

@@ -2,6 +2,7 @@
 
 ghost use Rattle.std.specs.Prelude.{◌≡◌, IfOk};
 
+use crate::payloads::Payload;
 use dcd_base::{Bytes, NoMemory};
 
 /// A request (CXL 3.1, 7.6.3): a command and its input payload.
@@ -12,7 +13,7 @@ pub struct Request {
     /// The command opcode.
     pub opcode: u16,
     /// The input payload. One of more than 2,097,151 bytes has no spelling.
-    pub payload: Bytes,
+    pub payload: Payload,
 }
 
 impl Request {

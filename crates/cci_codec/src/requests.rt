@@ -7,6 +7,7 @@ ghost use Rattle.std.specs.Prelude.{IfOk, ◌≡◌, ◌+◌, ◌++◌, ◌<◌,
 use crate::faults::MessageFault;
 use crate::headers::head;
 use crate::messages::Request;
+use crate::payloads::Payload;
 use dcd_base::{Bytes, NoMemory};
 use std::alloc::Global;
 
@@ -44,7 +45,7 @@ pub fn decode(alloc: Global, bytes: &[u8]) -> Result<Request, MessageFault>
     Ok(Request {
         tag: header[1],
         opcode: u16::from_le_bytes([header[3], header[4]]),
-        payload: Bytes::from_slice(alloc, payload)?,
+        payload: Payload::from_slice(alloc, payload)?,
     })
 }
 

@@ -18,7 +18,7 @@ use crate::plan::Plan;
 use crate::scrub_steps::scrub_step;
 use dcd_base::{Actor, Changes, NoMemory, Stamp};
 use device_state::{State, Update};
-use journal_core::{Act, Effects, Entry};
+use journal_core::{Act, Effects, Entry, EntryEffects, Reply};
 use region_config::Config;
 use std::alloc::Global;
 use std::marker::Model;
@@ -150,26 +150,35 @@ impl Control {
         ensures inside { IfOk result (λ changes. All (LiesIn (granule_total self.old.config)) changes) }
     {
         self.make_room()?;
-        let decided = self.decide(&actor, &act)?;
-        let changes = self.changes_by(&actor, &act, &decided.effects)?;
-        self.take_decided(pass, line, actor, act, decided);
+        let Decided {
+            reply,
+            effects,
+            update,
+        } = self.decide(&actor, &act)?;
+        let changes = self.changes_by(&actor, &act, &effects)?;
+        let effects = EntryEffects::of(effects)?;
+        self.take_decided(pass, line, actor, act, reply, effects, update);
         Ok(changes)
     }
 
     /// Enters a step that is decided.
     #[inline(always)]
-    fn take_decided(&mut self, pass: u32, line: u32, actor: Actor, act: Act, decided: Decided)
+    fn take_decided(
+        &mut self,
+        pass: u32,
+        line: u32,
+        actor: Actor,
+        act: Act,
+        reply: Reply,
+        effects: EntryEffects,
+        update: Update,
+    )
         requires may { MayStep self.old.config actor act }
         requires room { 0 < self.old.spare }
-        requires decided { IsDecidedBy self.old.config self.old.entries actor act decided }
+        requires decided { IsDecidedBy self.old.config self.old.entries actor act (record { reply = reply; effects = effects; update = update }) }
         ensures config { self.new.config ≡ self.old.config }
         ensures entered { self.new.entries ≡ self.old.entries ++ entry_of self.old.config self.old.entries pass line actor act ∷ [] }
     {
-        let Decided {
-            reply,
-            effects,
-            update,
-        } = decided;
         let number = self.entries.as_slice().len() as u64 + 1;
         let entry = Entry {
             pass,
@@ -283,6 +292,7 @@ impl Control {
             update,
         } = decided;
         let changes = self.changes_by(&actor, &act, &effects)?;
+        let effects = EntryEffects::of(effects)?;
         let entry = Entry {
             pass,
             line,

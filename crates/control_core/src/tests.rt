@@ -5,7 +5,7 @@ ghost use Rattle.dcd_base.specs.Words.{zero_tag};
 ghost use Rattle.std.specs.Prelude.{◌≡◌, ◌∷◌, [], IfOk};
 
 use crate::{Control, Plan};
-use cci_codec::Request;
+use cci_codec::{Payload, Request};
 use dcd_base::{Actor, Bytes, Extent, Extents, Granule, HostId, LogId, NoMemory, Tag};
 use event_records::EventKind;
 use fm_payloads::FmRequest;
@@ -59,7 +59,7 @@ fn offer(alloc: Global) -> Result<Request, NoMemory> {
     Ok(Request {
         tag: 1,
         opcode: 0x5604,
-        payload,
+        payload: Payload::from_slice(alloc, payload.as_slice())?,
     })
 }
 
@@ -74,7 +74,7 @@ fn response(alloc: Global) -> Result<Request, NoMemory> {
     Ok(Request {
         tag: 2,
         opcode: 0x4802,
-        payload,
+        payload: Payload::from_slice(alloc, payload.as_slice())?,
     })
 }
 

@@ -11,10 +11,9 @@ ghost use Rattle.tag_refs.specs.Hosts.{has_host};
 use control_core::Control;
 use dcd_base::{AccessFault, Actor, HostId, NoMemory, Place, Stamp};
 use granule_mem::Memory;
-use journal_core::{Act, Effects, Entry, Reply};
+use journal_core::{Act, Entry, EntryEffects, Reply};
 use media_map::locate;
 use region_config::Config;
-use std::alloc::Global;
 
 /// Whether the host, below 16, is among the holders: bit h stands for host h.
 fn is_held_by(holders: u16, host: u8) -> bool
@@ -116,7 +115,6 @@ pub(crate) fn stamp_of(control: &Control, since: u64) -> Stamp
 
 /// The entry of an access, which has no effects.
 pub(crate) fn access_entry(
-    alloc: Global,
     pass: u32,
     line: u32,
     host: HostId,
@@ -132,7 +130,7 @@ pub(crate) fn access_entry(
         actor: Actor::Host(host),
         act,
         reply,
-        effects: Effects::new(alloc),
+        effects: EntryEffects::none(),
         stamp,
     }
 }

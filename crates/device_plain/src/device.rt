@@ -31,7 +31,6 @@ use std::marker::Model;
 /// Contracts see the configuration that it was made with and its journal, which is legal at all times.
 #[derive(Drop)]
 pub struct Device {
-    alloc: Global,
     control: Control,
     memory: Memory,
     history: History,
@@ -61,7 +60,6 @@ impl Device {
         let _hosts = config.hosts();
         let memory = Memory::new(alloc, config.granules())?;
         Ok(Device {
-            alloc,
             control: Control::new(alloc, config)?,
             memory,
             history: History::new(alloc),
@@ -215,7 +213,6 @@ impl Device {
         let stamp = stamp_of(&self.control, self.since);
         self.since += 1;
         self.history.push(access_entry(
-            self.alloc,
             pass,
             line,
             host,
@@ -245,7 +242,6 @@ impl Device {
         let stamp = stamp_of(&self.control, self.since);
         self.since += 1;
         self.history.push(access_entry(
-            self.alloc,
             pass,
             line,
             host,

@@ -1,8 +1,8 @@
 //! One step of the device.
 
 use crate::Device;
-use cci_codec::Request;
-use dcd_base::{AccessFault, Actor, Bytes, HostId};
+use cci_codec::{Payload, Request};
+use dcd_base::{AccessFault, Actor, HostId};
 use journal_core::{Act, Reply};
 use region_config::{Config, RegionSpec};
 use std::test::Fail;
@@ -27,7 +27,7 @@ fn a_step_is_entered_in_the_journal(rt: HostRuntime) -> Result<(), Fail> {
     let act = Act::Command(Request {
         tag: 0,
         opcode: 0x4800,
-        payload: Bytes::from_slice(alloc, &[1, 0])?,
+        payload: Payload::from_slice(alloc, &[1, 0])?,
     });
     let _reply = device.step(3, 5, actor, &act)?;
     let journal = device.journal();

@@ -5,14 +5,14 @@ mod alone;
 use crate::{Item, own_items};
 use dcd_base::{Actor, Extent, HostId, LogId, RegionId, Stamp, Tag};
 use event_records::{Event, EventKind};
-use journal_core::{Act, Effect, Effects, Entry, Reply};
+use journal_core::{Act, Effect, Effects, Entry, EntryEffects, Reply};
 use std::alloc::Global;
 use std::test::Fail;
 
 const MIB: u64 = 0x10_0000;
 
 /// An entry of the actor with these effects.
-fn entry(actor: Actor, act: Act, effects: Effects) -> Entry {
+fn entry(actor: Actor, act: Act, effects: EntryEffects) -> Entry {
     Entry {
         pass: 0,
         line: 1,
@@ -57,10 +57,11 @@ fn journal(alloc: Global) -> Result<Vec<Entry>, Fail> {
     effects.push(told(HostId(1), EventKind::Add))?;
     effects.push(told(HostId(0), EventKind::Add))?;
     effects.push(Effect::Block(RegionId(0), MIB))?;
+    let effects = EntryEffects::of(effects)?;
     journal.push(entry(Actor::Manager, Act::Scrub(0), effects))?;
     let store = Act::Store(2 * MIB, 7);
-    journal.push(entry(Actor::Host(HostId(0)), store, Effects::new(alloc)))?;
-    journal.push(entry(Actor::Host(HostId(1)), Act::Load(0), Effects::new(alloc)))?;
+    journal.push(entry(Actor::Host(HostId(0)), store, EntryEffects::none()))?;
+    journal.push(entry(Actor::Host(HostId(1)), Act::Load(0), EntryEffects::none()))?;
     Ok(journal)
 }
 

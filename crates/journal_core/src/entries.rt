@@ -3,6 +3,7 @@
 ghost use Rattle.std.specs.Prelude.{◌≡◌, IfOk};
 
 use crate::acts::{Act, Reply};
+use crate::entry_effects::EntryEffects;
 use crate::outcome::Effect;
 use dcd_base::{Actor, Duplicate, NoMemory, Seq, Stamp};
 use std::alloc::Global;
@@ -18,12 +19,12 @@ pub struct Entry {
     pub act: Act,
     pub reply: Reply,
     /// What it changed, in order. A load or a store has no effects.
-    pub effects: Effects,
+    pub effects: EntryEffects,
     /// When it happened, relative to the others.
     pub stamp: Stamp,
 }
 
-/// What an entry changed, in order.
+/// What a step changes, in order.
 pub type Effects = Seq<Effect>;
 
 /// Entries in the order in which they happened.

@@ -6,12 +6,14 @@
 
 mod acts;
 mod entries;
+mod entry_effects;
 mod holding;
 mod merging;
 mod outcome;
 
 pub use acts::{Act, Reply, fits};
 pub use entries::{Effects, Entry, Journal};
+pub use entry_effects::EntryEffects;
 pub use holding::holds;
 pub use merging::merge;
 pub use outcome::{Effect, HeldKind};

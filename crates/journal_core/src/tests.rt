@@ -1,5 +1,5 @@
 use super::*;
-use cci_codec::{Request, Response};
+use cci_codec::{Payload, Request, Response};
 use dcd_base::{AccessFault, Actor, Bytes, Extents, Granule, HostId, Run, Stamp};
 use std::alloc::Global;
 use std::test::*;
@@ -12,7 +12,7 @@ fn entry(alloc: Global, host: u8, number: u64, count: u64) -> Entry {
         actor: Actor::Host(HostId(host)),
         act: Act::Load(0),
         reply: Reply::Refused(AccessFault::NotGranted),
-        effects: Effects::new(alloc),
+        effects: EntryEffects::none(),
         stamp: Stamp { number, count },
     }
 }
@@ -83,7 +83,7 @@ fn hosts_command_and_access_the_manager_commands_and_the_sanitizer_scrubs(
     let command = Act::Command(Request {
         tag: 0,
         opcode: 0x4800,
-        payload: Bytes::new(rt.alloc()),
+        payload: Payload::from_slice(rt.alloc(), &[]).ok().ok_or("memory")?,
     });
     let acts = [command, Act::Load(0), Act::Store(0, 1), Act::Scrub(1)];
     let actors = [
@@ -151,10 +151,12 @@ fn a_copied_entry_has_all_parts(rt: HostRuntime) -> Result<(), Fail> {
         payload: Bytes::from_slice(alloc, &[1, 2]).ok().ok_or("memory")?,
     });
     let offered = Effect::Offer(HostId(3), Extents::new(alloc));
-    whole.effects.push(offered).ok().ok_or("memory")?;
+    let mut effects = Effects::new(alloc);
+    effects.push(offered).ok().ok_or("memory")?;
+    whole.effects = EntryEffects::of(effects).ok().ok_or("memory")?;
     let copy = whole.copy().ok().ok_or("memory")?;
     assert_eq!(rt; copy.pass, 3);
-    assert_eq!(rt; copy.effects.len(), 1);
+    assert_eq!(rt; copy.effects.as_slice().len(), 1);
     let Reply::Answer(response) = &copy.reply else {
         return Err("the reply is a response".into());
     };

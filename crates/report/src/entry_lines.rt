@@ -27,10 +27,10 @@ fn put_act<K: Sink>(printer: &mut Printer, sink: &mut K, act: &Act)
     ensures { Prints (K.taken sink.old) (K.faults sink.old) printer.old (K.taken sink.new) (K.faults sink.new) printer.new (next_word (act_name act.now)) }
 {
     match act {
-        Act::Command(_) => printer.put_word(sink, b"cmd"),
-        Act::Load(_) => printer.put_word(sink, b"ld"),
-        Act::Store(_, _) => printer.put_word(sink, b"st"),
-        Act::Scrub(_) => printer.put_word(sink, b"sc"),
+        Act::Command(_) => printer.put(sink, b" cmd"),
+        Act::Load(_) => printer.put(sink, b" ld"),
+        Act::Store(_, _) => printer.put(sink, b" st"),
+        Act::Scrub(_) => printer.put(sink, b" sc"),
     }
 }
 
@@ -64,12 +64,10 @@ fn put_loaded<K: Sink>(printer: &mut Printer, sink: &mut K, word: u64)
 }
 
 /// Says that a store was done.
-#[tactic(auto, using(crate::proofs::Parts::prints_then))]
 fn put_stored<K: Sink>(printer: &mut Printer, sink: &mut K)
     ensures { Prints (K.taken sink.old) (K.faults sink.old) printer.old (K.taken sink.new) (K.faults sink.new) printer.new (rest_of_line (reply_words Reply.Stored)) }
 {
-    printer.put_word(sink, b"ok");
-    printer.end_line(sink);
+    printer.put(sink, b" ok\n");
 }
 
 /// Says that a load or a store was refused, and why.

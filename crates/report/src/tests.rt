@@ -4,7 +4,7 @@ ghost use Rattle.script_codec.specs.declared.faults.ScriptFault.{ScriptFault};
 ghost use Rattle.std.specs.Prelude.{◌≡◌, ◌≢◌, IfOk};
 
 use super::*;
-use cci_codec::{MessageFault, Request};
+use cci_codec::{MessageFault, Payload, Request};
 use control_core::Control;
 use dcd_base::{Actor, Bytes, Failed, HostId, MemSink, NoMemory};
 use journal_core::Act;
@@ -51,7 +51,7 @@ fn get_configuration(alloc: Global) -> Result<Request, NoMemory> {
     Ok(Request {
         tag: 0x2a,
         opcode: 0x4800,
-        payload: Bytes::from_slice(alloc, &[8, 1])?,
+        payload: Payload::from_slice(alloc, &[8, 1])?,
     })
 }
 

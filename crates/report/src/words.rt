@@ -2,7 +2,7 @@
 
 ghost use Rattle.report.specs.Printing.{Prints};
 ghost use Rattle.report.specs.Texts.{actor_name, host_name, log_name, next_word};
-ghost use Rattle.std.specs.Prelude.{◌++◌, [], ◌∷◌, decimal};
+ghost use Rattle.std.specs.Prelude.{◌<◌, ◌≤◌, ◌++◌, [], ◌∷◌, decimal};
 
 use crate::printing::Printer;
 use dcd_base::{Actor, HostId, LogId, Sink};
@@ -60,13 +60,43 @@ impl Printer {
         self.put_count(sink, count);
     }
 
-    /// Puts a space and the name of a host.
-    #[tactic(auto, using(crate::proofs::Parts::prints_then))]
+    /// Puts a space and the name of a host. Those that a device can have are put at once.
     pub fn put_host<K: Sink>(&mut self, sink: &mut K, host: HostId)
         ensures { Prints (K.taken sink.old) (K.faults sink.old) self.old (K.taken sink.new) (K.faults sink.new) self.new (next_word (host_name host)) }
     {
+        match host.0 {
+            0..10 => self.put_short_host(sink, host.0),
+            10..100 => self.put_long_host(sink, host.0),
+            _ => self.put_any_host(sink, host.0),
+        }
+    }
+
+    /// Puts a space and the name of a host whose number has one digit.
+    fn put_short_host<K: Sink>(&mut self, sink: &mut K, host: u8)
+        requires { host < 10 }
+        ensures { Prints (K.taken sink.old) (K.faults sink.old) self.old (K.taken sink.new) (K.faults sink.new) self.new (next_word (host_name host)) }
+    {
+        self.put(sink, &[b' ', b'h', b'0' + host]);
+    }
+
+    /// Puts a space and the name of a host whose number has two digits.
+    fn put_long_host<K: Sink>(&mut self, sink: &mut K, host: u8)
+        requires least { 10 ≤ host }
+        requires most { host < 100 }
+        ensures { Prints (K.taken sink.old) (K.faults sink.old) self.old (K.taken sink.new) (K.faults sink.new) self.new (next_word (host_name host)) }
+    {
+        self.put(sink, &[b' ', b'h', b'0' + host / 10, b'0' + host % 10]);
+    }
+
+    /// Puts a space and the name of a host.
+    #[cold]
+    #[inline(never)]
+    #[tactic(auto, using(crate::proofs::Parts::prints_then))]
+    fn put_any_host<K: Sink>(&mut self, sink: &mut K, host: u8)
+        ensures { Prints (K.taken sink.old) (K.faults sink.old) self.old (K.taken sink.new) (K.faults sink.new) self.new (next_word (host_name host)) }
+    {
         self.put_word(sink, b"h");
-        self.put_number(sink, u64::from(host.0));
+        self.put_number(sink, u64::from(host));
     }
 
     /// Puts a space and the name of an actor.
@@ -75,8 +105,8 @@ impl Printer {
     {
         match actor {
             Actor::Host(host) => self.put_host(sink, host),
-            Actor::Manager => self.put_word(sink, b"fm"),
-            Actor::Sanitizer => self.put_word(sink, b"sz"),
+            Actor::Manager => self.put(sink, b" fm"),
+            Actor::Sanitizer => self.put(sink, b" sz"),
         }
     }
 

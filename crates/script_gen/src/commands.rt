@@ -6,7 +6,7 @@ ghost use Rattle.script_gen.specs.Generated.{clear_line, give_back_line, host_se
 ghost use Rattle.std.specs.Prelude.{◌≡◌, ◌<◌, IfOk, IsTrue};
 
 use crate::settings::share;
-use cci_codec::Request;
+use cci_codec::{Payload, Request};
 use dcd_base::{Actor, Bytes, Extents, Handles, HostId, NoMemory, no_tag};
 use fm_payloads::FmRequest;
 use host_payloads::HostRequest;
@@ -43,6 +43,7 @@ fn host_line(
     let mut payload = Bytes::new(alloc);
     host_payloads::encode(request, &mut payload)?;
     let tag = 0;
+    let payload = Payload::from_slice(alloc, payload.as_slice())?;
     Ok(Line::Do {
         actor: Actor::Host(host),
         lane: 0,
@@ -63,6 +64,7 @@ fn manager_line(alloc: Global, opcode: u16, request: &FmRequest) -> Result<Line,
     let mut payload = Bytes::new(alloc);
     fm_payloads::encode(request, &mut payload)?;
     let tag = 0;
+    let payload = Payload::from_slice(alloc, payload.as_slice())?;
     Ok(Line::Do {
         actor: Actor::Manager,
         lane: 0,

@@ -11,7 +11,7 @@ use dcd_base::{Bytes, Failed, Source};
 const MOST_READ: usize = 16_777_217;
 
 /// How many bytes a read may give.
-const PIECE: usize = 4096;
+const PIECE: usize = 16_384;
 
 /// Why the input is not there.
 #[derive(Clone, Copy, Debug, PartialEq, Eq)]

@@ -3,7 +3,7 @@
 ghost use Rattle.std.specs.Prelude.{◌≡◌, IfOk};
 
 use crate::{Item, Items, SoloFault, SoloReply, solo_replies};
-use cci_codec::Request;
+use cci_codec::{Payload, Request};
 use dcd_base::{AccessFault, Bytes, Extent, Extents, HostId, Tag};
 use journal_core::{Act, Reply};
 use region_config::{Config, ConfigFault, RegionSpec};
@@ -64,7 +64,7 @@ fn accepts(alloc: Global) -> Result<Item, Fail> {
     Ok(Item::Own(Act::Command(Request {
         tag: 0,
         opcode: 0x4802,
-        payload,
+        payload: Payload::from_slice(alloc, payload.as_slice())?,
     })))
 }
 

@@ -13,7 +13,7 @@ use crate::tests::counter::Counter;
 use crate::tests::ledger::Ledger;
 use crate::{Busy, Cells, Seat};
 use dcd_base::{Actor, NoMemory, Stamp};
-use journal_core::{Act, Effects, Entry, Journal, Reply};
+use journal_core::{Act, Entry, EntryEffects, Journal, Reply};
 use std::alloc::Global;
 use std::sync::Wait;
 use std::test::*;
@@ -38,7 +38,7 @@ fn counter(alloc: Global, index: u32) -> Counter
 }
 
 /// An access of the seat, above both stamps.
-fn access(alloc: Global, pass: u32, line: u32, stamp: Stamp) -> Entry
+fn access(pass: u32, line: u32, stamp: Stamp) -> Entry
     ensures { (result.pass ≡ pass) × (result.actor ≡ Sanitizer) × (is_control result.act ≡ false) × (result.stamp ≡ stamp) }
 {
     Entry {
@@ -47,13 +47,13 @@ fn access(alloc: Global, pass: u32, line: u32, stamp: Stamp) -> Entry
         actor: Actor::Sanitizer,
         act: Act::Load(0),
         reply: Reply::Word(0),
-        effects: Effects::new(alloc),
+        effects: EntryEffects::none(),
         stamp,
     }
 }
 
 /// Counts an access of the seat, or does nothing: without memory, or at the greatest value.
-fn add(alloc: Global, mut counter: Counter, pass: u32, line: u32, seen: Stamp) -> (Counter, Stamp)
+fn add(mut counter: Counter, pass: u32, line: u32, seen: Stamp) -> (Counter, Stamp)
     requires seen { seen.count + 1 < 2 ^ 64 }
     requires clock { counter.clock.count + 1 < 2 ^ 64 }
     ensures { MayHaveAdded pass seen counter result.0 result.1 }
@@ -65,7 +65,7 @@ fn add(alloc: Global, mut counter: Counter, pass: u32, line: u32, seen: Stamp) -
     if counter.value == u64::MAX {
         return (counter, seen);
     }
-    let entry = access(alloc, pass, line, stamp);
+    let entry = access(pass, line, stamp);
     if counter.entries.push(entry).is_err() {
         return (counter, seen);
     }
@@ -75,14 +75,7 @@ fn add(alloc: Global, mut counter: Counter, pass: u32, line: u32, seen: Stamp) -
 }
 
 /// Takes the cell of index 0, counts an access and gives the cell back.
-fn step<R: Wait>(
-    rt: &R,
-    alloc: Global,
-    cells: &Tallies,
-    seat: &mut Worker,
-    seen: Stamp,
-    line: u32,
-) -> Stamp
+fn step<R: Wait>(rt: &R, cells: &Tallies, seat: &mut Worker, seen: Stamp, line: u32) -> Stamp
     requires of { IsOf cells.now seat.old × (0 < row_of cells.now) }
     requires idle { NoTurns seat.old × IsIdle (number_of seat.old) seen (view_of seat.old) }
     requires room { length (view_of seat.old).calls < 2 ^ 32 }
@@ -91,13 +84,13 @@ fn step<R: Wait>(
     ensures calls { length (view_of seat.new).calls ≤ length (view_of seat.old).calls + 1 }
 {
     let counter = cells.take(rt, seat, 0);
-    let (counter, seen) = add(alloc, counter, seat.number(), line, seen);
+    let (counter, seen) = add(counter, seat.number(), line, seen);
     cells.give(seat, 0, counter);
     seen
 }
 
 /// Counts so many accesses of the seat.
-fn work<R: Wait>(rt: &R, alloc: Global, cells: &Tallies, mut seat: Worker, rounds: u32) -> Worker
+fn work<R: Wait>(rt: &R, cells: &Tallies, mut seat: Worker, rounds: u32) -> Worker
     requires of { IsOf cells.now seat × (0 < row_of cells.now) }
     requires idle { NoTurns seat × IsIdle (number_of seat) (view_of seat).seen (view_of seat) }
     requires new { ((view_of seat).seen ≡ stamp 0 0) × ((view_of seat).calls ≡ []) }
@@ -108,7 +101,7 @@ fn work<R: Wait>(rt: &R, alloc: Global, cells: &Tallies, mut seat: Worker, round
         count: 0,
     };
     for i in 0..rounds {
-        seen = step(rt, alloc, cells, &mut seat, seen, i);
+        seen = step(rt, cells, &mut seat, seen, i);
     }
     seat
 }
@@ -161,7 +154,6 @@ pub fn closed(
 /// Each seat in a thread of its own.
 fn work_both<R: Threads + Wait + Sync>(
     rt: &R,
-    alloc: Global,
     cells: &Tallies,
     one: Worker,
     two: Worker,
@@ -179,13 +171,13 @@ fn work_both<R: Threads + Wait + Sync>(
             requires idle { NoTurns one × IsIdle (number_of one) (view_of one).seen (view_of one) }
             requires new { ((view_of one).seen ≡ stamp 0 0) × ((view_of one).calls ≡ []) }
             ensures { IsSameSeat one result × NoTurns result }
-        { work(rt, alloc, cells, one, 1000) },
+        { work(rt, cells, one, 1000) },
         || -> Worker
             requires of { IsOf cells.now two × (0 < row_of cells.now) }
             requires idle { NoTurns two × IsIdle (number_of two) (view_of two).seen (view_of two) }
             requires new { ((view_of two).seen ≡ stamp 0 0) × ((view_of two).calls ≡ []) }
             ensures { IsSameSeat two result × NoTurns result }
-        { work(rt, alloc, cells, two, 1000) },
+        { work(rt, cells, two, 1000) },
     )
 }
 
@@ -252,7 +244,7 @@ fn a_taken_cell_is_busy_until_it_is_given_back(rt: HostRuntime) -> Result<(), Fa
 fn two_threads_count_a_thousand_times_each(rt: HostRuntime) -> Result<(), Fail> {
     let alloc = rt.alloc();
     let (cells, one, two) = made(alloc).ok().ok_or("memory")?;
-    let (one, two) = work_both(&rt, alloc, &cells, one, two);
+    let (one, two) = work_both(&rt, &cells, one, two);
     let (ledger, row) = closed(alloc, cells, one, two).ok().ok_or("memory")?;
     assert!(rt; ledger.entries.as_slice().is_empty() && row.len() == 2);
     assert!(rt; row[0].value == 2000 && row[0].entries.as_slice().len() == 2000);

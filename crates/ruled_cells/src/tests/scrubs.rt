@@ -15,13 +15,12 @@ use crate::tests::counter::Counter;
 use crate::tests::ledger::Ledger;
 use crate::tests::runs::{Tallies, Worker, closed, made, put_back};
 use dcd_base::{Actor, Stamp};
-use journal_core::{Act, Effects, Entry, Reply};
-use std::alloc::Global;
+use journal_core::{Act, Entry, EntryEffects, Reply};
 use std::sync::Wait;
 use std::test::*;
 
 /// The scrub that names the counter of index 0.
-fn scrub(alloc: Global, pass: u32, number: u64) -> Entry
+fn scrub(pass: u32, number: u64) -> Entry
     ensures { (result.pass ≡ pass) × (result.actor ≡ Sanitizer) × (result.act ≡ Scrub 0) × (result.stamp ≡ stamp number 0) }
 {
     Entry {
@@ -30,7 +29,7 @@ fn scrub(alloc: Global, pass: u32, number: u64) -> Entry
         actor: Actor::Sanitizer,
         act: Act::Scrub(0),
         reply: Reply::Scrubbed(0),
-        effects: Effects::new(alloc),
+        effects: EntryEffects::none(),
         stamp: Stamp { number, count: 0 },
     }
 }
@@ -84,7 +83,7 @@ fn give_up(cells: &Tallies, seat: &mut Worker, ledger: Ledger, counter: Counter)
 }
 
 /// Takes both, enters the scrub, and gives both back; without memory as they were.
-fn run<R: Wait>(rt: &R, alloc: Global, cells: &Tallies, seat: &mut Worker) -> bool
+fn run<R: Wait>(rt: &R, cells: &Tallies, seat: &mut Worker) -> bool
     requires of { IsOf cells.now seat.old × (row_of cells.now ≡ 2) }
     requires idle { NoTurns seat.old × (length (view_of seat.old).calls < 2 ^ 32) × (get_elem? (view_of seat.old).about.actors (number_of seat.old) ≡ some Sanitizer) }
     ensures seat { IsSameSeat seat.old seat.new }
@@ -96,7 +95,7 @@ fn run<R: Wait>(rt: &R, alloc: Global, cells: &Tallies, seat: &mut Worker) -> bo
     if counter.value == u64::MAX {
         return give_up(cells, seat, ledger, counter);
     }
-    if !enter(&mut ledger, scrub(alloc, seat.number(), number)) {
+    if !enter(&mut ledger, scrub(seat.number(), number)) {
         return give_up(cells, seat, ledger, counter);
     }
     finish(cells, seat, ledger, counter);
@@ -107,7 +106,7 @@ fn run<R: Wait>(rt: &R, alloc: Global, cells: &Tallies, seat: &mut Worker) -> bo
 fn a_scrub_is_noted_and_counted(rt: HostRuntime) -> Result<(), Fail> {
     let alloc = rt.alloc();
     let (cells, mut one, two) = made(alloc).ok().ok_or("memory")?;
-    let done = run(&rt, alloc, &cells, &mut one);
+    let done = run(&rt, &cells, &mut one);
     let (ledger, row) = closed(alloc, cells, one, two).ok().ok_or("memory")?;
     assert!(rt; done && ledger.count() == 1 && row.len() == 2);
     assert!(rt;

@@ -1,7 +1,8 @@
 use Rattle.std.proofs.Common.{subst, sym, ◌∙◌}
+use Rattle.std.proofs.lemmas.Result.{err_from_is_err_and}
 use Rattle.region_config.specs.Configurations.{Configuration}
 use Rattle.script_runner.specs.Fronts.{RanRest}
-use Rattle.script_runner.proofs.Fronts.{ran_script}
+use Rattle.script_runner.proofs.Fronts.{fault_behind, ran_script}
 use Rattle.script_runner.proofs.script.run_script.Goals as goal
 
 pub returns-clause-ran : goal.returns-clause-ran
@@ -11,3 +12,8 @@ returns-clause-ran c =
     subst (λ (k : Configuration). RanRest k.hosts c.in_ok-head.head.lanes c.in_ok-head.reader.rest device.journal) (sym c.in_ok-run_rest.ensures.config) c.in_ok-run_rest.ensures.ran in
     ran_script c.args.input.now c.in_ok-head.head c.in_ok-head.reader device.config device.journal c.in_ok-head.ensures
     (c.in_ok-run_rest.ensures.config ∙ c.in_ok-device.ensures.config) ran
+
+pub returns-in_err-run_rest-clause-fault : goal.returns-in_err-run_rest-clause-fault
+returns-in_err-run_rest-clause-fault c =
+    let p = err_from_is_err_and c.from_residual-in_err-run_rest.result c.from_residual-in_err-run_rest.ensures.1 in
+    rw (p.1, p.2) (λ real. fault_behind c.args.input.now c.in_ok-head.head c.in_ok-head.reader _ c.in_ok-head.ensures (c.in_err-run_rest.ensures.fault real))
