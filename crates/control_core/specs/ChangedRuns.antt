@@ -9,7 +9,7 @@ use Rattle.region_config.specs.Granules.{granule_total}
 use Rattle.journal_core.specs.Holders.{holds}
 use Rattle.journal_core.specs.declared.outcome.Effect.{Effect}
 use Rattle.device_rules.specs.Legal.{is_zeroing}
-use Rattle.tag_refs.specs.Hosts.{has_host}
+use Rattle.dcd_base.specs.Hosts.{has_host}
 
 -- the holders of a granule after one change, a bit for each host
 abbrev pub holders_after : ℕ → ℕ → Change → ℕ

@@ -7,7 +7,7 @@ use Rattle.dcd_base.specs.declared.media.Change.{Change}
 use Rattle.dcd_base.specs.declared.media.Run.{Run}
 use Rattle.journal_core.specs.declared.outcome.Effect.{Effect}
 use Rattle.device_rules.specs.Legal.{is_zeroing}
-use Rattle.tag_refs.specs.Hosts.{with_host, without_host}
+use Rattle.dcd_base.specs.Hosts.{with_host, without_host}
 use Rattle.control_core.specs.ChangedRuns.{holders_after, touches}
 
 -- the granules that the effect gives, takes or zeroes

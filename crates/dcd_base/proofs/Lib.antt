@@ -1,3 +1,4 @@
 pub mod Fields
+pub mod HostBits
 mod Parts
 pub mod Passing

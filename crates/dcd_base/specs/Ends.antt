@@ -1,5 +1,5 @@
 -- Sources and sinks in memory, which fail at calls that are told beforehand.
-use Rattle.std.specs.Prelude.{◌≡◌, ℕ, ◌+◌, ◌-◌, ◌^◌, min, Bool, ◌==◌, List, ◌++◌, length, take, drop, IsTrue, IsFalse}
+use Rattle.std.specs.Prelude.{◌≡◌, if◌then◌else◌, ℕ, ◌+◌, ◌-◌, ◌^◌, min, Bool, ◌==◌, List, ◌++◌, length, take, drop, IsTrue, IsFalse}
 use Rattle.std.specs.List.{list_any}
 use Rattle.std.specs.declared.result.Result.{Result}
 use Rattle.std.specs.declared.result.Result.TheVariants.{Ok, Err}
@@ -38,18 +38,25 @@ IsRead old new buf (Err e) =
     × (new ≡ record old { calls = one_more old.calls; faults = one_more old.faults })
 
 -- A sink in memory: what it took, how many bytes a call at the most, the numbers of the calls that fail,
--- how many calls there were and how many failed.
+-- how many calls there were, how many failed, and at how many of those memory to grow was refused.
 pub record Taken : Type 0 where
   pub bytes : List ℕ
   pub most : ℕ
   pub fails : List ℕ
   pub calls : ℕ
   pub faults : ℕ
+  pub refused : ℕ
 
--- One call: it takes as many bytes as it may, and not at the numbers where it fails. A refused growth is a fault too.
+-- One call: it takes as many bytes as it may, and not at the numbers where it fails. A failure at another number is
+-- memory refused, which is counted apart.
 abbrev pub IsWrite : Taken → Taken → List ℕ → Result ℕ Failed → Type 0
 IsWrite old new piece (Ok n) =
     IsFalse (fails_at old.fails (one_more old.calls))
     × (n ≡ min old.most (length piece))
     × (new ≡ record old { bytes = old.bytes ++ take n piece; calls = one_more old.calls })
-IsWrite old new piece (Err e) = new ≡ record old { calls = one_more old.calls; faults = one_more old.faults }
+IsWrite old new piece (Err e) =
+    new ≡ record old {
+      calls = one_more old.calls;
+      faults = one_more old.faults;
+      refused = if fails_at old.fails (one_more old.calls) then old.refused else one_more old.refused;
+    }

@@ -34,13 +34,6 @@ zero_tag = record { 0 = replicate 16 0 }
 abbrev pub is_zero_tag : Tag → Bool
 is_zero_tag t = same_tag t zero_tag
 
--- how many extents and tags a host may have, accepted and offered together
-abbrev pub extents_supported : ℕ
-extents_supported = 64
-
-abbrev pub tags_supported : ℕ
-tags_supported = 32
-
 -- each tag once, in the order of first appearance
 abbrev pub distinct_tags : List Tag → List Tag
 distinct_tags tags = fold (λ seen t. if has_tag seen t then seen else seen ++ t ∷ []) [] tags

@@ -13,7 +13,8 @@ use std::marker::Model;
 /// A sink that keeps what it takes, and fails at chosen calls, for tests.
 ///
 /// Contracts see what it took, how many bytes it takes a call at the most, the numbers of the calls that fail,
-/// how many calls there were and how many failed. Both counts stay at 2^64 - 1.
+/// how many calls there were, how many failed, and at how many of those memory to grow was refused, which happens
+/// only at calls that are not among the numbered ones. The counts stay at 2^64 - 1.
 #[derive(Debug, Drop)]
 pub struct MemSink {
     bytes: Bytes,
@@ -21,6 +22,7 @@ pub struct MemSink {
     fails: Vec<u64>,
     calls: u64,
     faults: u64,
+    refused: u64,
 }
 
 impl Model for MemSink {
@@ -29,7 +31,7 @@ impl Model for MemSink {
 
     ghost Value = { Taken };
 
-    ghost view = { λ s. record { bytes = s.bytes; most = s.most; fails = s.fails.items; calls = s.calls; faults = s.faults } };
+    ghost view = { λ s. record { bytes = s.bytes; most = s.most; fails = s.fails.items; calls = s.calls; faults = s.faults; refused = s.refused } };
 
     ghost invariant = { λ s. 0 < s.most };
 }
@@ -39,7 +41,7 @@ impl MemSink {
     /// from 1, and where it cannot grow.
     pub fn new(alloc: Global, most: usize, fails: Vec<u64>) -> MemSink
         requires { 0 < most }
-        ensures { result ≡ record { bytes = []; most = most; fails = fails.items; calls = 0; faults = 0 } }
+        ensures { result ≡ record { bytes = []; most = most; fails = fails.items; calls = 0; faults = 0; refused = 0 } }
     {
         MemSink {
             bytes: Bytes::new(alloc),
@@ -47,7 +49,15 @@ impl MemSink {
             fails,
             calls: 0,
             faults: 0,
+            refused: 0,
         }
+    }
+
+    /// At how many calls memory to grow was refused.
+    pub fn refused(&self) -> u64
+        ensures { result ≡ self.now.refused }
+    {
+        self.refused
     }
 
     /// What it took.
@@ -63,7 +73,8 @@ impl Sink for MemSink {
 
     ghost faults = { λ s. s.faults };
 
-    /// Takes as many bytes as it may. It fails at the numbered calls and at a refused growth, which count as faults.
+    /// Takes as many bytes as it may. It fails at the numbered calls, and at another only where memory to grow is
+    /// refused; both count as faults, the second apart too.
     fn write(&mut self, piece: &[u8]) -> Result<usize, Failed>
         requires { 0 < length piece.now }
         ensures is { IsWrite self.old self.new piece.now result }
@@ -76,8 +87,13 @@ impl Sink for MemSink {
     {
         self.calls = self.calls.saturating_add(1);
         let (front, _) = piece.split_at(self.most.min(piece.len()));
-        if self.fails.contains(&self.calls) || self.bytes.extend_from_slice(front).is_err() {
+        if self.fails.contains(&self.calls) {
             self.faults = self.faults.saturating_add(1);
+            return Err(Failed);
+        }
+        if self.bytes.extend_from_slice(front).is_err() {
+            self.faults = self.faults.saturating_add(1);
+            self.refused = self.refused.saturating_add(1);
             return Err(Failed);
         }
         Ok(front.len())

@@ -8,7 +8,8 @@ use Rattle.dcd_base.specs.declared.capacity.Extent.{Extent}
 use Rattle.dcd_base.specs.declared.capacity.Tag.{Tag}
 use Rattle.dcd_base.specs.declared.ids.HostId.{HostId}
 use Rattle.dcd_base.specs.declared.media.Run.{Run}
-use Rattle.dcd_base.specs.Words.{extents_supported, has_granule, has_in_runs, has_tag, is_zero_tag, where_true}
+use Rattle.dcd_base.specs.Limits.{extents_supported}
+use Rattle.dcd_base.specs.Words.{has_granule, has_in_runs, has_tag, is_zero_tag, where_true}
 use Rattle.dcd_codes.specs.declared.rules.Rule.{Rule}
 use Rattle.dcd_codes.specs.Rules.{◌breaks◌}
 use Rattle.region_config.specs.Configurations.{Configuration}

@@ -7,7 +7,8 @@ use Rattle.std.proofs.lemmas.List.Concat.{length-flat_map}
 use Rattle.dcd_base.specs.declared.capacity.Extent.{Extent}
 use Rattle.dcd_base.specs.declared.capacity.Tag.{Tag}
 use Rattle.dcd_base.specs.declared.ids.HostId.{HostId}
-use Rattle.dcd_base.specs.Words.{◌or◌, extents_supported, has_tag, is_zero_tag, same_tag}
+use Rattle.dcd_base.specs.Limits.{extents_supported}
+use Rattle.dcd_base.specs.Words.{◌or◌, has_tag, is_zero_tag, same_tag}
 use Rattle.dcd_codes.specs.declared.rules.Rule.{Rule}
 use Rattle.dcd_codes.specs.Rules.{◌breaks◌, each_in}
 use Rattle.extent_list.specs.ExtentLists.{count_in, has_extent_of, is_in, is_whole, marked, owner_of, tags_of}

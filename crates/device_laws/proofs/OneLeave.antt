@@ -7,7 +7,8 @@ use Rattle.dcd_base.specs.declared.capacity.Extent.{Extent}
 use Rattle.dcd_base.specs.declared.capacity.Tag.{Tag}
 use Rattle.dcd_base.specs.declared.ids.HostId.{HostId}
 use Rattle.dcd_base.specs.declared.media.Run.{Run}
-use Rattle.dcd_base.specs.Words.{extents_supported, has_granule, has_in_runs, has_tag}
+use Rattle.dcd_base.specs.Limits.{extents_supported}
+use Rattle.dcd_base.specs.Words.{has_granule, has_in_runs, has_tag}
 use Rattle.region_config.specs.Configurations.{Configuration}
 use Rattle.region_config.specs.Soundness.{IsSound}
 use Rattle.region_config.specs.Granules.{granule_size, is_supported, region_of, region_spec}

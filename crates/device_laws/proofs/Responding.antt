@@ -5,7 +5,8 @@ use Rattle.std.proofs.lemmas.Bool.{false≢true, ltb-false, not-false, and_cases
 use Rattle.dcd_base.specs.declared.capacity.Extent.{Extent}
 use Rattle.dcd_base.specs.declared.capacity.Tag.{Tag}
 use Rattle.dcd_base.specs.declared.ids.HostId.{HostId}
-use Rattle.dcd_base.specs.Words.{◌or◌, extents_supported, has_tag}
+use Rattle.dcd_base.specs.Limits.{extents_supported}
+use Rattle.dcd_base.specs.Words.{◌or◌, has_tag}
 use Rattle.dcd_codes.specs.declared.rules.Rule.{Rule}
 use Rattle.dcd_codes.specs.Rules.{◌breaks◌, each_in}
 use Rattle.region_config.specs.Configurations.{Configuration}

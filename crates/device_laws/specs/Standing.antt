@@ -4,7 +4,8 @@ use Rattle.std.specs.List.{AllByRecursion}
 use Rattle.dcd_base.specs.declared.capacity.Extent.{Extent}
 use Rattle.dcd_base.specs.declared.capacity.Tag.{Tag}
 use Rattle.dcd_base.specs.declared.ids.HostId.{HostId}
-use Rattle.dcd_base.specs.Words.{extents_supported, has_granule, has_in_runs, has_tag, is_zero_tag}
+use Rattle.dcd_base.specs.Limits.{extents_supported}
+use Rattle.dcd_base.specs.Words.{has_granule, has_in_runs, has_tag, is_zero_tag}
 use Rattle.region_config.specs.Configurations.{Configuration}
 use Rattle.region_config.specs.Granules.{base_of, is_supported, region_of, region_spec}
 use Rattle.media_map.specs.Places.{region_at, run_of}

@@ -30,7 +30,7 @@ use Rattle.media_map.specs.Places.{locate}
 use Rattle.region_config.specs.Configurations.{Configuration}
 use Rattle.region_config.specs.Granules.{granule_total}
 use Rattle.region_config.specs.Soundness.{IsSound}
-use Rattle.tag_refs.specs.Hosts.{has_host}
+use Rattle.dcd_base.specs.Hosts.{has_host}
 use Rattle.device_rules.specs.Hosts.{changes_of, moves}
 use Rattle.device_rules.specs.Legal.{Meets, access_at, granted_reply, is_zeroing, stored_at, word_after, word_by, word_of, written_by}
 use Rattle.control_core.specs.ChangedRuns.{AreChanges, AreHolders, holders_after}

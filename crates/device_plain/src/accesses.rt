@@ -6,7 +6,7 @@ ghost use Rattle.dcd_base.specs.declared.media.Place.{Place};
 ghost use Rattle.media_map.specs.Places.{locate};
 ghost use Rattle.region_config.specs.Granules.{granule_total};
 ghost use Rattle.std.specs.Prelude.{◌≡◌, ◌+◌, ◌<◌, ◌^◌, IfOk, OnErr, OnOk, length};
-ghost use Rattle.tag_refs.specs.Hosts.{has_host};
+ghost use Rattle.dcd_base.specs.Hosts.{has_host};
 
 use control_core::Control;
 use dcd_base::{AccessFault, Actor, HostId, NoMemory, Place, Stamp};

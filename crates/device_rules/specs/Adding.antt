@@ -3,7 +3,8 @@ use Rattle.media_map.specs.Places.{extent_of}
 use Rattle.granule_map.specs.Blocks.{block_count}
 use Rattle.granule_map.specs.Choices.{longest_run, passing}
 use Rattle.selection.specs.Selections.{contiguous_runs, free_runs, is_free_block, prescribed_rule, too_few_free}
-use Rattle.dcd_base.specs.Words.{tags_supported, zero_tag, has_tag, is_zero_tag, where_true, ◌or◌}
+use Rattle.dcd_base.specs.Limits.{tags_supported}
+use Rattle.dcd_base.specs.Words.{zero_tag, has_tag, is_zero_tag, where_true, ◌or◌}
 use Rattle.std.specs.Prelude.{ℕ, ◌+◌, ◌/◌, ◌%◌, Bool, ◌&&◌, ◌||◌, not, ◌==◌, nat_le, nat_lt, List, [], ◌∷◌, ◌++◌, length, map, Option, unwrap_or, if◌then◌else◌}
 use Rattle.std.specs.List.{enumerate_from}
 use Rattle.dcd_base.specs.declared.ids.HostId.{HostId}

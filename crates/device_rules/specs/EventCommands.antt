@@ -7,6 +7,7 @@ use Rattle.event_records.specs.declared.events.Event.{Event}
 use Rattle.journal_core.specs.declared.outcome.Effect.{Effect}
 use Rattle.event_log.specs.Logs.{Log, empty_log, records_in}
 use Rattle.dcd_codes.specs.Rules.{◌breaks◌}
+use Rattle.dcd_base.specs.Limits.{reply_records}
 use Rattle.dcd_base.specs.Words.{◌or◌}
 use Rattle.host_payloads.specs.HostPayloads.{events_payload}
 use Rattle.device_rules.specs.Outcomes.{Outcome}
@@ -20,7 +21,7 @@ no_such_log number = nat_le 5 number breaks Rule.NoSuchLog number
 
 -- 0100h: the oldest records, fifteen at most
 abbrev pub events_reply : Log → List ℕ
-events_reply log = events_payload log.missed (nat_lt 15 (length (records_in log))) (take 15 (records_in log))
+events_reply log = events_payload log.missed (nat_lt reply_records (length (records_in log))) (take reply_records (records_in log))
 
 -- handles must be those of the oldest records, in order
 abbrev pub out_of_place : List ℕ → List Event → Option Rule

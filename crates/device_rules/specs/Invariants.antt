@@ -1,5 +1,6 @@
 -- What every legal journal keeps: holdings, and the open tags by liveness.
-use Rattle.dcd_base.specs.Words.{extents_supported, same_tag, has_granule, has_tag, has_in_runs}
+use Rattle.dcd_base.specs.Limits.{extents_supported}
+use Rattle.dcd_base.specs.Words.{same_tag, has_granule, has_tag, has_in_runs}
 use Rattle.device_rules.specs.Tags.{is_live_shareable, last_offer, tag_runs, open_tags}
 use Rattle.dcd_base.specs.declared.capacity.Tag.{Tag}
 use Rattle.std.specs.List.{list_any, list_all, range_with_len}

@@ -1,7 +1,8 @@
 -- Reading and setting the configuration: 4800h, 4801h, and 5600h to 5603h.
 use Rattle.fm_payloads.specs.ManagerPayloads.{regions_head, info_payload, lists_head}
 use Rattle.host_payloads.specs.HostPayloads.{configuration_payload, region_bytes, counts_bytes, extent_bytes, extents_payload}
-use Rattle.dcd_base.specs.Words.{extents_supported, tags_supported, ◌or◌}
+use Rattle.dcd_base.specs.Limits.{page_extents, extents_supported, tags_supported}
+use Rattle.dcd_base.specs.Words.{◌or◌}
 use Rattle.host_payloads.specs.declared.views.Counts.{Counts}
 use Rattle.host_payloads.specs.declared.views.RegionView.{RegionView}
 use Rattle.device_rules.specs.Views.{generation_in, View, extents_available, tags_available}
@@ -62,7 +63,7 @@ configuration_reply c h v count first =
 
 -- 4801h: fifty extents at most
 abbrev pub extents_reply : View → ℕ → ℕ → List ℕ
-extents_reply v count first = extents_payload (length v.accepted) (generation_in v) (page first (min count 50) v.accepted)
+extents_reply v count first = extents_payload (length v.accepted) (generation_in v) (page first (min count page_extents) v.accepted)
 
 -- 5600h
 abbrev pub info_reply : Configuration → List Effect → List ℕ
@@ -84,7 +85,7 @@ abbrev pub lists_rule : Configuration → (HostId → View) → ℕ → ℕ → 
 lists_rule c view_for host first = no_such_host c host or past_end first (length (view_for host).accepted)
 
 abbrev pub lists_reply : (HostId → View) → ℕ → ℕ → ℕ → List ℕ
-lists_reply view_for host count first = let v = view_for host in let xs = page first (min count 50) v.accepted in
+lists_reply view_for host count first = let v = view_for host in let xs = page first (min count page_extents) v.accepted in
     lists_head host first (length xs) (length v.accepted) (generation_in v) ++ flat_map extent_bytes xs
 
 -- 5602h

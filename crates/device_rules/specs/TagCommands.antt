@@ -6,6 +6,7 @@ use Rattle.dcd_base.specs.declared.capacity.Tag.{Tag}
 use Rattle.dcd_codes.specs.declared.rules.Rule.{Rule}
 use Rattle.region_config.specs.Configurations.{Configuration}
 use Rattle.journal_core.specs.declared.outcome.Effect.{Effect}
+use Rattle.dcd_base.specs.Limits.{page_tags}
 use Rattle.dcd_base.specs.Words.{has_tag}
 use Rattle.region_config.specs.Granules.{hosts_of}
 use Rattle.dcd_codes.specs.Rules.{◌breaks◌}
@@ -46,4 +47,4 @@ tag_seen c past t = record {
 
 abbrev pub tags_reply : Configuration → List Effect → ℕ → ℕ → List ℕ
 tags_reply c past first count = let tags = open_tags c past in
-    tags_payload first (length tags) (map (tag_seen c past) (page first (min count 84) tags))
+    tags_payload first (length tags) (map (tag_seen c past) (page first (min count page_tags) tags))

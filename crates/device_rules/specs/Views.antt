@@ -1,6 +1,6 @@
 -- What one host can see, and how an entry changes it.
 use Rattle.std.specs.Prelude.{◌%◌, ◌^◌, ℕ, ◌+◌, ◌-◌, List, [], ◌++◌, length, flat_map, fold, if◌then◌else◌}
-use Rattle.dcd_base.specs.Words.{extents_supported, tags_supported}
+use Rattle.dcd_base.specs.Limits.{extents_supported, tags_supported}
 use Rattle.std.specs.List.{list_any}
 use Rattle.dcd_base.specs.declared.ids.HostId.{HostId}
 use Rattle.dcd_base.specs.declared.capacity.Extent.{Extent}

@@ -19,7 +19,7 @@ use Rattle.region_config.specs.Granules.{granule_total, hosts_of, no_region, reg
 use Rattle.region_config.proofs.PresentBlocks.{region_spec-with_blocks}
 use Rattle.device_rules.specs.Tags.{Dirty, Free, Held, Offered, Status, Tagged, is_offered, status}
 use Rattle.device_rules.specs.Views.{view_of}
-use Rattle.tag_refs.specs.Hosts.{has_host}
+use Rattle.dcd_base.specs.Hosts.{has_host}
 use Rattle.tag_laws.specs.Tables.{IsTable}
 use Rattle.device_state.specs.Kept.{IsKept, IsPart, no_part}
 use Rattle.device_state.specs.declared.state.State.{State}

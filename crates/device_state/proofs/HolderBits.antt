@@ -11,8 +11,8 @@ use Rattle.dcd_base.specs.declared.ids.HostId.{HostId}
 use Rattle.journal_core.specs.Holders.{holding_after}
 use Rattle.journal_core.specs.declared.outcome.Effect.{Effect}
 use Rattle.region_config.specs.Configurations.{Configuration}
-use Rattle.tag_refs.specs.Hosts.{has_host, with_host, without_host}
-use Rattle.tag_refs.proofs.HostBits.{or_host}
+use Rattle.dcd_base.specs.Hosts.{has_host, with_host, without_host}
+use Rattle.dcd_base.proofs.HostBits.{or_host}
 use Rattle.device_state.specs.Entered.{holders_by}
 use Rattle.device_state.specs.Updates.{IsOfDevice}
 use Rattle.device_state.proofs.HolderSteps.{held_in-at, length-held_in}

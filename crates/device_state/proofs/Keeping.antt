@@ -28,7 +28,7 @@ use Rattle.region_config.specs.Configurations.{Configuration}
 use Rattle.region_config.specs.Granules.{granule_total, region_spec, with_blocks}
 use Rattle.region_config.specs.Soundness.{IsSound}
 use Rattle.tag_laws.specs.Tables.{IsEntry, IsTable}
-use Rattle.tag_refs.specs.Hosts.{has_host}
+use Rattle.dcd_base.specs.Hosts.{has_host}
 use Rattle.tag_refs.specs.Tables.{entry_of}
 use Rattle.tag_refs.specs.declared.entries.TagEntry.{TagEntry}
 use Rattle.device_laws.proofs.LegalSound.{legal_is_sound}

@@ -20,7 +20,7 @@ use Rattle.region_config.specs.Blocks.{with_block}
 use Rattle.region_config.specs.Configurations.{Configuration}
 use Rattle.device_rules.specs.Logs.{same_log}
 use Rattle.tag_laws.specs.Tables.{told_anew}
-use Rattle.tag_refs.specs.Hosts.{with_host, without_host}
+use Rattle.dcd_base.specs.Hosts.{with_host, without_host}
 use Rattle.tag_refs.specs.Tables.{changed, entry_of, opened, still_used, with_reference}
 use Rattle.tag_refs.specs.declared.entries.TagEntry.{TagEntry}
 use Rattle.device_state.specs.Kept.{part_of}

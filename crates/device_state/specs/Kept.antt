@@ -9,7 +9,7 @@ use Rattle.event_log.specs.LogStates.{new_log}
 use Rattle.journal_core.specs.Entries.{effects}
 use Rattle.journal_core.specs.Holders.{holds}
 use Rattle.journal_core.specs.declared.entries.Entry.{Entry}
-use Rattle.tag_refs.specs.Hosts.{has_host}
+use Rattle.dcd_base.specs.Hosts.{has_host}
 use Rattle.granule_table.specs.Tables.{cell_at}
 use Rattle.granule_laws.specs.Cells.{IsCell}
 use Rattle.tag_laws.specs.Tables.{IsTable}

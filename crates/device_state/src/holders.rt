@@ -2,7 +2,7 @@
 
 ghost use Rattle.device_state.specs.Entered.{held_in};
 ghost use Rattle.std.specs.Prelude.{◌≡◌, ◌&&◌, ◌<◌, ◌≤◌, IfOk, if◌then◌else◌, length, nat_le, nat_lt, replicate, slice_index_or, ℕ};
-ghost use Rattle.tag_refs.specs.Hosts.{with_host, without_host};
+ghost use Rattle.dcd_base.specs.Hosts.{with_host, without_host};
 
 use dcd_base::{Granule, HostId, NoMemory, Run};
 use std::alloc::Global;

@@ -1,5 +1,6 @@
 -- A log as the history of the device tells it.
 use Rattle.std.specs.Prelude.{◌≡◌, ℕ, ◌+◌, ◌-◌, ◌%◌, ◌<◌, ◌≤◌, min, slice_index_or, List, [], ◌∷◌, ◌++◌, drop, fold, length}
+use Rattle.dcd_base.specs.Limits.{host_records, manager_records}
 use Rattle.dcd_base.specs.declared.steps.LogId.{LogId}
 use Rattle.event_records.specs.declared.events.Event.{Event}
 use Rattle.event_log.specs.LogStates.{LogState, emptied, with_missed, with_record, without_oldest}
@@ -23,8 +24,8 @@ next_handle log = 1 + length log.ever % 65535
 
 -- how many records the log can have, and how many more it can take
 abbrev pub places_in : LogId → ℕ
-places_in (LogId.Host h) = 64
-places_in LogId.Manager = 128
+places_in (LogId.Host h) = host_records
+places_in LogId.Manager = manager_records
 
 abbrev pub room_in : LogId → Log → ℕ
 room_in l log = places_in l - length (records_in log)

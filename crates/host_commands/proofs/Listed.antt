@@ -6,7 +6,7 @@ use Rattle.std.proofs.lemmas.Bool.{ltb-false}
 use Rattle.std.proofs.lemmas.List.{length-map}
 use Rattle.dcd_base.specs.declared.capacity.Extent.{Extent}
 use Rattle.dcd_base.specs.declared.ids.HostId.{HostId}
-use Rattle.dcd_base.specs.Words.{extents_supported}
+use Rattle.dcd_base.specs.Limits.{extents_supported}
 use Rattle.dcd_codes.specs.declared.rules.Rule.{Rule}
 use Rattle.dcd_codes.specs.Rules.{◌breaks◌, each_in}
 use Rattle.region_config.specs.Configurations.{Configuration}

@@ -1,6 +1,7 @@
 //! The lists, and what is read of them.
 
-ghost use Rattle.dcd_base.specs.Words.{extents_supported, is_empty, tags_supported};
+ghost use Rattle.dcd_base.specs.Limits.{extents_supported, tags_supported};
+ghost use Rattle.dcd_base.specs.Words.{is_empty};
 ghost use Rattle.extent_list.specs.ExtentLists.{count_in, has_extent_of, real_tags};
 ghost use Rattle.host_lists.specs.Lists.{extent_total, extents_in, no_lists};
 ghost use Rattle.host_lists.specs.Tags.{capped, tag_count};
@@ -9,18 +10,13 @@ ghost use Rattle.std.specs.List.{list_any};
 ghost use Rattle.std.specs.Prelude.{◌≡◌, ◌++◌, ◌+◌, ◌-◌, ◌^◌, ◌<◌, ◌≤◌, [], IfOk, length, not};
 
 use crate::tag_counts::{has_extent_of, has_in_offers, more_tags};
+use dcd_base::limits::{EXTENTS, TAGS};
 use dcd_base::{Extent, Extents, NoMemory, Tag};
 use extent_list::ExtentList;
 use offer_core::Offers;
 use release_core::Releases;
 use std::alloc::Global;
 use std::marker::Model;
-
-/// How many extents a host may have, accepted and offered together (profile).
-const EXTENTS: usize = 64;
-
-/// How many tags these may have (profile).
-const TAGS: u32 = 32;
 
 /// What the device keeps of a host's extents.
 #[derive(Debug, Drop)]

@@ -9,13 +9,11 @@ ghost use Rattle.std.specs.Prelude.{◌≡◌, ◌++◌, ◌∷◌, ◌<◌, ◌
 use crate::changes::{add_all, generation_after};
 use crate::lists::HostLists;
 use crate::responded::Responded;
+use dcd_base::limits::LISTED_EXTENTS;
 use dcd_base::{Extents, HostId, NoMemory, RegionId};
 use dcd_codes::Refusal;
 use offer_core::{Answered, Offer};
 use region_config::Config;
-
-/// How many extents a response may accept (profile).
-const LISTED: usize = 64;
 
 impl HostLists {
     /// Offers these extents of the region, behind all other offers. Without memory nothing changes.
@@ -48,7 +46,7 @@ impl HostLists {
             result }
         ensures left { LeavesResponses self.old self.new result }
     {
-        self.accepted.reserve(LISTED)?;
+        self.accepted.reserve(LISTED_EXTENTS)?;
         let accepted = self.accepted.len();
         match self.offers.respond(config, host, accepted, list, more) {
             Err(refusal) => Err(refusal),

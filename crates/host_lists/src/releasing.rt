@@ -10,13 +10,11 @@ ghost use Rattle.std.specs.Prelude.{◌≡◌, ◌++◌, ◌+◌, ◌^◌, ◌<�
 
 use crate::changes::{cut_held, cut_out, generation_after, next_generation};
 use crate::lists::HostLists;
+use dcd_base::limits::LISTED_EXTENTS;
 use dcd_base::{Extents, HostId, NoMemory};
 use dcd_codes::Refusal;
 use region_config::Config;
 use release_core::GivenBack;
-
-/// How many extents a release may list (profile).
-const LISTED: usize = 64;
 
 impl HostLists {
     /// A Release Dynamic Capacity of the host (CXL 3.1, 8.2.9.9.9.4): this list of a message behind the held one, and
@@ -43,7 +41,7 @@ impl HostLists {
     {
         // What a configuration says of itself where it is read: extents in its regions end at an address.
         let _regions = config.regions();
-        self.accepted.reserve(LISTED)?;
+        self.accepted.reserve(LISTED_EXTENTS)?;
         let offered = self.offers.extents();
         match self
             .releases

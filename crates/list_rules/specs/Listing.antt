@@ -3,7 +3,8 @@ use Rattle.std.specs.Prelude.{ℕ, ◌+◌, ◌-◌, ◌%◌, Bool, ◌&&◌, no
 use Rattle.dcd_base.specs.declared.capacity.Extent.{Extent}
 use Rattle.dcd_base.specs.declared.capacity.Tag.{Tag}
 use Rattle.dcd_base.specs.declared.ids.HostId.{HostId}
-use Rattle.dcd_base.specs.Words.{◌or◌, extents_supported}
+use Rattle.dcd_base.specs.Limits.{extents_listed, extents_supported}
+use Rattle.dcd_base.specs.Words.{◌or◌}
 use Rattle.dcd_codes.specs.declared.rules.Rule.{Rule}
 use Rattle.dcd_codes.specs.Rules.{◌breaks◌, each_in}
 use Rattle.extent_list.specs.ExtentLists.{count_of_tag, is_whole, marked, overlaps, tags_of}
@@ -56,7 +57,7 @@ incomplete c h owners list = some_left owners (shared_of c h owners list)
 
 -- more extents than a list may have, and more than the host may have
 abbrev pub too_many_listed : List Extent → Option Rule
-too_many_listed list = nat_lt 64 (length list) breaks Rule.TooManyListed (length list)
+too_many_listed list = nat_lt extents_listed (length list) breaks Rule.TooManyListed (length list)
 
 abbrev pub too_many_extents : ℕ → Option Rule
 too_many_extents n = nat_lt extents_supported n breaks Rule.TooManyExtents n

@@ -4,16 +4,14 @@ ghost use Rattle.list_rules.specs.Listing.{too_many_extents, too_many_listed};
 ghost use Rattle.std.specs.Prelude.{◌≡◌};
 
 use dcd_base::Extent;
+use dcd_base::limits::{EXTENTS, LISTED_EXTENTS};
 use dcd_codes::Rule;
-
-/// How many extents a message may list, and a host may have, accepted and offered together (profile).
-const EXTENTS: usize = 64;
 
 /// The rule that a list of more than 64 extents breaks, with its length.
 pub fn too_many_listed(list: &[Extent]) -> Option<Rule>
     ensures { result ≡ too_many_listed list.now }
 {
-    if list.len() > EXTENTS {
+    if list.len() > LISTED_EXTENTS {
         return Some(Rule::TooManyListed(list.len() as u64));
     }
     None

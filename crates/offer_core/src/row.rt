@@ -9,13 +9,11 @@ ghost use Rattle.offer_core.specs.Responses.{extent_rule, list_rule, respond_rul
 ghost use Rattle.std.specs.Prelude.{◌≡◌, ◌++◌, ◌+◌, ◌^◌, ◌<◌, ◌≤◌, IfNone, IfOk, drop, length, not};
 
 use crate::offers::Offers;
+use dcd_base::limits::LISTED_EXTENTS;
 use dcd_base::{Extent, Extents, HostId, NoMemory};
 use dcd_codes::Rule;
 use list_rules::{is_in, misplaced, not_whole, region_at, shares_address, too_many_extents};
 use region_config::Config;
-
-/// How many extents may be held and listed together (profile).
-const LISTED: usize = 64;
 
 /// The first rule of the row that the response breaks: this list behind the held one.
 pub(crate) fn broken_rule(
@@ -43,7 +41,7 @@ fn listed_too_many(held: &[Extent], list: &[Extent]) -> Option<Rule>
     ensures few { IfNone result (length held.now + length list.now ≤ 64) }
 {
     let listed = held.len() + list.len();
-    if listed > LISTED {
+    if listed > LISTED_EXTENTS {
         return Some(Rule::TooManyListed(listed as u64));
     }
     None

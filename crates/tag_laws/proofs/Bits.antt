@@ -10,7 +10,7 @@ use Rattle.std.proofs.Math.Nat.{add-div_right, div-eq-sub-div, div-eq_of_lt}
 use Rattle.dcd_base.specs.declared.ids.HostId.{HostId}
 use Rattle.region_config.specs.Configurations.{Configuration}
 use Rattle.region_config.specs.Granules.{hosts_of}
-use Rattle.tag_refs.specs.Hosts.{has_host, with_host, without_host}
+use Rattle.dcd_base.specs.Hosts.{has_host, with_host, without_host}
 use Rattle.tag_refs.specs.Tables.{set_by}
 use Rattle.tag_refs.specs.declared.entries.TagEntry.{TagEntry}
 use Rattle.device_rules.specs.TagCommands.{host_bits}

@@ -15,7 +15,7 @@ use Rattle.media_map.specs.Places.{region_at, run_of}
 use Rattle.region_config.specs.Configurations.{Configuration}
 use Rattle.region_config.specs.Granules.{hosts_of, region_spec}
 use Rattle.region_config.specs.Soundness.{IsSound}
-use Rattle.tag_refs.specs.Hosts.{with_host, without_host}
+use Rattle.dcd_base.specs.Hosts.{with_host, without_host}
 use Rattle.tag_refs.specs.Tables.{opened}
 use Rattle.tag_refs.specs.declared.entries.TagEntry.{TagEntry}
 use Rattle.device_rules.specs.Hosts.{accepted_of}

@@ -10,7 +10,7 @@ use Rattle.extent_list.specs.ExtentLists.{has_extent_of}
 use Rattle.journal_core.specs.declared.outcome.Effect.{Effect}
 use Rattle.region_config.specs.Configurations.{Configuration}
 use Rattle.region_config.specs.Granules.{hosts_of}
-use Rattle.tag_refs.specs.Hosts.{with_host, without_host}
+use Rattle.dcd_base.specs.Hosts.{with_host, without_host}
 use Rattle.tag_refs.specs.Tables.{changed, is_of, is_used, passes, set_by, still_used}
 use Rattle.tag_refs.specs.declared.entries.TagEntry.{TagEntry}
 use Rattle.device_rules.specs.Outcomes.{Outcome, effects_of, ended}

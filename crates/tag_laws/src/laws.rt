@@ -26,7 +26,7 @@ ghost use Rattle.std.specs.Prelude.{◌≡◌, ◌<◌, ◌==◌, ◌++◌, ◌�
 ghost use Rattle.tag_laws.specs.QuietRequests.{is_quiet_host, is_quiet_manager, leaves_table};
 ghost use Rattle.tag_laws.specs.Steps.{IsOffered, IsToldAnew};
 ghost use Rattle.tag_laws.specs.Tables.{IsTable};
-ghost use Rattle.tag_refs.specs.Hosts.{with_host, without_host};
+ghost use Rattle.dcd_base.specs.Hosts.{with_host, without_host};
 ghost use Rattle.tag_refs.specs.Tables.{changed, is_used, passes, still_used, with_reference};
 ghost use Rattle.tag_refs.specs.Tables.{is_live as has_entry, is_referenced as entry_referenced, view_of as entry_view};
 ghost use Rattle.tag_refs.specs.declared.entries.TagEntry.{TagEntry};

@@ -1,4 +1,3 @@
 mod Changing
-pub mod HostBits
 mod Stores
 pub mod Tagged

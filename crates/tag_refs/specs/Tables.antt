@@ -4,7 +4,7 @@ use Rattle.std.specs.List.{find, IsDistinct}
 use Rattle.dcd_base.specs.Words.{same_tag}
 use Rattle.dcd_base.specs.declared.capacity.Tag.{Tag}
 use Rattle.dcd_base.specs.declared.media.Run.{Run}
-use Rattle.tag_refs.specs.Hosts.{has_host, with_host, without_host}
+use Rattle.dcd_base.specs.Hosts.{has_host, with_host, without_host}
 use Rattle.tag_refs.specs.declared.entries.TagEntry.{TagEntry}
 use Rattle.dcd_base.specs.declared.tags.TagView.{TagView}
 

@@ -5,7 +5,7 @@ ghost use Rattle.tag_refs.specs.Changes.{IsOfHost, applied};
 ghost use Rattle.tag_refs.specs.Tables.{is_held_by, is_offered_to, is_used, set_by, view_of, with_reference};
 
 use crate::changes::Change;
-use crate::hosts::{has, set, with, without};
+use dcd_base::host_bits::{has, set, with, without};
 use dcd_base::{HostId, NoMemory, RegionId, Runs, Tag, TagView};
 
 /// A live shareable tag: the capacity that it stands for, and who uses it.
@@ -59,7 +59,7 @@ impl TagEntry {
         requires { host < 16 }
         ensures { result ≡ is_held_by host self.now }
     {
-        has(self.holders, host.0)
+        has(self.holders, host)
     }
 
     /// Whether an offer of the tag to the host is unanswered.
@@ -67,7 +67,7 @@ impl TagEntry {
         requires { host < 16 }
         ensures { result ≡ is_offered_to host self.now }
     {
-        has(self.offered, host.0)
+        has(self.offered, host)
     }
 
     /// Whether a host holds the tag, is offered it, or the Fabric Manager has a reference to it.
@@ -82,8 +82,8 @@ impl TagEntry {
         requires { host < 16 }
         ensures { result ≡ not (is_used (set_by host held offered self.now)) }
     {
-        let holders = set(self.holders, host.0, held);
-        let offered = set(self.offered, host.0, offered);
+        let holders = set(self.holders, host, held);
+        let offered = set(self.offered, host, offered);
         holders == 0 && offered == 0 && !self.referenced
     }
 
@@ -100,17 +100,17 @@ impl TagEntry {
         ensures { self.new ≡ applied change self.old }
     {
         match change {
-            Change::Offer(host) => self.offered = with(self.offered, host.0),
+            Change::Offer(host) => self.offered = with(self.offered, host),
             Change::Settle(host, accepted) => {
-                self.offered = without(self.offered, host.0);
+                self.offered = without(self.offered, host);
                 if accepted {
-                    self.holders = with(self.holders, host.0);
+                    self.holders = with(self.holders, host);
                 }
             }
-            Change::Leave(host) => self.holders = without(self.holders, host.0),
+            Change::Leave(host) => self.holders = without(self.holders, host),
             Change::Host(host, held, offered) => {
-                self.holders = set(self.holders, host.0, held);
-                self.offered = set(self.offered, host.0, offered);
+                self.holders = set(self.holders, host, held);
+                self.offered = set(self.offered, host, offered);
             }
             Change::Refer(on) => self.referenced = on,
             Change::Soil => self.soiled = true,

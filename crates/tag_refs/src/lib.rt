@@ -7,7 +7,6 @@
 mod changes;
 mod entries;
 mod faults;
-mod hosts;
 mod tables;
 #[cfg(test)]
 mod tests;

@@ -9,7 +9,7 @@ ghost use Rattle.tag_refs.specs.declared.entries.TagEntry.{TagEntry};
 use crate::changes::Change;
 use crate::entries::TagEntry;
 use crate::faults::TagFault;
-use crate::hosts::with;
+use dcd_base::host_bits::with;
 use dcd_base::{HostId, NoMemory, RegionId, Runs, Tag, TagView};
 use indexmap::IndexMap;
 use std::alloc::Global;
@@ -188,7 +188,7 @@ impl Tags {
             region,
             runs,
             holders: 0,
-            offered: with(0, host.0),
+            offered: with(0, host),
             referenced: false,
             soiled: false,
         })

@@ -1,4 +1,4 @@
-use Rattle.tag_refs.proofs.HostBits.{or_host}
+use Rattle.dcd_base.proofs.HostBits.{or_host}
 use Rattle.device_state.proofs.holders.with.Goals as goal
 
 pub returns : goal.returns

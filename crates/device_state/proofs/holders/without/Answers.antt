@@ -1,4 +1,4 @@
-use Rattle.tag_refs.proofs.HostBits.{and_not_host}
+use Rattle.dcd_base.proofs.HostBits.{and_not_host}
 use Rattle.device_state.proofs.holders.without.Goals as goal
 
 pub returns : goal.returns

@@ -3,7 +3,7 @@ use Rattle.std.specs.Prelude.{if◌then◌else◌}
 use Rattle.dcd_base.specs.declared.media.Run.{Run}
 use Rattle.device_state.specs.Entered.{held_in}
 use Rattle.device_state.proofs.HolderSteps.{whole_held}
-use Rattle.tag_refs.specs.Hosts.{with_host, without_host}
+use Rattle.dcd_base.specs.Hosts.{with_host, without_host}
 use Rattle.device_state.proofs.holders.Holders.set.Goals as goal
 
 pub returns : goal.returns

@@ -1,6 +1,6 @@
 use Rattle.std.proofs.Common.{◌≡◌, ℕ, length, get_or, cond}
 use Rattle.std.specs.Prelude.{if◌then◌else◌}
-use Rattle.tag_refs.specs.Hosts.{with_host, without_host}
+use Rattle.dcd_base.specs.Hosts.{with_host, without_host}
 use Rattle.device_state.proofs.HolderSteps.{between}
 use Rattle.device_state.proofs.holders.Holders.set_each.Given as goal
 

@@ -6,7 +6,7 @@ use Rattle.std.proofs.Math.Pow.{pow-lt}
 use Rattle.std.proofs.lemmas.Bool.{eqb-true, eq-eqb, ne_eqb}
 use Rattle.std.proofs.lemmas.Nat.{one_shl, pow_pos, and-not, and_comm}
 use Rattle.std.proofs.lemmas.Nat.Bits.{and_pow, bit_at-lt, bit_at-zero}
-use Rattle.tag_refs.specs.Hosts.{has_host, with_host, without_host}
+use Rattle.dcd_base.specs.Hosts.{has_host, with_host, without_host}
 
 bit_is : (hosts h : ℕ) → ((bit_at hosts h ≡ 1) × (has_host hosts h ≡ true)) ⊎ ((bit_at hosts h ≡ 0) × (has_host hosts h ≡ false))
 bit_is hosts h =
