@@ -55,7 +55,9 @@ abbrev pub is_offered_status : Status → Bool
 is_offered_status Status.Offered = true
 is_offered_status s = false
 
--- Where a region is zeroed, nothing of one host is left for another.
+-- In a sanitized region a granule that is free or offered was zeroed since it was last taken, and has words 0 until it is
+-- taken again. In one that is not shareable, nothing of one host is left for another; where hosts share a granule, each sees
+-- what the others stored.
 pub record Clean (c : Configuration) (journal : List Entry) : Type 0 where
   pub zero : (g : ℕ) (w : ℕ) → IsTrue (region_spec c (region_of c g)).sanitize → IsFalse (is_taken g (effects journal)) → word_of c journal g w ≡ 0
   pub untaken : (g : ℕ) → IsTrue (region_spec c (region_of c g)).sanitize → IsTrue (is_free (status c g (effects journal)) || is_offered_status (status c g (effects journal))) → IsFalse (is_taken g (effects journal))

@@ -22,9 +22,9 @@ pub fn law_holdings()
     law_legal_holdings();
 }
 
-/// Where a region is sanitized, nothing of one host is left for another: a granule that is free or offered was not taken
-/// since its last zeroing, one that was not has words that are 0, and one that is held in a region that is not shareable
-/// has stores of its holder alone. It does nothing.
+/// In a sanitized region a granule that is free or offered was not taken since its last zeroing, and one that was not taken
+/// since has words that are 0. In a sanitized region that is not shareable, nothing of one host is left for another: a
+/// granule that is held has stores of its holder alone. It does nothing.
 pub fn law_clean()
     ensures { (c : Configuration) → IsSound c → (journal : List Entry) → Legal c journal → Clean c journal }
 {}
