@@ -130,6 +130,7 @@ module _ (c : Configuration) (sound : IsSound c) (past : List Effect) (before : 
     few = s.few;
     home = homes;
     under = λ h. each-change (IsUnder c p h) (IsUnder c q h) (λ x u shared. let a = u shared in record { open_tag = a.open_tag; covered = a.covered }) (extents_at p h) (s.under h);
+    together = s.together;
     opened = λ t e. let a = s.opened t e in
         let block : q.block a.region ≡ p.block a.region = ap (λ b. if b then size else p.block a.region) (open_elsewhere t e a) in record {
           host = a.host;

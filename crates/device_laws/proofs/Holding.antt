@@ -103,6 +103,7 @@ first_is_sound c sound = record {
     few = λ h. omega arith;
     home = λ h. tt;
     under = λ h. tt;
+    together = λ h. tt;
     opened = λ t e. absurd (false≢true e);
     blocks = λ r known. (sound.each r known).supported;
   };

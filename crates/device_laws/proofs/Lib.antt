@@ -10,6 +10,7 @@ pub mod GivingBack
 pub mod Going
 pub mod Holding
 pub mod Homes
+pub mod InOrderResponses
 pub mod LeftStanding
 pub mod LegalSound
 pub mod ListSteps
@@ -27,5 +28,6 @@ pub mod Quiet
 pub mod Referring
 pub mod Responding
 pub mod Settling
+pub mod SoundPresent
 pub mod TagSteps
 pub mod ViewSteps

@@ -1,6 +1,6 @@
 -- What holds of each member of a list, and how many members of it pass a test.
 use Rattle.std.proofs.Common.{◌≡◌, ℕ, suc, ◌+◌, ◌<◌, Bool, true, false, ◌||◌, List, [], ◌∷◌, ◌++◌, length, map, refl, ap, sym, ◌∙◌, inl, inr, arith, length-append, append_assoc}
-use Rattle.std.specs.Prelude.{flat_map}
+use Rattle.std.specs.Prelude.{drop, flat_map}
 use Rattle.std.specs.List.{AllByRecursion, filter, list_all, list_any}
 use Rattle.std.proofs.lemmas.Bool.{and_from, cases_Bool, false≢true, or_parts}
 use Rattle.std.proofs.lemmas.List.Elements.{filter-append}
@@ -18,6 +18,10 @@ each-front P (x ∷ xs) ys a = (a.0, each-front P xs ys a.1)
 pub each-back : {X : Type 0} (P : X → Type 0) (xs ys : List X) → AllByRecursion P (xs ++ ys) → AllByRecursion P ys
 each-back P [] ys a = a
 each-back P (x ∷ xs) ys a = each-back P xs ys a.1
+
+pub each-others : {X : Type 0} (P : X → Type 0) (xs : List X) → AllByRecursion P xs → AllByRecursion P (drop 1 xs)
+each-others P [] a = tt
+each-others P (x ∷ xs) a = a.1
 
 pub each-all : {X : Type 0} (P : X → Type 0) → ((x : X) → P x) → (xs : List X) → AllByRecursion P xs
 each-all P all [] = tt

@@ -22,9 +22,9 @@ use Rattle.journal_core.specs.Holders.{holding_after}
 use Rattle.device_rules.specs.Hosts.{accepted_after, block_after, offers_after}
 use Rattle.device_rules.specs.Tags.{last_offer_after, reference_after, tag_runs, tags_after}
 use Rattle.device_laws.specs.Pictures.{Picture, count_on, extents_at, has_host, lives, picture_after}
-use Rattle.device_laws.specs.Standing.{IsHome, IsMade, IsUnder, IsUnderTag, Sound, Stands}
+use Rattle.device_laws.specs.Standing.{IsHome, IsMade, IsTogether, IsUnder, IsUnderTag, Sound, Stands}
 use Rattle.device_laws.proofs.Holding.{home_made, present_whole}
-use Rattle.device_laws.proofs.ListSteps.{each-append, each-at, each-back, each-both, each-change, each-front, each-map, many-any, many-append, many-map, many-none}
+use Rattle.device_laws.proofs.ListSteps.{each-append, each-at, each-back, each-both, each-change, each-front, each-map, each-others, many-any, many-append, many-map, many-none}
 use Rattle.device_laws.proofs.OneOffer.{any-implies, reaches}
 use Rattle.device_laws.proofs.Overlaps.{inside_has}
 use Rattle.device_laws.proofs.TagSteps.{same_tag-is, same_tag-self}
@@ -287,6 +287,10 @@ module _ (c : Configuration) (sound : IsSound c) (p : Picture) (before : Sound c
     | inl same ↦ absurd (omega (arith, eqb-true h k same, host, past))
   ]
 
+  fewer_together : (k : HostId) (b : Bool) → AllByRecursion (IsTogether c k) (if b then drop 1 (p.offers k) else p.offers k)
+  fewer_together k true = each-others (IsTogether c k) (p.offers k) (s.together k)
+  fewer_together k false = s.together k
+
   -- the answer leaves what stands standing
   pub answer_stands : Stands c q
   answer_stands = record {
@@ -304,6 +308,7 @@ module _ (c : Configuration) (sound : IsSound c) (p : Picture) (before : Sound c
     under = each_host (λ k ys. AllByRecursion (IsUnder c q k) ys)
         (by_parts (IsUnder c q h) (same_under h (p.accepted h) (of_accepted (IsUnder c p h) (s.under h))) marked_under (same_under h rest (of_rest (IsUnder c p h) (s.under h))))
         (λ k. same_under k (extents_at p k) (s.under k));
+    together = λ k. fewer_together k (h == k);
     opened = λ t e. let o = s.opened t e in record {
       host = o.host;
       extents = o.extents;

@@ -17,7 +17,7 @@ use Rattle.extent_list.specs.ExtentLists.{cut, is_in, lies_in}
 use Rattle.journal_core.specs.declared.outcome.Effect.{Effect}
 use Rattle.device_rules.specs.Tags.{tag_runs}
 use Rattle.device_laws.specs.Pictures.{Picture, count_on, extents_at, picture_after}
-use Rattle.device_laws.specs.Standing.{IsHome, IsMade, IsOpen, IsUnder, Stands}
+use Rattle.device_laws.specs.Standing.{IsHome, IsMade, IsOpen, IsTogether, IsUnder, Stands}
 use Rattle.device_laws.proofs.CutSteps.{IsPiece, cut_each, cut_fewer, cut_gone, cut_stays, lies, lies-from}
 use Rattle.device_laws.proofs.Homes.{made_bytes, made_region, made_starts, supported_whole}
 use Rattle.device_laws.proofs.ListSteps.{any-map, each-append, each-back, each-both, each-change, each-front, many-append}
@@ -34,6 +34,7 @@ pub record Loose (c : Configuration) (p : Picture) : Type 0 where
   pub apart : (g : ℕ) → count_by (λ t. has_in_runs (tag_runs c (p.last t)) g) p.tags ≤ 1
   pub home : (h : HostId) → AllByRecursion (IsHome c p h) (extents_at p h)
   pub under : (h : HostId) → AllByRecursion (IsUnder c p h) (extents_at p h)
+  pub together : (h : HostId) → AllByRecursion (IsTogether c h) (p.offers h)
   pub opened : (t : Tag) → has_tag p.tags t ≡ true → IsOpen c p t
   pub blocks : (r : ℕ) → r < length c.regions → is_supported (region_spec c r) (p.block r) ≡ true
 
@@ -47,6 +48,7 @@ loose c p s = record {
   apart = s.apart;
   home = s.home;
   under = s.under;
+  together = s.together;
   opened = s.opened;
   blocks = s.blocks;
 }
@@ -62,6 +64,7 @@ stands_from c p s few = record {
   few = few;
   home = s.home;
   under = s.under;
+  together = s.together;
   opened = s.opened;
   blocks = s.blocks;
 }
@@ -219,6 +222,7 @@ module _ (c : Configuration) (sound : IsSound c) (p : Picture) (s : Loose c p) (
         (each-append (IsUnder c q h) (cut x.start x.length (p.accepted h)) (flat_map (λ xs. xs) (p.offers h)) cut_under
         (same_under h (flat_map (λ xs. xs) (p.offers h)) (each-back (IsUnder c p h) (p.accepted h) (flat_map (λ xs. xs) (p.offers h)) (s.under h))))
         (λ k. same_under k (extents_at p k) (s.under k));
+    together = s.together;
     opened = λ t e. let o = s.opened t e in record {
       host = o.host;
       extents = o.extents;

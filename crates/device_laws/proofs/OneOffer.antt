@@ -17,9 +17,9 @@ use Rattle.region_config.specs.Granules.{granule_size, hosts_of, region_of, regi
 use Rattle.media_map.specs.Places.{region_at, run_of}
 use Rattle.extent_list.specs.ExtentLists.{has_extent_of}
 use Rattle.journal_core.specs.declared.outcome.Effect.{Effect}
-use Rattle.device_rules.specs.Tags.{tag_runs}
+use Rattle.device_rules.specs.Tags.{region_of_offer, tag_runs}
 use Rattle.device_laws.specs.Pictures.{Picture, count_on, extents_at, has_host, lives, picture_after}
-use Rattle.device_laws.specs.Standing.{IsHome, IsMade, IsOpen, IsUnder, Sound, Stands}
+use Rattle.device_laws.specs.Standing.{IsHome, IsMade, IsOpen, IsTogether, IsUnder, Sound, Stands}
 use Rattle.device_laws.proofs.Holding.{present_whole}
 use Rattle.device_laws.proofs.Homes.{made_of_region, made_region}
 use Rattle.device_laws.proofs.ListSteps.{any-map, each-append, each-at, each-both, each-change, flat-push, many, many-append, many-none}
@@ -307,6 +307,16 @@ module _ (c : Configuration) (sound : IsSound c) (p : Picture) (before : Sound c
         covered = λ g e. ap (λ u. has_in_runs (tag_runs c (q.last u)) g) n.1 ∙ ap (λ last. has_in_runs (tag_runs c last) g) last_new ∙ f g e;
       }) (x ∷ xs) new_ones (each_reached (run_of c h) (x ∷ xs))
 
+  new_together : IsTogether c h (x ∷ xs)
+  new_together = each-change (IsMade c (p.block r) h r) (λ y. region_at c h y.start ≡ region_of_offer c h (x ∷ xs)) (λ y m. here_is y m ∙ sym (here_is x o.made.0)) (x ∷ xs) o.made
+
+  all_together : (k : HostId) → AllByRecursion (IsTogether c k) (q.offers k)
+  all_together k = by (h == k) refl
+    where
+      by : (b : Bool) → (h == k) ≡ b → AllByRecursion (IsTogether c k) (if b then p.offers k ++ (x ∷ xs) ∷ [] else p.offers k)
+      by true same = each-append (IsTogether c k) (p.offers k) ((x ∷ xs) ∷ []) (s.together k) (subst (λ l. IsTogether c l (x ∷ xs)) (eqb-true h k same) new_together, tt)
+      by false other = s.together k
+
   -- ---- the open tags
 
   this_open : (region_spec c r).shareable ≡ true → IsOpen c q t
@@ -364,6 +374,7 @@ module _ (c : Configuration) (sound : IsSound c) (p : Picture) (before : Sound c
     few = each_host (λ k ys. length ys ≤ extents_supported) (omega (arith, o.few, length-append (extents_at p h) (x ∷ xs))) s.few;
     home = each_host (λ k ys. AllByRecursion (IsHome c q k) ys) (each-append (IsHome c q h) (extents_at p h) (x ∷ xs) (old_home h) new_home) old_home;
     under = each_host (λ k ys. AllByRecursion (IsUnder c q k) ys) (each-append (IsUnder c q h) (extents_at p h) (x ∷ xs) (old_under h) new_under) old_under;
+    together = all_together;
     opened = all_open;
     blocks = s.blocks;
   }

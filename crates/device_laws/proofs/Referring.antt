@@ -27,6 +27,7 @@ stands_referenced c p on s = let q : Picture = record p { referenced = on } in r
   few = s.few;
   home = λ h. each-change (IsHome c p h) (IsHome c q h) (λ x a. record { region = a.region; made = a.made }) (extents_at p h) (s.home h);
   under = λ h. each-change (IsUnder c p h) (IsUnder c q h) (λ x u shared. let a = u shared in record { open_tag = a.open_tag; covered = a.covered }) (extents_at p h) (s.under h);
+  together = s.together;
   opened = λ t e. let a = s.opened t e in record {
     host = a.host;
     extents = a.extents;

@@ -109,6 +109,7 @@ stands_without c p ended s dead = let q : Picture = record p { tags = without_ta
         absurd (false≢true (sym (dead x.tag a.open_tag over) ∙ extent_lives c p s h x.tag a.open_tag has))));
     covered = a.covered;
   }) (s.under h);
+  together = s.together;
   opened = λ t e. let a = s.opened t (open_before p.tags ended t e) in record {
     host = a.host;
     extents = a.extents;

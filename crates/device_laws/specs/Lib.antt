@@ -1,2 +1,3 @@
+pub mod InOrderResponses
 pub mod Pictures
 pub mod Standing

@@ -9,7 +9,7 @@ use Rattle.dcd_base.specs.Words.{has_granule, has_in_runs, has_tag, is_zero_tag}
 use Rattle.region_config.specs.Configurations.{Configuration}
 use Rattle.region_config.specs.Granules.{base_of, is_supported, region_of, region_spec}
 use Rattle.media_map.specs.Places.{region_at, run_of}
-use Rattle.device_rules.specs.Tags.{tag_runs}
+use Rattle.device_rules.specs.Tags.{region_of_offer, tag_runs}
 use Rattle.device_laws.specs.Pictures.{Picture, count_on, extents_at, lives}
 
 -- An extent of some bytes in the region, made of pieces of that size.
@@ -34,6 +34,10 @@ pub record IsUnderTag (c : Configuration) (p : Picture) (h : HostId) (x : Extent
 -- So it is of each extent of a shareable region.
 abbrev pub IsUnder : Configuration → Picture → HostId → Extent → Type 0
 IsUnder c p h x = (region_spec c (region_at c h x.start)).shareable ≡ true → IsUnderTag c p h x
+
+-- All extents of an offer begin in one region.
+abbrev pub IsTogether : Configuration → HostId → List Extent → Type 0
+IsTogether c h offer = AllByRecursion (λ x. region_at c h x.start ≡ region_of_offer c h offer) offer
 
 -- An open tag is not zero. It stands for the extents of its last offer: one at least, made of present blocks of one
 -- shareable region, of which no two share a granule.
@@ -68,6 +72,8 @@ pub record Stands (c : Configuration) (p : Picture) : Type 0 where
   -- each extent is made of present blocks, and under a tag where it is shared
   pub home : (h : HostId) → AllByRecursion (IsHome c p h) (extents_at p h)
   pub under : (h : HostId) → AllByRecursion (IsUnder c p h) (extents_at p h)
+  -- each offer lies in one region
+  pub together : (h : HostId) → AllByRecursion (IsTogether c h) (p.offers h)
   -- open tags stand for something
   pub opened : (t : Tag) → has_tag p.tags t ≡ true → IsOpen c p t
   -- each region supports its present block size
