@@ -6,7 +6,7 @@ use Rattle.dcd_base.specs.declared.ids.HostId.{HostId}
 use Rattle.dcd_base.specs.declared.media.Run.{Run}
 use Rattle.dcd_base.specs.declared.steps.Actor.{Actor}
 use Rattle.region_config.specs.Configurations.{Configuration}
-use Rattle.region_config.specs.Granules.{granule_total}
+use Rattle.region_config.specs.Granules.{granule_total, same_region}
 use Rattle.granule_laws.specs.Cells.{IsCell, status_of}
 use Rattle.granule_map.specs.Choices.{joined, passing}
 use Rattle.granule_map.specs.StateLists.{is_dirty_at, is_dirty_state}
@@ -24,7 +24,7 @@ use Rattle.device_rules.specs.Tags.{is_dirty, status}
 use Rattle.device_rules.specs.Views.{view_of}
 use Rattle.device_steps.proofs.EffectKinds.{zeroes_pass}
 use Rattle.device_steps.proofs.ViewsLeft.{leaves_view, view_after-left}
-use Rattle.sanitizer.specs.Turns.{granules_in, granules_of, same_region, scrub_runs, scrubbed}
+use Rattle.sanitizer.specs.Turns.{granules_in, granules_of, scrub_runs, scrubbed}
 use Rattle.sanitizer.proofs.Scrubbed.{scrub_runs_agree, scrubbed_agree}
 use Rattle.tag_laws.proofs.QuietSteps.{table-scrubbed}
 use Rattle.control_core.specs.Deciding.{IsDecided, IsShort}

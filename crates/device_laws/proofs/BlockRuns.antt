@@ -23,7 +23,7 @@ use Rattle.granule_map.specs.Blocks.{block_count, run_of_blocks}
 use Rattle.granule_map.specs.Choices.{joined, lowest_run, passing, run_from}
 use Rattle.selection.specs.Selections.{AreApart, AreBetween, always_together, contiguous_runs, free_runs, granules_of, is_free_block}
 use Rattle.selection.proofs.Chosen.{NumbersBetween, PairsBetween, blocks_between, between_apart, filter_between, joined_between, take_between}
-use Rattle.selection.proofs.Joining.{lowest_found}
+use Rattle.granule_map.proofs.Joining.{lowest_found}
 use Rattle.device_laws.specs.Standing.{IsMade}
 use Rattle.device_laws.proofs.Homes.{made_begins, made_granular, made_long, made_run}
 use Rattle.device_laws.proofs.ListSteps.{each-all, each-both, each-map, many, many-none}

@@ -8,7 +8,8 @@ use Rattle.region_config.specs.Configurations.{Configuration}
 use Rattle.granule_map.specs.Choices.{joined}
 use Rattle.journal_core.specs.declared.outcome.Effect.{Effect}
 use Rattle.journal_core.specs.declared.outcome.HeldKind.{HeldKind}
-use Rattle.device_rules.specs.Answers.{same_region, zeroes}
+use Rattle.device_rules.specs.Answers.{zeroes}
+use Rattle.region_config.specs.Granules.{same_region}
 use Rattle.device_rules.specs.Outcomes.{Outcome, effects_of}
 use Rattle.device_rules.specs.ResponseOutcomes.{hold, unhold}
 use Rattle.device_laws.specs.Pictures.{Picture, picture_after, picture_of}

@@ -17,7 +17,7 @@ use Rattle.journal_core.specs.declared.acts.Reply.{Reply}
 use Rattle.journal_core.specs.declared.outcome.HeldKind.{HeldKind}
 use Rattle.journal_core.specs.declared.outcome.Effect.{Effect}
 use Rattle.journal_core.specs.declared.entries.Entry.{Entry}
-use Rattle.region_config.specs.Granules.{region_of, with_blocks}
+use Rattle.region_config.specs.Granules.{same_region, with_blocks}
 use Rattle.journal_core.specs.Entries.{effects}
 use Rattle.device_rules.specs.Logs.{log_of}
 use Rattle.device_rules.specs.Views.{View, view_of}
@@ -131,9 +131,6 @@ effects_with c past refused (Ok o) = effects_of c past o
 effects_with c past refused (Err rule) = refused
 
 -- ---- a scrub
-
-abbrev pub same_region : Configuration → ℕ → ℕ → Bool
-same_region c m n = region_of c m == region_of c n
 
 -- the lowest dirty granules, as many as asked or all
 abbrev pub scrubbed : Configuration → List Effect → ℕ → List ℕ

@@ -17,7 +17,8 @@ use Rattle.journal_core.specs.declared.outcome.Effect.{Effect}
 use Rattle.journal_core.specs.declared.outcome.HeldKind.{HeldKind}
 use Rattle.media_map.specs.Places.{run_of}
 use Rattle.region_config.specs.Configurations.{Configuration}
-use Rattle.device_rules.specs.Answers.{dropped, host_outcome, same_region, zeroes}
+use Rattle.device_rules.specs.Answers.{dropped, host_outcome, zeroes}
+use Rattle.region_config.specs.Granules.{same_region}
 use Rattle.device_rules.specs.EventCommands.{clear_changes, cleared}
 use Rattle.device_rules.specs.Logs.{log_after, log_of}
 use Rattle.device_rules.specs.Outcomes.{Outcome, effects_of, ended, entered, entered_all}

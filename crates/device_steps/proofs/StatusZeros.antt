@@ -4,11 +4,11 @@ use Rattle.std.specs.Prelude.{map, ◌==◌, if◌then◌else◌}
 use Rattle.std.specs.List.{list_any}
 use Rattle.std.proofs.lemmas.Bool.{cases_Bool}
 use Rattle.granule_map.specs.Choices.{joined}
-use Rattle.device_rules.specs.Answers.{same_region, scrubbed, zeroes}
+use Rattle.device_rules.specs.Answers.{scrubbed, zeroes}
+use Rattle.region_config.specs.Granules.{same_region, region_of, region_spec}
 use Rattle.device_steps.proofs.JoinedRuns.{any_taken, joined_has, passes_there}
 use Rattle.dcd_base.specs.Words.{has_in_runs}
 use Rattle.region_config.specs.Configurations.{Configuration}
-use Rattle.region_config.specs.Granules.{region_of, region_spec}
 use Rattle.region_config.specs.declared.region_spec.RegionSpec.{RegionSpec}
 use Rattle.journal_core.specs.declared.outcome.Effect.{Effect}
 use Rattle.journal_core.specs.Holders.{is_soiled, is_taken}

@@ -12,8 +12,8 @@ use Rattle.granule_table.specs.Tables.{Cell, zeroed}
 use Rattle.journal_core.specs.Holders.{is_soiled, is_taken}
 use Rattle.journal_core.specs.declared.outcome.Effect.{Effect}
 use Rattle.region_config.specs.Configurations.{Configuration}
-use Rattle.region_config.specs.Granules.{region_of, region_spec}
-use Rattle.device_rules.specs.Answers.{same_region, scrubbed, zeroes}
+use Rattle.region_config.specs.Granules.{region_of, region_spec, same_region}
+use Rattle.device_rules.specs.Answers.{scrubbed, zeroes}
 use Rattle.device_rules.specs.Tags.{Free, status}
 use Rattle.device_steps.proofs.JoinedRuns.{joined_has}
 use Rattle.device_steps.proofs.RunEffects.{run_from, zeros}

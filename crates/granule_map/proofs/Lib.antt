@@ -1,3 +1,4 @@
 pub mod Changes
+pub mod Joining
 pub mod Ranges
 pub mod RunSteps

@@ -11,8 +11,8 @@ use Rattle.granule_map.proofs.Ranges.{range_done, range_more}
 abbrev pub longest_from : (ℕ → Bool) → ℕ → ℕ → ℕ
 longest_from p n k = fold max 0 (map (run_from p n) (range_with_len k (n - k)))
 
-abbrev pub lowest_from : (ℕ → Bool) → ℕ → ℕ → ℕ → Option ℕ
-lowest_from p n least k = find (λ j. leb least (run_from p n j)) (range_with_len k (n - k))
+abbrev pub lowest_start : (ℕ → Bool) → ℕ → ℕ → ℕ → Option ℕ
+lowest_start p n least k = find (λ j. leb least (run_from p n j)) (range_with_len k (n - k))
 
 -- a run ends at the limit
 pub run_within : (p : ℕ → Bool) (n k : ℕ) → run_from p n k ≤ n - k
@@ -39,10 +39,10 @@ longest_more p n k below =
     let whole = ap (λ ks. fold max 0 (map (run_from p n) ks)) (range_more k n below) in
     whole ∙ omega (arith, fold_max (max 0 (run_from p n k)) (map (run_from p n) (range_with_len (k + 1) (n - (k + 1)))))
 
-pub lowest_done : (p : ℕ → Bool) (n least : ℕ) → lowest_from p n least n ≡ None
+pub lowest_done : (p : ℕ → Bool) (n least : ℕ) → lowest_start p n least n ≡ None
 lowest_done p n least = ap (find (λ j. leb least (run_from p n j))) (range_done n n (omega arith))
 
-pub lowest_more : (p : ℕ → Bool) (n least k : ℕ) → k < n → lowest_from p n least k ≡ cond (leb least (run_from p n k)) (Some k) (lowest_from p n least (k + 1))
+pub lowest_more : (p : ℕ → Bool) (n least k : ℕ) → k < n → lowest_start p n least k ≡ cond (leb least (run_from p n k)) (Some k) (lowest_start p n least (k + 1))
 lowest_more p n least k below = ap (find (λ j. leb least (run_from p n j))) (range_more k n below)
 
 -- none is as long exactly where the longest is shorter
@@ -78,10 +78,10 @@ pub longest_down : (p : ℕ → Bool) (n k above run longest new : ℕ) → abov
 longest_down p n k above run longest new step below run_is longest_is new_is =
     new_is ∙ ap (max longest) run_is ∙ ap (λ m. max m (run_from p n k)) (longest_is ∙ ap (longest_from p n) step) ∙ sym (longest_more p n k below)
 
-pub lowest_down : (p : ℕ → Bool) (n least k above run : ℕ) (lowest new : Option ℕ) → above ≡ k + 1 → k < n → run ≡ run_from p n k → lowest ≡ lowest_from p n least above
-    → new ≡ cond (leb least run) (Some k) lowest → new ≡ lowest_from p n least k
+pub lowest_down : (p : ℕ → Bool) (n least k above run : ℕ) (lowest new : Option ℕ) → above ≡ k + 1 → k < n → run ≡ run_from p n k → lowest ≡ lowest_start p n least above
+    → new ≡ cond (leb least run) (Some k) lowest → new ≡ lowest_start p n least k
 lowest_down p n least k above run lowest new step below run_is lowest_is new_is =
-    new_is ∙ ap (λ r. cond (leb least r) (Some k) lowest) run_is ∙ ap (λ o. cond (leb least (run_from p n k)) (Some k) o) (lowest_is ∙ ap (lowest_from p n least) step) ∙ sym (lowest_more p n least k below)
+    new_is ∙ ap (λ r. cond (leb least r) (Some k) lowest) run_is ∙ ap (λ o. cond (leb least (run_from p n k)) (Some k) o) (lowest_is ∙ ap (lowest_start p n least) step) ∙ sym (lowest_more p n least k below)
 
 pub lowest_within : (n least k run : ℕ) (lowest new : Option ℕ) → k < n → run ≤ n - k → IfSome lowest (λ j. j + least ≤ n)
     → new ≡ cond (leb least run) (Some k) lowest → IfSome new (λ j. j + least ≤ n)

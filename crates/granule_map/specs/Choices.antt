@@ -1,5 +1,5 @@
 -- Runs of numbers: the lowest, the longest, the joined.
-use Rattle.std.specs.Prelude.{ℕ, ◌+◌, ◌-◌, max, Bool, ◌&&◌, ◌==◌, nat_le, List, [], ◌∷◌, map, filter, fold, find, Option, if◌then◌else◌}
+use Rattle.std.specs.Prelude.{ℕ, ◌+◌, ◌-◌, max, Bool, ◌&&◌, ◌==◌, nat_le, List, [], ◌∷◌, map, take, filter, fold, find, Option, if◌then◌else◌}
 use Rattle.std.specs.List.{range_with_len, prefix_len}
 
 -- a number joins the run that begins right behind it, where the two may stand together
@@ -16,6 +16,10 @@ joined together (n ∷ ns) = joined_onto together n (joined together ns)
 -- of the numbers below a limit, those that pass a test, how many do from one on, and the most from any on
 abbrev pub passing : (ℕ → Bool) → ℕ → List ℕ
 passing test limit = filter test (range_with_len 0 limit)
+
+-- of the numbers from one up to a limit the lowest that pass, at most so many
+abbrev pub lowest_from : (ℕ → Bool) → ℕ → ℕ → ℕ → List ℕ
+lowest_from test limit from most = take most (filter test (range_with_len from (limit - from)))
 
 abbrev pub run_from : (ℕ → Bool) → ℕ → ℕ → ℕ
 run_from test limit n = prefix_len test (range_with_len n (limit - n))

@@ -12,7 +12,8 @@ use std::marker::Model;
 
 /// The states of granules 0, 1, 2 and so on.
 ///
-/// Contracts see the list of states and its spare: where there is some, `set_run` takes no memory.
+/// Contracts see the list of states and its spare: where there is some, `set_run` takes no memory. A state is kept for
+/// each granule, so there is always spare; `reserve` and the spare are there for callers that rest on no such thing.
 #[derive(Debug, Drop)]
 pub struct GranuleMap {
     alloc: Global,

@@ -16,14 +16,14 @@ use Rattle.journal_core.specs.declared.outcome.Effect.{Effect}
 use Rattle.media_map.specs.Places.{run_of}
 use Rattle.offer_core.specs.Offerings.{oldest_of}
 use Rattle.region_config.specs.Configurations.{Configuration}
-use Rattle.region_config.specs.Granules.{region_of, region_spec}
+use Rattle.region_config.specs.Granules.{region_of, region_spec, same_region}
 use Rattle.region_config.specs.Soundness.{IsSound}
 use Rattle.device_laws.specs.Pictures.{Picture, picture_of}
 use Rattle.device_laws.specs.Standing.{Stands}
 use Rattle.device_laws.proofs.FreeGranules.{shared_claim}
 use Rattle.device_laws.proofs.ListSteps.{any-map}
 use Rattle.device_laws.proofs.OneOffer.{any-implies}
-use Rattle.device_rules.specs.Answers.{same_region, scrubbed, zeroes}
+use Rattle.device_rules.specs.Answers.{scrubbed, zeroes}
 use Rattle.device_rules.specs.Hosts.{offers_after, offers_of}
 use Rattle.device_rules.specs.Invariants.{Holdings}
 use Rattle.device_rules.specs.Outcomes.{Outcome, effects_of}

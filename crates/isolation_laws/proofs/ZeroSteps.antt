@@ -23,9 +23,9 @@ use Rattle.journal_core.specs.declared.acts.Act.{Act}
 use Rattle.journal_core.specs.declared.entries.Entry.{Entry}
 use Rattle.journal_core.specs.declared.outcome.Effect.{Effect}
 use Rattle.region_config.specs.Configurations.{Configuration}
-use Rattle.region_config.specs.Granules.{region_of, region_spec}
+use Rattle.region_config.specs.Granules.{region_of, region_spec, same_region}
 use Rattle.device_laws.proofs.ListSteps.{any-map}
-use Rattle.device_rules.specs.Answers.{dropped, effects_with, host_outcome, host_result, host_rule, manager_outcome, manager_result, manager_rule, same_region, scrubbed, unless, zeroes}
+use Rattle.device_rules.specs.Answers.{dropped, effects_with, host_outcome, host_result, host_rule, manager_outcome, manager_result, manager_rule, scrubbed, unless, zeroes}
 use Rattle.device_rules.specs.Legal.{is_zeroing, right_answer}
 use Rattle.device_rules.specs.Logs.{log_of}
 use Rattle.device_rules.specs.Outcomes.{Outcome, effects_of}

@@ -51,6 +51,10 @@ granule_total c = first_granule c (length c.regions)
 abbrev pub region_of : Configuration → ℕ → ℕ
 region_of c g = unwrap_or (find (λ r. nat_lt g (first_granule c (suc r))) (regions_of c)) 0
 
+-- whether two granules are of one region, so that they may stand in one run
+abbrev pub same_region : Configuration → ℕ → ℕ → Bool
+same_region c g next = region_of c g == region_of c next
+
 -- the configuration with these blocks
 abbrev pub with_blocks : Configuration → (ℕ → ℕ) → Configuration
 with_blocks c block = record c { regions = map (λ spec. record spec.1 { block = block spec.0 }) (enumerate_from 0 c.regions) }

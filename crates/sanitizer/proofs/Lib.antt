@@ -1,5 +1,4 @@
 pub mod Counting
 pub mod Freeing
-pub mod Joining
 pub mod Regions
 pub mod Scrubbed

@@ -3,10 +3,10 @@ use Rattle.std.proofs.Common.{◌≡◌, ℕ, suc, ◌+◌, ◌-◌, ◌<◌, �
 use Rattle.std.proofs.lemmas.Bool.{eq-eqb, ne_eqb}
 use Rattle.dcd_base.specs.declared.media.Run.{Run}
 use Rattle.region_config.specs.Configurations.{Configuration}
-use Rattle.region_config.specs.Granules.{first_granule, granule_total, region_of}
+use Rattle.region_config.specs.Granules.{first_granule, granule_total, region_of, same_region}
 use Rattle.region_config.proofs.Faultless.{granules_rise}
 use Rattle.region_config.proofs.GranuleLemmas.{of_region, region_is}
-use Rattle.sanitizer.specs.Turns.{IsInRegion, same_region}
+use Rattle.sanitizer.specs.Turns.{IsInRegion}
 
 module _ (c : Configuration) (r : ℕ) (known : r < length c.regions) where
   -- those of a region's granules

@@ -6,8 +6,8 @@ use Rattle.std.proofs.lemmas.Bool.{and_from, and_parts, cases_Bool, cases_lt, eq
 use Rattle.dcd_base.specs.Words.{has_granule, has_in_runs}
 use Rattle.granule_map.specs.Choices.{joined, joined_onto, passing}
 use Rattle.region_config.specs.Configurations.{Configuration}
-use Rattle.region_config.specs.Granules.{granule_total}
-use Rattle.sanitizer.specs.Turns.{granules_of, same_region, scrub_runs, scrubbed}
+use Rattle.region_config.specs.Granules.{granule_total, same_region}
+use Rattle.sanitizer.specs.Turns.{granules_of, scrub_runs, scrubbed}
 
 -- runs of numbers that all pass
 abbrev pass_in : (ℕ → Bool) → ℕ × ℕ → Bool

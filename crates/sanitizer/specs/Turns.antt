@@ -3,19 +3,11 @@ use Rattle.std.specs.Prelude.{◌≡◌, ℕ, suc, ◌+◌, ◌-◌, ◌<◌, �
 use Rattle.std.specs.List.{range_with_len}
 use Rattle.dcd_base.specs.declared.media.Run.{Run}
 use Rattle.dcd_base.specs.Words.{has_in_runs}
-use Rattle.granule_map.specs.Choices.{joined, passing}
+use Rattle.granule_map.specs.Choices.{joined, lowest_from, passing}
 use Rattle.granule_map.specs.StateLists.{with_run}
 use Rattle.granule_map.specs.declared.states.GranuleState.{GranuleState}
 use Rattle.region_config.specs.Configurations.{Configuration}
-use Rattle.region_config.specs.Granules.{first_granule, granule_total, region_of}
-
--- whether two granules are of one region, so that they may stand in one run
-abbrev pub same_region : Configuration → ℕ → ℕ → Bool
-same_region c g next = region_of c g == region_of c next
-
--- of the numbers from one up to a limit the lowest that pass, at most so many
-abbrev pub lowest_from : (ℕ → Bool) → ℕ → ℕ → ℕ → List ℕ
-lowest_from test limit from most = take most (filter test (range_with_len from (limit - from)))
+use Rattle.region_config.specs.Granules.{first_granule, granule_total, region_of, same_region}
 
 -- the granules of a turn: the lowest dirty ones, so many, or all where there are fewer
 abbrev pub scrubbed : Configuration → (ℕ → Bool) → ℕ → List ℕ

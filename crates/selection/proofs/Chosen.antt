@@ -13,7 +13,7 @@ use Rattle.dcd_base.specs.Words.{has_in_runs}
 use Rattle.granule_map.specs.Blocks.{block_count, run_of_blocks}
 use Rattle.granule_map.specs.Choices.{joined, joined_onto, lowest_run, passing, run_from}
 use Rattle.selection.specs.Selections.{AreApart, AreBetween, always_together, are_free, contiguous_runs, free_runs, granules_of, is_free_block}
-use Rattle.selection.proofs.Joining.{lowest_found, prefix_passes}
+use Rattle.granule_map.proofs.Joining.{lowest_found, prefix_passes}
 
 -- rising numbers between two, and runs of numbers one behind another between two
 abbrev pub NumbersBetween : ℕ → ℕ → List ℕ → Type 0

@@ -1,5 +1,4 @@
 pub mod Agreeing
 pub mod Chosen
-pub mod Joining
 pub mod Placed
 pub mod Prescribed

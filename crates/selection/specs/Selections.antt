@@ -1,5 +1,5 @@
 -- Which blocks an offer is made of, and which rules a selection keeps. `free` tells whether a granule is free.
-use Rattle.std.specs.Prelude.{◌≡◌, ℕ, ◌+◌, ◌-◌, ◌*◌, ◌<◌, ◌≤◌, Bool, IsTrue, IsFalse, true, not, nat_lt, List, [], ◌∷◌, map, take, filter, Option, length, Some, None, option_map, option_to_list}
+use Rattle.std.specs.Prelude.{◌≡◌, ℕ, ◌+◌, ◌-◌, ◌*◌, ◌<◌, ◌≤◌, Bool, IsTrue, IsFalse, true, not, nat_lt, List, [], ◌∷◌, map, take, Option, length, Some, None, option_map, option_to_list}
 use Rattle.std.specs.List.{list_all, range_with_len}
 use Rattle.dcd_base.specs.Words.{◌or◌, has_granule, has_in_runs, is_empty}
 use Rattle.dcd_base.specs.declared.capacity.Extent.{Extent}
@@ -8,7 +8,7 @@ use Rattle.dcd_base.specs.declared.media.Run.{Run}
 use Rattle.dcd_codes.specs.declared.rules.Rule.{Rule}
 use Rattle.dcd_codes.specs.Rules.{◌breaks◌, each_in}
 use Rattle.granule_map.specs.Blocks.{block_count, run_of_blocks}
-use Rattle.granule_map.specs.Choices.{joined, longest_run, lowest_run, passing}
+use Rattle.granule_map.specs.Choices.{joined, longest_run, lowest_from, lowest_run, passing}
 use Rattle.list_rules.specs.Listing.{misplaced, overlapping, too_many_listed}
 use Rattle.media_map.specs.Places.{run_of}
 use Rattle.region_config.specs.Configurations.{Configuration}
@@ -23,10 +23,6 @@ free_blocks free area per_block = length (passing (is_free_block free area per_b
 
 abbrev pub longest_free : (ℕ → Bool) → Run → ℕ → ℕ
 longest_free free area per_block = longest_run (is_free_block free area per_block) (block_count area per_block)
-
--- of the numbers from one up to a limit the lowest that pass, at most so many
-abbrev pub lowest_from : (ℕ → Bool) → ℕ → ℕ → ℕ → List ℕ
-lowest_from test limit from most = take most (filter test (range_with_len from (limit - from)))
 
 -- any two adjacent blocks of an area may stand in one run
 abbrev pub always_together : ℕ → ℕ → Bool

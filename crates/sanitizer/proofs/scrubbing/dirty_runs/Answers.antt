@@ -2,7 +2,8 @@ use Rattle.std.proofs.Common.{◌≡◌, ◌∙◌, ℕ, ap, sym, subst, List, t
 use Rattle.dcd_base.specs.Words.{has_in_runs}
 use Rattle.dcd_base.specs.declared.media.Run.{Run}
 use Rattle.granule_map.specs.StateLists.{is_dirty_at}
-use Rattle.sanitizer.specs.Turns.{granules_in, same_region, scrubbed}
+use Rattle.sanitizer.specs.Turns.{granules_in, scrubbed}
+use Rattle.region_config.specs.Granules.{same_region}
 use Rattle.sanitizer.proofs.Counting.{joined_count}
 use Rattle.sanitizer.proofs.Scrubbed.{scrubbed_dirty}
 use Rattle.sanitizer.proofs.scrubbing.dirty_runs.Goals as goal

@@ -1,9 +1,9 @@
 use Rattle.std.proofs.Common.{◌≡◌, ◌+◌, ◌-◌, ◌≤◌, ◌++◌, length, map}
 use Rattle.std.specs.Prelude.{All}
-use Rattle.granule_map.specs.Choices.{joined}
+use Rattle.granule_map.specs.Choices.{joined, lowest_from}
 use Rattle.granule_map.specs.StateLists.{is_dirty_at}
-use Rattle.region_config.specs.Granules.{granule_total}
-use Rattle.sanitizer.specs.Turns.{IsInRegion, granules_of, lowest_from, same_region, scrub_runs}
+use Rattle.region_config.specs.Granules.{granule_total, same_region}
+use Rattle.sanitizer.specs.Turns.{IsInRegion, granules_of, scrub_runs}
 use Rattle.sanitizer.proofs.scrubbing.find_dirty.Given as goal
 
 -- the runs that were found, and those of what is left, are all of them

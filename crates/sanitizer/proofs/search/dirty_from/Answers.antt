@@ -1,7 +1,7 @@
 use Rattle.std.proofs.Common.{◌≡◌, ◌+◌, ◌-◌, ◌<◌, ◌∙◌, ap, arith, rules, true, false}
 use Rattle.std.specs.List.{prefix_len, range_with_len}
 use Rattle.granule_map.specs.StateLists.{is_dirty_at}
-use Rattle.sanitizer.proofs.Joining.{prefix_ends, prefix_goes_on}
+use Rattle.granule_map.proofs.Joining.{prefix_ends, prefix_goes_on}
 use Rattle.sanitizer.proofs.search.dirty_from.Goals as goal
 
 pub returns-then-not-is_dirty-clause-count : goal.returns-then-not-is_dirty-clause-count

@@ -2,7 +2,7 @@ use Rattle.std.proofs.Common.{◌≡◌, ◌+◌, ◌-◌, ◌<◌, ◌∙◌, a
 use Rattle.std.proofs.Math.Nat.{div-le_self}
 use Rattle.std.specs.List.{prefix_len, range_with_len}
 use Rattle.granule_map.specs.Blocks.{is_block_free}
-use Rattle.selection.proofs.Joining.{prefix_ends, prefix_goes_on}
+use Rattle.granule_map.proofs.Joining.{prefix_ends, prefix_goes_on}
 use Rattle.selection.proofs.blocks.free_from.Goals as goal
 
 pub overflow_add-from : goal.overflow_add-from

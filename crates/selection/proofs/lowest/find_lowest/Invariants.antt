@@ -1,8 +1,8 @@
 use Rattle.std.proofs.Common.{◌≡◌, ◌-◌, ◌++◌, map}
 use Rattle.granule_map.specs.Blocks.{block_count, is_block_free}
-use Rattle.granule_map.specs.Choices.{joined}
+use Rattle.granule_map.specs.Choices.{joined, lowest_from}
 use Rattle.granule_map.specs.StateLists.{is_free_at}
-use Rattle.selection.specs.Selections.{always_together, free_runs, granules_of, lowest_from}
+use Rattle.selection.specs.Selections.{always_together, free_runs, granules_of}
 use Rattle.selection.proofs.lowest.find_lowest.Given as goal
 
 -- the runs that were found, and those of what is left, are all of them

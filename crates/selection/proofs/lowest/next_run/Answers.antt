@@ -1,7 +1,7 @@
 use Rattle.std.proofs.Common.{◌≡◌, ◌-◌, ◌<◌, ◌∙◌, ℕ, Bool, min, ap, sym, arith, refl, Some}
 use Rattle.std.specs.List.{find, prefix_len, range_with_len}
 use Rattle.granule_map.specs.Blocks.{block_count, is_block_free}
-use Rattle.selection.proofs.Joining.{IsFound, found_next, found_run, lowest_found, none_left}
+use Rattle.granule_map.proofs.Joining.{IsFound, found_next, found_run, lowest_found, none_left}
 use Rattle.selection.specs.Selections.{always_together}
 use Rattle.selection.proofs.lowest.next_run.Goals as goal
 

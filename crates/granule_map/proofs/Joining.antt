@@ -8,9 +8,8 @@ use Rattle.std.proofs.lemmas.List.Sums.{prefix_len-le-length}
 use Rattle.std.proofs.lemmas.Option.{none-some, same_Some}
 use Rattle.std.proofs.lemmas.List.FromFn.{length-range_with_len}
 use Rattle.std.proofs.Math.Seq.{take-append-add}
-use Rattle.granule_map.specs.Choices.{joined, joined_onto}
+use Rattle.granule_map.specs.Choices.{joined, joined_onto, lowest_from}
 use Rattle.granule_map.proofs.Ranges.{range_more}
-use Rattle.sanitizer.specs.Turns.{lowest_from}
 
 -- numbers of which the first does not go on from this one
 abbrev pub IsBehind : (ℕ → ℕ → Bool) → ℕ → List ℕ → Type 0
