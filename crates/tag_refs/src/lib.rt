@@ -9,8 +9,6 @@ mod entries;
 mod faults;
 mod hosts;
 mod tables;
-#[cfg(test)]
-mod tests;
 
 pub use entries::TagEntry;
 pub use faults::TagFault;
