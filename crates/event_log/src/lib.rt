@@ -7,8 +7,6 @@
 mod faults;
 mod laws;
 mod logs;
-#[cfg(test)]
-mod tests;
 
 pub use faults::{ClearFault, LogFull};
 pub use laws::law_history;

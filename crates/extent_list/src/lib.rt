@@ -7,7 +7,5 @@
 
 mod list;
 mod pieces;
-#[cfg(test)]
-mod tests;
 
 pub use list::{ExtentList, TooMany};

@@ -7,8 +7,6 @@
 mod blocks;
 mod map;
 mod states;
-#[cfg(test)]
-mod tests;
 
 pub use map::GranuleMap;
 pub use states::GranuleState;

@@ -6,7 +6,5 @@
 #![tactic(auto)]
 
 mod media;
-#[cfg(test)]
-mod tests;
 
 pub use media::Memory;

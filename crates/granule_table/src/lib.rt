@@ -7,7 +7,5 @@
 
 mod changes;
 mod tables;
-#[cfg(test)]
-mod tests;
 
 pub use tables::GranuleTable;

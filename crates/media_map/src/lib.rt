@@ -7,8 +7,6 @@
 
 mod places;
 mod runs;
-#[cfg(test)]
-mod tests;
 
 pub use places::{dpa_of, locate, region_at};
 pub use runs::{extent_of, run_of};

@@ -12,8 +12,6 @@ mod layout;
 mod readers;
 mod region_spec;
 mod sizes;
-#[cfg(test)]
-mod tests;
 
 pub use configuration::Config;
 pub use faults::{BlockFault, ConfigFault};

@@ -8,8 +8,6 @@ mod changes;
 mod entries;
 mod faults;
 mod tables;
-#[cfg(test)]
-mod tests;
 
 pub use entries::TagEntry;
 pub use faults::TagFault;

@@ -2,8 +2,8 @@
 
 ghost use Rattle.std.specs.Prelude.{◌≡◌, IfOk};
 
-use super::*;
 use dcd_base::{AccessFault, Granule, HostId, Place, RegionId, Tag};
+use media_map::{dpa_of, extent_of, locate, region_at, run_of};
 use region_config::{Config, ConfigFault, RegionSpec};
 use std::alloc::Global;
 use std::test::Fail;
@@ -42,47 +42,33 @@ fn place(region: u8, granule: u32, word: u64) -> Place {
     }
 }
 
-/// The place of the address for a host of the device.
-fn place_of(config: &Config, host: u8, dpa: u64) -> Option<Place> {
-    if host < config.hosts() {
-        locate(config, HostId(host), dpa).ok()
-    } else {
-        None
-    }
-}
-
 #[test]
-fn places_both_ends_of_each_region_for_two_hosts(rt: HostRuntime) -> Result<(), Fail> {
+fn addresses_of_two_hosts_have_places(rt: HostRuntime) -> Result<(), Fail> {
     let config = two_hosts(rt.alloc())?;
-    for (host, base, last, region, low, high) in [
-        (0, 0, 0xFF_FFF8, 0, 0, 15),
-        (0, BASE, 0x103F_FFF8, 1, 16, 19),
-        (1, BASE, 0x10FF_FFF8, 0, 0, 15),
-        (1, 2 * BASE, 0x203F_FFF8, 1, 16, 19),
+    for (host, dpa, found) in [
+        (0, 0, Ok(place(0, 0, 0))),
+        (0, 0xFF_FFF8, Ok(place(0, 15, 0x1_FFFF))),
+        (0, 0x100_0000, Err(AccessFault::OutsideRegions)),
+        (0, 0x100_0004, Err(AccessFault::Misaligned)),
+        (0, 1, Err(AccessFault::Misaligned)),
+        (0, BASE, Ok(place(1, 16, 0))),
+        (0, 0x103F_FFF8, Ok(place(1, 19, 0x1_FFFF))),
+        (0, 0x1040_0000, Err(AccessFault::OutsideRegions)),
+        (1, BASE, Ok(place(0, 0, 0))),
+        (1, 0x10FF_FFF8, Ok(place(0, 15, 0x1_FFFF))),
+        (1, 0x1100_0000, Err(AccessFault::OutsideRegions)),
+        (1, 2 * BASE, Ok(place(1, 16, 0))),
+        (1, 0x203F_FFF8, Ok(place(1, 19, 0x1_FFFF))),
+        (1, 0x2040_0000, Err(AccessFault::OutsideRegions)),
     ] {
-        assert_eq!(rt; place_of(&config, host, base), Some(place(region, low, 0)));
-        assert_eq!(rt;
-            place_of(&config, host, last),
-            Some(place(region, high, 0x1_FFFF))
-        );
-        assert_eq!(rt; place_of(&config, host, last + 8), None);
+        if host < config.hosts() {
+            assert_eq!(rt;
+                locate(&config, HostId(host), dpa),
+                found,
+                "{host}, {dpa:x}"
+            );
+        }
     }
-    Ok(())
-}
-
-#[test]
-fn refuses_a_misaligned_address_before_one_outside(rt: HostRuntime) -> Result<(), Fail> {
-    let config = two_hosts(rt.alloc())?;
-    let host = HostId(0);
-    assert_eq!(rt; locate(&config, host, 1), Err(AccessFault::Misaligned));
-    assert_eq!(rt;
-        locate(&config, host, 0x100_0004),
-        Err(AccessFault::Misaligned)
-    );
-    assert_eq!(rt;
-        locate(&config, host, 0x100_0000),
-        Err(AccessFault::OutsideRegions)
-    );
     Ok(())
 }
 
@@ -94,6 +80,10 @@ fn another_host_has_the_word_at_another_address(rt: HostRuntime) -> Result<(), F
     };
     assert_eq!(rt; word, place(1, 17, 1));
     assert_eq!(rt; dpa_of(&config, HostId(1), &word), 0x2010_0008);
+    assert_eq!(rt;
+        region_at(&config, HostId(1), 0x2010_0008),
+        Some(RegionId(1))
+    );
     Ok(())
 }
 

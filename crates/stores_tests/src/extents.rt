@@ -2,8 +2,8 @@
 
 ghost use Rattle.std.specs.Prelude.{◌≡◌, ◌*◌};
 
-use crate::{ExtentList, TooMany};
 use dcd_base::{Extent, Extents, NoMemory, Tag};
+use extent_list::{ExtentList, TooMany};
 use std::alloc::Global;
 use std::test::Fail;
 
@@ -49,67 +49,41 @@ fn cut(
 }
 
 #[test]
-fn a_cut_leaves_the_pieces_in_their_place(rt: HostRuntime) -> Result<(), Fail> {
+fn a_cut_leaves_the_pieces_of_the_first_holder_in_their_place(rt: HostRuntime) -> Result<(), Fail> {
     let alloc = rt.alloc();
-    let before = [(20, 1), (0, 4), (10, 2)];
-
-    let (list, answer) = cut(alloc, &before, (0, 1), 4)?;
-    assert_eq!(rt; answer, Ok(()));
-    assert_eq!(rt;
-        list.as_slice(),
-        [mib(20, 1), mib(1, 3), mib(10, 2)].as_slice(),
-        "at the front"
-    );
-
-    let (list, answer) = cut(alloc, &before, (1, 2), 4)?;
-    assert_eq!(rt; answer, Ok(()));
-    assert_eq!(rt;
-        list.as_slice(),
-        [mib(20, 1), mib(0, 1), mib(3, 1), mib(10, 2)].as_slice(),
-        "in the middle"
-    );
-
-    let (list, answer) = cut(alloc, &before, (3, 1), 4)?;
-    assert_eq!(rt; answer, Ok(()));
-    assert_eq!(rt;
-        list.as_slice(),
-        [mib(20, 1), mib(0, 3), mib(10, 2)].as_slice(),
-        "at the end"
-    );
-
-    let (list, answer) = cut(alloc, &before, (0, 4), 4)?;
-    assert_eq!(rt; answer, Ok(()));
-    assert_eq!(rt;
-        list.as_slice(),
-        [mib(20, 1), mib(10, 2)].as_slice(),
-        "the whole"
-    );
-    Ok(())
-}
-
-#[test]
-fn a_cut_keeps_to_the_limit(rt: HostRuntime) -> Result<(), Fail> {
-    let alloc = rt.alloc();
-    let (list, answer) = cut(alloc, &[(0, 4), (10, 2)], (1, 1), 2)?;
-    assert_eq!(rt; answer, Err(TooMany(3)));
+    let three = [(20, 1), (0, 4), (10, 2)];
+    for (before, range, most, answer, after) in [
+        (
+            three.as_slice(),
+            (0, 1),
+            3,
+            Ok(()),
+            [(20, 1), (1, 3), (10, 2)].as_slice(),
+        ),
+        (
+            &three,
+            (1, 2),
+            4,
+            Ok(()),
+            &[(20, 1), (0, 1), (3, 1), (10, 2)],
+        ),
+        (&three, (1, 2), 3, Err(TooMany(4)), &three),
+        (&three, (3, 1), 4, Ok(()), &[(20, 1), (0, 3), (10, 2)]),
+        (&three, (0, 4), 4, Ok(()), &[(20, 1), (10, 2)]),
+        (
+            &[(2, 1), (0, 4), (0, 8)],
+            (1, 1),
+            64,
+            Ok(()),
+            &[(2, 1), (0, 1), (2, 2), (0, 8)],
+        ),
+    ] {
+        let (list, answered) = cut(alloc, before, range, most)?;
+        assert_eq!(rt; answered, answer);
+        assert_eq!(rt; list.as_slice(), list_of(alloc, after)?.as_slice());
+    }
     let text = format!(in alloc; "{}", TooMany(3))?;
     assert_eq!(rt; text.as_str(), "the list would have 3 extents");
-    assert_eq!(rt; list.as_slice(), [mib(0, 4), mib(10, 2)].as_slice());
-
-    let (list, answer) = cut(alloc, &[(0, 4), (10, 2)], (0, 1), 2)?;
-    assert_eq!(rt; answer, Ok(()));
-    assert_eq!(rt; list.len(), 2);
-    Ok(())
-}
-
-#[test]
-fn a_cut_takes_the_first_extent_that_has_the_range(rt: HostRuntime) -> Result<(), Fail> {
-    let (list, answer) = cut(rt.alloc(), &[(2, 1), (0, 4), (0, 8)], (1, 1), 64)?;
-    assert_eq!(rt; answer, Ok(()));
-    assert_eq!(rt;
-        list.as_slice(),
-        [mib(2, 1), mib(0, 1), mib(2, 2), mib(0, 8)].as_slice()
-    );
     Ok(())
 }
 
@@ -143,19 +117,14 @@ fn readers_and_pages(rt: HostRuntime) -> Result<(), Fail> {
     if copy.len() > 1 {
         assert_eq!(rt; copy.at(1), mib(2, 1));
     }
-
     assert_eq!(rt; list.part(1, 9), [mib(2, 1), mib(4, 1)].as_slice());
-    let mut page = Extents::from_slice(alloc, &[mib(9, 1)])?;
-    list.page(1, 9, &mut page)?;
+    let mut page = Extents::new(alloc);
+    for (first, most) in [(1, 9), (0, 1), (3, 5)] {
+        list.page(first, most, &mut page)?;
+    }
     assert_eq!(rt;
         page.as_slice(),
-        [mib(9, 1), mib(2, 1), mib(4, 1)].as_slice()
-    );
-    list.page(0, 1, &mut page)?;
-    list.page(3, 5, &mut page)?;
-    assert_eq!(rt;
-        page.as_slice(),
-        [mib(9, 1), mib(2, 1), mib(4, 1), mib(0, 1)].as_slice()
+        [mib(2, 1), mib(4, 1), mib(0, 1)].as_slice()
     );
     Ok(())
 }

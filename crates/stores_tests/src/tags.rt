@@ -1,10 +1,10 @@
 //! A tag from its first offer to its end, and what outlives it.
 
-use crate::{TagFault, Tags};
 use dcd_base::{Granule, HostId, RegionId, Run, Runs, Tag};
 use std::alloc::Global;
 use std::process::Abort;
 use std::test::Fail;
+use tag_refs::{TagFault, Tags};
 
 const FIRST: HostId = HostId(0);
 
@@ -88,25 +88,14 @@ fn a_tag_that_ends_leaves_the_order_of_the_others(rt: HostRuntime) -> Result<(),
 }
 
 #[test]
-fn a_soiled_tag_lives_on(rt: HostRuntime) -> Result<(), Fail> {
-    let tag = bytes_from_1();
-    let mut tags = Tags::new(rt.alloc());
-    open(&rt, rt.alloc(), &mut tags, tag)?;
-    assert!(rt; !tags.soiled(&tag));
-    assert!(rt; tags.is_live(&tag));
-    tags.soil(&tag);
-    assert!(rt; tags.soiled(&tag));
-    let runs = tags.find(&tag).map_or(0, |entry| entry.runs.len());
-    assert_eq!(rt; runs, 1);
-    Ok(())
-}
-
-#[test]
-fn a_tag_ends_with_the_last_host_that_is_set(rt: HostRuntime) -> Result<(), Fail> {
+fn a_soiled_tag_ends_with_the_last_host_that_is_set(rt: HostRuntime) -> Result<(), Fail> {
     let tag = bytes_from_1();
     let mut tags = Tags::new(rt.alloc());
     tags.reserve(2)?;
     open(&rt, rt.alloc(), &mut tags, tag)?;
+    assert!(rt; tags.is_live(&tag) && !tags.soiled(&tag));
+    tags.soil(&tag);
+    assert!(rt; tags.soiled(&tag));
     tags.set_host(&tag, SECOND, true, false);
     assert!(rt; tags.is_held_by(&tag, SECOND));
     assert!(rt; !tags.ends(&tag, FIRST, false, false));

@@ -1,16 +1,10 @@
 //! What each change leaves, and runs that reach past the table.
 
-use crate::GranuleTable;
-use dcd_base::{Granule, HostId, Run};
+use crate::granules::run;
+use dcd_base::{Granule, HostId};
 use granule_map::GranuleState;
+use granule_table::GranuleTable;
 use std::test::Fail;
-
-fn run(first: u32, count: u32) -> Run {
-    Run {
-        first: Granule(first),
-        count,
-    }
-}
 
 fn held() -> GranuleState {
     GranuleState::Held(HostId(1))

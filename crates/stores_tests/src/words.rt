@@ -1,20 +1,9 @@
 //! Words and holders, each call once.
 
-ghost use Rattle.std.specs.Prelude.{◌≡◌};
-
-use crate::Memory;
-use dcd_base::{Granule, Run};
+use crate::granules::run;
+use dcd_base::Granule;
+use granule_mem::Memory;
 use std::test::Fail;
-
-fn run(first: u32, count: u32) -> Run
-    ensures first { result.first ≡ first }
-    ensures count { result.count ≡ count }
-{
-    Run {
-        first: Granule(first),
-        count,
-    }
-}
 
 #[test]
 fn a_store_is_seen_at_its_place_alone(rt: HostRuntime) -> Result<(), Fail> {
@@ -31,9 +20,9 @@ fn a_store_is_seen_at_its_place_alone(rt: HostRuntime) -> Result<(), Fail> {
 }
 
 #[test]
-fn zeroing_a_run_leaves_its_neighbours(rt: HostRuntime) -> Result<(), Fail> {
+fn a_run_is_zeroed_and_held_without_its_neighbours(rt: HostRuntime) -> Result<(), Fail> {
     let mut memory = Memory::new(rt.alloc(), 4)?;
-    memory.set_holders(run(0, 4), 2);
+    memory.set_holders(run(1, 2), 0x8001);
     memory.write(Granule(0), 5, 1)?;
     memory.write(Granule(1), 5, 2)?;
     memory.write(Granule(2), 5, 3)?;
@@ -43,19 +32,9 @@ fn zeroing_a_run_leaves_its_neighbours(rt: HostRuntime) -> Result<(), Fail> {
     assert_eq!(rt; memory.read(Granule(1), 5), 0);
     assert_eq!(rt; memory.read(Granule(2), 5), 0);
     assert_eq!(rt; memory.read(Granule(3), 5), 4);
-    assert_eq!(rt; memory.holders(Granule(1)), 2);
-    Ok(())
-}
-
-#[test]
-fn holders_are_set_run_by_run(rt: HostRuntime) -> Result<(), Fail> {
-    let mut memory = Memory::new(rt.alloc(), 4)?;
-    memory.write(Granule(2), 5, 6)?;
-    memory.set_holders(run(1, 2), 0x8001);
     assert_eq!(rt; memory.holders(Granule(0)), 0);
     assert_eq!(rt; memory.holders(Granule(1)), 0x8001);
     assert_eq!(rt; memory.holders(Granule(2)), 0x8001);
     assert_eq!(rt; memory.holders(Granule(3)), 0);
-    assert_eq!(rt; memory.read(Granule(2), 5), 6);
     Ok(())
 }
