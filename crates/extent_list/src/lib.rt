@@ -7,7 +7,9 @@
 
 mod list;
 mod pieces;
+mod tags;
 #[cfg(test)]
 mod tests;
 
 pub use list::{ExtentList, TooMany};
+pub use tags::has_extent_of;
