@@ -1,14 +1,14 @@
 -- What a cut leaves: by the index of the extent that gives way, and what stays true of each extent.
-use Rattle.std.specs.List.{find, list_any, position_or_len}
-use Rattle.std.proofs.Common.{◌⊎◌, Bool, IfSome, IsSome, slice_get, subst, inl, inr, ◌≡◌, ℕ, ◌+◌, ◌-◌, ◌^◌, ◌<◌, ◌≤◌, true, false, List, [], ◌∷◌, ◌++◌, Some, length, get_or, take, drop, refl, sym, ap, ◌∙◌, suc, zero, append_assoc, arith, length-append, length-drop}
-use Rattle.std.proofs.lemmas.Bool.{and_parts, cases_Bool, false≢true, leb-true, lt-ltb}
+use Rattle.std.specs.List.{find, position_or_len}
+use Rattle.std.proofs.Common.{◌⊎◌, IfSome, slice_get, subst, inl, inr, ◌≡◌, ℕ, ◌+◌, ◌-◌, ◌^◌, ◌<◌, ◌≤◌, true, false, List, [], ◌∷◌, ◌++◌, Some, length, get_or, take, drop, refl, sym, ap, ◌∙◌, suc, zero, append_assoc, arith, length-append, length-drop}
+use Rattle.std.proofs.lemmas.Bool.{and_parts, leb-true}
 use Rattle.std.proofs.lemmas.List.{drop_at, length-take-le, take_at}
 use Rattle.std.proofs.lemmas.List.Folds.{find_at}
 use Rattle.std.proofs.lemmas.List.Quantifiers.{position-Some}
 use Rattle.std.proofs.lemmas.List.Sums.{position_or_len_is}
 use Rattle.std.proofs.lemmas.Option.{slice_get-get_or}
 use Rattle.dcd_base.specs.declared.capacity.Extent.{Extent}
-use Rattle.extent_list.specs.ExtentLists.{cut, has_range, holder_of, is_in, piece, without}
+use Rattle.extent_list.specs.ExtentLists.{cut, has_range, holder_of, piece, without}
 use Rattle.extent_list.specs.Rooms.{IsCutInAddresses, IsInAddresses}
 
 -- the holder's index, and where the range lies in that extent
@@ -69,14 +69,3 @@ length-cut start bytes xs i x found is =
     let front = length-take-le i xs (omega (arith, known)) in
     let back = length-drop (suc i) xs in
     ap length (cut-at start bytes xs i x found is) ∙ simp (length-append) (omega (arith, front, back, known))
-
--- where an extent lies in one of a list, the list has an index of it
-any-before : (p : Extent → Bool) (xs : List Extent) → list_any p xs ≡ true → position_or_len p xs < length xs
-any-before p [] none = absurd (false≢true none)
-any-before p (x ∷ xs) some = elim (cases_Bool (p x)) [
-  | inl here ↦ rw here (omega arith)
-  | inr other ↦ rw other (omega (arith, any-before p xs (rw other at some)))
-]
-
-pub held-from_is_in : (xs : List Extent) (x : Extent) → is_in xs x ≡ true → IsSome (holder_of x.start x.length xs)
-held-from_is_in xs x inside = rw (lt-ltb _ _ (any-before (has_range x.start x.length) xs inside)) refl

@@ -1,9 +1,9 @@
 //! The list, and the calls that change it.
 
-ghost use Rattle.extent_list.specs.ExtentLists.{cut, has_range, holder_of, shares_range, without};
+ghost use Rattle.extent_list.specs.ExtentLists.{cut, cut_all, has_range, holder_of, shares_range, without};
 ghost use Rattle.extent_list.specs.Rooms.{IsCutInAddresses};
 ghost use Rattle.std.specs.List.{list_any};
-ghost use Rattle.std.specs.Prelude.{◌≡◌, ◌==◌, ◌++◌, ◌∷◌, ◌+◌, ◌<◌, ◌≤◌, [], IfErr, IfOk, IsSome, OnErr, OnOk, Some, drop, length, option_to_list, slice_get, slice_index_or, suc, take, vec_capacity, vec_len};
+ghost use Rattle.std.specs.Prelude.{◌≡◌, ◌==◌, ◌++◌, ◌∷◌, ◌+◌, ◌^◌, ◌<◌, ◌≤◌, [], All, IfErr, IfOk, IsSome, OnErr, OnOk, Some, drop, length, option_to_list, slice_get, slice_index_or, suc, take, vec_capacity, vec_len};
 
 use crate::pieces::{count_of, has_range_in, lower_piece, shares_range_with, upper_piece};
 use dcd_base::{Extent, Extents, NoMemory};
@@ -151,6 +151,42 @@ impl ExtentList {
         match self.holder_of(start, bytes) {
             Some(index) => replace_at(&mut self.kept, index, start, bytes, most),
             None => unreachable!(),
+        }
+    }
+
+    /// Cuts these extents out one after another, each where it lies in one of the list when its turn comes. Takes no
+    /// memory, and uses one of the spare for each.
+    pub fn cut_all(&mut self, leaving: &[Extent])
+        requires spare { length leaving.now ≤ self.old.spare }
+        requires ends { All (λ x. x.start + x.length < 2 ^ 64) leaving.now }
+        ensures { self.new.extents ≡ cut_all leaving.now self.old.extents }
+    {
+        for extent in leaving {
+            self.cut_where_held(extent);
+        }
+    }
+
+    /// Cuts an extent out where it lies in one of the list.
+    fn cut_where_held(&mut self, extent: &Extent)
+        requires spare { 0 < self.old.spare }
+        requires ends { extent.now.start + extent.now.length < 2 ^ 64 }
+        ensures cut { self.new.extents ≡ cut extent.now.start extent.now.length self.old.extents }
+        ensures spare { self.old.spare ≤ self.new.spare + 1 }
+    {
+        match self.holder_of(extent.start, extent.length) {
+            None => (),
+            Some(index) => {
+                match replace_at(
+                    &mut self.kept,
+                    index,
+                    extent.start,
+                    extent.length,
+                    usize::MAX,
+                ) {
+                    Ok(()) => (),
+                    Err(_) => unreachable!(),
+                }
+            }
         }
     }
 

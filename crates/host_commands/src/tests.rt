@@ -61,7 +61,7 @@ fn offered(alloc: Global) -> Result<HostLists, NoMemory>
 fn is_few(lists: &HostLists) -> bool
     ensures { result ≡ true → extent_total lists.now ≤ 64 }
 {
-    !lists.has_offer() && lists.accepted().len() <= 64
+    lists.oldest().is_empty() && lists.accepted().len() <= 64
 }
 
 /// A log with one record.

@@ -13,7 +13,7 @@ use Rattle.list_rules.specs.Listing.{incomplete, too_many_extents, too_many_list
 use Rattle.region_config.specs.Configurations.{Configuration}
 use Rattle.region_config.specs.Soundness.{IsSound}
 use Rattle.release_core.proofs.Members.{neither}
-use Rattle.release_core.proofs.StillHeld.{all_can_leave}
+use Rattle.release_core.proofs.FreeToLeave.{all_can_leave}
 use Rattle.release_core.specs.Leaving.{AllCanLeave, CanLeave, count_after}
 use Rattle.release_core.specs.Releases.{give_back_rule}
 use Rattle.release_core.specs.Removals.{listed_rule}

@@ -1,18 +1,17 @@
 //! The lists, and what is read of them.
 
 ghost use Rattle.dcd_base.specs.Limits.{extents_supported, tags_supported};
-ghost use Rattle.dcd_base.specs.Words.{is_empty};
 ghost use Rattle.extent_list.specs.ExtentLists.{count_in, has_extent_of, real_tags};
 ghost use Rattle.host_lists.specs.Lists.{extent_total, extents_in, no_lists};
 ghost use Rattle.host_lists.specs.Tags.{capped, tag_count};
 ghost use Rattle.offer_core.specs.Offerings.{oldest_of};
 ghost use Rattle.std.specs.List.{list_any};
-ghost use Rattle.std.specs.Prelude.{◌≡◌, ◌++◌, ◌+◌, ◌-◌, ◌^◌, ◌<◌, ◌≤◌, [], IfOk, length, not};
+ghost use Rattle.std.specs.Prelude.{◌≡◌, ◌++◌, ◌+◌, ◌-◌, ◌^◌, ◌<◌, ◌≤◌, [], IfOk, length};
 
-use crate::tag_counts::{has_extent_of, has_in_offers, more_tags};
+use crate::tag_counts::{has_in_offers, more_tags};
 use dcd_base::limits::{EXTENTS, TAGS};
 use dcd_base::{Extent, Extents, NoMemory, Tag};
-use extent_list::ExtentList;
+use extent_list::{ExtentList, has_extent_of};
 use offer_core::Offers;
 use release_core::Releases;
 use std::alloc::Global;
@@ -72,13 +71,6 @@ impl HostLists {
         ensures { result.now.extents ≡ self.now.accepted }
     {
         &self.accepted
-    }
-
-    /// Whether an offer is unanswered.
-    pub fn has_offer(&self) -> bool
-        ensures { result ≡ not (is_empty self.now.offers) }
-    {
-        !self.offers.is_empty()
     }
 
     /// The extents of the oldest unanswered offer; none where there is no offer.
@@ -153,14 +145,6 @@ impl HostLists {
             tags = more_tags(tags, accepted, &self.offers, i, offer);
         }
         tags
-    }
-
-    /// How many tags the extents have that the host has accepted or is offered.
-    pub fn distinct_tags(&self) -> u32
-        requires few { extent_total self.now < 2 ^ 32 }
-        ensures { result ≡ length (real_tags (extents_in self.now)) }
-    {
-        self.tags()
     }
 
     /// How many more tags the host may get; none where it has more than it may.

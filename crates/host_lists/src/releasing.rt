@@ -8,7 +8,7 @@ ghost use Rattle.release_core.specs.Leaving.{AllCanLeave};
 ghost use Rattle.release_core.specs.Releases.{give_back_rule};
 ghost use Rattle.std.specs.Prelude.{◌≡◌, ◌++◌, ◌+◌, ◌^◌, ◌<◌, ◌≤◌, All, OnErr, OnOk};
 
-use crate::changes::{cut_held, cut_out, generation_after, next_generation};
+use crate::changes::{generation_after, next_generation};
 use crate::lists::HostLists;
 use dcd_base::limits::LISTED_EXTENTS;
 use dcd_base::{Extents, HostId, NoMemory};
@@ -51,7 +51,7 @@ impl HostLists {
             Ok(GivenBack::Held) => Ok(GivenBack::Held),
             Ok(GivenBack::Nothing) => Ok(GivenBack::Nothing),
             Ok(GivenBack::Done(leaving)) => {
-                cut_out(&mut self.accepted, leaving.as_slice());
+                self.accepted.cut_all(leaving.as_slice());
                 self.generation = next_generation(self.generation);
                 Ok(GivenBack::Done(leaving))
             }
@@ -69,7 +69,7 @@ impl HostLists {
         ensures kept { OnErr result (self.new ≡ self.old) }
     {
         self.accepted.reserve(leaving.len())?;
-        cut_out(&mut self.accepted, leaving.as_slice());
+        self.accepted.cut_all(leaving.as_slice());
         self.generation = generation_after(leaving.as_slice(), self.generation);
         Ok(())
     }
@@ -85,7 +85,7 @@ impl HostLists {
         ensures kept { OnErr result (self.new ≡ self.old) }
     {
         self.accepted.reserve(extents.len())?;
-        cut_held(&mut self.accepted, extents.as_slice());
+        self.accepted.cut_all(extents.as_slice());
         self.generation = next_generation(self.generation);
         Ok(())
     }

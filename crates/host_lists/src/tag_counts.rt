@@ -8,14 +8,8 @@ ghost use Rattle.std.specs.List.{list_any};
 ghost use Rattle.std.specs.Prelude.{◌≡◌, ◌++◌, ◌≤◌, length, take};
 
 use dcd_base::{Extent, Tag, is_no_tag};
+use extent_list::has_extent_of;
 use offer_core::Offers;
-
-/// Whether one of the extents has the tag.
-pub(crate) fn has_extent_of(tag: &Tag, extents: &[Extent]) -> bool
-    ensures { result ≡ has_extent_of tag.now extents.now }
-{
-    extents.iter().any(|extent| extent.tag == *tag)
-}
 
 /// Whether an extent of the first `count` offers has the tag.
 pub(crate) fn has_in_offers(tag: &Tag, offers: &Offers, count: usize) -> bool

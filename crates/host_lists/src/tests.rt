@@ -86,7 +86,7 @@ fn one_accepted(alloc: Global, config: &Config) -> Result<HostLists, Fail>
     let mut lists = one_offer(alloc)?;
     let list = listed(alloc, 0, 6)?;
     accepted(lists.respond(config, HostId(0), &list, false))?;
-    if lists.has_offer() || lists.accepted().len() > 64 {
+    if !lists.oldest().is_empty() || lists.accepted().len() > 64 {
         return Err("an offer is left".into());
     }
     Ok(lists)
@@ -133,14 +133,14 @@ fn take_out(lists: &mut HostLists, config: &Config, list: &Extents) -> Result<()
 #[test]
 fn offers_are_counted_with_their_tags(rt: HostRuntime) -> Result<(), Fail> {
     let lists = one_offer(rt.alloc())?.copy()?;
-    assert!(rt; lists.has_offer() && lists.has_offered(&Tag([7; 16])));
+    assert!(rt; !lists.oldest().is_empty() && lists.has_offered(&Tag([7; 16])));
     assert_eq!(rt;
         lists.oldest(),
         [extent(0, 6, 7), extent(8, 2, 0)].as_slice()
     );
     assert_eq!(rt; lists.offered(), 2);
     assert_eq!(rt; lists.extents_available(), 62);
-    assert_eq!(rt; lists.distinct_tags(), 1);
+    assert_eq!(rt; lists.tags_available(), 31);
     assert_eq!(rt; lists.tags_available(), 31);
     let more = [extent(0, 1, 7), extent(1, 1, 0), extent(2, 1, 5)];
     assert_eq!(rt; lists.tags_with(&more), 2);
@@ -172,7 +172,7 @@ fn an_offer_is_accepted_with_its_tag(rt: HostRuntime) -> Result<(), Fail> {
     let accepted = accepted(lists.respond(&config, HostId(0), &list, false))?;
     assert_eq!(rt; accepted.as_slice(), [extent(0, 6, 7)].as_slice());
     assert_eq!(rt; lists.accepted().as_slice(), accepted.as_slice());
-    assert!(rt; lists.has_accepted(&Tag([7; 16])) && !lists.has_offer());
+    assert!(rt; lists.has_accepted(&Tag([7; 16])) && lists.oldest().is_empty());
     assert_eq!(rt; lists.generation(), 1);
     Ok(())
 }

@@ -10,6 +10,7 @@ ghost use Rattle.std.specs.Prelude.{◌≡◌, ◌^◌, ◌<◌, ◌≤◌, IfOk
 use crate::owners::{is_shareable_at, marked};
 use dcd_base::{Extent, Extents, HostId, NoMemory, Tag};
 use dcd_codes::Rule;
+use extent_list::has_extent_of;
 use region_config::Config;
 use std::alloc::Global;
 
@@ -99,11 +100,4 @@ fn count_of_tag(tag: &Tag, extents: &[Extent]) -> u32
     ensures { result ≡ count_of_tag tag.now extents.now }
 {
     extents.iter().filter(|extent| extent.tag == *tag).count() as u32
-}
-
-/// Whether one of the extents has the tag.
-fn has_extent_of(tag: &Tag, extents: &[Extent]) -> bool
-    ensures { result ≡ has_extent_of tag.now extents.now }
-{
-    extents.iter().any(|extent| extent.tag == *tag)
 }

@@ -1,3 +1,3 @@
+pub mod FreeToLeave
 pub mod Lengths
 pub mod Members
-pub mod StillHeld

@@ -1,7 +1,7 @@
 //! What the Fabric Manager takes from a host, or asks it to give back.
 
 ghost use Rattle.dcd_codes.specs.Rules.{ByRow};
-ghost use Rattle.extent_list.specs.ExtentLists.{has_extent_of, marked};
+ghost use Rattle.extent_list.specs.ExtentLists.{marked};
 ghost use Rattle.release_core.specs.Removals.{by_tag_rule, listed_rule, tagged};
 ghost use Rattle.std.specs.Prelude.{◌≡◌, ◌+◌, ◌<◌, ◌≤◌, [], IfOk, OnOk, length, map};
 
@@ -10,7 +10,7 @@ use crate::leaving::{Within, list_rule};
 use crate::marking::marked_list;
 use dcd_base::{Extent, Extents, HostId, NoMemory, RegionId, Tag, is_no_tag};
 use dcd_codes::{Refusal, Rule};
-use extent_list::ExtentList;
+use extent_list::{ExtentList, has_extent_of};
 use list_rules::too_many_listed;
 use region_config::Config;
 use std::alloc::Global;
@@ -96,13 +96,6 @@ pub fn by_tag(alloc: Global, accepted: &ExtentList, tag: &Tag) -> Result<Extents
         return Err(Refusal::Broken(Rule::NoSuchTag));
     }
     Ok(tagged_list(alloc, tag, accepted.as_slice())?)
-}
-
-/// Whether one of the extents has the tag.
-fn has_extent_of(tag: &Tag, extents: &[Extent]) -> bool
-    ensures { result ≡ has_extent_of tag.now extents.now }
-{
-    extents.iter().any(|extent| extent.tag == *tag)
 }
 
 /// The extents that have the tag, in their order.

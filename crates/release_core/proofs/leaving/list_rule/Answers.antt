@@ -3,7 +3,7 @@ use Rattle.std.specs.declared.result.Result.{Result}
 use Rattle.std.specs.declared.result.Result.TheVariants.{Ok, Err}
 use Rattle.dcd_base.specs.declared.failures.NoMemory.{NoMemory}
 use Rattle.dcd_codes.specs.declared.rules.Rule.{Rule}
-use Rattle.release_core.proofs.StillHeld.{all_can_leave}
+use Rattle.release_core.proofs.FreeToLeave.{all_can_leave}
 use Rattle.release_core.proofs.leaving.list_rule.Goals as goal
 
 -- what holds anyway holds where nothing is found

@@ -1,9 +1,9 @@
 use Rattle.std.proofs.Common.{◌≡◌, ◌+◌, ◌≤◌, length, take}
 use Rattle.extent_list.specs.ExtentLists.{cut_all}
-use Rattle.host_lists.proofs.changes.cut_out.Given as goal
+use Rattle.extent_list.proofs.list.ExtentList.cut_all.Given as goal
 
 abbrev pub invariant-loop-extent : goal.invariant-loop-extent
 invariant-loop-extent l = record {
-  cut : l.accepted.extents ≡ cut_all (take l.extent-index l.leaving) l.fn.accepted.extents;
-  room : length l.leaving ≤ l.accepted.spare + l.extent-index;
+  cut : l.self.extents ≡ cut_all (take l.extent-index l.leaving) l.fn.self.extents;
+  room : length l.leaving ≤ l.self.spare + l.extent-index;
 }

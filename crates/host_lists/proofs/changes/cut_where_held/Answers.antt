@@ -1,6 +1,0 @@
-use Rattle.std.proofs.Common.{sym, ◌∙◌}
-use Rattle.host_lists.proofs.Holding.{cut_nowhere}
-use Rattle.host_lists.proofs.changes.cut_where_held.Goals as goal
-
-pub returns-in-None-clause-cut : goal.returns-in-None-clause-cut
-returns-in-None-clause-cut c = sym (cut_nowhere c.args.extent.now.start c.args.extent.now.length c.args.accepted.now.extents (sym c.holder_of.ensures ∙ c.in-None.is))
