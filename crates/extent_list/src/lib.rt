@@ -7,12 +7,7 @@
 
 mod list;
 mod pieces;
-<<<<<<< HEAD
-=======
 mod tags;
-#[cfg(test)]
-mod tests;
->>>>>>> 8601797d1c921276ae6bcc618ccd72f42db61cab
 
 pub use list::{ExtentList, TooMany};
 pub use tags::has_extent_of;
