@@ -1,5 +1,4 @@
 pub mod Ends
 pub mod Failures
-pub mod Layouts
 pub mod Streams
 pub mod Words
