@@ -2,12 +2,13 @@
 use Rattle.std.proofs.Common.{◌≡◌, ℕ, suc, ◌+◌, ◌-◌, ◌*◌, ◌/◌, ◌%◌, ◌^◌, ◌<◌, ◌≤◌, Bool, true, false, cond, not, eqb, ltb, slice_index, List, [], ◌∷◌, ◌++◌, length, get_or, take, Option, Some, None, refl, sym, ap, ◌∙◌, arith, bit_and, w16, eqb-true, eq-eqb, ltb-false, le-ltb, take_all, drop_of_length-le, take-append-drop, append-nil}
 use Rattle.std.specs.Int.{from_le_bytes}
 use Rattle.std.specs.List.{list_all}
-use Rattle.std.proofs.lemmas.Nat.{le_bytes_2, from_le_bytes-to_le_bytes_2, and_le_r, and_mask}
+use Rattle.std.proofs.lemmas.Nat.{le_bytes_2, and_le_r, and_mask}
+use Rattle.field_bytes.proofs.Widths.{wide_16}
 use Rattle.cci_codec.specs.declared.messages.Request.{Request}
 use Rattle.cci_codec.specs.declared.faults.MessageFault.{MessageFault}
 use Rattle.cci_codec.specs.Messages.{message_fault, request_in, request_fields, request_bytes, length_field, ReadsRequest, WritesRequest}
-use Rattle.dcd_base.specs.Layouts.{is_byte}
-use Rattle.dcd_base.proofs.Fields.{IsBytes, all_bytes, length_of_fields, two_bytes, spelled_reads}
+use Rattle.field_bytes.specs.Layouts.{is_byte}
+use Rattle.field_bytes.proofs.Fields.{IsBytes, all_bytes, length_of_fields, two_bytes, spelled_reads}
 
 no_fault : (b : Bool) (f : MessageFault) (rest : Option MessageFault) → cond b (Some f) rest ≡ None → (b ≡ false) × (rest ≡ None)
 no_fault true f rest e = absurd cc
@@ -96,8 +97,8 @@ request_read (a ∷ b ∷ c ∷ d ∷ e ∷ f ∷ g ∷ h ∷ i ∷ j ∷ k ∷ 
     let n = length q.payload in
     let category : bit_and a 15 ≡ 0 = ap (λ (x : ℕ). bit_and x 15) (head_is a r.0.0 [] [] r.0.1) ∙ r.0.2 in
     let tag : b ≡ q.tag = head_is b (q.tag % 256) [] [] r.1.0 ∙ omega (arith, reads.fits.1.0) in
-    let opcode : d + e * 256 ≡ q.opcode = ap (from_le_bytes w16) r.1.1.1.0 ∙ from_le_bytes-to_le_bytes_2 q.opcode reads.fits.1.1.1.0 in
-    let low : f + g * 256 ≡ n % 65536 = ap (from_le_bytes w16) r.1.1.1.1.0 ∙ from_le_bytes-to_le_bytes_2 (n % 65536) (omega arith) in
+    let opcode : d + e * 256 ≡ q.opcode = ap (from_le_bytes w16) r.1.1.1.0 ∙ wide_16.again q.opcode reads.fits.1.1.1.0 in
+    let low : f + g * 256 ≡ n % 65536 = ap (from_le_bytes w16) r.1.1.1.1.0 ∙ wide_16.again (n % 65536) (omega arith) in
     let high : bit_and h 31 ≡ n / 65536 = ap (λ (x : ℕ). bit_and x 31) (head_is h r.1.1.1.1.1.0.0 [] [] r.1.1.1.1.1.0.1) ∙ r.1.1.1.1.1.0.2 in
     let payload_is : payload ≡ q.payload = sym (take-append-drop n payload) ∙ ap (λ (xs : List ℕ). take n payload ++ xs) r.1.1.1.1.1.1.1.1 ∙ append-nil (take n payload) ∙ r.1.1.1.1.1.1.1.0 in
     let total : f + g * 256 + 65536 * bit_and h 31 ≡ length payload = omega (arith, low, high, ap length payload_is) in

@@ -1,32 +1,25 @@
 //! The 12 bytes before the payload of a message.
 
 ghost use Rattle.cci_codec.specs.Messages.{front_fields};
-ghost use Rattle.dcd_base.specs.Layouts.{spelling, Number, Reserved};
+ghost use Rattle.field_bytes.specs.Layouts.{spelling, Number, Reserved};
 ghost use Rattle.std.specs.Int.{w16};
-ghost use Rattle.std.specs.Prelude.{◌≡◌, ◌++◌, ◌<◌, ◌^◌, [], ◌∷◌};
+ghost use Rattle.std.specs.Prelude.{◌≡◌, ◌++◌, ◌<◌, ◌≤◌, ◌^◌, [], ◌∷◌, length, take};
 
-/// The header of a message of this category, before a payload of `length` bytes. Reserved bits and the vendor
-/// status are 0.
-pub fn head(category: u8, tag: u8, opcode: u16, code: u16, length: u32) -> [u8; 12]
-    requires { length < 2 ^ 21 }
-    ensures { result ≡ spelling (front_fields category tag opcode length ++ Number w16 code ∷ Reserved 2 ∷ []) }
+use field_bytes::{put_byte, put_u8, put_u16, put_u24, put_zeros};
+
+/// Puts the header of a message of this category, before a payload of `size` bytes, at the start. Reserved bits and
+/// the vendor status are 0.
+pub fn put_head(out: &mut [u8], category: u8, tag: u8, opcode: u16, code: u16, size: u32)
+    requires fits { size < 2 ^ 21 }
+    requires within { 12 ≤ length out.old }
+    ensures { take 12 out.new
+        ≡ spelling (front_fields category tag opcode size ++ Number w16 code ∷ Reserved 2 ∷ []) }
 {
-    let [opcode_low, opcode_high] = opcode.to_le_bytes();
-    let [length_low, length_middle] = ((length % 0x1_0000) as u16).to_le_bytes();
-    let length_high = (length / 0x1_0000) as u8;
-    let [code_low, code_high] = code.to_le_bytes();
-    [
-        category,
-        tag,
-        0,
-        opcode_low,
-        opcode_high,
-        length_low,
-        length_middle,
-        length_high,
-        code_low,
-        code_high,
-        0,
-        0,
-    ]
+    put_byte(out, 0, category);
+    put_u8(out, 1, tag);
+    put_zeros::<1>(out, 2);
+    put_u16(out, 3, opcode);
+    put_u24(out, 5, size);
+    put_u16(out, 8, code);
+    put_zeros::<2>(out, 10);
 }

@@ -2,16 +2,10 @@
 
 ghost use Rattle.cci_codec.specs.Messages.{ReadsRequest, WritesRequest, request_bytes};
 ghost use Rattle.cci_codec.specs.declared.messages.Request.{Request};
-ghost use Rattle.dcd_base.specs.Layouts.{is_byte};
-ghost use Rattle.std.specs.List.{list_all};
-ghost use Rattle.std.specs.Prelude.{IsTrue, ◌<◌, ◌^◌, List, length, ℕ};
+ghost use Rattle.std.specs.Prelude.{◌<◌, ◌^◌, List, length, ℕ};
 
 use crate::messages::Request;
-
-/// A slice of `u8` has no number above 255.
-fn are_bytes(bytes: &[u8])
-    ensures { IsTrue (list_all is_byte bytes.now) }
-{}
+use field_bytes::are_bytes;
 
 /// The bytes that `encode_request` appends are the one spelling of the request. The call does nothing.
 pub fn law_request_is_spelled(request: &Request)

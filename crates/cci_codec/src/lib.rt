@@ -15,7 +15,7 @@ pub use laws::{law_request_is_spelled, law_spelling_reads};
 pub use messages::{Request, Response};
 pub use payloads::Payload;
 pub use requests::{decode, encode_request};
-pub use responses::{encode_response, response_head};
+pub use responses::response_head;
 
 #[cfg(test)]
 mod tests;

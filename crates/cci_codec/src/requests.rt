@@ -5,10 +5,11 @@ ghost use Rattle.cci_codec.specs.declared.messages.Request.{Request};
 ghost use Rattle.std.specs.Prelude.{IfOk, ◌≡◌, ◌+◌, ◌++◌, ◌<◌, ◌≤◌, ◌^◌, [], ◌∷◌, length, OnOk, OnErr, take};
 
 use crate::faults::MessageFault;
-use crate::headers::head;
+use crate::headers::put_head;
 use crate::messages::Request;
 use crate::payloads::Payload;
 use dcd_base::{Bytes, NoMemory};
+use field_bytes::{put_bytes, u16_at, zeros};
 use std::alloc::Global;
 
 /// The payload length that a header says, whatever the bits above its 21 bits are.
@@ -16,7 +17,7 @@ fn length_of(bytes: &[u8]) -> u32
     requires { 12 ≤ length bytes.now }
     ensures { result ≡ length_field bytes.now }
 {
-    u32::from(u16::from_le_bytes([bytes[5], bytes[6]])) + 0x1_0000 * u32::from(bytes[7] & 0x1F)
+    u32::from(u16_at(bytes, 5)) + 0x1_0000 * u32::from(bytes[7] & 0x1F)
 }
 
 /// Reads a request from all of the bytes (CXL 3.1, 7.6.3).
@@ -44,9 +45,20 @@ pub fn decode(alloc: Global, bytes: &[u8]) -> Result<Request, MessageFault>
     }
     Ok(Request {
         tag: header[1],
-        opcode: u16::from_le_bytes([header[3], header[4]]),
+        opcode: u16_at(header, 3),
         payload: Payload::from_slice(alloc, payload)?,
     })
+}
+
+/// Fills the bytes of a request: its header, then its payload.
+fn fill_request(out: &mut [u8], request: &Request)
+    requires short { length request.now.payload < 2 ^ 21 }
+    requires whole { length out.old ≡ 12 + length request.now.payload }
+    ensures { out.new ≡ request_bytes request.now }
+{
+    let payload = request.payload.as_slice();
+    put_head(out, 0, request.tag, request.opcode, 0, payload.len() as u32);
+    put_bytes(out, 12, payload);
 }
 
 /// Appends the one spelling of a request, whose payload has at most 2,097,151 bytes (CXL 3.1, 7.6.3).
@@ -57,9 +69,7 @@ pub fn encode_request(request: &Request, out: &mut Bytes) -> Result<(), NoMemory
     ensures appended { OnOk result (out.new ≡ out.old ++ request_bytes request.now) }
     ensures kept { OnErr result (out.new ≡ out.old) }
 {
-    let length = request.payload.as_slice().len() as u32;
-    let header = head(0, request.tag, request.opcode, 0, length);
-    let mut message = Bytes::from_slice(out.allocator(), header.as_slice())?;
-    message.extend_from_slice(request.payload.as_slice())?;
-    out.extend_from_slice(message.as_slice())
+    let mut message = zeros(out.allocator(), 12 + request.payload.as_slice().len())?;
+    fill_request(&mut message, request);
+    out.append(Bytes::from_vec(out.allocator(), message))
 }

@@ -1,7 +1,7 @@
 -- What of a region is in use, by what is kept, and what a new block size for it breaks.
 use Rattle.std.specs.Prelude.{ℕ, Bool, not, ◌==◌, nat_lt, Option, count_by}
 use Rattle.std.specs.List.{range_with_len}
-use Rattle.dcd_base.specs.Layouts.{flag_of}
+use Rattle.dcd_base.specs.Words.{flag_of}
 use Rattle.dcd_base.specs.Words.{◌or◌}
 use Rattle.dcd_codes.specs.Rules.{◌breaks◌}
 use Rattle.dcd_codes.specs.declared.rules.Rule.{Rule}

@@ -1,4 +1,3 @@
-pub mod Fields
 pub mod HostBits
 mod Parts
 pub mod Passing

@@ -1,7 +1,6 @@
 pub mod Ends
 pub mod Failures
 pub mod Hosts
-pub mod Layouts
 pub mod Limits
 pub mod Streams
 pub mod Words

@@ -44,3 +44,7 @@ has_granule run g = nat_le run.first g && nat_lt g (run.first + run.count)
 
 abbrev pub has_in_runs : List Run → ℕ → Bool
 has_in_runs runs g = list_any (λ run. has_granule run g) runs
+
+-- a flag as a number
+abbrev pub flag_of : Bool → ℕ
+flag_of b = if b then 1 else 0

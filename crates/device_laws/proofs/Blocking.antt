@@ -8,7 +8,7 @@ use Rattle.dcd_base.specs.declared.capacity.Extent.{Extent}
 use Rattle.dcd_base.specs.declared.capacity.Tag.{Tag}
 use Rattle.dcd_base.specs.declared.ids.HostId.{HostId}
 use Rattle.dcd_base.specs.declared.media.Run.{Run}
-use Rattle.dcd_base.specs.Layouts.{flag_of}
+use Rattle.dcd_base.specs.Words.{flag_of}
 use Rattle.dcd_base.specs.Words.{has_granule, has_in_runs, has_tag}
 use Rattle.dcd_codes.specs.declared.rules.Rule.{Rule}
 use Rattle.dcd_codes.specs.Rules.{◌breaks◌, each_in}

@@ -12,10 +12,10 @@ use Rattle.dcd_base.specs.declared.steps.Actor.{Actor}
 use Rattle.dcd_base.specs.declared.steps.LogId.{LogId}
 use Rattle.dcd_base.specs.Words.{has_tag}
 use Rattle.dcd_codes.specs.declared.rules.Rule.{Rule}
-use Rattle.fm_payloads.specs.declared.faults.PayloadFault.{PayloadFault as ManagerFault}
+use Rattle.field_bytes.specs.declared.faults.PayloadFault.{PayloadFault as ManagerFault}
 use Rattle.fm_payloads.specs.declared.requests.FmRequest.{FmRequest}
 use Rattle.fm_payloads.specs.ManagerPayloads.{manager_request}
-use Rattle.host_payloads.specs.declared.faults.PayloadFault.{PayloadFault as HostFault}
+use Rattle.field_bytes.specs.declared.faults.PayloadFault.{PayloadFault as HostFault}
 use Rattle.host_payloads.specs.declared.requests.HostRequest.{HostRequest}
 use Rattle.host_payloads.specs.HostPayloads.{host_request}
 use Rattle.media_map.specs.Places.{region_at}

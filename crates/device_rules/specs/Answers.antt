@@ -24,8 +24,8 @@ use Rattle.device_rules.specs.Views.{View, view_of}
 use Rattle.extent_list.specs.ExtentLists.{count_in}
 use Rattle.dcd_codes.specs.Rules.{code_of, number_of}
 use Rattle.device_rules.specs.Tags.{dirty_granules}
-use Rattle.host_payloads.specs.declared.faults.PayloadFault.{PayloadFault as HostFault}
-use Rattle.fm_payloads.specs.declared.faults.PayloadFault.{PayloadFault as ManagerFault}
+use Rattle.field_bytes.specs.declared.faults.PayloadFault.{PayloadFault as HostFault}
+use Rattle.field_bytes.specs.declared.faults.PayloadFault.{PayloadFault as ManagerFault}
 use Rattle.host_payloads.specs.HostPayloads.{host_request}
 use Rattle.fm_payloads.specs.ManagerPayloads.{manager_request}
 use Rattle.device_rules.specs.Outcomes.{Outcome, only, effects_of}

@@ -1,6 +1,7 @@
 -- Reading and setting the configuration: 4800h, 4801h, and 5600h to 5603h.
 use Rattle.fm_payloads.specs.ManagerPayloads.{regions_head, info_payload, lists_head}
-use Rattle.host_payloads.specs.HostPayloads.{configuration_payload, region_bytes, counts_bytes, extent_bytes, extents_payload}
+use Rattle.host_payloads.specs.HostPayloads.{configuration_payload, region_bytes, counts_bytes, extents_payload}
+use Rattle.field_bytes.specs.Extents.{extent_bytes}
 use Rattle.dcd_base.specs.Limits.{page_extents, extents_supported, tags_supported}
 use Rattle.dcd_base.specs.Words.{◌or◌}
 use Rattle.host_payloads.specs.declared.views.Counts.{Counts}
@@ -19,7 +20,7 @@ use Rattle.region_config.specs.Granules.{region_spec, regions_of, base_of, is_su
 use Rattle.dcd_codes.specs.Rules.{◌breaks◌, each_in}
 use Rattle.device_rules.specs.Tags.{status, is_free, free_granules, dirty_granules}
 use Rattle.device_rules.specs.Outcomes.{log_full, Outcome, notice, no_extent}
-use Rattle.dcd_base.specs.Layouts.{flag_of}
+use Rattle.dcd_base.specs.Words.{flag_of}
 
 -- members from a place on, as many as asked and no more than fit
 abbrev pub page : {X : Type 0} → ℕ → ℕ → List X → List X

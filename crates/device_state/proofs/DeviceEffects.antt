@@ -16,10 +16,10 @@ use Rattle.dcd_codes.specs.declared.rules.Rule.{Rule}
 use Rattle.event_records.specs.declared.events.Event.{Event}
 use Rattle.event_records.specs.declared.events.EventKind.{EventKind}
 use Rattle.fm_payloads.specs.ManagerPayloads.{manager_request}
-use Rattle.fm_payloads.specs.declared.faults.PayloadFault.{PayloadFault as ManagerFault}
+use Rattle.field_bytes.specs.declared.faults.PayloadFault.{PayloadFault as ManagerFault}
 use Rattle.fm_payloads.specs.declared.requests.FmRequest.{FmRequest}
 use Rattle.host_payloads.specs.HostPayloads.{host_request}
-use Rattle.host_payloads.specs.declared.faults.PayloadFault.{PayloadFault as HostFault}
+use Rattle.field_bytes.specs.declared.faults.PayloadFault.{PayloadFault as HostFault}
 use Rattle.host_payloads.specs.declared.requests.HostRequest.{HostRequest}
 use Rattle.journal_core.specs.Entries.{effects, fits}
 use Rattle.journal_core.specs.declared.acts.Act.{Act}

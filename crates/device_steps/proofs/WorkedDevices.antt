@@ -1,6 +1,6 @@
 -- A device for worked examples, and how its steps are written.
 use Rattle.std.specs.Prelude.{ℕ, ◌*◌, Bool, true, false, List, [], ◌∷◌, map}
-use Rattle.dcd_base.specs.Layouts.{spelling}
+use Rattle.field_bytes.specs.Layouts.{spelling}
 use Rattle.dcd_base.specs.Words.{zero_tag}
 use Rattle.dcd_base.specs.declared.capacity.Extent.{Extent}
 use Rattle.dcd_base.specs.declared.capacity.Tag.{Tag}

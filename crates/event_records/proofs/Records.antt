@@ -1,16 +1,18 @@
 -- A record reads as the event of its bytes, and as no other.
-use Rattle.std.proofs.Common.{◌≡◌, ℕ, zero, suc, ◌^◌, ◌<◌, ◌≤◌, Bool, true, false, cond, not, eqb, ltb, ◌==◌, List, [], ◌∷◌, ◌++◌, length, take, drop, slice_index, bit_and, Option, Some, None, refl, sym, ap, ◌∙◌, arith, eqb-true, eq-eqb, ltb-false, le-ltb, drop_of_length-le}
-use Rattle.std.specs.List.{list_all, AllByRecursion}
+use Rattle.std.proofs.Common.{◌≡◌, ℕ, ◌^◌, ◌<◌, ◌≤◌, Bool, true, false, cond, not, eqb, ltb, List, [], ◌∷◌, ◌++◌, length, take, slice_index, Option, Some, None, refl, sym, ap, ◌∙◌, arith, eqb-true, eq-eqb, ltb-false, le-ltb}
+use Rattle.std.specs.List.{list_all}
 use lib.Pointwise.{pointwise, bytes_decides}
 use Rattle.std.proofs.lemmas.Grind.{flat_map-append}
-use Rattle.std.proofs.lemmas.Nat.{and_le_r}
+use Rattle.std.specs.Int.{w16, w32, w64}
 use Rattle.event_records.specs.declared.events.Event.{Event}
 use Rattle.event_records.specs.declared.events.EventKind.{EventKind}
 use Rattle.event_records.specs.declared.faults.RecordFault.{RecordFault}
-use Rattle.event_records.specs.Records.{record_uuid, record_fault, kind_number, head_bytes, extent_bytes, end_bytes, record_bytes, head_fields, extent_fields, end_fields, record_fields, IsEventIn, ReadsRecord, WritesRecord}
-use Rattle.dcd_base.specs.Layouts.{spell, spelling, flag_of, is_byte, FitsField}
-use Rattle.dcd_base.proofs.Fields.{IsBytes, all_bytes, spelled_reads}
-use Rattle.event_records.proofs.Places.{reads_from_places, places_from_reads, part_bytes, length_of_part, byte_at_place, byte_is, reads_1, reads_2, reads_4, reads_8, read_1, read_2, read_4, read_8}
+use Rattle.event_records.specs.Records.{record_uuid, record_fault, kind_number, head_bytes, end_bytes, record_bytes, head_fields, end_fields, record_fields, IsEventIn, ReadsRecord, WritesRecord}
+use Rattle.field_bytes.specs.Extents.{extent_bytes, extent_fields}
+use Rattle.field_bytes.specs.Layouts.{spell, spelling, is_byte}
+use Rattle.field_bytes.proofs.Fields.{IsBytes, spelled_reads}
+use Rattle.field_bytes.proofs.Widths.{wide_16, wide_32, wide_64}
+use Rattle.field_bytes.proofs.Places.{Reads-from, all_from, byte_found, byte_only, end_found, fixed_found, fixed_only, flag_fits, flag_found, flag_only, number_found, number_only, raw_found, raw_only, reserved_found, reserved_only}
 
 pub record_in_parts : (e : Event) → record_bytes e ≡ head_bytes e ++ extent_bytes e.extent ++ end_bytes e
 unfolding record_bytes head_bytes extent_bytes end_bytes
@@ -47,24 +49,6 @@ no_record_fault : (bytes : List ℕ) → HasNoFault bytes → record_fault bytes
 no_record_fault bytes has =
     rw ((bytes_decides (take 16 bytes) record_uuid).1 has.uuid, eq-eqb (slice_index bytes 16) 128 has.length, le-ltb 5 (slice_index bytes 48) has.kind) refl
 
--- ---- More
-
-bit_of : (n : ℕ) → bit_and n 1 < 2
-bit_of n = omega (arith, and_le_r n 1)
-
-flag_is : (n : ℕ) → n < 2 → n ≡ flag_of (n == 1)
-flag_is zero small = refl
-flag_is (suc zero) small = refl
-flag_is (suc (suc n)) small = absurd (omega (arith, small))
-
-flag_fits : (b : Bool) → bit_and (flag_of b) 1 ≡ flag_of b
-flag_fits true = refl
-flag_fits false = refl
-
-flag_reads : (b : Bool) (n : ℕ) → n ≡ flag_of b → b ≡ (n == 1)
-flag_reads true n e = rw e refl
-flag_reads false n e = rw e refl
-
 kind_small : (k : EventKind) → kind_number k ≤ 5
 kind_small EventKind.Add = omega arith
 kind_small EventKind.Release = omega arith
@@ -79,53 +63,50 @@ pub record_reads : (bytes : List ℕ) (e : Event) → IsBytes bytes → length b
 unfolding ReadsRecord
 record_reads bytes e small long ok is =
     let has = has_no_fault bytes ok in
-    let handle = reads_2 20 bytes e.handle (omega (arith, long)) small is.handle in
-    let kind = reads_1 48 bytes (kind_number e.kind) (omega (arith, long)) small is.kind in
-    let host = reads_2 50 bytes e.host (omega (arith, long)) small is.host in
-    let region = reads_1 52 bytes e.region (omega (arith, long)) small is.region in
-    let start = reads_8 56 bytes e.extent.start (omega (arith, long)) small is.start in
-    let len = reads_8 64 bytes e.extent.length (omega (arith, long)) small is.length in
-    let sequence = reads_2 88 bytes e.extent.sequence (omega (arith, long)) small is.sequence in
-    let extents = reads_4 120 bytes e.extents_available (omega (arith, long)) small is.extents_available in
-    let tags = reads_4 124 bytes e.tags_available (omega (arith, long)) small is.tags_available in
-    let sixteen : length e.extent.tag.0 ≡ 16 = ap length is.tag ∙ length_of_part 16 72 bytes (omega (arith, long)) in
-    let more : bit_and (slice_index bytes 53) 1 ≡ flag_of e.more = flag_is _ (bit_of (slice_index bytes 53)) ∙ ap flag_of (sym is.more) in
-    let tag_bytes : list_all is_byte e.extent.tag.0 ≡ true = rw is.tag (all_bytes (take 16 (drop 72 bytes)) (part_bytes 16 72 bytes small)) in
-    let fits : AllByRecursion FitsField (record_fields e) =
-    ((refl, refl), (omega arith, (tt, (handle.1, (tt, (tt, (tt, (kind.1, (tt, (host.1, (region.1, (flag_fits e.more, (tt, (start.1, (len.1, ((sixteen, tag_bytes), (sequence.1, (tt, (tt, (extents.1, (tags.1, tt))))))))))))))))))))) in
-    record {
-      fits = fits;
-      in_range = all_bytes bytes small;
-      agrees = reads_from_places (record_fields e) fits 0 bytes
-          (has.uuid, ((byte_at_place 16 bytes (omega (arith, long)) ∙ ap (λ (x : ℕ). x ∷ []) has.length), (length_of_part 3 17 bytes (omega (arith, long)), (handle.0, (length_of_part 2 22 bytes (omega (arith, long)), (length_of_part 8 24 bytes (omega (arith, long)), (length_of_part 16 32 bytes (omega (arith, long)), (kind.0, (length_of_part 1 49 bytes (omega (arith, long)), (host.0, (region.0, ((slice_index bytes 53, byte_at_place 53 bytes (omega (arith, long)), more), (length_of_part 2 54 bytes (omega (arith, long)), (start.0, (len.0, (sym is.tag, (sequence.0, (length_of_part 6 90 bytes (omega (arith, long)), (length_of_part 24 96 bytes (omega (arith, long)), (extents.0, (tags.0, drop_of_length-le bytes {i = 128} (omega (arith, long)))))))))))))))))))))));
-    }
+    let counts = number_found w32 wide_32 bytes 120 124 _ small refl (number_found w32 wide_32 bytes 124 128 _ small refl (end_found bytes 128 long)) in
+    let behind = number_found w16 wide_16 bytes 88 90 _ small refl (reserved_found bytes 90 96 6 _ refl (reserved_found bytes 96 120 24 _ refl counts)) in
+    let extent = number_found w64 wide_64 bytes 56 64 _ small refl (number_found w64 wide_64 bytes 64 72 _ small refl (raw_found bytes 72 88 16 _ small refl behind)) in
+    let region = byte_found bytes 52 53 _ small refl (flag_found bytes 53 54 _ refl (reserved_found bytes 54 56 2 _ refl extent)) in
+    let what = byte_found bytes 48 49 _ small refl (fixed_found bytes 49 50 (3 ∷ []) _ refl (number_found w16 wide_16 bytes 50 52 _ small refl region)) in
+    let others = reserved_found bytes 22 24 2 _ refl (reserved_found bytes 24 32 8 _ refl (reserved_found bytes 32 48 16 _ refl what)) in
+    let header = byte_found bytes 16 17 _ small refl (reserved_found bytes 17 20 3 _ refl (number_found w16 wide_16 bytes 20 22 _ small refl others)) in
+    let whole = Reads-from bytes _ small (raw_found bytes 0 16 16 _ small refl header) in
+    rw (is.handle, is.kind, is.host, is.region, is.more, is.start, is.length, is.tag, is.sequence, is.extents_available, is.tags_available)
+    (rw (has.uuid, has.length) at whole)
 
 -- ---- the event from the bytes
 
 pub record_read : (bytes : List ℕ) (e : Event) → ReadsRecord bytes e → (record_fault bytes ≡ None) × IsEventIn bytes e
 unfolding ReadsRecord
 record_read bytes e reads =
-    let f = reads.fits in
-    let r = places_from_reads (record_fields e) f 0 bytes reads.agrees in
-    let kind = read_1 48 bytes (kind_number e.kind) (omega (arith, kind_small e.kind)) r.1.1.1.1.1.1.1.0 in
-    let more = r.1.1.1.1.1.1.1.1.1.1.1.0 in (
-      no_record_fault bytes (record {
-        uuid = r.0;
-        length = byte_is 16 bytes 128 r.1.0;
-        kind = omega (arith, kind, kind_small e.kind);
-      }),
+    let uuid = raw_only bytes 0 16 16 record_uuid _ refl (all_from bytes (record_fields e) (record { fits = reads.fits; agrees = reads.agrees })) in
+    let len = byte_only bytes 16 17 128 _ refl uuid.1 in
+    let handle = number_only w16 wide_16 bytes 20 22 e.handle _ refl (reserved_only bytes 17 20 3 _ refl len.1) in
+    let others = reserved_only bytes 32 48 16 _ refl (reserved_only bytes 24 32 8 _ refl (reserved_only bytes 22 24 2 _ refl handle.1)) in
+    let kind = byte_only bytes 48 49 (kind_number e.kind) _ refl others in
+    let host = number_only w16 wide_16 bytes 50 52 e.host _ refl (fixed_only bytes 49 50 (3 ∷ []) _ refl kind.1) in
+    let region = byte_only bytes 52 53 e.region _ refl host.1 in
+    let more = flag_only bytes 53 54 e.more _ refl region.1 in
+    let start = number_only w64 wide_64 bytes 56 64 e.extent.start _ refl (reserved_only bytes 54 56 2 _ refl more.1) in
+    let size = number_only w64 wide_64 bytes 64 72 e.extent.length _ refl start.1 in
+    let tag = raw_only bytes 72 88 16 e.extent.tag.0 _ refl size.1 in
+    let sequence = number_only w16 wide_16 bytes 88 90 e.extent.sequence _ refl tag.1 in
+    let behind = reserved_only bytes 96 120 24 _ refl (reserved_only bytes 90 96 6 _ refl sequence.1) in
+    let extents = number_only w32 wide_32 bytes 120 124 e.extents_available _ refl behind in
+    let tags = number_only w32 wide_32 bytes 124 128 e.tags_available _ refl extents.1 in (
+      no_record_fault bytes (record { uuid = uuid.0; length = len.0; kind = omega (arith, kind.0, kind_small e.kind) }),
       record {
-        handle = read_2 20 bytes e.handle f.1.1.1.0 r.1.1.1.0;
-        kind = kind;
-        host = read_2 50 bytes e.host f.1.1.1.1.1.1.1.1.1.0 r.1.1.1.1.1.1.1.1.1.0;
-        region = read_1 52 bytes e.region f.1.1.1.1.1.1.1.1.1.1.0 r.1.1.1.1.1.1.1.1.1.1.0;
-        more = flag_reads e.more (bit_and (slice_index bytes 53) 1) (ap (λ (x : ℕ). bit_and x 1) (byte_is 53 bytes more.0 more.1) ∙ more.2);
-        start = read_8 56 bytes e.extent.start f.1.1.1.1.1.1.1.1.1.1.1.1.1.0 r.1.1.1.1.1.1.1.1.1.1.1.1.1.0;
-        length = read_8 64 bytes e.extent.length f.1.1.1.1.1.1.1.1.1.1.1.1.1.1.0 r.1.1.1.1.1.1.1.1.1.1.1.1.1.1.0;
-        tag = sym r.1.1.1.1.1.1.1.1.1.1.1.1.1.1.1.0;
-        sequence = read_2 88 bytes e.extent.sequence f.1.1.1.1.1.1.1.1.1.1.1.1.1.1.1.1.0 r.1.1.1.1.1.1.1.1.1.1.1.1.1.1.1.1.0;
-        extents_available = read_4 120 bytes e.extents_available f.1.1.1.1.1.1.1.1.1.1.1.1.1.1.1.1.1.1.1.0 r.1.1.1.1.1.1.1.1.1.1.1.1.1.1.1.1.1.1.1.0;
-        tags_available = read_4 124 bytes e.tags_available f.1.1.1.1.1.1.1.1.1.1.1.1.1.1.1.1.1.1.1.1.0 r.1.1.1.1.1.1.1.1.1.1.1.1.1.1.1.1.1.1.1.1.0;
+        handle = sym handle.0;
+        kind = sym kind.0;
+        host = sym host.0;
+        region = sym region.0;
+        more = sym more.0;
+        start = sym start.0;
+        length = sym size.0;
+        tag = sym tag.0;
+        sequence = sym sequence.0;
+        extents_available = sym extents.0;
+        tags_available = sym tags.0;
       },
     )
 

@@ -3,10 +3,10 @@ use Rattle.std.specs.Prelude.{◌≡◌, ℕ, not, ◌==◌, nat_lt, List, [], �
 use lib.Pointwise.{pointwise}
 use Rattle.event_records.specs.declared.faults.RecordFault.{RecordFault}
 use Rattle.std.specs.Int.{w8, w16, w32, w64}
-use Rattle.dcd_base.specs.declared.capacity.Extent.{Extent}
 use Rattle.event_records.specs.declared.events.EventKind.{EventKind}
 use Rattle.event_records.specs.declared.events.Event.{Event}
-use Rattle.dcd_base.specs.Layouts.{Field, flag, spelling, number_at, Number, Raw, Reserved, Fixed, Reads, Writes}
+use Rattle.field_bytes.specs.Extents.{extent_fields}
+use Rattle.field_bytes.specs.Layouts.{Field, flag, spelling, number_at, Number, Raw, Reserved, Fixed, Reads, Writes}
 
 -- the identifier of Dynamic Capacity event records
 abbrev pub record_uuid : List ℕ
@@ -35,10 +35,6 @@ what_fields e =
 abbrev pub head_fields : Event → List Field
 head_fields e = Raw 16 record_uuid ∷ header_fields e.handle ++ what_fields e
 
--- forty bytes
-abbrev pub extent_fields : Extent → List Field
-extent_fields x = Number w64 x.start ∷ Number w64 x.length ∷ Raw 16 x.tag.0 ∷ Number w16 x.sequence ∷ Reserved 6 ∷ []
-
 -- bytes 96 to 127
 abbrev pub end_fields : Event → List Field
 end_fields e = Reserved 24 ∷ Number w32 e.extents_available ∷ Number w32 e.tags_available ∷ []
@@ -48,9 +44,6 @@ record_fields e = head_fields e ++ extent_fields e.extent ++ end_fields e
 
 unfoldable pub head_bytes : Event → List ℕ
 head_bytes e = spelling (head_fields e)
-
-unfoldable pub extent_bytes : Extent → List ℕ
-extent_bytes x = spelling (extent_fields x)
 
 unfoldable pub end_bytes : Event → List ℕ
 end_bytes e = spelling (end_fields e)

@@ -6,9 +6,9 @@ ghost use Rattle.std.specs.Prelude.{◌≡◌, List, Ok, ℕ};
 
 use crate::events::Event;
 use crate::faults::RecordFault;
-use crate::ranges::{are_bytes, fits_8, fits_16, fits_32, fits_64};
 use crate::reading::decode;
 use crate::writing::encode;
+use field_bytes::{are_bytes, fits_8, fits_16, fits_32, fits_64};
 
 /// The bytes that `encode` answers are the one spelling of the event. The call does nothing.
 pub fn law_event_is_spelled(event: &Event)

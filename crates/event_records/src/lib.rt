@@ -6,9 +6,6 @@ mod faults;
 mod identifier;
 mod kinds;
 mod laws;
-mod numbers;
-mod pieces;
-mod ranges;
 mod reading;
 mod writing;
 
@@ -16,7 +13,7 @@ pub use events::{Event, EventKind};
 pub use faults::RecordFault;
 pub use laws::{decoded_again, law_event_is_spelled, law_spelling_reads};
 pub use reading::decode;
-pub use writing::encode;
+pub use writing::{encode, put_record};
 
 #[cfg(test)]
 mod tests;

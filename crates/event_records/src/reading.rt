@@ -2,26 +2,14 @@
 
 ghost use Rattle.event_records.specs.Records.{Decodes, ReadsRecord};
 ghost use Rattle.event_records.specs.declared.events.Event.{Event};
-ghost use Rattle.std.specs.Prelude.{◌≡◌, ◌+◌, ◌≤◌, IfOk, Ok, drop, length, take};
+ghost use Rattle.std.specs.Prelude.{◌≡◌, IfOk, Ok};
 
 use crate::events::Event;
 use crate::faults::RecordFault;
 use crate::identifier::is_identifier;
 use crate::kinds::kind_of;
-use crate::numbers::{u16_at, u32_at, u64_at};
-use dcd_base::{Extent, Tag};
-
-/// The tag at a place.
-fn tag_at(bytes: &[u8], at: usize) -> Tag
-    requires { at + 16 ≤ length bytes.now }
-    ensures { result.0 ≡ take 16 (drop at bytes.now) }
-{
-    let (_, rest) = bytes.split_at(at);
-    let (front, _) = rest.split_at(16);
-    let mut tag = [0; 16];
-    tag.copy_from_slice(front);
-    Tag(tag)
-}
+use dcd_base::Extent;
+use field_bytes::{tag_at, u16_at, u32_at, u64_at};
 
 /// Reads an event from a Dynamic Capacity event record (CXL 3.1, 8.2.9.2.1.6).
 ///

@@ -1,89 +1,70 @@
 //! Events to records.
 
-ghost use Rattle.dcd_base.specs.Layouts.{spelling};
-ghost use Rattle.event_records.specs.Records.{end_bytes, extent_bytes, head_bytes, header_fields, record_bytes, what_fields};
-ghost use Rattle.std.specs.Int.{to_le_bytes, w64};
-ghost use Rattle.std.specs.Prelude.{◌≡◌, ◌++◌};
+ghost use Rattle.event_records.specs.Records.{end_bytes, head_bytes, record_bytes, record_uuid};
+ghost use Rattle.std.specs.Prelude.{◌≡◌, ◌+◌, ◌++◌, ◌≤◌, length, take};
 
 use crate::events::Event;
 use crate::identifier::identifier;
 use crate::kinds::kind_number;
-use crate::numbers::{u16_bytes, u32_bytes, u64_bytes};
-use crate::pieces::put_3;
-use dcd_base::Extent;
+use field_bytes::{put_byte, put_bytes, put_extent, put_flag, put_u8, put_u16, put_u32, put_zeros};
 
-/// Length, flags and the other fields of the header that all event records have, bytes 16 to 47.
-fn header_of(handle: u16) -> [u8; 32]
-    ensures { result ≡ spelling (header_fields handle) }
+/// The identifier, bytes 0 to 15.
+fn put_identifier(out: &mut [u8])
+    requires { 16 ≤ length out.old }
+    ensures { take 16 out.new ≡ record_uuid }
 {
-    let handle = u16_bytes(handle);
-    [
-        128, 0, 0, 0, handle[0], handle[1], 0, 0, 0, 0, 0, 0, 0, 0, 0, 0, 0, 0, 0, 0, 0, 0, 0, 0,
-        0, 0, 0, 0, 0, 0, 0, 0,
-    ]
+    put_bytes(out, 0, &identifier().into_bytes());
 }
 
-/// Kind, host, region and More, bytes 48 to 55.
-fn what_of(event: &Event) -> [u8; 8]
-    ensures { result ≡ spelling (what_fields event.now) }
-{
-    let kind = kind_number(event.kind);
-    let host = u16_bytes(event.host);
-    let [region] = event.region.to_le_bytes();
-    let more = u8::from(event.more);
-    [kind, 3, host[0], host[1], region, more, 0, 0]
-}
-
-/// Bytes 0 to 55 of a record.
+/// Bytes 0 to 55 of a record: the identifier; length, flags, handle and the other fields of the header that all
+/// event records have; kind, host, region and More.
 #[tactic(auto, unfolding(crate::specs::Records::head_bytes))]
-fn head_of(event: &Event) -> [u8; 56]
-    ensures { result ≡ head_bytes event.now }
+fn put_head(out: &mut [u8], event: &Event)
+    requires { 56 ≤ length out.old }
+    ensures { take 56 out.new ≡ head_bytes event.now }
 {
-    let mut bytes = [0; 56];
-    put_3(
-        &mut bytes,
-        &identifier().into_bytes(),
-        &header_of(event.handle),
-        &what_of(event),
-    );
-    bytes
-}
-
-/// Start and length of an extent.
-fn range_of(extent: &Extent) -> [u8; 16]
-    ensures { result ≡ to_le_bytes w64 extent.now.start ++ to_le_bytes w64 extent.now.length }
-{
-    let start = u64_bytes(extent.start);
-    let length = u64_bytes(extent.length);
-    [
-        start[0], start[1], start[2], start[3], start[4], start[5], start[6], start[7], length[0],
-        length[1], length[2], length[3], length[4], length[5], length[6], length[7],
-    ]
-}
-
-/// The 40 bytes of an extent.
-#[tactic(auto, unfolding(crate::specs::Records::extent_bytes))]
-fn extent_of(extent: &Extent) -> [u8; 40]
-    ensures { result ≡ extent_bytes extent.now }
-{
-    let mut bytes = [0; 40];
-    let sequence = u16_bytes(extent.sequence);
-    let end = [sequence[0], sequence[1], 0, 0, 0, 0, 0, 0];
-    put_3(&mut bytes, &range_of(extent), &extent.tag.0, &end);
-    bytes
+    put_identifier(out);
+    put_u8(out, 16, 128);
+    put_zeros::<3>(out, 17);
+    put_u16(out, 20, event.handle);
+    put_zeros::<26>(out, 22);
+    put_u8(out, 48, kind_number(event.kind));
+    put_byte(out, 49, 3);
+    put_u16(out, 50, event.host);
+    put_u8(out, 52, event.region);
+    put_flag(out, 53, event.more);
+    put_zeros::<2>(out, 54);
 }
 
 /// Bytes 96 to 127 of a record.
 #[tactic(auto, unfolding(crate::specs::Records::end_bytes))]
-fn end_of(event: &Event) -> [u8; 32]
-    ensures { result ≡ end_bytes event.now }
+fn put_end(out: &mut [u8], event: &Event)
+    requires { 128 ≤ length out.old }
+    ensures { take 128 out.new ≡ take 96 out.old ++ end_bytes event.now }
 {
-    let extents = u32_bytes(event.extents_available);
-    let tags = u32_bytes(event.tags_available);
-    [
-        0, 0, 0, 0, 0, 0, 0, 0, 0, 0, 0, 0, 0, 0, 0, 0, 0, 0, 0, 0, 0, 0, 0, 0, extents[0],
-        extents[1], extents[2], extents[3], tags[0], tags[1], tags[2], tags[3],
-    ]
+    put_zeros::<24>(out, 96);
+    put_u32(out, 120, event.extents_available);
+    put_u32(out, 124, event.tags_available);
+}
+
+/// Fills the 128 bytes of a record.
+fn fill_record(out: &mut [u8], event: &Event)
+    requires { length out.old ≡ 128 }
+    ensures { out.new ≡ record_bytes event.now }
+{
+    put_head(out, event);
+    put_extent(out, 56, &event.extent);
+    put_end(out, event);
+}
+
+/// Puts an event's record of 128 bytes at a place, and leaves what stands before it.
+pub fn put_record(out: &mut [u8], at: usize, event: &Event)
+    requires { at + 128 ≤ length out.old }
+    ensures { take (at + 128) out.new ≡ take at out.old ++ record_bytes event.now }
+{
+    let (_, rest) = out.split_at_mut(at);
+    let (front, _) = rest.split_at_mut(128);
+    fill_record(front, event);
 }
 
 /// The record of an event (CXL 3.1, 8.2.9.2.1.6): each field as it stands, the length 128, validity flags 3, and 0
@@ -92,11 +73,6 @@ pub fn encode(event: &Event) -> [u8; 128]
     ensures { result ≡ record_bytes event.now }
 {
     let mut record = [0; 128];
-    put_3(
-        &mut record,
-        &head_of(event),
-        &extent_of(&event.extent),
-        &end_of(event),
-    );
+    fill_record(&mut record, event);
     record
 }

@@ -7,54 +7,54 @@ use Rattle.std.proofs.lemmas.Bool.{eqb-true}
 use Rattle.std.proofs.lemmas.List.{length-map}
 use Rattle.dcd_base.specs.declared.capacity.Extent.{Extent}
 use Rattle.dcd_base.specs.declared.capacity.Tag.{Tag}
-use Rattle.dcd_base.specs.Layouts.{FitsField, Number, Raw, Reads, number_at, pieces, spelling}
-use Rattle.event_records.specs.Records.{extent_fields}
-use Rattle.host_payloads.specs.HostPayloads.{clear_length, handles_in, has_flag, tag_at, whole_extent}
-use Rattle.host_payloads.proofs.Agreement.{Agrees, Agrees-spelled}
-use Rattle.host_payloads.proofs.Widths.{IsBytes, wide_16, wide_32, wide_64}
-use Rattle.host_payloads.proofs.Places.{FieldsAt, byte_found, byte_only, end_found, end_only, flag_found, flag_only, number_found, number_only, raw_found, raw_only, reserved_found, reserved_only}
-use Rattle.host_payloads.proofs.Shapes.{all_from, length-pieces}
-use Rattle.host_payloads.proofs.Asked.{Reads-from, clear_agrees, clear_is, counted_at, counted_is, sized_at, sized_is}
-use Rattle.host_payloads.proofs.PageLaws.{extents_agree, extents_are}
-use Rattle.fm_payloads.specs.declared.faults.PayloadFault.{PayloadFault}
+use Rattle.field_bytes.specs.Layouts.{FitsField, Number, Raw, Reads, number_at, pieces, spelling}
+use Rattle.field_bytes.specs.Payloads.{has_flag, tag_at, Gives}
+use Rattle.field_bytes.specs.EventCommands.{clear_length, handles_in}
+use Rattle.field_bytes.specs.Extents.{whole_extent, extent_fields}
+use Rattle.field_bytes.proofs.Agreement.{Agrees, Agrees-spelled}
+use Rattle.field_bytes.proofs.EventCommands.{clear_agrees, clear_is}
+use Rattle.field_bytes.proofs.Fields.{IsBytes}
+use Rattle.field_bytes.proofs.PayloadLengths.{counted_at, counted_is, sized_at, sized_is}
+use Rattle.field_bytes.proofs.Pieces.{length-pieces}
+use Rattle.field_bytes.proofs.WholeExtents.{extents_agree, extents_are}
+use Rattle.field_bytes.proofs.Widths.{wide_16, wide_32, wide_64}
+use Rattle.field_bytes.proofs.Places.{FieldsAt, Reads-from, all_from, byte_found, byte_only, end_found, end_only, flag_found, flag_only, number_found, number_only, raw_found, raw_only, reserved_found, reserved_only}
+use Rattle.field_bytes.specs.declared.faults.PayloadFault.{PayloadFault}
 use Rattle.fm_payloads.specs.declared.placing.Placed.{Placed}
 use Rattle.fm_payloads.specs.declared.requests.FmRequest.{FmRequest}
-use Rattle.fm_payloads.specs.ManagerPayloads.{Gives, IsAsked, clear_asked, events_asked, info_asked, lists_asked, made_of, manager_fields, manager_opcode, manager_request, placed_fields, placed_in, placed_length, regions_asked, setting_asked, tag_in, tags_asked, to_add, to_remove, whole_extents}
-
-abbrev wrong : ℕ → ℕ → PayloadFault
-wrong = λ need have. PayloadFault.WrongLength need have
+use Rattle.fm_payloads.specs.ManagerPayloads.{IsAsked, clear_asked, events_asked, info_asked, lists_asked, made_of, manager_fields, manager_opcode, manager_request, placed_fields, placed_in, placed_length, regions_asked, setting_asked, tag_in, tags_asked, to_add, to_remove, whole_extents}
 
 -- ---- what is read is asked
 
 events_found : (payload : List ℕ) (q : FmRequest) → IsBytes payload → events_asked payload ≡ Ok q → IsAsked 0x0100 payload q
 unfolding events_asked
 events_found payload q small e =
-    let at = sized_is wrong 1 payload (FmRequest.GetEvents (get_or payload 0 0)) q e in
+    let at = sized_is 1 payload (FmRequest.GetEvents (get_or payload 0 0)) q e in
     subst (IsAsked 0x0100 payload) at.1 (refl, Reads-from payload _ small (byte_found payload 0 1 _ small refl (end_found payload 1 at.0)))
 
 clear_found : (payload : List ℕ) (q : FmRequest) → IsBytes payload → clear_asked payload ≡ Ok q → IsAsked 0x0101 payload q
 unfolding clear_asked
 clear_found payload q small e =
-    let at = sized_is wrong (clear_length payload) payload (FmRequest.ClearEvents (get_or payload 0 0) (has_flag payload 1) (handles_in payload)) q e in
+    let at = sized_is (clear_length payload) payload (FmRequest.ClearEvents (get_or payload 0 0) (has_flag payload 1) (handles_in payload)) q e in
     subst (IsAsked 0x0101 payload) at.1 (refl, Reads-from payload _ small (clear_agrees payload small at.0))
 
 info_found : (payload : List ℕ) (q : FmRequest) → IsBytes payload → info_asked payload ≡ Ok q → IsAsked 0x5600 payload q
 unfolding info_asked
 info_found payload q small e =
-    let at = sized_is wrong 0 payload FmRequest.GetInfo q e in
+    let at = sized_is 0 payload FmRequest.GetInfo q e in
     subst (IsAsked 0x5600 payload) at.1 (refl, Reads-from payload _ small (end_found payload 0 at.0))
 
 regions_found : (payload : List ℕ) (q : FmRequest) → IsBytes payload → regions_asked payload ≡ Ok q → IsAsked 0x5601 payload q
 unfolding regions_asked
 regions_found payload q small e =
-    let at = sized_is wrong 4 payload (FmRequest.GetRegions (number_at w16 payload 0) (get_or payload 2 0) (get_or payload 3 0)) q e in
+    let at = sized_is 4 payload (FmRequest.GetRegions (number_at w16 payload 0) (get_or payload 2 0) (get_or payload 3 0)) q e in
     let bytes = byte_found payload 2 3 _ small refl (byte_found payload 3 4 _ small refl (end_found payload 4 at.0)) in
     subst (IsAsked 0x5601 payload) at.1 (refl, Reads-from payload _ small (number_found w16 wide_16 payload 0 2 _ small refl bytes))
 
 setting_found : (payload : List ℕ) (q : FmRequest) → IsBytes payload → setting_asked payload ≡ Ok q → IsAsked 0x5602 payload q
 unfolding setting_asked
 setting_found payload q small e =
-    let at = sized_is wrong 16 payload (FmRequest.SetRegion (get_or payload 0 0) (has_flag payload 12) (number_at w64 payload 4)) q e in
+    let at = sized_is 16 payload (FmRequest.SetRegion (get_or payload 0 0) (has_flag payload 12) (number_at w64 payload 4)) q e in
     let flag = flag_found payload 12 13 _ refl (reserved_found payload 13 16 3 _ refl (end_found payload 16 at.0)) in
     let block = reserved_found payload 1 4 3 _ refl (number_found w64 wide_64 payload 4 12 _ small refl flag) in
     subst (IsAsked 0x5602 payload) at.1 (refl, Reads-from payload _ small (byte_found payload 0 1 _ small refl block))
@@ -62,14 +62,14 @@ setting_found payload q small e =
 lists_found : (payload : List ℕ) (q : FmRequest) → IsBytes payload → lists_asked payload ≡ Ok q → IsAsked 0x5603 payload q
 unfolding lists_asked
 lists_found payload q small e =
-    let at = sized_is wrong 12 payload (FmRequest.GetExtentLists (number_at w16 payload 0) (number_at w32 payload 4) (number_at w32 payload 8)) q e in
+    let at = sized_is 12 payload (FmRequest.GetExtentLists (number_at w16 payload 0) (number_at w32 payload 4) (number_at w32 payload 8)) q e in
     let counts = number_found w32 wide_32 payload 4 8 _ small refl (number_found w32 wide_32 payload 8 12 _ small refl (end_found payload 12 at.0)) in
     subst (IsAsked 0x5603 payload) at.1 (refl, Reads-from payload _ small (number_found w16 wide_16 payload 0 2 _ small refl (reserved_found payload 2 4 2 _ refl counts)))
 
 tags_found : (payload : List ℕ) (q : FmRequest) → IsBytes payload → tags_asked payload ≡ Ok q → IsAsked 0x5608 payload q
 unfolding tags_asked
 tags_found payload q small e =
-    let at = sized_is wrong 8 payload (FmRequest.ListTags (number_at w32 payload 0) (number_at w32 payload 4)) q e in
+    let at = sized_is 8 payload (FmRequest.ListTags (number_at w32 payload 0) (number_at w32 payload 4)) q e in
     subst (IsAsked 0x5608 payload) at.1 (refl, Reads-from payload _ small (number_found w32 wide_32 payload 0 4 _ small refl (number_found w32 wide_32 payload 4 8 _ small refl (end_found payload 8 at.0))))
 
 -- the fields that an add and a release have in common
@@ -81,7 +81,7 @@ unfolding placed_in
 placed_found payload p small e =
     let n = number_at w32 payload 28 in
     let k = (length payload - 32) / 40 in
-    let at = sized_is wrong (placed_length payload) payload (record { host = number_at w16 payload 0; choice = get_or payload 2 0; region = get_or payload 3 0; length = number_at w64 payload 4; tag = tag_at payload 12; extents = whole_extents payload }) p e in
+    let at = sized_is (placed_length payload) payload (record { host = number_at w16 payload 0; choice = get_or payload 2 0; region = get_or payload 3 0; length = number_at w64 payload 4; tag = tag_at payload 12; extents = whole_extents payload }) p e in
     let all : length payload ≡ 32 + 40 * n = counted_is 32 40 n payload at.0 in
     let same : k ≡ n = omega (arith, all) in
     let count : n ≡ length (whole_extents payload) = sym (length-map (pieces 40 k (drop 32 payload)) whole_extent ∙ length-pieces 40 k (drop 32 payload) ∙ same) in
@@ -94,7 +94,7 @@ placed_found payload p small e =
 tag_found : (payload : List ℕ) (t : Tag) → IsBytes payload → tag_in payload ≡ Ok t → Reads payload (Raw 16 t.0 ∷ [])
 unfolding tag_in
 tag_found payload t small e =
-    let at = sized_is wrong 16 payload (tag_at payload 0) t e in
+    let at = sized_is 16 payload (tag_at payload 0) t e in
     subst (λ (u : Tag). Reads payload (Raw 16 u.0 ∷ [])) at.1 (Reads-from payload _ small (raw_found payload 0 16 16 _ small refl (end_found payload 16 at.0)))
 
 made_of_is : {X : Type 0} (make : X → FmRequest) (r : Result X PayloadFault) (q : FmRequest) → made_of make r ≡ Ok q → (x : X) × (r ≡ Ok x) × (make x ≡ q)
@@ -166,41 +166,41 @@ placed_only payload p a =
     ∙ ap (λ l. made p.host p.choice p.region l (take 16 (drop 12 payload)) (whole_extents payload)) size.0
     ∙ ap (λ t. made p.host p.choice p.region p.length t (whole_extents payload)) tag.0
     ∙ ap (λ xs. made p.host p.choice p.region p.length p.tag.0 xs) extents in
-    sized_at wrong (placed_length payload) payload _ _ (counted_at 32 40 (number_at w32 payload 28) payload (rw count.0 list.0)) is
+    sized_at (placed_length payload) payload _ _ (counted_at 32 40 (number_at w32 payload 28) payload (rw count.0 list.0)) is
 
 tag_only : (payload : List ℕ) (t : Tag) → Agrees payload (Raw 16 t.0 ∷ []) → tag_in payload ≡ Ok t
 unfolding tag_in
 tag_only payload t a =
     let tag = raw_only payload 0 16 16 t.0 _ refl (all_from payload _ a) in
     let made : List ℕ → Tag = λ bytes. record { 0 = bytes } in
-    sized_at wrong 16 payload (tag_at payload 0) t (end_only payload 16 tag.1) (ap made tag.0)
+    sized_at 16 payload (tag_at payload 0) t (end_only payload 16 tag.1) (ap made tag.0)
 
 -- A payload that agrees with a request's fields is that request.
 pub manager_only : (payload : List ℕ) (q : FmRequest) → Agrees payload (manager_fields q) → manager_request (manager_opcode q) payload ≡ Ok q
 unfolding manager_request events_asked clear_asked info_asked regions_asked setting_asked lists_asked tags_asked
 manager_only payload (FmRequest.GetEvents log) a =
     let only = byte_only payload 0 1 log [] refl (all_from payload _ a) in
-    sized_at wrong 1 payload _ _ (end_only payload 1 only.1) (ap (λ n. FmRequest.GetEvents n) only.0)
+    sized_at 1 payload _ _ (end_only payload 1 only.1) (ap (λ n. FmRequest.GetEvents n) only.0)
 manager_only payload (FmRequest.ClearEvents log all handles) a =
     let is = clear_is payload log all handles a in
-    sized_at wrong (clear_length payload) payload _ _ is.0 (ap (λ n. FmRequest.ClearEvents n (has_flag payload 1) (handles_in payload)) is.1 ∙ ap (λ b. FmRequest.ClearEvents log b (handles_in payload)) is.2 ∙ ap (λ hs. FmRequest.ClearEvents log all hs) is.3)
-manager_only payload FmRequest.GetInfo a = sized_at wrong 0 payload _ _ (end_only payload 0 (all_from payload _ a)) refl
+    sized_at (clear_length payload) payload _ _ is.0 (ap (λ n. FmRequest.ClearEvents n (has_flag payload 1) (handles_in payload)) is.1 ∙ ap (λ b. FmRequest.ClearEvents log b (handles_in payload)) is.2 ∙ ap (λ hs. FmRequest.ClearEvents log all hs) is.3)
+manager_only payload FmRequest.GetInfo a = sized_at 0 payload _ _ (end_only payload 0 (all_from payload _ a)) refl
 manager_only payload (FmRequest.GetRegions host count first) a =
     let one = number_only w16 wide_16 payload 0 2 host _ refl (all_from payload _ a) in
     let two = byte_only payload 2 3 count _ refl one.1 in
     let three = byte_only payload 3 4 first _ refl two.1 in
-    sized_at wrong 4 payload _ _ (end_only payload 4 three.1) (ap (λ n. FmRequest.GetRegions n (get_or payload 2 0) (get_or payload 3 0)) one.0 ∙ ap (λ n. FmRequest.GetRegions host n (get_or payload 3 0)) two.0 ∙ ap (λ n. FmRequest.GetRegions host count n) three.0)
+    sized_at 4 payload _ _ (end_only payload 4 three.1) (ap (λ n. FmRequest.GetRegions n (get_or payload 2 0) (get_or payload 3 0)) one.0 ∙ ap (λ n. FmRequest.GetRegions host n (get_or payload 3 0)) two.0 ∙ ap (λ n. FmRequest.GetRegions host count n) three.0)
 manager_only payload (FmRequest.SetRegion region sanitize block) a =
     let one = byte_only payload 0 1 region _ refl (all_from payload _ a) in
     let two = number_only w64 wide_64 payload 4 12 block _ refl (reserved_only payload 1 4 3 _ refl one.1) in
     let three = flag_only payload 12 13 sanitize _ refl two.1 in
     let rest = reserved_only payload 13 16 3 _ refl three.1 in
-    sized_at wrong 16 payload _ _ (end_only payload 16 rest) (ap (λ n. FmRequest.SetRegion n (has_flag payload 12) (number_at w64 payload 4)) one.0 ∙ ap (λ b. FmRequest.SetRegion region b (number_at w64 payload 4)) three.0 ∙ ap (λ n. FmRequest.SetRegion region sanitize n) two.0)
+    sized_at 16 payload _ _ (end_only payload 16 rest) (ap (λ n. FmRequest.SetRegion n (has_flag payload 12) (number_at w64 payload 4)) one.0 ∙ ap (λ b. FmRequest.SetRegion region b (number_at w64 payload 4)) three.0 ∙ ap (λ n. FmRequest.SetRegion region sanitize n) two.0)
 manager_only payload (FmRequest.GetExtentLists host count first) a =
     let one = number_only w16 wide_16 payload 0 2 host _ refl (all_from payload _ a) in
     let two = number_only w32 wide_32 payload 4 8 count _ refl (reserved_only payload 2 4 2 _ refl one.1) in
     let three = number_only w32 wide_32 payload 8 12 first _ refl two.1 in
-    sized_at wrong 12 payload _ _ (end_only payload 12 three.1) (ap (λ n. FmRequest.GetExtentLists n (number_at w32 payload 4) (number_at w32 payload 8)) one.0 ∙ ap (λ n. FmRequest.GetExtentLists host n (number_at w32 payload 8)) two.0 ∙ ap (λ n. FmRequest.GetExtentLists host count n) three.0)
+    sized_at 12 payload _ _ (end_only payload 12 three.1) (ap (λ n. FmRequest.GetExtentLists n (number_at w32 payload 4) (number_at w32 payload 8)) one.0 ∙ ap (λ n. FmRequest.GetExtentLists host n (number_at w32 payload 8)) two.0 ∙ ap (λ n. FmRequest.GetExtentLists host count n) three.0)
 manager_only payload (FmRequest.Add host policy region bytes tag xs) a =
     ap (made_of to_add) (placed_only payload (record { host = host; choice = policy; region = region; length = bytes; tag = tag; extents = xs }) a)
 manager_only payload (FmRequest.Remove host flags region bytes tag xs) a =
@@ -210,7 +210,7 @@ manager_only payload (FmRequest.RemoveReference tag) a = ap (made_of (λ t. FmRe
 manager_only payload (FmRequest.ListTags first count) a =
     let one = number_only w32 wide_32 payload 0 4 first _ refl (all_from payload _ a) in
     let two = number_only w32 wide_32 payload 4 8 count _ refl one.1 in
-    sized_at wrong 8 payload _ _ (end_only payload 8 two.1) (ap (λ n. FmRequest.ListTags n (number_at w32 payload 4)) one.0 ∙ ap (λ n. FmRequest.ListTags first n) two.0)
+    sized_at 8 payload _ _ (end_only payload 8 two.1) (ap (λ n. FmRequest.ListTags n (number_at w32 payload 4)) one.0 ∙ ap (λ n. FmRequest.ListTags first n) two.0)
 
 -- ---- of what a call gives
 

@@ -1,14 +1,13 @@
 -- What is appended piece by piece is the one spelling.
 use Rattle.std.proofs.Common.{◌≡◌, ℕ, List, [], ◌∷◌, ◌++◌, length, map, flat_map, refl, sym, ap, ◌∙◌}
-use Rattle.std.specs.Int.{to_le_bytes, w64}
+use Rattle.std.specs.Int.{w64}
 use Rattle.std.proofs.lemmas.List.Concat.{flat_map-append}
 use Rattle.dcd_base.specs.declared.capacity.Extent.{Extent}
 use Rattle.dcd_base.specs.declared.capacity.Tag.{Tag}
-use Rattle.dcd_base.specs.Layouts.{Number, spell, spelling}
-use Rattle.event_records.specs.Records.{extent_fields}
-use Rattle.host_payloads.specs.HostPayloads.{extent_bytes}
-use Rattle.host_payloads.proofs.PageLaws.{extents_spelled}
-use Rattle.host_payloads.proofs.Written.{spelling_each}
+use Rattle.field_bytes.specs.Layouts.{Number, spell, spelling, u64_bytes}
+use Rattle.field_bytes.proofs.Pieces.{spelling_each}
+use Rattle.field_bytes.proofs.WholeExtents.{extents_spelled}
+use Rattle.field_bytes.specs.Extents.{extent_bytes, extent_fields}
 use Rattle.dcd_base.specs.declared.tags.TagView.{TagView}
 use Rattle.fm_payloads.specs.ManagerPayloads.{info_head, info_head_fields, info_payload, placed_fields, placed_head, placed_head_fields, tag_bytes, tag_fields, tags_head, tags_head_fields, tags_payload}
 
@@ -18,11 +17,11 @@ placed_spelled host choice region bytes tag xs =
     let head = placed_head_fields host choice region bytes tag (length xs) in
     ap (λ rest. spelling head ++ rest) (sym (extents_spelled xs)) ∙ sym (flat_map-append spell head (flat_map extent_fields xs))
 
-sizes_spelled : (sizes : List ℕ) → spelling (map (Number w64) sizes) ≡ flat_map (to_le_bytes w64) sizes
+sizes_spelled : (sizes : List ℕ) → spelling (map (Number w64) sizes) ≡ flat_map u64_bytes sizes
 sizes_spelled [] = refl
-sizes_spelled (s ∷ sizes) = ap (λ rest. to_le_bytes w64 s ++ rest) (sizes_spelled sizes)
+sizes_spelled (s ∷ sizes) = ap (λ rest. u64_bytes s ++ rest) (sizes_spelled sizes)
 
-pub info_spelled : (hosts granules free dirty : ℕ) (sizes : List ℕ) → info_head hosts (length sizes) granules free dirty ++ flat_map (to_le_bytes w64) sizes ≡ info_payload hosts granules free dirty sizes
+pub info_spelled : (hosts granules free dirty : ℕ) (sizes : List ℕ) → info_head hosts (length sizes) granules free dirty ++ flat_map u64_bytes sizes ≡ info_payload hosts granules free dirty sizes
 unfolding info_head info_payload
 info_spelled hosts granules free dirty sizes =
     let head = info_head_fields hosts (length sizes) granules free dirty in

@@ -1,17 +1,18 @@
 -- What the manager asks, and the bytes of the replies.
-use Rattle.dcd_base.specs.Layouts.{spelling, Field, Reads, flag, flag_of, number_at, pieces, Number, Raw, Reserved}
+use Rattle.field_bytes.specs.Layouts.{spelling, Field, Reads, flag, number_at, pieces, Number, Raw, Reserved}
 use Rattle.dcd_base.specs.declared.tags.TagView.{TagView}
-use Rattle.std.specs.Prelude.{◌≡◌, ◌≢◌, ◌≤◌, Bool, ℕ, ◌-◌, ◌/◌, ◌==◌, List, [], ◌∷◌, ◌++◌, length, map, flat_map, drop, replicate, slice_index, if◌then◌else◌}
-use Rattle.std.specs.Int.{w8, w16, w32, w64, to_le_bytes}
+use Rattle.std.specs.Prelude.{◌≡◌, ◌≤◌, ℕ, ◌-◌, ◌/◌, ◌==◌, List, [], ◌∷◌, ◌++◌, length, map, flat_map, drop, slice_index, if◌then◌else◌}
+use Rattle.std.specs.Int.{w8, w16, w32, w64}
 use Rattle.std.specs.declared.result.Result.{Result}
 use Rattle.std.specs.declared.result.Result.TheVariants.{Ok, Err}
 use Rattle.dcd_base.specs.declared.capacity.Tag.{Tag}
 use Rattle.dcd_base.specs.declared.capacity.Extent.{Extent}
-use Rattle.fm_payloads.specs.declared.faults.PayloadFault.{PayloadFault}
+use Rattle.field_bytes.specs.declared.faults.PayloadFault.{PayloadFault}
 use Rattle.fm_payloads.specs.declared.placing.Placed.{Placed}
 use Rattle.fm_payloads.specs.declared.requests.FmRequest.{FmRequest}
-use Rattle.event_records.specs.Records.{extent_fields}
-use Rattle.host_payloads.specs.HostPayloads.{log_fields, clear_fields, sized_or, counted, has_flag, clear_length, handles_in, tag_at, whole_extent}
+use Rattle.field_bytes.specs.Payloads.{counted, has_flag, sized, tag_at}
+use Rattle.field_bytes.specs.EventCommands.{log_fields, clear_fields, clear_length, handles_in}
+use Rattle.field_bytes.specs.Extents.{whole_extent, extent_fields}
 
 -- 5604h and 5605h: a host, a policy or flags, a region, a length in bytes, a tag, a count of extents, extents
 abbrev pub placed_fields : ℕ → ℕ → ℕ → ℕ → Tag → List Extent → List Field
@@ -56,10 +57,6 @@ whole_extents payload = map whole_extent (pieces 40 ((length payload - 32) / 40)
 -- how long such a payload has to be
 abbrev pub placed_length : List ℕ → ℕ
 placed_length payload = counted 32 40 (number_at w32 payload 28) payload
-
--- this value, where the payload has the length that it needs
-abbrev pub sized : {X : Type 0} → ℕ → List ℕ → X → Result X PayloadFault
-sized need payload x = sized_or (λ n have. PayloadFault.WrongLength n have) need payload x
 
 -- 0100h: a log
 unfoldable pub events_asked : List ℕ → Result FmRequest PayloadFault
@@ -127,21 +124,9 @@ manager_request opcode payload =
     else if opcode == 0x5608 then tags_asked payload
     else Err (PayloadFault.UnknownOpcode opcode)
 
--- What a call gives is what was to be read, unless memory ran out.
-abbrev pub Gives : {X : Type 0} → Result X PayloadFault → Result X PayloadFault → Type 0
-Gives (Ok x) read = read ≡ Ok x
-Gives (Err PayloadFault.NoMemory) read = Unit {0}
-Gives (Err (PayloadFault.UnknownOpcode opcode)) read = read ≡ Err (PayloadFault.UnknownOpcode opcode)
-Gives (Err (PayloadFault.WrongLength need have)) read = read ≡ Err (PayloadFault.WrongLength need have)
-
 -- The payload reads as the request, whose opcode this is.
 abbrev pub IsAsked : ℕ → List ℕ → FmRequest → Type 0
 IsAsked opcode payload q = (opcode ≡ manager_opcode q) × Reads payload (manager_fields q)
-
--- The payload has the length needed, or is refused for it.
-abbrev pub HasLength : ℕ → List ℕ → Result (Unit {0}) PayloadFault → Type 0
-HasLength need payload (Ok x) = length payload ≡ need
-HasLength need payload (Err fault) = (fault ≡ PayloadFault.WrongLength need (length payload)) × (length payload ≢ need)
 
 -- ---- requests as they are written
 
@@ -151,18 +136,6 @@ CountsFit (FmRequest.ClearEvents log all handles) = length handles ≤ 255
 CountsFit (FmRequest.Add host policy region bytes tag xs) = length xs ≤ 65535
 CountsFit (FmRequest.Remove host flags region bytes tag xs) = length xs ≤ 65535
 CountsFit q = Unit {0}
-
--- the payload of a 5601h
-unfoldable pub regions_wanted : ℕ → ℕ → ℕ → List ℕ
-regions_wanted host count first = to_le_bytes w16 host ++ count ∷ first ∷ []
-
--- the payload of a 5602h
-unfoldable pub setting_bytes : ℕ → Bool → ℕ → List ℕ
-setting_bytes region sanitize block = region ∷ replicate 3 0 ++ to_le_bytes w64 block ++ flag_of sanitize ∷ replicate 3 0
-
--- what stands before the tag of a payload that places extents
-unfoldable pub aim_bytes : ℕ → ℕ → ℕ → ℕ → List ℕ
-aim_bytes host choice region bytes = to_le_bytes w16 host ++ to_le_bytes w8 choice ++ to_le_bytes w8 region ++ to_le_bytes w64 bytes
 
 -- what stands before the extents of a payload that places them
 abbrev pub placed_head_fields : ℕ → ℕ → ℕ → ℕ → Tag → ℕ → List Field

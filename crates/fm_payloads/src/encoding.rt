@@ -1,14 +1,17 @@
 //! From a request of the manager to its payload.
 
-ghost use Rattle.dcd_base.specs.Layouts.{FitsField, is_byte, spelling};
-ghost use Rattle.fm_payloads.specs.ManagerPayloads.{CountsFit, manager_fields, manager_opcode, manager_request, regions_wanted, setting_bytes};
+ghost use Rattle.field_bytes.specs.Layouts.{FitsField, Number, Reserved, flag, is_byte, spelling};
+ghost use Rattle.fm_payloads.specs.ManagerPayloads.{CountsFit, manager_fields, manager_opcode, manager_request};
+ghost use Rattle.std.specs.Int.{w8, w16, w32, w64};
 ghost use Rattle.std.specs.List.{AllByRecursion, list_all};
-ghost use Rattle.std.specs.Prelude.{◌≡◌, ◌++◌, IfOk, IsTrue, Ok, OnErr, OnOk};
+ghost use Rattle.std.specs.Prelude.{◌≡◌, ◌++◌, [], ◌∷◌, IfOk, IsTrue, Ok, OnErr, OnOk, length};
 
 use crate::placing::placed_payload;
 use crate::requests::FmRequest;
 use dcd_base::{Bytes, NoMemory};
-use host_payloads::{clear_payload, flag_byte};
+use field_bytes::{
+    are_bytes, clear_payload, put_flag, put_u8, put_u16, put_u32, put_u64, put_zeros, zeros,
+};
 use std::alloc::Global;
 
 /// Bytes as they stand.
@@ -16,43 +19,89 @@ fn raw_payload(alloc: Global, bytes: &[u8]) -> Result<Bytes, NoMemory>
     ensures same { IfOk result (λ payload. payload ≡ bytes.now) }
     ensures fits { IsTrue (list_all is_byte bytes.now) }
 {
+    are_bytes(bytes);
     Bytes::from_slice(alloc, bytes)
 }
 
-#[tactic(auto, unfolding(crate::specs::ManagerPayloads::regions_wanted))]
-fn regions_wanted(host: u16, count: u8, first: u8) -> [u8; 4]
-    ensures { result ≡ regions_wanted host count first }
+/// Fills the four bytes that ask for regions of a host.
+fn fill_regions_wanted(out: &mut [u8], host: u16, count: u8, first: u8)
+    requires { length out.old ≡ 4 }
+    ensures { out.new ≡ spelling (Number w16 host ∷ Number w8 count ∷ Number w8 first ∷ []) }
 {
-    let host = host.to_le_bytes();
-    [host[0], host[1], count, first]
+    put_u16(out, 0, host);
+    put_u8(out, 2, count);
+    put_u8(out, 3, first);
 }
 
-#[tactic(auto, unfolding(crate::specs::ManagerPayloads::setting_bytes))]
-fn setting_bytes(region: u8, sanitize: bool, block: u64) -> [u8; 16]
-    ensures { result ≡ setting_bytes region sanitize block }
+fn regions_wanted(alloc: Global, host: u16, count: u8, first: u8) -> Result<Bytes, NoMemory>
+    ensures { IfOk result
+        (λ bytes. bytes ≡ spelling (Number w16 host ∷ Number w8 count ∷ Number w8 first ∷ [])) }
 {
-    let block = block.to_le_bytes();
-    [
-        region,
-        0,
-        0,
-        0,
-        block[0],
-        block[1],
-        block[2],
-        block[3],
-        block[4],
-        block[5],
-        block[6],
-        block[7],
-        flag_byte(sanitize),
-        0,
-        0,
-        0,
-    ]
+    let mut payload = zeros(alloc, 4)?;
+    fill_regions_wanted(&mut payload, host, count, first);
+    Ok(Bytes::from_vec(alloc, payload))
 }
 
-#[tactic(auto, unfolding(crate::specs::ManagerPayloads::regions_wanted, crate::specs::ManagerPayloads::setting_bytes))]
+/// Fills the 16 bytes that set a region.
+fn fill_setting(out: &mut [u8], region: u8, sanitize: bool, block: u64)
+    requires { length out.old ≡ 16 }
+    ensures { out.new ≡ spelling
+        (Number w8 region ∷ Reserved 3 ∷ Number w64 block ∷ flag sanitize ∷ Reserved 3 ∷ []) }
+{
+    put_u8(out, 0, region);
+    put_zeros::<3>(out, 1);
+    put_u64(out, 4, block);
+    put_flag(out, 12, sanitize);
+    put_zeros::<3>(out, 13);
+}
+
+fn setting(alloc: Global, region: u8, sanitize: bool, block: u64) -> Result<Bytes, NoMemory>
+    ensures { IfOk result (λ bytes. bytes ≡ spelling
+        (Number w8 region ∷ Reserved 3 ∷ Number w64 block ∷ flag sanitize ∷ Reserved 3 ∷ [])) }
+{
+    let mut payload = zeros(alloc, 16)?;
+    fill_setting(&mut payload, region, sanitize, block);
+    Ok(Bytes::from_vec(alloc, payload))
+}
+
+/// Fills the 12 bytes that ask for extents of a host.
+fn fill_lists_wanted(out: &mut [u8], host: u16, count: u32, first: u32)
+    requires { length out.old ≡ 12 }
+    ensures { out.new ≡ spelling
+        (Number w16 host ∷ Reserved 2 ∷ Number w32 count ∷ Number w32 first ∷ []) }
+{
+    put_u16(out, 0, host);
+    put_zeros::<2>(out, 2);
+    put_u32(out, 4, count);
+    put_u32(out, 8, first);
+}
+
+fn lists_wanted(alloc: Global, host: u16, count: u32, first: u32) -> Result<Bytes, NoMemory>
+    ensures { IfOk result (λ bytes. bytes ≡ spelling
+        (Number w16 host ∷ Reserved 2 ∷ Number w32 count ∷ Number w32 first ∷ [])) }
+{
+    let mut payload = zeros(alloc, 12)?;
+    fill_lists_wanted(&mut payload, host, count, first);
+    Ok(Bytes::from_vec(alloc, payload))
+}
+
+/// Fills the eight bytes that ask for tags.
+fn fill_tags_wanted(out: &mut [u8], first: u32, count: u32)
+    requires { length out.old ≡ 8 }
+    ensures { out.new ≡ spelling (Number w32 first ∷ Number w32 count ∷ []) }
+{
+    put_u32(out, 0, first);
+    put_u32(out, 4, count);
+}
+
+fn tags_wanted(alloc: Global, first: u32, count: u32) -> Result<Bytes, NoMemory>
+    ensures { IfOk result (λ bytes. bytes ≡ spelling (Number w32 first ∷ Number w32 count ∷ [])) }
+{
+    let mut payload = zeros(alloc, 8)?;
+    fill_tags_wanted(&mut payload, first, count);
+    Ok(Bytes::from_vec(alloc, payload))
+}
+
 fn payload_of(alloc: Global, request: &FmRequest) -> Result<Bytes, NoMemory>
     requires { CountsFit request.now }
     ensures spelled { IfOk result (λ bytes. bytes ≡ spelling (manager_fields request.now)) }
@@ -65,19 +114,15 @@ fn payload_of(alloc: Global, request: &FmRequest) -> Result<Bytes, NoMemory>
         }
         FmRequest::GetInfo => Ok(Bytes::new(alloc)),
         FmRequest::GetRegions { host, count, first } => {
-            Bytes::from_slice(alloc, &regions_wanted(*host, *count, *first))
+            regions_wanted(alloc, *host, *count, *first)
         }
         FmRequest::SetRegion {
             region,
             sanitize,
             block,
-        } => { Bytes::from_slice(alloc, &setting_bytes(*region, *sanitize, *block)) }
+        } => setting(alloc, *region, *sanitize, *block),
         FmRequest::GetExtentLists { host, count, first } => {
-            let mut payload = Bytes::from_slice(alloc, &host.to_le_bytes())?;
-            payload.extend_from_slice(&[0, 0])?;
-            payload.extend_from_slice(&count.to_le_bytes())?;
-            payload.extend_from_slice(&first.to_le_bytes())?;
-            Ok(payload)
+            lists_wanted(alloc, *host, *count, *first)
         }
         FmRequest::Add {
             host,
@@ -117,11 +162,7 @@ fn payload_of(alloc: Global, request: &FmRequest) -> Result<Bytes, NoMemory>
         }
         FmRequest::AddReference { tag } => raw_payload(alloc, &tag.0),
         FmRequest::RemoveReference { tag } => raw_payload(alloc, &tag.0),
-        FmRequest::ListTags { first, count } => {
-            let mut payload = Bytes::from_slice(alloc, &first.to_le_bytes())?;
-            payload.extend_from_slice(&count.to_le_bytes())?;
-            Ok(payload)
-        }
+        FmRequest::ListTags { first, count } => tags_wanted(alloc, *first, *count),
     }
 }
 

@@ -10,14 +10,13 @@
 mod counted;
 mod decoding;
 mod encoding;
-mod faults;
 mod placing;
 mod replies;
 mod requests;
 
 pub use decoding::decode;
 pub use encoding::encode;
-pub use faults::PayloadFault;
+pub use field_bytes::PayloadFault;
 pub use replies::{lists_head, regions_head, write_info, write_tags};
 pub use requests::FmRequest;
 

@@ -1,15 +1,17 @@
 //! What an add and a release have in common.
 
-ghost use Rattle.dcd_base.specs.Layouts.{FitsField, is_byte, spelling};
-ghost use Rattle.fm_payloads.specs.ManagerPayloads.{Gives, aim_bytes, placed_fields, placed_head, placed_in};
-ghost use Rattle.std.specs.Int.{to_le_bytes};
+ghost use Rattle.field_bytes.specs.Layouts.{FitsField, is_byte, spelling};
+ghost use Rattle.fm_payloads.specs.ManagerPayloads.{placed_fields, placed_head, placed_in};
+ghost use Rattle.field_bytes.specs.Payloads.{Gives};
 ghost use Rattle.std.specs.List.{AllByRecursion, list_all};
-ghost use Rattle.std.specs.Prelude.{◌≡◌, ◌<◌, ◌^◌, IfOk, IsTrue, OnOk, length};
+ghost use Rattle.std.specs.Prelude.{◌≡◌, ◌+◌, ◌*◌, ◌<◌, ◌≤◌, ◌^◌, IfOk, IsTrue, OnOk, length, take};
 
-use crate::counted::{expect_length, placed_length};
-use crate::faults::PayloadFault;
+use crate::counted::placed_length;
 use dcd_base::{Bytes, Extent, Extents, NoMemory, Tag};
-use host_payloads::{extents_of, put_3, put_extents, tag_at, u16_at, u64_at};
+use field_bytes::{
+    PayloadFault, expect_length, extents_of, put_extents, put_tag, put_u8, put_u16, put_u32,
+    put_u64, tag_at, u16_at, u64_at, zeros,
+};
 use std::alloc::Global;
 
 /// The fields of the payloads of 5604h and 5605h.
@@ -43,35 +45,46 @@ pub fn placed_of(alloc: Global, payload: &[u8]) -> Result<Placed, PayloadFault>
     })
 }
 
-/// Host, policy or flags, region and length: bytes 0 to 11.
-#[tactic(auto, unfolding(crate::specs::ManagerPayloads::aim_bytes))]
-fn aim_bytes(host: u16, choice: u8, region: u8, size: u64) -> [u8; 12]
-    ensures { result ≡ aim_bytes host choice region size }
-{
-    let host = host.to_le_bytes();
-    let choice = choice.to_le_bytes();
-    let region = region.to_le_bytes();
-    let size = size.to_le_bytes();
-    [
-        host[0], host[1], choice[0], region[0], size[0], size[1], size[2], size[3], size[4],
-        size[5], size[6], size[7],
-    ]
-}
-
-/// What stands before the extents: bytes 0 to 31.
-#[tactic(auto, unfolding(crate::specs::ManagerPayloads::placed_head, crate::specs::ManagerPayloads::aim_bytes))]
-fn placed_head(host: u16, choice: u8, region: u8, size: u64, tag: &Tag, count: u32) -> [u8; 32]
-    ensures bytes { result ≡ placed_head host choice region size tag.now count }
+/// Puts what stands before the extents, bytes 0 to 31, at the start.
+#[tactic(auto, unfolding(crate::specs::ManagerPayloads::placed_head))]
+fn put_placed_head(
+    out: &mut [u8],
+    host: u16,
+    choice: u8,
+    region: u8,
+    size: u64,
+    tag: &Tag,
+    count: u32,
+)
+    requires { 32 ≤ length out.old }
+    ensures bytes { take 32 out.new ≡ placed_head host choice region size tag.now count }
     ensures fits { (length tag.now.0 ≡ 16) × IsTrue (list_all is_byte tag.now.0) }
 {
-    let mut bytes = [0; 32];
-    put_3(
-        &mut bytes,
-        &aim_bytes(host, choice, region, size),
-        &tag.0,
-        &count.to_le_bytes(),
-    );
-    bytes
+    put_u16(out, 0, host);
+    put_u8(out, 2, choice);
+    put_u8(out, 3, region);
+    put_u64(out, 4, size);
+    put_tag(out, 12, tag);
+    put_u32(out, 28, count);
+}
+
+/// Fills the payload that places extents.
+fn fill_placed(
+    out: &mut [u8],
+    host: u16,
+    choice: u8,
+    region: u8,
+    size: u64,
+    tag: &Tag,
+    extents: &[Extent],
+)
+    requires few { length extents.now < 2 ^ 32 }
+    requires whole { length out.old ≡ 32 + 40 * length extents.now }
+    ensures spelled { out.new ≡ spelling (placed_fields host choice region size tag.now extents.now) }
+    ensures fits { AllByRecursion FitsField (placed_fields host choice region size tag.now extents.now) }
+{
+    put_placed_head(out, host, choice, region, size, tag, extents.len() as u32);
+    put_extents(out, 32, extents);
 }
 
 /// The payload that places extents.
@@ -90,8 +103,7 @@ pub fn placed_payload(
     ensures fits { OnOk result
         (AllByRecursion FitsField (placed_fields host choice region size tag.now extents.now)) }
 {
-    let head = placed_head(host, choice, region, size, tag, extents.len() as u32);
-    let mut payload = Bytes::from_slice(alloc, &head)?;
-    put_extents(&mut payload, extents)?;
-    Ok(payload)
+    let mut payload = zeros(alloc, 32 + 40 * extents.len())?;
+    fill_placed(&mut payload, host, choice, region, size, tag, extents);
+    Ok(Bytes::from_vec(alloc, payload))
 }

@@ -1,59 +1,51 @@
 //! The payloads of the replies to the manager.
 
+ghost use Rattle.field_bytes.specs.Layouts.{u64_bytes};
 ghost use Rattle.fm_payloads.specs.ManagerPayloads.{info_head, info_payload, lists_head, regions_head, tag_bytes, tags_head, tags_payload};
-ghost use Rattle.std.specs.Int.{to_le_bytes, w64};
-ghost use Rattle.std.specs.Prelude.{◌≡◌, ◌++◌, ◌≤◌, IfOk, OnErr, OnOk, flat_map, length};
+ghost use Rattle.std.specs.Prelude.{◌≡◌, ◌+◌, ◌*◌, ◌++◌, ◌≤◌, IfOk, OnErr, OnOk, flat_map, length, take};
 
 use dcd_base::{Bytes, NoMemory, TagView};
-use host_payloads::{flag_byte, put_3};
+use field_bytes::{put_flag, put_tag, put_u8, put_u16, put_u32, put_u64, put_zeros, zeros};
 use std::alloc::Global;
 
-/// The first 24 bytes of the reply to Get DCD Info: hosts, regions, the policies of adds and of releases, and how
-/// many granules there are, are free and are dirty.
+/// Puts the first 24 bytes of the reply to Get DCD Info at the start: hosts, regions, the policies of adds and of
+/// releases, and how many granules there are, are free and are dirty.
 #[tactic(auto, unfolding(crate::specs::ManagerPayloads::info_head))]
-fn info_head(hosts: u8, regions: u8, granules: u32, free: u32, dirty: u32) -> [u8; 24]
-    ensures { result ≡ info_head hosts regions granules free dirty }
+fn put_info_head(out: &mut [u8], hosts: u8, regions: u8, granules: u32, free: u32, dirty: u32)
+    requires { 24 ≤ length out.old }
+    ensures { take 24 out.new ≡ info_head hosts regions granules free dirty }
 {
-    let hosts = hosts.to_le_bytes();
-    let regions = regions.to_le_bytes();
-    let granules = granules.to_le_bytes();
-    let free = free.to_le_bytes();
-    let dirty = dirty.to_le_bytes();
-    [
-        hosts[0],
-        regions[0],
-        0x0F,
-        0,
-        0x03,
-        0,
-        0,
-        0,
-        granules[0],
-        granules[1],
-        granules[2],
-        granules[3],
-        free[0],
-        free[1],
-        free[2],
-        free[3],
-        dirty[0],
-        dirty[1],
-        dirty[2],
-        dirty[3],
-        0,
-        0,
-        0,
-        0,
-    ]
+    put_u8(out, 0, hosts);
+    put_u8(out, 1, regions);
+    put_u16(out, 2, 0x000F);
+    put_u16(out, 4, 0x0003);
+    put_zeros::<2>(out, 6);
+    put_u32(out, 8, granules);
+    put_u32(out, 12, free);
+    put_u32(out, 16, dirty);
+    put_zeros::<4>(out, 20);
 }
 
-fn put_sizes(out: &mut Bytes, sizes: &[u64]) -> Result<(), NoMemory>
-    ensures { OnOk result (out.new ≡ out.old ++ flat_map (to_le_bytes w64) sizes.now) }
+/// Puts numbers of eight bytes each at a place, and leaves what stands before them.
+fn put_sizes(out: &mut [u8], at: usize, sizes: &[u64])
+    requires { at + 8 * length sizes.now ≤ length out.old }
+    ensures { take (at + 8 * length sizes.now) out.new ≡ take at out.old ++ flat_map u64_bytes sizes.now }
 {
+    let mut place = at;
     for size in sizes {
-        out.extend_from_slice(&size.to_le_bytes())?;
+        put_u64(out, place, *size);
+        place += 8;
     }
-    Ok(())
+}
+
+/// Fills the payload of the reply to Get DCD Info.
+fn fill_info(out: &mut [u8], hosts: u8, granules: u32, free: u32, dirty: u32, sizes: &[u64])
+    requires few { length sizes.now ≤ 8 }
+    requires whole { length out.old ≡ 24 + 8 * length sizes.now }
+    ensures { out.new ≡ info_payload hosts granules free dirty sizes.now }
+{
+    put_info_head(out, hosts, sizes.len() as u8, granules, free, dirty);
+    put_sizes(out, 24, sizes);
 }
 
 fn info_payload(
@@ -67,11 +59,9 @@ fn info_payload(
     requires { length sizes.now ≤ 8 }
     ensures { IfOk result (λ bytes. bytes ≡ info_payload hosts granules free dirty sizes.now) }
 {
-    let head = info_head(hosts, sizes.len() as u8, granules, free, dirty);
-    let mut payload = Bytes::with_capacity(alloc, 24 + 8 * sizes.len())?;
-    payload.extend_from_slice(&head)?;
-    put_sizes(&mut payload, sizes)?;
-    Ok(payload)
+    let mut payload = zeros(alloc, 24 + 8 * sizes.len())?;
+    fill_info(&mut payload, hosts, granules, free, dirty, sizes);
+    Ok(Bytes::from_vec(alloc, payload))
 }
 
 /// Appends the payload of the reply to Get DCD Info (profile): how many hosts and regions there are, the policies
@@ -96,119 +86,124 @@ pub fn write_info(
     out.append(payload)
 }
 
+/// Fills the eight bytes before the regions.
+#[tactic(auto, unfolding(crate::specs::ManagerPayloads::regions_head))]
+fn fill_regions_head(out: &mut [u8], host: u16, total: u8, returned: u8)
+    requires { length out.old ≡ 8 }
+    ensures { out.new ≡ regions_head host total returned }
+{
+    put_u16(out, 0, host);
+    put_u8(out, 2, total);
+    put_u8(out, 3, returned);
+    put_zeros::<4>(out, 4);
+}
+
 /// The eight bytes before the regions in the reply to Get Host DC Region Configuration (profile): the host, how many
 /// regions the device has, how many follow.
-#[tactic(auto, unfolding(crate::specs::ManagerPayloads::regions_head))]
 pub fn regions_head(host: u16, total: u8, returned: u8) -> [u8; 8]
     ensures { result ≡ regions_head host total returned }
 {
-    let host = host.to_le_bytes();
-    let total = total.to_le_bytes();
-    let returned = returned.to_le_bytes();
-    [host[0], host[1], total[0], returned[0], 0, 0, 0, 0]
+    let mut head = [0; 8];
+    fill_regions_head(&mut head, host, total, returned);
+    head
+}
+
+/// Fills the 24 bytes before the extents.
+#[tactic(auto, unfolding(crate::specs::ManagerPayloads::lists_head))]
+fn fill_lists_head(
+    out: &mut [u8],
+    host: u16,
+    first: u32,
+    returned: u32,
+    total: u32,
+    generation: u32,
+)
+    requires { length out.old ≡ 24 }
+    ensures { out.new ≡ lists_head host first returned total generation }
+{
+    put_u16(out, 0, host);
+    put_zeros::<2>(out, 2);
+    put_u32(out, 4, first);
+    put_u32(out, 8, returned);
+    put_u32(out, 12, total);
+    put_u32(out, 16, generation);
+    put_zeros::<4>(out, 20);
 }
 
 /// The 24 bytes before the extents in the reply to Get DC Region Extent Lists (profile): the host, the first index,
 /// how many extents follow, how many the host has, how often its list changed, modulo 2^32.
-#[tactic(auto, unfolding(crate::specs::ManagerPayloads::lists_head))]
 pub fn lists_head(host: u16, first: u32, returned: u32, total: u32, generation: u32) -> [u8; 24]
     ensures { result ≡ lists_head host first returned total generation }
 {
-    let host = host.to_le_bytes();
-    let first = first.to_le_bytes();
-    let returned = returned.to_le_bytes();
-    let total = total.to_le_bytes();
-    let generation = generation.to_le_bytes();
-    [
-        host[0],
-        host[1],
-        0,
-        0,
-        first[0],
-        first[1],
-        first[2],
-        first[3],
-        returned[0],
-        returned[1],
-        returned[2],
-        returned[3],
-        total[0],
-        total[1],
-        total[2],
-        total[3],
-        generation[0],
-        generation[1],
-        generation[2],
-        generation[3],
-        0,
-        0,
-        0,
-        0,
-    ]
+    let mut head = [0; 24];
+    fill_lists_head(&mut head, host, first, returned, total, generation);
+    head
 }
 
-/// A tag's 24 bytes in a reply: tag, holders, offered, flags; the last three are reserved.
+/// Fills 24 bytes with a tag: the tag, holders, offered, flags; the last three are reserved.
 #[tactic(auto, unfolding(crate::specs::ManagerPayloads::tag_bytes))]
-fn tag_bytes(view: &TagView) -> [u8; 24]
-    ensures { result ≡ tag_bytes view.now }
+fn fill_tag(out: &mut [u8], view: &TagView)
+    requires { length out.old ≡ 24 }
+    ensures { out.new ≡ tag_bytes view.now }
 {
-    let holders = view.holders.to_le_bytes();
-    let offered = view.offered.to_le_bytes();
-    let masks = [holders[0], holders[1], offered[0], offered[1]];
-    let mut bytes = [0; 24];
-    put_3(
-        &mut bytes,
-        &view.tag.0,
-        &masks,
-        &[flag_byte(view.referenced), 0, 0, 0],
-    );
-    bytes
+    put_tag(out, 0, &view.tag);
+    put_u16(out, 16, view.holders);
+    put_u16(out, 18, view.offered);
+    put_flag(out, 20, view.referenced);
+    put_zeros::<3>(out, 21);
 }
 
-fn put_tags(out: &mut Bytes, tags: &[TagView]) -> Result<(), NoMemory>
-    ensures { OnOk result (out.new ≡ out.old ++ flat_map tag_bytes tags.now) }
+/// Puts a tag's 24 bytes at a place, and leaves what stands before them.
+fn put_view(out: &mut [u8], at: usize, view: &TagView)
+    requires { at + 24 ≤ length out.old }
+    ensures { take (at + 24) out.new ≡ take at out.old ++ tag_bytes view.now }
 {
+    let (_, rest) = out.split_at_mut(at);
+    let (front, _) = rest.split_at_mut(24);
+    fill_tag(front, view);
+}
+
+/// Puts tags at a place, 24 bytes each, and leaves what stands before them.
+fn put_tags(out: &mut [u8], at: usize, tags: &[TagView])
+    requires { at + 24 * length tags.now ≤ length out.old }
+    ensures { take (at + 24 * length tags.now) out.new ≡ take at out.old ++ flat_map tag_bytes tags.now }
+{
+    let mut place = at;
     for tag in tags {
-        out.extend_from_slice(&tag_bytes(tag))?;
+        put_view(out, place, tag);
+        place += 24;
     }
-    Ok(())
 }
 
+/// Puts the 16 bytes before the tags at the start.
 #[tactic(auto, unfolding(crate::specs::ManagerPayloads::tags_head))]
-fn tags_head(first: u32, returned: u32, total: u32) -> [u8; 16]
-    ensures { result ≡ tags_head first returned total }
+fn put_tags_head(out: &mut [u8], first: u32, returned: u32, total: u32)
+    requires { 16 ≤ length out.old }
+    ensures { take 16 out.new ≡ tags_head first returned total }
 {
-    let first = first.to_le_bytes();
-    let returned = returned.to_le_bytes();
-    let total = total.to_le_bytes();
-    [
-        first[0],
-        first[1],
-        first[2],
-        first[3],
-        returned[0],
-        returned[1],
-        returned[2],
-        returned[3],
-        total[0],
-        total[1],
-        total[2],
-        total[3],
-        0,
-        0,
-        0,
-        0,
-    ]
+    put_u32(out, 0, first);
+    put_u32(out, 4, returned);
+    put_u32(out, 8, total);
+    put_zeros::<4>(out, 12);
+}
+
+/// Fills the payload of the reply to List Tags.
+fn fill_tags(out: &mut [u8], first: u32, total: u32, tags: &[TagView])
+    requires few { length tags.now ≤ 84 }
+    requires whole { length out.old ≡ 16 + 24 * length tags.now }
+    ensures { out.new ≡ tags_payload first total tags.now }
+{
+    put_tags_head(out, first, tags.len() as u32, total);
+    put_tags(out, 16, tags);
 }
 
 fn tags_payload(alloc: Global, first: u32, total: u32, tags: &[TagView]) -> Result<Bytes, NoMemory>
     requires { length tags.now ≤ 84 }
     ensures { IfOk result (λ bytes. bytes ≡ tags_payload first total tags.now) }
 {
-    let mut payload = Bytes::with_capacity(alloc, 16 + 24 * tags.len())?;
-    payload.extend_from_slice(&tags_head(first, tags.len() as u32, total))?;
-    put_tags(&mut payload, tags)?;
-    Ok(payload)
+    let mut payload = zeros(alloc, 16 + 24 * tags.len())?;
+    fill_tags(&mut payload, first, total, tags);
+    Ok(Bytes::from_vec(alloc, payload))
 }
 
 /// Appends the payload of the reply to List Tags (profile): the first index, how many tags follow, how many there

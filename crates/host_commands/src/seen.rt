@@ -1,6 +1,6 @@
 //! What a host or the Fabric Manager is shown of regions and of what the host may have.
 
-ghost use Rattle.dcd_base.specs.Layouts.{flag_of};
+ghost use Rattle.dcd_base.specs.Words.{flag_of};
 ghost use Rattle.device_rules.specs.Settings.{host_counts, host_flags, manager_flags, page, region_seen};
 ghost use Rattle.device_rules.specs.Views.{View};
 ghost use Rattle.host_commands.specs.Parts.{lists_in};

@@ -2,45 +2,46 @@
 use Rattle.std.proofs.Common.{◌≡◌, ℕ, ◌-◌, ◌/◌, drop, Bool, true, false, cond, eqb, List, [], ◌∷◌, length, map, get_or, Result, Ok, Err, refl, sym, ap, subst, ◌∙◌}
 use Rattle.std.proofs.lemmas.Bool.{eqb-true}
 use Rattle.dcd_base.specs.declared.capacity.Extent.{Extent}
-use Rattle.dcd_base.specs.Layouts.{Reads, number_at, pieces}
+use Rattle.field_bytes.specs.Layouts.{Reads, number_at, pieces}
 use Rattle.std.specs.Int.{w32}
 use Rattle.std.specs.List.{list_all}
 use Rattle.std.specs.Prelude.{IfOk}
-use Rattle.host_payloads.specs.declared.faults.PayloadFault.{PayloadFault}
+use Rattle.field_bytes.specs.declared.faults.PayloadFault.{PayloadFault}
 use Rattle.host_payloads.specs.declared.requests.HostRequest.{HostRequest}
-use Rattle.host_payloads.specs.HostPayloads.{has_flag, handles_in, list_fields, clear_length, list_length, listed_extent, listed_extents, is_untagged, host_opcode, host_fields, lists_untagged, IsAsked, Gives, events_asked, clear_asked, configuration_asked, extents_asked, listed_in, of_list, host_request}
-use Rattle.host_payloads.proofs.Agreement.{Agrees}
-use Rattle.host_payloads.proofs.Widths.{IsBytes, wide_32}
-use Rattle.host_payloads.proofs.Places.{end_found, end_only, number_found, number_only, byte_found, byte_only}
-use Rattle.host_payloads.proofs.Shapes.{all_from}
-use Rattle.host_payloads.proofs.Asked.{sized_is, sized_at, Reads-from, clear_agrees, clear_is, list_agrees, list_is}
-
-abbrev wrong : ℕ → ℕ → PayloadFault
-wrong = λ need have. PayloadFault.WrongLength need have
+use Rattle.host_payloads.specs.HostPayloads.{list_fields, list_length, listed_extent, listed_extents, is_untagged, host_opcode, host_fields, lists_untagged, IsAsked, events_asked, clear_asked, configuration_asked, extents_asked, listed_in, of_list, host_request}
+use Rattle.field_bytes.specs.Payloads.{has_flag, Gives}
+use Rattle.field_bytes.specs.EventCommands.{handles_in, clear_length}
+use Rattle.field_bytes.proofs.Agreement.{Agrees}
+use Rattle.field_bytes.proofs.Fields.{IsBytes}
+use Rattle.field_bytes.proofs.Widths.{wide_32}
+use Rattle.field_bytes.proofs.Places.{Reads-from, all_from, end_found, end_only, number_found, number_only, byte_found, byte_only}
+use Rattle.field_bytes.proofs.EventCommands.{clear_agrees, clear_is}
+use Rattle.field_bytes.proofs.PayloadLengths.{sized_at, sized_is}
+use Rattle.host_payloads.proofs.Asked.{list_agrees, list_is}
 
 events_found : (payload : List ℕ) (q : HostRequest) → IsBytes payload → events_asked payload ≡ Ok q → IsAsked 0x0100 payload q
 unfolding events_asked
 events_found payload q small e =
-    let at = sized_is wrong 1 payload (HostRequest.GetEvents (get_or payload 0 0)) q e in
+    let at = sized_is 1 payload (HostRequest.GetEvents (get_or payload 0 0)) q e in
     subst (IsAsked 0x0100 payload) at.1 (refl, record { untagged = refl; reads = Reads-from payload _ small (byte_found payload 0 1 _ small refl (end_found payload 1 at.0)) })
 
 clear_found : (payload : List ℕ) (q : HostRequest) → IsBytes payload → clear_asked payload ≡ Ok q → IsAsked 0x0101 payload q
 unfolding clear_asked
 clear_found payload q small e =
-    let at = sized_is wrong (clear_length payload) payload (HostRequest.ClearEvents (get_or payload 0 0) (has_flag payload 1) (handles_in payload)) q e in
+    let at = sized_is (clear_length payload) payload (HostRequest.ClearEvents (get_or payload 0 0) (has_flag payload 1) (handles_in payload)) q e in
     subst (IsAsked 0x0101 payload) at.1 (refl, record { untagged = refl; reads = Reads-from payload _ small (clear_agrees payload small at.0) })
 
 configuration_found : (payload : List ℕ) (q : HostRequest) → IsBytes payload → configuration_asked payload ≡ Ok q → IsAsked 0x4800 payload q
 unfolding configuration_asked
 configuration_found payload q small e =
-    let at = sized_is wrong 2 payload (HostRequest.GetConfiguration (get_or payload 0 0) (get_or payload 1 0)) q e in
+    let at = sized_is 2 payload (HostRequest.GetConfiguration (get_or payload 0 0) (get_or payload 1 0)) q e in
     let second = byte_found payload 1 2 _ small refl (end_found payload 2 at.0) in
     subst (IsAsked 0x4800 payload) at.1 (refl, record { untagged = refl; reads = Reads-from payload _ small (byte_found payload 0 1 _ small refl second) })
 
 extents_found : (payload : List ℕ) (q : HostRequest) → IsBytes payload → extents_asked payload ≡ Ok q → IsAsked 0x4801 payload q
 unfolding extents_asked
 extents_found payload q small e =
-    let at = sized_is wrong 8 payload (HostRequest.GetExtents (number_at w32 payload 0) (number_at w32 payload 4)) q e in
+    let at = sized_is 8 payload (HostRequest.GetExtents (number_at w32 payload 0) (number_at w32 payload 4)) q e in
     let second = number_found w32 wide_32 payload 4 8 _ small refl (end_found payload 8 at.0) in
     subst (IsAsked 0x4801 payload) at.1 (refl, record { untagged = refl; reads = Reads-from payload _ small (number_found w32 wide_32 payload 0 4 _ small refl second) })
 
@@ -56,7 +57,7 @@ untagged_pieces (b ∷ ps) = untagged_pieces ps
 list_found : (payload : List ℕ) (x : Bool × List Extent) → IsBytes payload → listed_in payload ≡ Ok x → (list_all is_untagged x.1 ≡ true) × Reads payload (list_fields x.0 x.1)
 unfolding listed_in
 list_found payload x small e =
-    let at = sized_is wrong (list_length payload) payload (has_flag payload 4, listed_extents payload) x e in
+    let at = sized_is (list_length payload) payload (has_flag payload 4, listed_extents payload) x e in
     let P : Bool × List Extent → Type 0 = λ y. (list_all is_untagged y.1 ≡ true) × Reads payload (list_fields y.0 y.1) in
     subst P at.1 (untagged_pieces (pieces 24 ((length payload - 8) / 24) (drop 8 payload)), Reads-from payload _ small (list_agrees payload small at.0))
 
@@ -95,25 +96,25 @@ pub host_only : (payload : List ℕ) (q : HostRequest) → lists_untagged q ≡ 
 unfolding host_request events_asked clear_asked configuration_asked extents_asked listed_in
 host_only payload (HostRequest.GetEvents log) untagged a =
     let only = byte_only payload 0 1 log [] refl (all_from payload _ a) in
-    sized_at wrong 1 payload _ _ (end_only payload 1 only.1) (ap (λ n. HostRequest.GetEvents n) only.0)
+    sized_at 1 payload _ _ (end_only payload 1 only.1) (ap (λ n. HostRequest.GetEvents n) only.0)
 host_only payload (HostRequest.ClearEvents log all handles) untagged a =
     let is = clear_is payload log all handles a in
-    sized_at wrong (clear_length payload) payload _ _ is.0 (ap (λ n. HostRequest.ClearEvents n (has_flag payload 1) (handles_in payload)) is.1 ∙ ap (λ b. HostRequest.ClearEvents log b (handles_in payload)) is.2 ∙ ap (λ hs. HostRequest.ClearEvents log all hs) is.3)
+    sized_at (clear_length payload) payload _ _ is.0 (ap (λ n. HostRequest.ClearEvents n (has_flag payload 1) (handles_in payload)) is.1 ∙ ap (λ b. HostRequest.ClearEvents log b (handles_in payload)) is.2 ∙ ap (λ hs. HostRequest.ClearEvents log all hs) is.3)
 host_only payload (HostRequest.GetConfiguration count first) untagged a =
     let one = byte_only payload 0 1 count _ refl (all_from payload _ a) in
     let two = byte_only payload 1 2 first _ refl one.1 in
-    sized_at wrong 2 payload _ _ (end_only payload 2 two.1) (ap (λ n. HostRequest.GetConfiguration n (get_or payload 1 0)) one.0 ∙ ap (λ n. HostRequest.GetConfiguration count n) two.0)
+    sized_at 2 payload _ _ (end_only payload 2 two.1) (ap (λ n. HostRequest.GetConfiguration n (get_or payload 1 0)) one.0 ∙ ap (λ n. HostRequest.GetConfiguration count n) two.0)
 host_only payload (HostRequest.GetExtents count first) untagged a =
     let one = number_only w32 wide_32 payload 0 4 count _ refl (all_from payload _ a) in
     let two = number_only w32 wide_32 payload 4 8 first _ refl one.1 in
-    sized_at wrong 8 payload _ _ (end_only payload 8 two.1) (ap (λ n. HostRequest.GetExtents n (number_at w32 payload 4)) one.0 ∙ ap (λ n. HostRequest.GetExtents count n) two.0)
+    sized_at 8 payload _ _ (end_only payload 8 two.1) (ap (λ n. HostRequest.GetExtents n (number_at w32 payload 4)) one.0 ∙ ap (λ n. HostRequest.GetExtents count n) two.0)
 host_only payload (HostRequest.AddResponse more xs) untagged a =
     let is = list_is payload more xs untagged a in
-    let same : listed_in payload ≡ Ok (more, xs) = sized_at wrong (list_length payload) payload _ _ is.0 (ap (λ b. (b, listed_extents payload)) is.1 ∙ ap (λ ys. (more, ys)) is.2) in
+    let same : listed_in payload ≡ Ok (more, xs) = sized_at (list_length payload) payload _ _ is.0 (ap (λ b. (b, listed_extents payload)) is.1 ∙ ap (λ ys. (more, ys)) is.2) in
     ap (of_list (λ m ys. HostRequest.AddResponse m ys)) same
 host_only payload (HostRequest.GiveBack more xs) untagged a =
     let is = list_is payload more xs untagged a in
-    let same : listed_in payload ≡ Ok (more, xs) = sized_at wrong (list_length payload) payload _ _ is.0 (ap (λ b. (b, listed_extents payload)) is.1 ∙ ap (λ ys. (more, ys)) is.2) in
+    let same : listed_in payload ≡ Ok (more, xs) = sized_at (list_length payload) payload _ _ is.0 (ap (λ b. (b, listed_extents payload)) is.1 ∙ ap (λ ys. (more, ys)) is.2) in
     ap (of_list (λ m ys. HostRequest.GiveBack m ys)) same
 
 -- ---- of what a call gives

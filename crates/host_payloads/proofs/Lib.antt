@@ -1,9 +1,5 @@
-pub mod Agreement
 pub mod Asked
 pub mod HostLaws
 pub mod PageLaws
-pub mod Pieces
-pub mod Places
 pub mod Shapes
-pub mod Widths
 pub mod Written

@@ -3,43 +3,21 @@ use Rattle.std.proofs.Common.{◌≡◌, ℕ, ◌+◌, ◌-◌, ◌*◌, ◌/◌
 use Rattle.std.specs.Prelude.{IfOk, OnOk}
 use Rattle.std.specs.List.{AllByRecursion}
 use Rattle.std.specs.Int.{w32}
-use Rattle.std.proofs.lemmas.List.{length-drop, length-map}
+use Rattle.std.proofs.lemmas.List.{length-map}
 use Rattle.dcd_base.specs.declared.capacity.Extent.{Extent}
-use Rattle.dcd_base.specs.Layouts.{Number, Reserved, FitsField, number_at, pieces, spelling}
-use Rattle.event_records.specs.Records.{extent_fields}
-use Rattle.host_payloads.specs.declared.faults.PayloadFault.{PayloadFault}
+use Rattle.field_bytes.specs.Layouts.{Number, Reserved, FitsField, number_at, pieces, spelling}
+use Rattle.field_bytes.specs.declared.faults.PayloadFault.{PayloadFault}
 use Rattle.host_payloads.specs.declared.pages.ExtentsPage.{ExtentsPage}
-use Rattle.host_payloads.specs.HostPayloads.{FitsExtent, Gives, IsPage, extent_bytes, extents_payload, page_extents, page_fields, page_head, page_in, page_length, whole_extent}
-use Rattle.host_payloads.proofs.Agreement.{Agrees, Agrees-spelled, fits-append}
-use Rattle.host_payloads.proofs.Widths.{IsBytes, IsBytes-drop, wide_32}
-use Rattle.host_payloads.proofs.Places.{FieldsAt, number_found, number_only, reserved_found, reserved_only}
-use Rattle.host_payloads.proofs.Shapes.{all_from, each_is_good, length-pieces, pieces_found, pieces_only, whole_found, whole_only}
-use Rattle.host_payloads.proofs.Asked.{Reads-from, counted_at, counted_is, sized_at, sized_is}
-use Rattle.host_payloads.proofs.Written.{spelling_each}
-
-abbrev wrong : ℕ → ℕ → PayloadFault
-wrong = λ need have. PayloadFault.WrongLength need have
-
--- ---- whole extents at the end of a payload
-
-pub extents_agree : (payload : List ℕ) (at n : ℕ) → IsBytes payload → length payload ≡ at + 40 * n → FieldsAt payload at (flat_map extent_fields (map whole_extent (pieces 40 n (drop at payload))))
-extents_agree payload at n small len = record {
-  within = omega (arith, len);
-  rest = pieces_found whole_extent extent_fields 40 whole_found n (drop at payload) (omega (arith, len, length-drop at payload)) (IsBytes-drop at payload small);
-}
-
-pub extents_are : (payload : List ℕ) (at : ℕ) (xs : List Extent) → FieldsAt payload at (flat_map extent_fields xs) → (length payload ≡ at + 40 * length xs) × (map whole_extent (pieces 40 (length xs) (drop at payload)) ≡ xs)
-extents_are payload at xs here =
-    let all = pieces_only whole_extent extent_fields 40 (λ x. Unit {0}) whole_only xs (each_is_good xs) (drop at payload) here.rest in
-    (omega (arith, all.0, here.within, length-drop at payload), all.1)
-
-pub extents_spelled : (xs : List Extent) → spelling (flat_map extent_fields xs) ≡ flat_map extent_bytes xs
-unfolding extent_bytes
-extents_spelled xs = spelling_each extent_fields xs
-
-pub extents_fit : (xs : List Extent) → AllByRecursion FitsExtent xs → AllByRecursion FitsField (flat_map extent_fields xs)
-extents_fit [] fit = tt
-extents_fit (x ∷ xs) fit = fits-append (extent_fields x) (flat_map extent_fields xs) fit.0 (extents_fit xs fit.1)
+use Rattle.host_payloads.specs.HostPayloads.{IsPage, extents_payload, page_extents, page_fields, page_head, page_in, page_length}
+use Rattle.field_bytes.specs.Payloads.{Gives}
+use Rattle.field_bytes.specs.Extents.{FitsExtent, extent_bytes, whole_extent, extent_fields}
+use Rattle.field_bytes.proofs.Agreement.{Agrees, Agrees-spelled}
+use Rattle.field_bytes.proofs.Fields.{IsBytes}
+use Rattle.field_bytes.proofs.PayloadLengths.{counted_at, counted_is, sized_at, sized_is}
+use Rattle.field_bytes.proofs.Pieces.{length-pieces}
+use Rattle.field_bytes.proofs.WholeExtents.{extents_agree, extents_are, extents_fit, extents_spelled}
+use Rattle.field_bytes.proofs.Widths.{wide_32}
+use Rattle.field_bytes.proofs.Places.{FieldsAt, Reads-from, all_from, number_found, number_only, reserved_found, reserved_only}
 
 -- ---- pages
 
@@ -48,7 +26,7 @@ unfolding page_in
 page_found payload page small e =
     let n = number_at w32 payload 0 in
     let k = (length payload - 16) / 40 in
-    let at = sized_is wrong (page_length payload) payload (record { total = number_at w32 payload 4; generation = number_at w32 payload 8; extents = page_extents payload }) page e in
+    let at = sized_is (page_length payload) payload (record { total = number_at w32 payload 4; generation = number_at w32 payload 8; extents = page_extents payload }) page e in
     let all : length payload ≡ 16 + 40 * n = counted_is 16 40 n payload at.0 in
     let same : k ≡ n = omega (arith, all) in
     let count : n ≡ length (page_extents payload) = sym (length-map (pieces 40 k (drop 16 payload)) whole_extent ∙ length-pieces 40 k (drop 16 payload) ∙ same) in
@@ -71,7 +49,7 @@ page_only payload page a =
     let is : made (number_at w32 payload 4) (number_at w32 payload 8) (page_extents payload) ≡ page =
     ap (λ t. made t (number_at w32 payload 8) (page_extents payload)) total.0 ∙ ap (λ g. made page.total g (page_extents payload)) generation.0
     ∙ ap (λ ys. made page.total page.generation ys) (ap (λ n. map whole_extent (pieces 40 n (drop 16 payload))) k ∙ list.1) in
-    sized_at wrong (page_length payload) payload _ _ (counted_at 16 40 (number_at w32 payload 0) payload (rw first.0 list.0)) is
+    sized_at (page_length payload) payload _ _ (counted_at 16 40 (number_at w32 payload 0) payload (rw first.0 list.0)) is
 
 -- ---- of what a call gives
 

@@ -1,5 +1,5 @@
 -- What is appended piece by piece is the one spelling.
-use Rattle.std.proofs.Common.{◌≡◌, ℕ, ◌%◌, ◌^◌, ◌<◌, ◌≤◌, Bool, true, List, [], ◌∷◌, ◌++◌, length, flat_map, refl, sym, ap, ◌∙◌, arith, Result, Ok, Err}
+use Rattle.std.proofs.Common.{◌≡◌, ℕ, ◌^◌, ◌<◌, Bool, true, List, [], ◌∷◌, ◌++◌, length, flat_map, sym, ap, ◌∙◌, Result, Ok, Err}
 use Rattle.std.specs.Prelude.{OnOk}
 use Rattle.std.specs.List.{AllByRecursion}
 use Rattle.std.specs.Int.{w32}
@@ -9,31 +9,17 @@ use Rattle.event_records.specs.declared.events.Event.{Event}
 use Rattle.event_records.specs.Records.{record_bytes, record_fields}
 use Rattle.host_payloads.specs.declared.views.Counts.{Counts}
 use Rattle.host_payloads.specs.declared.views.RegionView.{RegionView}
-use Rattle.dcd_base.specs.Layouts.{Field, Number, Reserved, FitsField, flag, flag_of, spell, spelling}
+use Rattle.field_bytes.specs.Layouts.{Number, Reserved, FitsField, flag, spell, spelling}
 use Rattle.host_payloads.specs.declared.requests.HostRequest.{HostRequest}
-use Rattle.host_payloads.specs.HostPayloads.{configuration_head, configuration_head_fields, configuration_payload, counts_bytes, counts_fields, events_head, events_head_fields, events_payload, region_bytes, view_fields, FitsHandle, FitsListed, clear_fields, handle_bytes, handle_fields, host_fields, host_opcode, host_request, list_fields, list_head, listed_bytes, listed_fields, lists_untagged}
-use Rattle.host_payloads.proofs.Agreement.{Agrees-spelled}
-use Rattle.host_payloads.proofs.Places.{flag_fits}
+use Rattle.host_payloads.specs.HostPayloads.{configuration_head, configuration_head_fields, configuration_payload, counts_bytes, counts_fields, events_head, events_head_fields, events_payload, region_bytes, view_fields, FitsListed, host_fields, host_opcode, host_request, list_fields, list_head, listed_bytes, listed_fields, lists_untagged}
+use Rattle.field_bytes.proofs.Agreement.{Agrees-spelled}
+use Rattle.field_bytes.proofs.Places.{flag_fits}
+use Rattle.field_bytes.proofs.Pieces.{spelling_each}
 use Rattle.host_payloads.proofs.HostLaws.{host_only}
-
--- a list of values, each spelled by its fields
-pub spelling_each : {X : Type 0} (fields : X → List Field) (xs : List X) → spelling (flat_map fields xs) ≡ flat_map (λ x. spelling (fields x)) xs
-spelling_each fields [] = refl
-spelling_each fields (x ∷ xs) = flat_map-append spell (fields x) (flat_map fields xs) ∙ ap (λ rest. spelling (fields x) ++ rest) (spelling_each fields xs)
-
-spelling_handles : (handles : List ℕ) → spelling (handle_fields handles) ≡ flat_map handle_bytes handles
-spelling_handles [] = refl
-spelling_handles (h ∷ handles) = ap (λ rest. handle_bytes h ++ rest) (spelling_handles handles)
 
 spelling_listed : (xs : List Extent) → spelling (flat_map listed_fields xs) ≡ flat_map listed_bytes xs
 unfolding listed_bytes
 spelling_listed xs = spelling_each listed_fields xs
-
-pub clear_spelled : (log : ℕ) (all : Bool) (handles : List ℕ) → log < 256 → length handles ≤ 255 → log ∷ flag_of all ∷ length handles ∷ 0 ∷ 0 ∷ 0 ∷ flat_map handle_bytes handles ≡ spelling (clear_fields log all handles)
-clear_spelled log all handles small few =
-    let a : log ≡ log % 256 = omega arith in
-    let b : length handles ≡ length handles % 256 = omega arith in
-    ap (λ n. n ∷ flag_of all ∷ length handles ∷ 0 ∷ 0 ∷ 0 ∷ flat_map handle_bytes handles) a ∙ ap (λ n. log % 256 ∷ flag_of all ∷ n ∷ 0 ∷ 0 ∷ 0 ∷ flat_map handle_bytes handles) b ∙ ap (λ rest. log % 256 ∷ flag_of all ∷ length handles % 256 ∷ 0 ∷ 0 ∷ 0 ∷ rest) (sym (spelling_handles handles))
 
 pub list_spelled : (more : Bool) (xs : List Extent) → list_head (length xs) more ++ flat_map listed_bytes xs ≡ spelling (list_fields more xs)
 unfolding list_head
@@ -41,16 +27,9 @@ list_spelled more xs = ap (λ rest. spelling (Number w32 (length xs) ∷ flag mo
 
 -- ---- the numbers fit
 
-fits_handles : (handles : List ℕ) → AllByRecursion FitsHandle handles → AllByRecursion FitsField (handle_fields handles)
-fits_handles [] fit = tt
-fits_handles (h ∷ handles) fit = (fit.0, fits_handles handles fit.1)
-
 fits_listed : (xs : List Extent) → AllByRecursion FitsListed xs → AllByRecursion FitsField (flat_map listed_fields xs)
 fits_listed [] fit = tt
 fits_listed (x ∷ xs) fit = (fit.0.0, (fit.0.1, (tt, fits_listed xs fit.1)))
-
-pub clear_fits : (log : ℕ) (all : Bool) (handles : List ℕ) → log < 256 → length handles ≤ 255 → AllByRecursion FitsHandle handles → AllByRecursion FitsField (clear_fields log all handles)
-clear_fits log all handles small few fit = (small, (flag_fits all, (omega (arith, few), (tt, fits_handles handles fit))))
 
 pub list_fits : (more : Bool) (xs : List Extent) → length xs < 2 ^ 32 → AllByRecursion FitsListed xs → AllByRecursion FitsField (list_fields more xs)
 list_fits more xs few fit = (few, (flag_fits more, (tt, fits_listed xs fit)))

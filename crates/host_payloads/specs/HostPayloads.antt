@@ -1,37 +1,26 @@
 -- What a host asks, and the bytes of the replies.
-use Rattle.dcd_base.specs.Words.{is_zero_tag, zero_tag}
-use Rattle.dcd_base.specs.Layouts.{Reads, Field, FitsField, flag_of, flag, spelling, number_at, pieces, Number, Masked, Fixed, Reserved}
-use Rattle.std.specs.List.{list_all, AllByRecursion}
-use Rattle.std.specs.Prelude.{◌≡◌, ◌≢◌, IsTrue, true, ◌&&◌, ℕ, ◌+◌, ◌-◌, ◌^◌, ◌<◌, ◌≤◌, ◌*◌, ◌/◌, Bool, not, ◌==◌, nat_lt, List, [], ◌∷◌, ◌++◌, length, map, flat_map, take, drop, replicate, slice_index, if◌then◌else◌, bit_and}
+use Rattle.dcd_base.specs.Words.{is_zero_tag, zero_tag, flag_of}
+use Rattle.field_bytes.specs.EventCommands.{clear_fields, clear_length, handles_in, log_fields}
+use Rattle.field_bytes.specs.Extents.{extent_fields, whole_extent}
+use Rattle.field_bytes.specs.Layouts.{Reads, Field, flag, spelling, number_at, pieces, u32_bytes, Number, Masked, Fixed, Reserved}
+use Rattle.field_bytes.specs.Payloads.{counted, has_flag, sized}
+use Rattle.std.specs.List.{list_all}
+use Rattle.std.specs.Prelude.{◌≡◌, IsTrue, true, ◌&&◌, ℕ, ◌+◌, ◌-◌, ◌^◌, ◌<◌, ◌≤◌, ◌*◌, ◌/◌, Bool, not, ◌==◌, List, [], ◌∷◌, ◌++◌, length, map, flat_map, drop, replicate, slice_index, if◌then◌else◌}
 use Rattle.host_payloads.specs.declared.views.Counts.{Counts}
 use Rattle.host_payloads.specs.declared.views.RegionView.{RegionView}
-use Rattle.std.specs.Int.{w8, w16, w32, w64, to_le_bytes, from_le_bytes}
+use Rattle.std.specs.Int.{w8, w16, w32, w64}
 use Rattle.std.specs.declared.result.Result.{Result}
 use Rattle.std.specs.declared.result.Result.TheVariants.{Ok, Err}
 use Rattle.dcd_base.specs.declared.capacity.Extent.{Extent}
-use Rattle.dcd_base.specs.declared.capacity.Tag.{Tag}
-use Rattle.host_payloads.specs.declared.faults.PayloadFault.{PayloadFault}
+use Rattle.field_bytes.specs.declared.faults.PayloadFault.{PayloadFault}
 use Rattle.event_records.specs.declared.events.Event.{Event}
 use Rattle.host_payloads.specs.declared.pages.ExtentsPage.{ExtentsPage}
 use Rattle.host_payloads.specs.declared.requests.HostRequest.{HostRequest}
-use Rattle.event_records.specs.Records.{extent_fields, record_fields}
+use Rattle.event_records.specs.Records.{record_fields}
 
 -- an extent without its tag: twenty-four bytes
 abbrev pub listed_fields : Extent → List Field
 listed_fields x = Number w64 x.start ∷ Number w64 x.length ∷ Reserved 8 ∷ []
-
--- handles of event records, two bytes each
-abbrev pub handle_fields : List ℕ → List Field
-handle_fields handles = map (Number w16) handles
-
--- 0100h: a log
-abbrev pub log_fields : ℕ → List Field
-log_fields log = Number w8 log ∷ []
-
--- 0101h: a log, the flag Clear All, a count of handles, handles
-abbrev pub clear_fields : ℕ → Bool → List ℕ → List Field
-clear_fields log all handles =
-    Number w8 log ∷ flag all ∷ Number w8 (length handles) ∷ Reserved 3 ∷ handle_fields handles
 
 -- 4802h and 4803h: a count of extents, the flag More, extents without tags
 abbrev pub list_fields : Bool → List Extent → List Field
@@ -72,18 +61,6 @@ pub record ReadsHost (payload : List ℕ) (q : HostRequest) : Type 0 where
 
 -- ---- the request that a payload is
 
--- this value, where the payload has the length that it needs; else the fault that both lengths make
-abbrev pub sized_or : {X F : Type 0} → (ℕ → ℕ → F) → ℕ → List ℕ → X → Result X F
-sized_or wrong need payload x = if length payload == need then Ok x else Err (wrong need (length payload))
-
--- the same, with this crate's fault
-abbrev pub sized : {X : Type 0} → ℕ → List ℕ → X → Result X PayloadFault
-sized need payload x = sized_or (λ n have. PayloadFault.WrongLength n have) need payload x
-
--- the length of a fixed part and of a count of members; less than the fixed part needs the fixed part
-abbrev pub counted : ℕ → ℕ → ℕ → List ℕ → ℕ
-counted part each count payload = if nat_lt (length payload) part then part else part + each * count
-
 -- the extent that 24 bytes list
 abbrev pub listed_extent : List ℕ → Extent
 listed_extent bytes = record { start = number_at w64 bytes 0; length = number_at w64 bytes 8; tag = zero_tag; sequence = 0 }
@@ -91,26 +68,6 @@ listed_extent bytes = record { start = number_at w64 bytes 0; length = number_at
 -- the extents behind a count and a flag
 abbrev pub listed_extents : List ℕ → List Extent
 listed_extents payload = map listed_extent (pieces 24 ((length payload - 8) / 24) (drop 8 payload))
-
--- the sixteen bytes of a tag
-abbrev pub tag_at : List ℕ → ℕ → Tag
-tag_at payload i = record { 0 = take 16 (drop i payload) }
-
--- the extent that forty bytes are, with its tag
-abbrev pub whole_extent : List ℕ → Extent
-whole_extent bytes = record { start = number_at w64 bytes 0; length = number_at w64 bytes 8; tag = tag_at bytes 16; sequence = number_at w16 bytes 32 }
-
--- whether bit 0 of the byte at this place stands
-abbrev pub has_flag : List ℕ → ℕ → Bool
-has_flag payload i = bit_and (slice_index payload i) 1 == 1
-
--- how long the payload of a 0101h has to be
-abbrev pub clear_length : List ℕ → ℕ
-clear_length payload = counted 6 2 (slice_index payload 2) payload
-
--- the handles of a 0101h
-abbrev pub handles_in : List ℕ → List ℕ
-handles_in payload = map (from_le_bytes w16) (pieces 2 (slice_index payload 2) (drop 6 payload))
 
 -- how long the payload of a 4802h or 4803h has to be
 abbrev pub list_length : List ℕ → ℕ
@@ -152,27 +109,11 @@ host_request opcode payload =
     else if opcode == 0x4803 then of_list (λ more xs. HostRequest.GiveBack more xs) (listed_in payload)
     else Err (PayloadFault.UnknownOpcode opcode)
 
--- What a call gives is what was to be read, unless memory ran out.
-abbrev pub Gives : {X : Type 0} → Result X PayloadFault → Result X PayloadFault → Type 0
-Gives (Ok x) read = read ≡ Ok x
-Gives (Err PayloadFault.NoMemory) read = Unit {0}
-Gives (Err (PayloadFault.UnknownOpcode opcode)) read = read ≡ Err (PayloadFault.UnknownOpcode opcode)
-Gives (Err (PayloadFault.WrongLength need have)) read = read ≡ Err (PayloadFault.WrongLength need have)
-
 -- The payload reads as the request, whose opcode this is.
 abbrev pub IsAsked : ℕ → List ℕ → HostRequest → Type 0
 IsAsked opcode payload q = (opcode ≡ host_opcode q) × ReadsHost payload q
 
--- The payload has the length needed, or is refused for it.
-abbrev pub HasLength : ℕ → List ℕ → Result (Unit {0}) PayloadFault → Type 0
-HasLength need payload (Ok x) = length payload ≡ need
-HasLength need payload (Err fault) = (fault ≡ PayloadFault.WrongLength need (length payload)) × (length payload ≢ need)
-
 -- ---- requests as they are written
-
--- a handle as it is written
-abbrev pub handle_bytes : ℕ → List ℕ
-handle_bytes handle = to_le_bytes w16 handle
 
 -- a listed extent as it is written
 unfoldable pub listed_bytes : Extent → List ℕ
@@ -180,11 +121,7 @@ listed_bytes x = spelling (listed_fields x)
 
 -- what stands before the extents of a list
 unfoldable pub list_head : ℕ → Bool → List ℕ
-list_head count more = to_le_bytes w32 count ++ flag_of more ∷ replicate 3 0
-
--- The handle has two bytes.
-abbrev pub FitsHandle : ℕ → Type 0
-FitsHandle handle = handle < 2 ^ 16
+list_head count more = u32_bytes count ++ flag_of more ∷ replicate 3 0
 
 -- Start and length have eight bytes each.
 abbrev pub FitsListed : Extent → Type 0
@@ -251,22 +188,6 @@ configuration_fields total views counts = configuration_head_fields total (lengt
 unfoldable pub configuration_payload : ℕ → List RegionView → Counts → List ℕ
 configuration_payload total views counts = spelling (configuration_fields total views counts)
 
--- an extent with its tag as it is written
-unfoldable pub extent_bytes : Extent → List ℕ
-extent_bytes x = spelling (extent_fields x)
-
--- what stands before an extent's tag
-unfoldable pub range_bytes : Extent → List ℕ
-range_bytes x = to_le_bytes w64 x.start ++ to_le_bytes w64 x.length
-
--- and behind it
-unfoldable pub sequence_bytes : Extent → List ℕ
-sequence_bytes x = to_le_bytes w16 x.sequence ++ replicate 6 0
-
--- Its numbers and its tag are those of forty bytes.
-abbrev pub FitsExtent : Extent → Type 0
-FitsExtent x = AllByRecursion FitsField (extent_fields x)
-
 -- a page: how many extents follow, how many there are, the generation, the extents
 abbrev pub page_fields : ℕ → ℕ → List Extent → List Field
 page_fields total generation xs =
@@ -278,7 +199,7 @@ extents_payload total generation xs = spelling (page_fields total generation xs)
 
 -- what stands before the extents of a page
 unfoldable pub page_head : ℕ → ℕ → ℕ → List ℕ
-page_head returned total generation = to_le_bytes w32 returned ++ to_le_bytes w32 total ++ to_le_bytes w32 generation ++ replicate 4 0
+page_head returned total generation = u32_bytes returned ++ u32_bytes total ++ u32_bytes generation ++ replicate 4 0
 
 -- how long the payload of a page has to be
 abbrev pub page_length : List ℕ → ℕ

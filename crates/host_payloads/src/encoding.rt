@@ -1,43 +1,37 @@
 //! From a request of a host to its payload.
 
-ghost use Rattle.dcd_base.specs.Layouts.{FitsField, spelling};
-ghost use Rattle.host_payloads.specs.HostPayloads.{CountsFit, clear_fields, host_fields, host_opcode, host_request, list_fields, list_head, lists_untagged};
+ghost use Rattle.field_bytes.specs.Layouts.{FitsField, Number, spelling};
+ghost use Rattle.host_payloads.specs.HostPayloads.{CountsFit, host_fields, host_opcode, host_request, list_fields, list_head, lists_untagged};
 ghost use Rattle.std.specs.List.{AllByRecursion};
-ghost use Rattle.std.specs.Prelude.{◌≡◌, ◌++◌, ◌<◌, ◌≤◌, ◌^◌, IfOk, IsTrue, Ok, OnErr, OnOk, length};
+ghost use Rattle.std.specs.Int.{w32};
+ghost use Rattle.std.specs.Prelude.{[], ◌∷◌, ◌≡◌, ◌+◌, ◌*◌, ◌++◌, ◌<◌, ◌≤◌, ◌^◌, IfOk, IsTrue, Ok, OnErr, OnOk, length, take};
 
-use crate::list_writing::{put_handles, put_listed};
-use crate::numbers::flag_byte;
+use crate::list_writing::put_all_listed;
 use crate::requests::HostRequest;
 use dcd_base::{Bytes, Extent, NoMemory};
+use field_bytes::{clear_payload, put_flag, put_u32, put_zeros, zeros};
 use std::alloc::Global;
 
-/// The payload that clears records: the log, whether all of it, the handles.
-pub fn clear_payload(alloc: Global, log: u8, all: bool, handles: &[u16]) -> Result<Bytes, NoMemory>
-    requires { length handles.now ≤ 255 }
-    ensures spelled { IfOk result (λ bytes. bytes ≡ spelling (clear_fields log all handles.now)) }
-    ensures fits { OnOk result (AllByRecursion FitsField (clear_fields log all handles.now)) }
+/// Puts what stands before the extents of a list at the start: how many they are, and More.
+#[tactic(auto, unfolding(crate::specs::HostPayloads::list_head))]
+fn put_list_head(out: &mut [u8], count: u32, more: bool)
+    requires { 8 ≤ length out.old }
+    ensures { take 8 out.new ≡ list_head count more }
 {
-    let mut payload = Bytes::new(alloc);
-    payload.extend_from_slice(&[log, flag_byte(all), handles.len() as u8, 0, 0, 0])?;
-    put_handles(&mut payload, handles)?;
-    Ok(payload)
+    put_u32(out, 0, count);
+    put_flag(out, 4, more);
+    put_zeros::<3>(out, 5);
 }
 
-#[tactic(auto, unfolding(crate::specs::HostPayloads::list_head))]
-fn list_head(count: u32, more: bool) -> [u8; 8]
-    ensures { result ≡ list_head count more }
+/// Fills the payload of a list of extents without tags.
+fn fill_list(out: &mut [u8], more: bool, extents: &[Extent])
+    requires few { length extents.now < 2 ^ 32 }
+    requires whole { length out.old ≡ 8 + 24 * length extents.now }
+    ensures spelled { out.new ≡ spelling (list_fields more extents.now) }
+    ensures fits { AllByRecursion FitsField (list_fields more extents.now) }
 {
-    let count = count.to_le_bytes();
-    [
-        count[0],
-        count[1],
-        count[2],
-        count[3],
-        flag_byte(more),
-        0,
-        0,
-        0,
-    ]
+    put_list_head(out, extents.len() as u32, more);
+    put_all_listed(out, 8, extents);
 }
 
 /// The payload of a list of extents without tags.
@@ -46,10 +40,26 @@ fn list_payload(alloc: Global, more: bool, extents: &[Extent]) -> Result<Bytes, 
     ensures spelled { IfOk result (λ bytes. bytes ≡ spelling (list_fields more extents.now)) }
     ensures fits { OnOk result (AllByRecursion FitsField (list_fields more extents.now)) }
 {
-    let mut payload = Bytes::new(alloc);
-    payload.extend_from_slice(&list_head(extents.len() as u32, more))?;
-    put_listed(&mut payload, extents)?;
-    Ok(payload)
+    let mut payload = zeros(alloc, 8 + 24 * extents.len())?;
+    fill_list(&mut payload, more, extents);
+    Ok(Bytes::from_vec(alloc, payload))
+}
+
+/// Fills the payload that asks for a page of extents.
+fn fill_page_request(out: &mut [u8], count: u32, first: u32)
+    requires { length out.old ≡ 8 }
+    ensures { out.new ≡ spelling (Number w32 count ∷ Number w32 first ∷ []) }
+{
+    put_u32(out, 0, count);
+    put_u32(out, 4, first);
+}
+
+fn page_request(alloc: Global, count: u32, first: u32) -> Result<Bytes, NoMemory>
+    ensures { IfOk result (λ bytes. bytes ≡ spelling (Number w32 count ∷ Number w32 first ∷ [])) }
+{
+    let mut payload = zeros(alloc, 8)?;
+    fill_page_request(&mut payload, count, first);
+    Ok(Bytes::from_vec(alloc, payload))
 }
 
 fn payload_of(alloc: Global, request: &HostRequest) -> Result<Bytes, NoMemory>
@@ -66,11 +76,7 @@ fn payload_of(alloc: Global, request: &HostRequest) -> Result<Bytes, NoMemory>
             alloc,
             &[*count, *first],
         ),
-        HostRequest::GetExtents { count, first } => {
-            let mut payload = Bytes::from_slice(alloc, &count.to_le_bytes())?;
-            payload.extend_from_slice(&first.to_le_bytes())?;
-            Ok(payload)
-        }
+        HostRequest::GetExtents { count, first } => page_request(alloc, *count, *first),
         HostRequest::AddResponse { more, extents } => list_payload(
             alloc,
             *more,

@@ -9,11 +9,8 @@ mod counted;
 mod decoding;
 mod encoding;
 mod extents;
-mod faults;
-mod joining;
 mod list_reading;
 mod list_writing;
-mod numbers;
 mod pages;
 mod replies;
 mod requests;
@@ -21,21 +18,12 @@ mod views;
 
 pub use decoding::decode;
 pub use encoding::encode;
-pub use extents::extent_bytes;
-pub use faults::PayloadFault;
+pub use extents::{extent_bytes, put_extents};
+pub use field_bytes::PayloadFault;
 pub use pages::{ExtentsPage, read_extents, write_extents};
 pub use replies::{write_configuration, write_events};
 pub use requests::HostRequest;
 pub use views::{Counts, RegionView, counts_bytes, region_bytes};
-
-// What the payloads of the manager share with those of the hosts.
-pub use counted::clear_length;
-pub use encoding::clear_payload;
-pub use extents::{extents_of, put_extents, tag_at};
-pub use joining::put_3;
-pub use list_reading::handles_of;
-pub use numbers::{flag_at, flag_byte, u16_at, u32_at, u64_at};
-pub use replies::put_regions;
 
 #[cfg(test)]
 mod tests;

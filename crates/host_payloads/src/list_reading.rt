@@ -1,28 +1,12 @@
-//! Lists in a payload: handles, and extents without tags.
+//! Lists of extents without tags.
 
-ghost use Rattle.dcd_base.specs.Layouts.{pieces};
+ghost use Rattle.field_bytes.specs.Layouts.{pieces};
 ghost use Rattle.host_payloads.specs.HostPayloads.{listed_extent};
-ghost use Rattle.std.specs.Int.{from_le_bytes, w16};
 ghost use Rattle.std.specs.Prelude.{◌≡◌, ◌*◌, ◌≤◌, IfOk, length, map};
 
-use crate::numbers::{u16_at, u64_at};
-use dcd_base::{Extent, Extents, Handles, NoMemory, no_tag};
+use dcd_base::{Extent, Extents, NoMemory, no_tag};
+use field_bytes::u64_at;
 use std::alloc::Global;
-
-/// So many handles of two bytes each.
-pub fn handles_of(alloc: Global, count: usize, bytes: &[u8]) -> Result<Handles, NoMemory>
-    requires { 2 * count ≤ length bytes.now }
-    ensures { IfOk result (λ handles. handles ≡ map (from_le_bytes w16) (pieces 2 count bytes.now)) }
-{
-    let mut handles = Handles::with_capacity(alloc, count)?;
-    let mut rest = bytes;
-    for _ in 0..count {
-        let (piece, after) = rest.split_at(2);
-        handles.push(u16_at(piece, 0))?;
-        rest = after;
-    }
-    Ok(handles)
-}
 
 /// The extent that 24 bytes list.
 fn listed_extent(bytes: &[u8]) -> Extent

@@ -1,44 +1,44 @@
-//! Lists as they are written: handles, and extents without tags.
+//! Lists of extents without tags as they are written.
 
-ghost use Rattle.host_payloads.specs.HostPayloads.{FitsHandle, FitsListed, handle_bytes, listed_bytes};
+ghost use Rattle.host_payloads.specs.HostPayloads.{FitsListed, listed_bytes};
 ghost use Rattle.std.specs.List.{AllByRecursion};
-ghost use Rattle.std.specs.Prelude.{◌≡◌, ◌++◌, OnOk, flat_map};
+ghost use Rattle.std.specs.Prelude.{◌≡◌, ◌+◌, ◌*◌, ◌++◌, ◌≤◌, flat_map, length, take};
 
-use dcd_base::{Bytes, Extent, NoMemory};
+use dcd_base::Extent;
+use field_bytes::{put_u64, put_zeros};
 
-/// Appends handles, two bytes each.
-pub fn put_handles(out: &mut Bytes, handles: &[u16]) -> Result<(), NoMemory>
-    ensures put { OnOk result (out.new ≡ out.old ++ flat_map handle_bytes handles.now) }
-    ensures fit { OnOk result (AllByRecursion FitsHandle handles.now) }
-{
-    for handle in handles {
-        out.extend_from_slice(&handle.to_le_bytes())?;
-    }
-    Ok(())
-}
-
-/// An extent without its tag and sequence number: 24 bytes, of which the last eight are reserved.
+/// Fills 24 bytes with an extent without its tag and sequence number. The last eight are reserved.
 #[tactic(auto, unfolding(crate::specs::HostPayloads::listed_bytes))]
-fn listed_bytes(extent: &Extent) -> [u8; 24]
-    ensures bytes { result ≡ listed_bytes extent.now }
+fn fill_listed(out: &mut [u8], extent: &Extent)
+    requires { length out.old ≡ 24 }
+    ensures bytes { out.new ≡ listed_bytes extent.now }
     ensures fits { FitsListed extent.now }
 {
-    let start = extent.start.to_le_bytes();
-    let length = extent.length.to_le_bytes();
-    [
-        start[0], start[1], start[2], start[3], start[4], start[5], start[6], start[7], length[0],
-        length[1], length[2], length[3], length[4], length[5], length[6], length[7], 0, 0, 0, 0, 0,
-        0, 0, 0,
-    ]
+    put_u64(out, 0, extent.start);
+    put_u64(out, 8, extent.length);
+    put_zeros::<8>(out, 16);
 }
 
-/// Appends extents without their tags and sequence numbers, 24 bytes each.
-pub fn put_listed(out: &mut Bytes, extents: &[Extent]) -> Result<(), NoMemory>
-    ensures put { OnOk result (out.new ≡ out.old ++ flat_map listed_bytes extents.now) }
-    ensures fit { OnOk result (AllByRecursion FitsListed extents.now) }
+/// Puts an extent's 24 bytes at a place, and leaves what stands before it.
+fn put_listed(out: &mut [u8], at: usize, extent: &Extent)
+    requires { at + 24 ≤ length out.old }
+    ensures put { take (at + 24) out.new ≡ take at out.old ++ listed_bytes extent.now }
+    ensures fits { FitsListed extent.now }
 {
+    let (_, rest) = out.split_at_mut(at);
+    let (front, _) = rest.split_at_mut(24);
+    fill_listed(front, extent);
+}
+
+/// Puts extents without their tags and sequence numbers at a place, 24 bytes each, and leaves what stands before them.
+pub fn put_all_listed(out: &mut [u8], at: usize, extents: &[Extent])
+    requires { at + 24 * length extents.now ≤ length out.old }
+    ensures put { take (at + 24 * length extents.now) out.new ≡ take at out.old ++ flat_map listed_bytes extents.now }
+    ensures fit { AllByRecursion FitsListed extents.now }
+{
+    let mut place = at;
     for extent in extents {
-        out.extend_from_slice(&listed_bytes(extent))?;
+        put_listed(out, place, extent);
+        place += 24;
     }
-    Ok(())
 }

@@ -1,16 +1,17 @@
 //! A page of extents, read and written.
 
-ghost use Rattle.dcd_base.specs.Layouts.{FitsField};
-ghost use Rattle.host_payloads.specs.HostPayloads.{Gives, IsPage, extents_payload, page_fields, page_head, page_in};
+ghost use Rattle.field_bytes.specs.Layouts.{FitsField};
+ghost use Rattle.host_payloads.specs.HostPayloads.{IsPage, extents_payload, page_fields, page_head, page_in};
+ghost use Rattle.field_bytes.specs.Payloads.{Gives};
 ghost use Rattle.host_payloads.specs.declared.pages.ExtentsPage.{ExtentsPage};
 ghost use Rattle.std.specs.List.{AllByRecursion};
-ghost use Rattle.std.specs.Prelude.{◌≡◌, ◌++◌, ◌≤◌, IfOk, OnErr, OnOk, length};
+ghost use Rattle.std.specs.Prelude.{◌≡◌, ◌+◌, ◌*◌, ◌++◌, ◌≤◌, IfOk, OnErr, OnOk, length, take};
 
-use crate::counted::{expect_length, page_length};
-use crate::extents::{extents_of, put_extents};
-use crate::faults::PayloadFault;
-use crate::numbers::u32_at;
+use crate::counted::page_length;
 use dcd_base::{Bytes, Extent, Extents, NoMemory};
+use field_bytes::{
+    PayloadFault, expect_length, extents_of, put_extents, put_u32, put_zeros, u32_at, zeros,
+};
 use std::alloc::Global;
 
 /// A page of a host's accepted extents (CXL 3.1, 8.2.9.9.9.2).
@@ -52,31 +53,27 @@ pub fn read_extents(alloc: Global, payload: &[u8]) -> Result<ExtentsPage, Payloa
     page_of(alloc, payload)
 }
 
+/// Puts what stands before the extents of a page at the start.
 #[tactic(auto, unfolding(crate::specs::HostPayloads::page_head))]
-fn page_head(returned: u32, total: u32, generation: u32) -> [u8; 16]
-    ensures { result ≡ page_head returned total generation }
+fn put_page_head(out: &mut [u8], returned: u32, total: u32, generation: u32)
+    requires { 16 ≤ length out.old }
+    ensures { take 16 out.new ≡ page_head returned total generation }
 {
-    let returned = returned.to_le_bytes();
-    let total = total.to_le_bytes();
-    let generation = generation.to_le_bytes();
-    [
-        returned[0],
-        returned[1],
-        returned[2],
-        returned[3],
-        total[0],
-        total[1],
-        total[2],
-        total[3],
-        generation[0],
-        generation[1],
-        generation[2],
-        generation[3],
-        0,
-        0,
-        0,
-        0,
-    ]
+    put_u32(out, 0, returned);
+    put_u32(out, 4, total);
+    put_u32(out, 8, generation);
+    put_zeros::<4>(out, 12);
+}
+
+/// Fills the payload of a page.
+fn fill_page(out: &mut [u8], total: u32, generation: u32, extents: &[Extent])
+    requires few { length extents.now ≤ 50 }
+    requires whole { length out.old ≡ 16 + 40 * length extents.now }
+    ensures spelled { out.new ≡ extents_payload total generation extents.now }
+    ensures fits { AllByRecursion FitsField (page_fields total generation extents.now) }
+{
+    put_page_head(out, extents.len() as u32, total, generation);
+    put_extents(out, 16, extents);
 }
 
 fn page_payload(
@@ -89,10 +86,9 @@ fn page_payload(
     ensures spelled { IfOk result (λ bytes. bytes ≡ extents_payload total generation extents.now) }
     ensures fits { OnOk result (AllByRecursion FitsField (page_fields total generation extents.now)) }
 {
-    let mut payload = Bytes::with_capacity(alloc, 16 + 40 * extents.len())?;
-    payload.extend_from_slice(&page_head(extents.len() as u32, total, generation))?;
-    put_extents(&mut payload, extents)?;
-    Ok(payload)
+    let mut payload = zeros(alloc, 16 + 40 * extents.len())?;
+    fill_page(&mut payload, total, generation, extents);
+    Ok(Bytes::from_vec(alloc, payload))
 }
 
 /// Appends the payload of the reply to Get Dynamic Capacity Extent List: how many extents the list has, how often

@@ -1,37 +1,58 @@
 //! The payloads of the replies to a host.
 
+ghost use Rattle.dcd_base.specs.Words.{flag_of};
 ghost use Rattle.event_records.specs.Records.{record_bytes};
 ghost use Rattle.host_payloads.specs.HostPayloads.{configuration_head, configuration_payload, events_head, events_payload, region_bytes};
-ghost use Rattle.std.specs.Prelude.{◌≡◌, ◌++◌, ◌≤◌, IfOk, OnErr, OnOk, flat_map, length};
+ghost use Rattle.std.specs.Prelude.{◌≡◌, ◌==◌, ◌+◌, ◌*◌, ◌++◌, ◌≤◌, IfOk, OnErr, OnOk, flat_map, length, not, take};
 
-use crate::numbers::flag_byte;
-use crate::views::{Counts, RegionView, counts_bytes, region_bytes};
+use crate::views::{Counts, RegionView, put_counts, put_region};
 use dcd_base::{Bytes, NoMemory};
-use event_records::{Event, encode};
+use event_records::{Event, put_record};
+use field_bytes::{put_byte, put_u8, put_u16, put_zeros, zeros};
 use std::alloc::Global;
 
-/// The 32 bytes before the records: flags, the missed records, the times of the first and the last of them, how
-/// many records follow.
-#[tactic(auto, unfolding(crate::specs::HostPayloads::events_head))]
-fn events_head(missed: u16, more: bool, count: u16) -> [u8; 32]
-    ensures { result ≡ events_head missed more count }
+/// The flags before the records: bit 0 where records were missed, bit 1 where more records follow later.
+fn event_flags(missed: u16, more: bool) -> u8
+    ensures { result ≡ flag_of (not (missed == 0)) + 2 * flag_of more }
 {
-    let flags = flag_byte(missed != 0) + 2 * flag_byte(more);
-    let missed = missed.to_le_bytes();
-    let count = count.to_le_bytes();
-    [
-        flags, 0, missed[0], missed[1], 0, 0, 0, 0, 0, 0, 0, 0, 0, 0, 0, 0, 0, 0, 0, 0, count[0],
-        count[1], 0, 0, 0, 0, 0, 0, 0, 0, 0, 0,
-    ]
+    u8::from(missed != 0) + 2 * u8::from(more)
 }
 
-fn put_records(out: &mut Bytes, events: &[Event]) -> Result<(), NoMemory>
-    ensures { OnOk result (out.new ≡ out.old ++ flat_map record_bytes events.now) }
+/// Puts the 32 bytes before the records at the start: flags, the missed records, the times of the first and the last
+/// of them, how many records follow.
+#[tactic(auto, unfolding(crate::specs::HostPayloads::events_head))]
+fn put_events_head(out: &mut [u8], missed: u16, more: bool, count: u16)
+    requires { 32 ≤ length out.old }
+    ensures { take 32 out.new ≡ events_head missed more count }
 {
+    put_byte(out, 0, event_flags(missed, more));
+    put_zeros::<1>(out, 1);
+    put_u16(out, 2, missed);
+    put_zeros::<16>(out, 4);
+    put_u16(out, 20, count);
+    put_zeros::<10>(out, 22);
+}
+
+/// Puts records at a place, 128 bytes each, and leaves what stands before them.
+fn put_records(out: &mut [u8], at: usize, events: &[Event])
+    requires { at + 128 * length events.now ≤ length out.old }
+    ensures { take (at + 128 * length events.now) out.new ≡ take at out.old ++ flat_map record_bytes events.now }
+{
+    let mut place = at;
     for event in events {
-        out.extend_from_slice(&encode(event))?;
+        put_record(out, place, event);
+        place += 128;
     }
-    Ok(())
+}
+
+/// Fills the payload of the reply to Get Event Records.
+fn fill_events(out: &mut [u8], missed: u16, more: bool, events: &[Event])
+    requires few { length events.now ≤ 15 }
+    requires whole { length out.old ≡ 32 + 128 * length events.now }
+    ensures { out.new ≡ events_payload missed more events.now }
+{
+    put_events_head(out, missed, more, events.len() as u16);
+    put_records(out, 32, events);
 }
 
 fn events_payload(
@@ -43,10 +64,9 @@ fn events_payload(
     requires { length events.now ≤ 15 }
     ensures { IfOk result (λ bytes. bytes ≡ events_payload missed more events.now) }
 {
-    let mut payload = Bytes::with_capacity(alloc, 32 + 128 * events.len())?;
-    payload.extend_from_slice(&events_head(missed, more, events.len() as u16))?;
-    put_records(&mut payload, events)?;
-    Ok(payload)
+    let mut payload = zeros(alloc, 32 + 128 * events.len())?;
+    fill_events(&mut payload, missed, more, events);
+    Ok(Bytes::from_vec(alloc, payload))
 }
 
 /// Appends the payload of the reply to Get Event Records (CXL 3.1, 8.2.9.2.2): a flag where records were missed,
@@ -67,22 +87,38 @@ pub fn write_events(
     out.append(payload)
 }
 
-/// The eight bytes before the regions.
+/// Puts the eight bytes before the regions at the start.
 #[tactic(auto, unfolding(crate::specs::HostPayloads::configuration_head))]
-fn configuration_head(total: u8, returned: u8) -> [u8; 8]
-    ensures { result ≡ configuration_head total returned }
+fn put_configuration_head(out: &mut [u8], total: u8, returned: u8)
+    requires { 8 ≤ length out.old }
+    ensures { take 8 out.new ≡ configuration_head total returned }
 {
-    [total, returned, 0, 0, 0, 0, 0, 0]
+    put_u8(out, 0, total);
+    put_u8(out, 1, returned);
+    put_zeros::<6>(out, 2);
 }
 
-/// Appends regions, 40 bytes each.
-pub fn put_regions(out: &mut Bytes, regions: &[RegionView]) -> Result<(), NoMemory>
-    ensures { OnOk result (out.new ≡ out.old ++ flat_map region_bytes regions.now) }
+/// Puts regions at a place, 40 bytes each, and leaves what stands before them.
+fn put_regions(out: &mut [u8], at: usize, regions: &[RegionView])
+    requires { at + 40 * length regions.now ≤ length out.old }
+    ensures { take (at + 40 * length regions.now) out.new ≡ take at out.old ++ flat_map region_bytes regions.now }
 {
+    let mut place = at;
     for region in regions {
-        out.extend_from_slice(&region_bytes(region))?;
+        put_region(out, place, region);
+        place += 40;
     }
-    Ok(())
+}
+
+/// Fills the payload of the reply to Get Dynamic Capacity Configuration.
+fn fill_configuration(out: &mut [u8], total: u8, regions: &[RegionView], counts: &Counts)
+    requires few { length regions.now ≤ 8 }
+    requires whole { length out.old ≡ 24 + 40 * length regions.now }
+    ensures { out.new ≡ configuration_payload total regions.now counts.now }
+{
+    put_configuration_head(out, total, regions.len() as u8);
+    put_regions(out, 8, regions);
+    put_counts(out, 8 + 40 * regions.len(), counts);
 }
 
 fn configuration_payload(
@@ -94,11 +130,9 @@ fn configuration_payload(
     requires { length regions.now ≤ 8 }
     ensures { IfOk result (λ bytes. bytes ≡ configuration_payload total regions.now counts.now) }
 {
-    let mut payload = Bytes::with_capacity(alloc, 24 + 40 * regions.len())?;
-    payload.extend_from_slice(&configuration_head(total, regions.len() as u8))?;
-    put_regions(&mut payload, regions)?;
-    payload.extend_from_slice(&counts_bytes(counts))?;
-    Ok(payload)
+    let mut payload = zeros(alloc, 24 + 40 * regions.len())?;
+    fill_configuration(&mut payload, total, regions, counts);
+    Ok(Bytes::from_vec(alloc, payload))
 }
 
 /// Appends the payload of the reply to Get Dynamic Capacity Configuration: how many regions the device has, the

@@ -1,7 +1,9 @@
 //! Regions and counts as a reply shows them.
 
 ghost use Rattle.host_payloads.specs.HostPayloads.{counts_bytes, region_bytes};
-ghost use Rattle.std.specs.Prelude.{◌≡◌};
+ghost use Rattle.std.specs.Prelude.{◌≡◌, ◌+◌, ◌++◌, ◌≤◌, length, take};
+
+use field_bytes::{put_u8, put_u32, put_u64, put_zeros};
 
 /// A region as the reply to Get Dynamic Capacity Configuration shows it (CXL 3.1, 8.2.9.9.9.1).
 #[derive(Clone, Copy, Debug, PartialEq, Eq)]
@@ -31,51 +33,67 @@ pub struct Counts {
     pub tags_available: u32,
 }
 
-/// A region's 40 bytes in a reply; the last three are reserved.
+/// Fills 40 bytes with a region; the last three are reserved.
 #[tactic(auto, unfolding(crate::specs::HostPayloads::region_bytes))]
+fn fill_region(out: &mut [u8], view: &RegionView)
+    requires { length out.old ≡ 40 }
+    ensures { out.new ≡ region_bytes view.now }
+{
+    put_u64(out, 0, view.base);
+    put_u64(out, 8, view.decode_units);
+    put_u64(out, 16, view.length);
+    put_u64(out, 24, view.block);
+    put_u32(out, 32, view.handle);
+    put_u8(out, 36, view.flags);
+    put_zeros::<3>(out, 37);
+}
+
+/// Puts a region's 40 bytes at a place, and leaves what stands before it.
+pub fn put_region(out: &mut [u8], at: usize, view: &RegionView)
+    requires { at + 40 ≤ length out.old }
+    ensures { take (at + 40) out.new ≡ take at out.old ++ region_bytes view.now }
+{
+    let (_, rest) = out.split_at_mut(at);
+    let (front, _) = rest.split_at_mut(40);
+    fill_region(front, view);
+}
+
+/// A region's 40 bytes in a reply; the last three are reserved.
 pub fn region_bytes(view: &RegionView) -> [u8; 40]
     ensures { result ≡ region_bytes view.now }
 {
-    let base = view.base.to_le_bytes();
-    let decode = view.decode_units.to_le_bytes();
-    let length = view.length.to_le_bytes();
-    let block = view.block.to_le_bytes();
-    let handle = view.handle.to_le_bytes();
-    let flags = view.flags.to_le_bytes();
-    [
-        base[0], base[1], base[2], base[3], base[4], base[5], base[6], base[7], decode[0],
-        decode[1], decode[2], decode[3], decode[4], decode[5], decode[6], decode[7], length[0],
-        length[1], length[2], length[3], length[4], length[5], length[6], length[7], block[0],
-        block[1], block[2], block[3], block[4], block[5], block[6], block[7], handle[0], handle[1],
-        handle[2], handle[3], flags[0], 0, 0, 0,
-    ]
+    let mut bytes = [0; 40];
+    fill_region(&mut bytes, view);
+    bytes
+}
+
+/// Fills 16 bytes with the counts.
+#[tactic(auto, unfolding(crate::specs::HostPayloads::counts_bytes))]
+fn fill_counts(out: &mut [u8], counts: &Counts)
+    requires { length out.old ≡ 16 }
+    ensures { out.new ≡ counts_bytes counts.now }
+{
+    put_u32(out, 0, counts.extents);
+    put_u32(out, 4, counts.extents_available);
+    put_u32(out, 8, counts.tags);
+    put_u32(out, 12, counts.tags_available);
+}
+
+/// Puts the 16 bytes of the counts at a place, and leaves what stands before them.
+pub fn put_counts(out: &mut [u8], at: usize, counts: &Counts)
+    requires { at + 16 ≤ length out.old }
+    ensures { take (at + 16) out.new ≡ take at out.old ++ counts_bytes counts.now }
+{
+    let (_, rest) = out.split_at_mut(at);
+    let (front, _) = rest.split_at_mut(16);
+    fill_counts(front, counts);
 }
 
 /// The 16 bytes of the counts: extents supported and available, tags supported and available.
-#[tactic(auto, unfolding(crate::specs::HostPayloads::counts_bytes))]
 pub fn counts_bytes(counts: &Counts) -> [u8; 16]
     ensures { result ≡ counts_bytes counts.now }
 {
-    let extents = counts.extents.to_le_bytes();
-    let extents_left = counts.extents_available.to_le_bytes();
-    let tags = counts.tags.to_le_bytes();
-    let tags_left = counts.tags_available.to_le_bytes();
-    [
-        extents[0],
-        extents[1],
-        extents[2],
-        extents[3],
-        extents_left[0],
-        extents_left[1],
-        extents_left[2],
-        extents_left[3],
-        tags[0],
-        tags[1],
-        tags[2],
-        tags[3],
-        tags_left[0],
-        tags_left[1],
-        tags_left[2],
-        tags_left[3],
-    ]
+    let mut bytes = [0; 16];
+    fill_counts(&mut bytes, counts);
+    bytes
 }

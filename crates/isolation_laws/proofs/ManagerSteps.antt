@@ -14,7 +14,7 @@ use Rattle.dcd_codes.specs.Rules.{◌breaks◌, each_in}
 use Rattle.dcd_codes.specs.declared.rules.Rule.{Rule}
 use Rattle.event_log.specs.Logs.{room_in}
 use Rattle.extent_list.specs.ExtentLists.{count_in}
-use Rattle.fm_payloads.specs.declared.faults.PayloadFault.{PayloadFault as ManagerFault}
+use Rattle.field_bytes.specs.declared.faults.PayloadFault.{PayloadFault as ManagerFault}
 use Rattle.fm_payloads.specs.declared.requests.FmRequest.{FmRequest}
 use Rattle.journal_core.specs.Entries.{effects}
 use Rattle.journal_core.specs.declared.entries.Entry.{Entry}

@@ -5,7 +5,7 @@ use Rattle.std.specs.List.{enumerate_from}
 use Rattle.std.proofs.lemmas.Bool.{cases_Bool, eq-eqb, le-ltb, lt-ltb}
 use Rattle.std.proofs.lemmas.List.{length-map}
 use Rattle.std.proofs.lemmas.List.FromFn.{length-enumerate_from}
-use Rattle.dcd_base.specs.Layouts.{flag_of}
+use Rattle.dcd_base.specs.Words.{flag_of}
 use Rattle.dcd_base.specs.declared.ids.HostId.{HostId}
 use Rattle.device_rules.specs.Views.{View}
 use Rattle.region_config.proofs.PresentBlocks.{region_spec-with_blocks, with_block-with_blocks}

@@ -1,5 +1,5 @@
 -- How the block size of a region is changed.
-use Rattle.dcd_base.specs.Layouts.{flag_of}
+use Rattle.dcd_base.specs.Words.{flag_of}
 use Rattle.dcd_base.specs.Words.{◌or◌}
 use Rattle.std.specs.Prelude.{ℕ, Bool, not, ◌==◌, Option, slice_set}
 use Rattle.region_config.specs.Configurations.{Configuration}

@@ -8,7 +8,7 @@ use Rattle.std.proofs.Math.Seq.{take-add, take-append-add}
 use Rattle.std.proofs.lemmas.List.{append_assoc, append-nil, flat_map_more, length-set, length-take-le, take_more, take_more_set, take-append-drop, take-take}
 use Rattle.std.proofs.lemmas.Option.{get_or_from_slice_get}
 use Rattle.std.proofs.lemmas.Grind.{flat_map-append}
-use Rattle.dcd_base.specs.Layouts.{Field, Raw, spell, spelling}
+use Rattle.field_bytes.specs.Layouts.{Field, Raw, spell, spelling}
 use Rattle.cci_codec.specs.declared.messages.Response.{Response}
 use Rattle.cci_codec.specs.Messages.{response_bytes, response_head_fields}
 use Rattle.journal_core.specs.declared.entries.Entry.{Entry}

@@ -1,16 +1,12 @@
 -- Fields that are put one after another.
 use Rattle.std.proofs.Common.{◌≡◌, ℕ, suc, ◌+◌, ◌*◌, ◌<◌, ◌≤◌, arith, map, take, length, get_or, subst, List, [], ◌∷◌, ◌++◌, sym, ap, ◌∙◌, append-nil, append_assoc}
 use Rattle.std.specs.Prelude.{flat_map}
-use Rattle.std.specs.List.{AllByRecursion}
 use Rattle.std.proofs.lemmas.List.{take_more, map-append}
 use Rattle.std.proofs.Math.Nat.{mul-le-mul_right, suc-mul}
 use Rattle.std.proofs.lemmas.Grind.{flat_map-append}
-use Rattle.dcd_base.specs.Layouts.{Field, FitsField, spell, spelling}
+use Rattle.field_bytes.specs.Layouts.{Field, spell, spelling}
+use Rattle.field_bytes.proofs.Agreement.{fits-append}
 use Rattle.script_codec.specs.Writing.{Appends}
-
-pub fits-append : (fs gs : List Field) → AllByRecursion FitsField fs → AllByRecursion FitsField gs → AllByRecursion FitsField (fs ++ gs)
-fits-append [] gs a b = b
-fits-append (f ∷ fs) gs a b = (a.0, fits-append fs gs a.1 b)
 
 pub appends_nothing : (old : List ℕ) → Appends old old []
 appends_nothing old = record { fits = tt; is = sym (append-nil old) }

@@ -1,30 +1,18 @@
 -- What reading a field answers is what stands there.
-use Rattle.std.proofs.Common.{◌≡◌, ℕ, zero, suc, ◌+◌, ◌^◌, ◌<◌, ◌≤◌, Bool, true, false, cond, nat_lt, List, [], ◌∷◌, length, get_or, take, drop, Result, Ok, Err, refl, sym, ap, ◌∙◌, subst, arith, length-take, length-drop}
+use Rattle.std.proofs.Common.{◌≡◌, ℕ, zero, suc, ◌+◌, ◌^◌, ◌<◌, ◌≤◌, Bool, true, false, cond, nat_lt, List, [], ◌∷◌, length, drop, Result, Ok, Err, refl, sym, ap, ◌∙◌, subst, arith, length-take, length-drop}
 use Rattle.std.specs.Prelude.{flat_map}
-use Rattle.std.specs.Int.{Width, w8, w16, w32, w64, byte_len, to_le_bytes, from_le_bytes}
-use Rattle.std.proofs.lemmas.Nat.{le_bytes_2, le_bytes_4, le_bytes_8, from_le_bytes-to_le_bytes_2, from_le_bytes-to_le_bytes_4, from_le_bytes-to_le_bytes_8}
-use Rattle.std.proofs.lemmas.List.{get_or-drop}
+use Rattle.std.specs.Int.{Width, byte_len, from_le_bytes}
 use Rattle.std.proofs.lemmas.Bool.{le-ltb}
 use borrow.Author.Tests.{ltb-false}
-use Rattle.dcd_base.specs.Layouts.{Field, Number, Reserved}
+use Rattle.field_bytes.specs.Layouts.{Field, Number, Reserved, spell}
+use Rattle.field_bytes.proofs.Fields.{IsBytes}
+use Rattle.field_bytes.proofs.Widths.{IsBytes-drop, IsBytes-take, IsWide}
 use Rattle.script_codec.specs.declared.faults.ScriptFault.{ScriptFault}
 use Rattle.script_codec.specs.Fields.{◌>>=◌, skip, part, number_from, many_from}
 use Rattle.script_codec.proofs.Spans.{Stands, Spans, spans_then, parted}
 
-abbrev pub IsBytes : List ℕ → Type 0
-IsBytes bytes = (i : ℕ) → get_or bytes i 0 < 256
-
-take_bytes : (k : ℕ) (bytes : List ℕ) → IsBytes bytes → IsBytes (take k bytes)
-take_bytes zero bytes small = λ i. omega arith
-take_bytes (suc k) [] small = λ i. omega arith
-take_bytes (suc k) (x ∷ bytes) small = by (take_bytes k bytes (λ i. small (suc i)))
-  where
-    by : IsBytes (take k bytes) → (i : ℕ) → get_or (x ∷ take k bytes) i 0 < 256
-    by rest zero = small 0
-    by rest (suc i) = rest i
-
 pub part_bytes : (n : ℕ) (bytes : List ℕ) (at : ℕ) → IsBytes bytes → IsBytes (part n bytes at)
-part_bytes n bytes at small = take_bytes n (drop at bytes) (λ i. subst (λ b. b < 256) (sym (get_or-drop at bytes i 0)) (small (at + i)))
+part_bytes n bytes at small = IsBytes-take n (drop at bytes) (IsBytes-drop at bytes small)
 
 -- ---- one step after another
 pub record Bound {A B : Type 0} (first : Result A ScriptFault) (next : A → Result B ScriptFault) (y : B) : Type 0 where
@@ -61,41 +49,6 @@ unfolding skip
 skip_is n bytes at within = rw (le-ltb (length bytes) (at + n) within) refl
 
 -- ---- numbers
--- numbers of this width are told by their bytes, and bytes by the number
-pub record IsWide (w : Width) : Type 0 where
-  pub back : (piece : List ℕ) → length piece ≡ byte_len w → IsBytes piece → piece ≡ to_le_bytes w (from_le_bytes w piece)
-  pub range : (piece : List ℕ) → IsBytes piece → from_le_bytes w piece < 256 ^ byte_len w
-  pub forth : (n : ℕ) → n < 256 ^ byte_len w → from_le_bytes w (to_le_bytes w n) ≡ n
-
-one_byte : (piece : List ℕ) → length piece ≡ 1 → IsBytes piece → piece ≡ to_le_bytes w8 (from_le_bytes w8 piece)
-one_byte [] long small = cc
-one_byte (b ∷ []) long small = ap (λ (n : ℕ). n ∷ []) (omega (arith, small 0))
-one_byte (b ∷ c ∷ piece) long small = absurd (omega (arith, long))
-
-pub wide8 : IsWide w8
-wide8 = record { back = one_byte; range = λ piece small. omega (arith, small 0); forth = λ n fits. omega (arith, fits) }
-
-pub wide16 : IsWide w16
-wide16 = record {
-  back = λ piece long small. sym (le_bytes_2 piece _ long small refl);
-  range = λ piece small. omega (arith, small 0, small 1);
-  forth = λ n fits. from_le_bytes-to_le_bytes_2 n fits;
-}
-
-pub wide32 : IsWide w32
-wide32 = record {
-  back = λ piece long small. sym (le_bytes_4 piece _ long small refl);
-  range = λ piece small. omega (arith, small 0, small 1, small 2, small 3);
-  forth = λ n fits. from_le_bytes-to_le_bytes_4 n fits;
-}
-
-pub wide64 : IsWide w64
-wide64 = record {
-  back = λ piece long small. sym (le_bytes_8 piece _ long small refl);
-  range = λ piece small. omega (arith, small 0, small 1, small 2, small 3, small 4, small 5, small 6, small 7);
-  forth = λ n fits. from_le_bytes-to_le_bytes_8 n fits;
-}
-
 pub number_sound : (w : Width) → IsWide w → (bytes : List ℕ) (at : ℕ) (x : ℕ × ℕ) → IsBytes bytes → number_from w bytes at ≡ Ok x → Spans bytes at x.1 (Number w x.0 ∷ [])
 unfolding number_from
 number_sound w wide bytes at x small is =
@@ -107,9 +60,9 @@ number_sound w wide bytes at x small is =
     record {
       all = (
         record {
-          fits = subst (λ n. n < 256 ^ byte_len w) value (wide.range (part (byte_len w) bytes at) (part_bytes (byte_len w) bytes at small));
+          fits = subst (λ n. n < 256 ^ byte_len w) value (wide.below (part (byte_len w) bytes at) (part_bytes (byte_len w) bytes at small));
           within = skipped.all.0.within;
-          reads = wide.back (part (byte_len w) bytes at) skipped.all.0.reads (part_bytes (byte_len w) bytes at small) ∙ ap (to_le_bytes w) value;
+          reads = sym (wide.back (part (byte_len w) bytes at) skipped.all.0.reads (part_bytes (byte_len w) bytes at small)) ∙ ap (λ n. spell (Number w n)) value;
         },
         skipped.all.1 ∙ next,
       );
@@ -119,7 +72,7 @@ pub number_is : (w : Width) → IsWide w → (bytes : List ℕ) (at n : ℕ) →
 unfolding number_from
 number_is w wide bytes at n stands =
     ap (λ r. r >>= (λ next. Ok (from_le_bytes w (part (byte_len w) bytes at), next))) (skip_is (byte_len w) bytes at stands.within)
-    ∙ ap (λ m. Ok (m, at + byte_len w)) (ap (from_le_bytes w) stands.reads ∙ wide.forth n stands.fits)
+    ∙ ap (λ m. Ok (m, at + byte_len w)) (ap (from_le_bytes w) stands.reads ∙ wide.again n stands.fits)
 
 -- ---- lists
 module _ {A : Type 0} (bytes : List ℕ) (field : List ℕ → ℕ → Result (A × ℕ) ScriptFault) (layout : A → List Field) where

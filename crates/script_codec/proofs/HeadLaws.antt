@@ -7,7 +7,8 @@ use Rattle.std.proofs.lemmas.Nat.{and_mask}
 use Rattle.std.proofs.lemmas.Nat.Bits.{and_pow}
 use Rattle.std.proofs.lemmas.Bool.Decides.{nat_tests}
 use lib.Pointwise.{pointwise, bytes_decides}
-use Rattle.dcd_base.specs.Layouts.{Field, Number, Masked, Raw, Reserved, flag_of}
+use Rattle.field_bytes.specs.Layouts.{Field, Number, Masked, Raw, Reserved}
+use Rattle.dcd_base.specs.Words.{flag_of}
 use Rattle.region_config.specs.declared.region_spec.RegionSpec.{RegionSpec}
 use Rattle.region_config.specs.declared.faults.ConfigFault.{ConfigFault}
 use Rattle.region_config.specs.Configurations.{Configuration}
@@ -21,7 +22,9 @@ use Rattle.script_codec.specs.declared.script_line.Line.{Line}
 use Rattle.script_codec.specs.declared.scripts.Script.{Script}
 use Rattle.script_codec.proofs.Writable.{laned, count_good}
 use Rattle.script_codec.proofs.Spans.{Stands, Spans, spans_then, parted}
-use Rattle.script_codec.proofs.FieldLaws.{IsBytes, part_bytes, bound, ok_is, passed, passing, skip_sound, skip_is, wide8, wide16, wide32, wide64, number_sound, number_is, many_sound, many_is}
+use Rattle.script_codec.proofs.FieldLaws.{part_bytes, bound, ok_is, passed, passing, skip_sound, skip_is, number_sound, number_is, many_sound, many_is}
+use Rattle.field_bytes.proofs.Fields.{IsBytes}
+use Rattle.field_bytes.proofs.Widths.{wide_8, wide_16, wide_32, wide_64}
 
 -- ---- the flags of a region
 flag_is : (n : ℕ) → n < 2 → flag_of (n == 1) ≡ n
@@ -97,12 +100,12 @@ module _ (bytes : List ℕ) where
         let next = bound (skip 3 bytes flags.value.1) _ x flags.done in
         let b = flags.value.0 in
         subst (λ (p : RegionSpec × ℕ). Spans bytes at p.1 (region_fields p.0)) (ok_is _ x next.done)
-        (spans_then (number_sound w64 wide64 bytes at units.value small units.begun)
-        (spans_then (number_sound w64 wide64 bytes units.value.1 size.value small size.begun)
-        (spans_then (number_sound w64 wide64 bytes size.value.1 block.value small block.begun)
-        (spans_then (number_sound w64 wide64 bytes block.value.1 sizes.value small sizes.begun)
-        (spans_then (number_sound w32 wide32 bytes sizes.value.1 handle.value small handle.begun)
-        (spans_then (flags_found handle.value.1 flags.value.1 flags.value.0 _ (number_sound w8 wide8 bytes handle.value.1 flags.value small flags.begun) (flags_low flags.value.0) (flags_fit (bit_and flags.value.0 1 == 1) (bit_and flags.value.0 2 == 2)))
+        (spans_then (number_sound w64 wide_64 bytes at units.value small units.begun)
+        (spans_then (number_sound w64 wide_64 bytes units.value.1 size.value small size.begun)
+        (spans_then (number_sound w64 wide_64 bytes size.value.1 block.value small block.begun)
+        (spans_then (number_sound w64 wide_64 bytes block.value.1 sizes.value small sizes.begun)
+        (spans_then (number_sound w32 wide_32 bytes sizes.value.1 handle.value small handle.begun)
+        (spans_then (flags_found handle.value.1 flags.value.1 flags.value.0 _ (number_sound w8 wide_8 bytes handle.value.1 flags.value small flags.begun) (flags_low flags.value.0) (flags_fit (bit_and flags.value.0 1 == 1) (bit_and flags.value.0 2 == 2)))
         (skip_sound 3 bytes flags.value.1 next.value next.begun)))))))
 
     byte_stands : (at v b : ℕ) → Stands bytes at (Masked 3 v) → take 1 (drop at bytes) ≡ b ∷ [] → Stands bytes at (Number w8 b)
@@ -118,12 +121,12 @@ module _ (bytes : List ℕ) where
         let b = flags.reads in
         let tell = flags_tell b.0 spec.sanitize spec.shareable b.2 in
         rw (
-          number_is w64 wide64 bytes at spec.decode_units a.0,
-          number_is w64 wide64 bytes _ spec.length a.1.0,
-          number_is w64 wide64 bytes _ spec.block a.1.1.0,
-          number_is w64 wide64 bytes _ spec.sizes a.1.1.1.0,
-          number_is w32 wide32 bytes _ spec.handle a.1.1.1.1.0,
-          number_is w8 wide8 bytes _ b.0 (byte_stands _ _ b.0 flags b.1),
+          number_is w64 wide_64 bytes at spec.decode_units a.0,
+          number_is w64 wide_64 bytes _ spec.length a.1.0,
+          number_is w64 wide_64 bytes _ spec.block a.1.1.0,
+          number_is w64 wide_64 bytes _ spec.sizes a.1.1.1.0,
+          number_is w32 wide_32 bytes _ spec.handle a.1.1.1.1.0,
+          number_is w8 wide_8 bytes _ b.0 (byte_stands _ _ b.0 flags b.1),
           skip_is 3 bytes _ a.1.1.1.1.1.1.0.within,
         )
         (λ i. Ok (
@@ -145,13 +148,13 @@ module _ (bytes : List ℕ) where
     version_sound at x is =
         let b = bound (number_from w16 bytes at) _ x is in
         let p = passed (bad_version b.value.0) (ScriptFault.BadVersion b.value.0) b.value x b.done in (
-          subst (λ (y : ℕ × ℕ). Spans bytes at y.1 (Number w16 y.0 ∷ [])) p.1 (number_sound w16 wide16 bytes at b.value small b.begun),
+          subst (λ (y : ℕ × ℕ). Spans bytes at y.1 (Number w16 y.0 ∷ [])) p.1 (number_sound w16 wide_16 bytes at b.value small b.begun),
           subst (λ (y : ℕ × ℕ). bad_version y.0 ≡ false) p.1 p.0,
         )
 
     pub version_is : (at n : ℕ) → Stands bytes at (Number w16 n) → bad_version n ≡ false → version_from bytes at ≡ Ok (n, at + 2)
     unfolding version_from
-    version_is at n stands good = rw (number_is w16 wide16 bytes at n stands, good) refl
+    version_is at n stands good = rw (number_is w16 wide_16 bytes at n stands, good) refl
 
     pub counts_sound : (at : ℕ) (x : (ℕ × ℕ) × ℕ) → counts_from bytes at ≡ Ok x → Spans bytes at x.1 (Number w8 x.0.0 ∷ Number w8 x.0.1 ∷ [])
     unfolding counts_from
@@ -160,18 +163,18 @@ module _ (bytes : List ℕ) where
         let regions = bound (number_from w8 bytes hosts.value.1) _ x hosts.done in
         let p = passed (bad_count hosts.value.0 regions.value.0) (ScriptFault.BadConfig ConfigFault.Count) ((hosts.value.0, regions.value.0), regions.value.1) x regions.done in
         subst (λ (y : (ℕ × ℕ) × ℕ). Spans bytes at y.1 (Number w8 y.0.0 ∷ Number w8 y.0.1 ∷ [])) p.1
-        (spans_then (number_sound w8 wide8 bytes at hosts.value small hosts.begun) (number_sound w8 wide8 bytes hosts.value.1 regions.value small regions.begun))
+        (spans_then (number_sound w8 wide_8 bytes at hosts.value small hosts.begun) (number_sound w8 wide_8 bytes hosts.value.1 regions.value small regions.begun))
 
     pub counts_is : (at hosts regions : ℕ) → Stands bytes at (Number w8 hosts) → Stands bytes (at + 1) (Number w8 regions) → bad_count hosts regions ≡ false → counts_from bytes at ≡ Ok ((hosts, regions), at + 1 + 1)
     unfolding counts_from
-    counts_is at hosts regions a b good = rw (number_is w8 wide8 bytes at hosts a, number_is w8 wide8 bytes (at + 1) regions b, good) refl
+    counts_is at hosts regions a b good = rw (number_is w8 wide_8 bytes at hosts a, number_is w8 wide_8 bytes (at + 1) regions b, good) refl
 
     told_lanes_sound : (at : ℕ) (x : ℕ × ℕ) → told_lanes_from bytes at ≡ Ok x → Spans bytes at x.1 (Number w8 x.0 ∷ []) × (bad_lanes x.0 ≡ false)
     unfolding told_lanes_from
     told_lanes_sound at x is =
         let b = bound (number_from w8 bytes at) _ x is in
         let p = passed (bad_lanes b.value.0) (ScriptFault.BadLanes b.value.0) b.value x b.done in (
-          subst (λ (y : ℕ × ℕ). Spans bytes at y.1 (Number w8 y.0 ∷ [])) p.1 (number_sound w8 wide8 bytes at b.value small b.begun),
+          subst (λ (y : ℕ × ℕ). Spans bytes at y.1 (Number w8 y.0 ∷ [])) p.1 (number_sound w8 wide_8 bytes at b.value small b.begun),
           subst (λ (y : ℕ × ℕ). bad_lanes y.0 ≡ false) p.1 p.0,
         )
 
@@ -203,7 +206,7 @@ module _ (bytes : List ℕ) where
     unfolding lanes_and_reserved_from one_lane_from told_lanes_from
     lanes_is_by_test version lanes true at next e good spans =
         let fine : bad_lanes lanes ≡ false = grind (arith, nat_tests) in
-        rw (number_is w8 wide8 bytes at lanes spans.all.0, fine, skip_is 5 bytes (at + 1) spans.all.1.0.within) (ap (λ place. Ok (lanes, place)) spans.all.1.1)
+        rw (number_is w8 wide_8 bytes at lanes spans.all.0, fine, skip_is 5 bytes (at + 1) spans.all.1.0.within) (ap (λ place. Ok (lanes, place)) spans.all.1.1)
     lanes_is_by_test version lanes false at next e good spans =
         let one : lanes ≡ 1 = grind (arith, nat_tests) in
         rw (skip_is 6 bytes at spans.all.0.within) (λ i. Ok (sym one i, spans.all.1 i))
@@ -235,7 +238,7 @@ module _ (bytes : List ℕ) where
         let made : Configuration = record { hosts = hosts; regions = regions.value.0; bases = bases.value.0 } in
         let sound = config_sound_of made config.value (config_fault made) config.begun in
         let rs = many_sound bytes region_from region_fields region_sound count at regions.value regions.begun in
-        let bs = many_sound bytes (number_from w64) (λ base. base_field base ∷ []) (λ place y. number_sound w64 wide64 bytes place y small) (hosts * count) regions.value.1 bases.value bases.begun in
+        let bs = many_sound bytes (number_from w64) (λ base. base_field base ∷ []) (λ place y. number_sound w64 wide_64 bytes place y small) (hosts * count) regions.value.1 bases.value bases.begun in
         subst (λ (y : Configuration × ℕ). ConfigStands at hosts count y) ((λ i. (sound.1 i, bases.value.1)) ∙ ok_is _ x config.done)
         (record {
           spans = spans_then rs.1 (subst (λ fields. Spans bytes regions.value.1 bases.value.1 fields) (flat_map_single base_field bases.value.0) bs.1);
@@ -252,7 +255,7 @@ module _ (bytes : List ℕ) where
         let bs : Spans bytes p.mid next (flat_map (λ base. base_field base ∷ []) c.bases) = subst (λ fields. Spans bytes p.mid next fields) (sym (flat_map_single base_field c.bases)) p.back in
         let bases : many_from (number_from w64) (c.hosts * length c.regions) bytes p.mid ≡ Ok (c.bases, next) =
         ap (λ n. many_from (number_from w64) n bytes p.mid) (sym based)
-        ∙ many_is bytes (number_from w64) (λ base. base_field base ∷ []) (λ place after base one. number_is w64 wide64 bytes place base one.all.0 ∙ ap (λ y. Ok (base, y)) one.all.1) p.mid next c.bases bs in
+        ∙ many_is bytes (number_from w64) (λ base. base_field base ∷ []) (λ place after base one. number_is w64 wide_64 bytes place base one.all.0 ∙ ap (λ y. Ok (base, y)) one.all.1) p.mid next c.bases bs in
         rw (many_is bytes region_from region_fields region_is at p.mid c.regions p.front, bases, faultless) refl
 
     -- ---- the whole head

@@ -6,11 +6,11 @@ use Rattle.std.proofs.lemmas.Bool.{le-ltb}
 use borrow.Author.Tests.{ltb-true, ltb-false, eqb-true}
 use Rattle.dcd_base.specs.declared.ids.HostId.{HostId}
 use Rattle.dcd_base.specs.declared.steps.Actor.{Actor}
-use Rattle.dcd_base.specs.Layouts.{Number, Reads, is_byte}
+use Rattle.field_bytes.specs.Layouts.{Number, Reads, is_byte}
 use Rattle.cci_codec.specs.declared.messages.Request.{Request}
 use Rattle.cci_codec.specs.declared.faults.MessageFault.{MessageFault}
 use Rattle.cci_codec.specs.Messages.{message_fault, request_in, request_fields, ReadsRequest}
-use Rattle.dcd_base.proofs.Fields.{all_bytes}
+use Rattle.field_bytes.proofs.Fields.{all_bytes, IsBytes}
 use Rattle.cci_codec.proofs.Reading.{no_message_fault, request_reads, request_read}
 use Rattle.journal_core.specs.declared.acts.Act.{Act}
 use Rattle.script_codec.specs.declared.script_line.Line.{Line}
@@ -20,7 +20,8 @@ use Rattle.script_codec.specs.Lines.{is_host_byte, host_of, commander_of, host_f
 use Rattle.script_codec.specs.Scripts.{actor_byte, line_fields, is_sound_line}
 use Rattle.script_codec.proofs.Writable.{both_first, both_second}
 use Rattle.script_codec.proofs.Spans.{Stands, Spans, spans_then, spans_out, spans_in, part_length}
-use Rattle.script_codec.proofs.FieldLaws.{IsBytes, part_bytes, bound, ok_is, passed, passing, skip_sound, skip_is, wide8, wide16, wide64, number_sound, number_is}
+use Rattle.script_codec.proofs.FieldLaws.{part_bytes, bound, ok_is, passed, passing, skip_sound, skip_is, number_sound, number_is}
+use Rattle.field_bytes.proofs.Widths.{wide_8, wide_16, wide_64}
 
 and_false : (a : Bool) → (a && false) ≡ false
 and_false true = refl
@@ -45,7 +46,7 @@ module _ (bytes : List ℕ) (small : IsBytes bytes) (hosts lanes : ℕ) where
       let whole : byte.value.0 ≡ byte.value.0 % 16 + 16 * (byte.value.0 / 16) = omega arith in
       subst (λ (y : (HostId × ℕ) × ℕ). Spans bytes at y.1 (Number w8 (y.0.0 + 16 * y.0.1) ∷ []) × (is_seat hosts lanes (Actor.Host y.0.0) y.0.1 ≡ true))
       ((λ i. (p.1 i, byte.value.1)) ∙ ok_is _ x host.done)
-      (subst (λ n. Spans bytes at byte.value.1 (Number w8 n ∷ [])) whole (number_sound w8 wide8 bytes at byte.value small byte.begun), p.0)
+      (subst (λ n. Spans bytes at byte.value.1 (Number w8 n ∷ [])) whole (number_sound w8 wide_8 bytes at byte.value small byte.begun), p.0)
 
   commander_by_test : (a b : Bool) (at byte : ℕ) (x : Actor × ℕ) → is_host_byte hosts lanes byte ≡ a → (byte == 0xFE) ≡ b → cond a (Ok (Actor.Host (byte % 16), byte / 16)) (cond b (Ok (Actor.Manager, 0)) (Err (ScriptFault.UnknownActor at))) ≡ Ok x → (actor_byte x.0 x.1 ≡ byte) × (is_seat hosts lanes x.0 x.1 ≡ true)
   commander_by_test true b at byte x p q is =
@@ -61,7 +62,7 @@ module _ (bytes : List ℕ) (small : IsBytes bytes) (hosts lanes : ℕ) where
       let actor = bound (commander_of hosts lanes at byte.value.0) _ x byte.done in
       let p = commander_by_test (is_host_byte hosts lanes byte.value.0) (byte.value.0 == 0xFE) at byte.value.0 actor.value refl refl actor.begun in
       subst (λ (y : (Actor × ℕ) × ℕ). Spans bytes at y.1 (Number w8 (actor_byte y.0.0 y.0.1) ∷ []) × (is_seat hosts lanes y.0.0 y.0.1 ≡ true)) (ok_is _ x actor.done)
-      (subst (λ n. Spans bytes at byte.value.1 (Number w8 n ∷ [])) (sym p.0) (number_sound w8 wide8 bytes at byte.value small byte.begun), p.1)
+      (subst (λ n. Spans bytes at byte.value.1 (Number w8 n ∷ [])) (sym p.0) (number_sound w8 wide_8 bytes at byte.value small byte.begun), p.1)
 
   module _ (few_hosts : hosts ≤ 16) (few_lanes : lanes ≤ 4) where
     named : (h lane : ℕ) → h < hosts → lane < lanes → ((h + 16 * lane) % 16 ≡ h) × ((h + 16 * lane) / 16 ≡ lane)
@@ -78,16 +79,16 @@ module _ (bytes : List ℕ) (small : IsBytes bytes) (hosts lanes : ℕ) where
     unfolding host_from
     host_is at h lane seat stands =
         let n = names h lane seat in
-        rw (number_is w8 wide8 bytes at (h + 16 * lane) stands, n.0) (λ i. Ok ((n.1 i, n.2 i), at + 1))
+        rw (number_is w8 wide_8 bytes at (h + 16 * lane) stands, n.0) (λ i. Ok ((n.1 i, n.2 i), at + 1))
 
     pub commander_is : (at : ℕ) (actor : Actor) (lane : ℕ) → is_seat hosts lanes actor lane ≡ true → Stands bytes at (Number w8 (actor_byte actor lane)) → commander_from hosts lanes bytes at ≡ Ok ((actor, lane), at + 1)
     unfolding commander_from
     commander_is at (Actor.Host h) lane seat stands =
         let n = names h lane seat in
-        rw (number_is w8 wide8 bytes at (h + 16 * lane) stands, n.0) (λ i. Ok ((Actor.Host (n.1 i), n.2 i), at + 1))
+        rw (number_is w8 wide_8 bytes at (h + 16 * lane) stands, n.0) (λ i. Ok ((Actor.Host (n.1 i), n.2 i), at + 1))
     commander_is at Actor.Manager lane seat stands =
         let far : nat_lt 15 lanes ≡ false = le-ltb 15 lanes (omega (arith, few_lanes)) in
-        rw (number_is w8 wide8 bytes at 0xFE stands, far, and_false (nat_lt 14 hosts)) (ap (λ n. Ok ((Actor.Manager, n), at + 1)) (sym (eqb-true lane 0 seat)))
+        rw (number_is w8 wide_8 bytes at 0xFE stands, far, and_false (nat_lt 14 hosts)) (ap (λ n. Ok ((Actor.Manager, n), at + 1)) (sym (eqb-true lane 0 seat)))
     commander_is at Actor.Sanitizer lane seat stands = cc
 
     -- ---- messages
@@ -146,7 +147,7 @@ module _ (bytes : List ℕ) (small : IsBytes bytes) (hosts lanes : ℕ) where
       subst (λ y. LineStands at 1 y) (ok_is _ x request.done)
       (record {
         spans = λ from kind. spans_then kind (spans_then named.0
-            (spans_then (subst (λ n. Spans bytes actor.value.1 size.value.1 (Number w16 n ∷ [])) (sym message.1) (number_sound w16 wide16 bytes actor.value.1 size.value small size.begun)) message.0));
+            (spans_then (subst (λ n. Spans bytes actor.value.1 size.value.1 (Number w16 n ∷ [])) (sym message.1) (number_sound w16 wide_16 bytes actor.value.1 size.value small size.begun)) message.0));
         sound = seat_fits actor.value.0.0 actor.value.0.1 request.value.0 named.1;
       })
 
@@ -158,7 +159,7 @@ module _ (bytes : List ℕ) (small : IsBytes bytes) (hosts lanes : ℕ) where
       let named = host_sound at host.value host.begun in
       subst (λ y. LineStands at 2 y) (ok_is _ x dpa.done)
       (record {
-        spans = λ from kind. spans_then kind (spans_then named.0 (number_sound w64 wide64 bytes host.value.1 dpa.value small dpa.begun));
+        spans = λ from kind. spans_then kind (spans_then named.0 (number_sound w64 wide_64 bytes host.value.1 dpa.value small dpa.begun));
         sound = named.1;
       })
 
@@ -171,7 +172,7 @@ module _ (bytes : List ℕ) (small : IsBytes bytes) (hosts lanes : ℕ) where
       let named = host_sound at host.value host.begun in
       subst (λ y. LineStands at 3 y) (ok_is _ x value.done)
       (record {
-        spans = λ from kind. spans_then kind (spans_then named.0 (spans_then (number_sound w64 wide64 bytes host.value.1 dpa.value small dpa.begun) (number_sound w64 wide64 bytes dpa.value.1 value.value small value.begun)));
+        spans = λ from kind. spans_then kind (spans_then named.0 (spans_then (number_sound w64 wide_64 bytes host.value.1 dpa.value small dpa.begun) (number_sound w64 wide_64 bytes dpa.value.1 value.value small value.begun)));
         sound = named.1;
       })
 
@@ -181,7 +182,7 @@ module _ (bytes : List ℕ) (small : IsBytes bytes) (hosts lanes : ℕ) where
       let most = bound (number_from w16 bytes at) _ x is in
       subst (λ y. LineStands at 4 y) (ok_is _ x most.done)
       (record {
-        spans = λ from kind. spans_then kind (number_sound w16 wide16 bytes at most.value small most.begun);
+        spans = λ from kind. spans_then kind (number_sound w16 wide_16 bytes at most.value small most.begun);
         sound = refl;
       })
 
@@ -200,11 +201,11 @@ module _ (bytes : List ℕ) (small : IsBytes bytes) (hosts lanes : ℕ) where
   kind_sound at x is =
       let kind = bound (number_from w8 bytes at) _ x is in
       let p = passed (nat_lt 5 kind.value.0) (ScriptFault.UnknownKind at) kind.value x kind.done in
-      subst (λ (y : ℕ × ℕ). Spans bytes at y.1 (Number w8 y.0 ∷ []) × (y.0 ≤ 5)) p.1 (number_sound w8 wide8 bytes at kind.value small kind.begun, ltb-false 5 kind.value.0 p.0)
+      subst (λ (y : ℕ × ℕ). Spans bytes at y.1 (Number w8 y.0 ∷ []) × (y.0 ≤ 5)) p.1 (number_sound w8 wide_8 bytes at kind.value small kind.begun, ltb-false 5 kind.value.0 p.0)
 
   pub kind_is : (at kind : ℕ) → Stands bytes at (Number w8 kind) → kind ≤ 5 → kind_from bytes at ≡ Ok (kind, at + 1)
   unfolding kind_from
-  kind_is at kind stands few = rw (number_is w8 wide8 bytes at kind stands, le-ltb 5 kind few) refl
+  kind_is at kind stands few = rw (number_is w8 wide_8 bytes at kind stands, le-ltb 5 kind few) refl
 
   -- a line that stands at a place is read there
   pub record LineIs (at next : ℕ) (line : Line) : Type 0 where
@@ -225,26 +226,26 @@ module _ (bytes : List ℕ) (small : IsBytes bytes) (hosts lanes : ℕ) where
     kind = 2;
     kind_is = kind_is at 2 spans.all.0 (omega arith);
     other = refl;
-    line_is = rw (host_is few_hosts few_lanes (at + 1) h lane sound spans.all.1.0, number_is w64 wide64 bytes (at + 1 + 1) d spans.all.1.1.0) (ap (λ place. Ok (Line.Do (Actor.Host h) lane (Act.Load d), place)) spans.all.1.1.1);
+    line_is = rw (host_is few_hosts few_lanes (at + 1) h lane sound spans.all.1.0, number_is w64 wide_64 bytes (at + 1 + 1) d spans.all.1.1.0) (ap (λ place. Ok (Line.Do (Actor.Host h) lane (Act.Load d), place)) spans.all.1.1.1);
   }
   line_is few_hosts few_lanes at next (Line.Do (Actor.Host h) lane (Act.Store d value)) sound spans = record {
     kind = 3;
     kind_is = kind_is at 3 spans.all.0 (omega arith);
     other = refl;
-    line_is = rw (host_is few_hosts few_lanes (at + 1) h lane sound spans.all.1.0, number_is w64 wide64 bytes (at + 1 + 1) d spans.all.1.1.0, number_is w64 wide64 bytes (at + 1 + 1 + 8) value spans.all.1.1.1.0) (ap (λ place. Ok (Line.Do (Actor.Host h) lane (Act.Store d value), place)) spans.all.1.1.1.1);
+    line_is = rw (host_is few_hosts few_lanes (at + 1) h lane sound spans.all.1.0, number_is w64 wide_64 bytes (at + 1 + 1) d spans.all.1.1.0, number_is w64 wide_64 bytes (at + 1 + 1 + 8) value spans.all.1.1.1.0) (ap (λ place. Ok (Line.Do (Actor.Host h) lane (Act.Store d value), place)) spans.all.1.1.1.1);
   }
   line_is few_hosts few_lanes at next (Line.Do (Actor.Host h) lane (Act.Command q)) sound spans = record {
     kind = 1;
     kind_is = kind_is at 1 spans.all.0 (omega arith);
     other = refl;
-    line_is = rw (commander_is few_hosts few_lanes (at + 1) (Actor.Host h) lane sound spans.all.1.0, number_is w16 wide16 bytes (at + 1 + 1) (12 + length q.payload) spans.all.1.1.0, message_is few_hosts few_lanes (at + 1 + 1 + 2) (12 + length q.payload) next q (record { all = spans.all.1.1.1 }) refl) refl;
+    line_is = rw (commander_is few_hosts few_lanes (at + 1) (Actor.Host h) lane sound spans.all.1.0, number_is w16 wide_16 bytes (at + 1 + 1) (12 + length q.payload) spans.all.1.1.0, message_is few_hosts few_lanes (at + 1 + 1 + 2) (12 + length q.payload) next q (record { all = spans.all.1.1.1 }) refl) refl;
   }
   line_is few_hosts few_lanes at next (Line.Do (Actor.Host h) lane (Act.Scrub n)) sound spans = cc
   line_is few_hosts few_lanes at next (Line.Do Actor.Manager lane (Act.Command q)) sound spans = record {
     kind = 1;
     kind_is = kind_is at 1 spans.all.0 (omega arith);
     other = refl;
-    line_is = rw (commander_is few_hosts few_lanes (at + 1) Actor.Manager lane sound spans.all.1.0, number_is w16 wide16 bytes (at + 1 + 1) (12 + length q.payload) spans.all.1.1.0, message_is few_hosts few_lanes (at + 1 + 1 + 2) (12 + length q.payload) next q (record { all = spans.all.1.1.1 }) refl) refl;
+    line_is = rw (commander_is few_hosts few_lanes (at + 1) Actor.Manager lane sound spans.all.1.0, number_is w16 wide_16 bytes (at + 1 + 1) (12 + length q.payload) spans.all.1.1.0, message_is few_hosts few_lanes (at + 1 + 1 + 2) (12 + length q.payload) next q (record { all = spans.all.1.1.1 }) refl) refl;
   }
   line_is few_hosts few_lanes at next (Line.Do Actor.Manager lane (Act.Load d)) sound spans = cc
   line_is few_hosts few_lanes at next (Line.Do Actor.Manager lane (Act.Store d value)) sound spans = cc
@@ -253,7 +254,7 @@ module _ (bytes : List ℕ) (small : IsBytes bytes) (hosts lanes : ℕ) where
     kind = 4;
     kind_is = kind_is at 4 spans.all.0 (omega arith);
     other = refl;
-    line_is = rw (number_is w16 wide16 bytes (at + 1) n spans.all.1.0) (λ i. Ok (Line.Do Actor.Sanitizer (sym (eqb-true lane 0 sound) i) (Act.Scrub n), spans.all.1.1 i));
+    line_is = rw (number_is w16 wide_16 bytes (at + 1) n spans.all.1.0) (λ i. Ok (Line.Do Actor.Sanitizer (sym (eqb-true lane 0 sound) i) (Act.Scrub n), spans.all.1.1 i));
   }
   line_is few_hosts few_lanes at next (Line.Do Actor.Sanitizer lane (Act.Command q)) sound spans = cc
   line_is few_hosts few_lanes at next (Line.Do Actor.Sanitizer lane (Act.Load d)) sound spans = cc

@@ -5,8 +5,8 @@ use Rattle.std.specs.List.{list_all}
 use Rattle.std.specs.Int.{w8}
 use Rattle.std.proofs.lemmas.Bool.{le-ltb}
 use borrow.Author.Tests.{ltb-true, ltb-false, eqb-true}
-use Rattle.dcd_base.specs.Layouts.{Field, Number, is_byte}
-use Rattle.dcd_base.proofs.Fields.{all_bytes}
+use Rattle.field_bytes.specs.Layouts.{Field, Number, is_byte}
+use Rattle.field_bytes.proofs.Fields.{all_bytes, IsBytes}
 use Rattle.script_codec.specs.declared.script_line.Line.{Line}
 use Rattle.script_codec.specs.declared.scripts.Script.{Script}
 use Rattle.script_codec.specs.declared.faults.ScriptFault.{ScriptFault}
@@ -17,7 +17,7 @@ use Rattle.script_codec.specs.Reading.{most_bytes, most_lines, fields_in, script
 use Rattle.script_codec.specs.Scripts.{line_fields, is_sound_line, head_fields, script_fields, ReadsScript}
 use Rattle.script_codec.proofs.Writable.{both_first, both_second, counted, laned}
 use Rattle.script_codec.proofs.Spans.{Spans, spans_then, parted, reads_from_spans, spans_from_reads}
-use Rattle.script_codec.proofs.FieldLaws.{IsBytes, bound, ok_is, passed}
+use Rattle.script_codec.proofs.FieldLaws.{bound, ok_is, passed}
 use Rattle.script_codec.proofs.HeadLaws.{with_head, head_sound, head_is}
 use Rattle.script_codec.proofs.LineLaws.{both, LineStands, line_sound, kind_sound, kind_is, line_is}
 

@@ -5,8 +5,8 @@ use Rattle.std.specs.List.{AllByRecursion, list_all}
 use Rattle.std.proofs.lemmas.Bool.{le-leb}
 use Rattle.script_codec.proofs.LineLaws.{both}
 use Rattle.std.specs.Int.{w8, w64}
-use Rattle.dcd_base.specs.Layouts.{Field, Number, Reserved, Reads, FitsField}
-use Rattle.dcd_base.proofs.Fields.{IsOfBytes, spelled_reads, length_of_fields}
+use Rattle.field_bytes.specs.Layouts.{Field, Number, Reserved, Reads, FitsField}
+use Rattle.field_bytes.proofs.Fields.{IsOfBytes, spelled_reads, length_of_fields, IsBytes}
 use Rattle.region_config.specs.declared.region_spec.RegionSpec.{RegionSpec}
 use Rattle.journal_core.specs.declared.acts.Act.{Act}
 use Rattle.script_codec.specs.declared.script_line.Line.{Line}
@@ -16,7 +16,7 @@ use Rattle.script_codec.specs.Scripts.{region_fields, start_fields, head_fields,
 use Rattle.script_codec.specs.Reading.{script_in, fault_of, IsRead, IsReadAs}
 use Rattle.script_codec.specs.Writing.{IsWritable, WritesScript, script_bytes, has_short_message}
 use Rattle.script_codec.proofs.ScriptLaws.{script_is, script_sound}
-use Rattle.script_codec.proofs.FieldLaws.{IsBytes, ok_is}
+use Rattle.script_codec.proofs.FieldLaws.{ok_is}
 
 abbrev AreOfBytes : List Field → Type 0
 AreOfBytes fields = AllByRecursion IsOfBytes fields

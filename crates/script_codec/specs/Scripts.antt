@@ -1,5 +1,6 @@
 -- The bytes of a script, as a layout.
-use Rattle.dcd_base.specs.Layouts.{Reads, Field, flag_of, Number, Masked, Raw, Reserved}
+use Rattle.field_bytes.specs.Layouts.{Reads, Field, Number, Masked, Raw, Reserved}
+use Rattle.dcd_base.specs.Words.{flag_of}
 use Rattle.journal_core.specs.Entries.{fits}
 use Rattle.std.specs.List.{list_all}
 use Rattle.std.specs.Prelude.{◌≡◌, ◌≤◌, IsTrue, true, ℕ, ◌+◌, ◌*◌, Bool, ◌&&◌, ◌||◌, not, ◌==◌, nat_lt, List, [], ◌∷◌, ◌++◌, length, map, flat_map, None, if◌then◌else◌}

@@ -40,7 +40,7 @@ pub fn u8_at(bytes: &[u8], at: usize) -> Result<(u8, usize), ScriptFault>
 {
     let next = skip(bytes, at, 1)?;
     let field = part(bytes, at, 1);
-    Ok((u8::from_le_bytes([field[0]]), next))
+    Ok((field[0], next))
 }
 
 /// A number of two bytes.
@@ -52,7 +52,7 @@ pub fn u16_at(bytes: &[u8], at: usize) -> Result<(u16, usize), ScriptFault>
 {
     let next = skip(bytes, at, 2)?;
     let field = part(bytes, at, 2);
-    Ok((u16::from_le_bytes([field[0], field[1]]), next))
+    Ok((field_bytes::u16_at(field, 0), next))
 }
 
 /// A number of four bytes.
@@ -64,8 +64,7 @@ pub fn u32_at(bytes: &[u8], at: usize) -> Result<(u32, usize), ScriptFault>
 {
     let next = skip(bytes, at, 4)?;
     let field = part(bytes, at, 4);
-    let number = u32::from_le_bytes([field[0], field[1], field[2], field[3]]);
-    Ok((number, next))
+    Ok((field_bytes::u32_at(field, 0), next))
 }
 
 /// A number of eight bytes.
@@ -77,8 +76,5 @@ pub fn u64_at(bytes: &[u8], at: usize) -> Result<(u64, usize), ScriptFault>
 {
     let next = skip(bytes, at, 8)?;
     let field = part(bytes, at, 8);
-    let number = u64::from_le_bytes([
-        field[0], field[1], field[2], field[3], field[4], field[5], field[6], field[7],
-    ]);
-    Ok((number, next))
+    Ok((field_bytes::u64_at(field, 0), next))
 }

@@ -1,7 +1,8 @@
 //! A script into bytes: its one spelling, field by field.
 
 ghost use Rattle.cci_codec.specs.Messages.{request_fields};
-ghost use Rattle.dcd_base.specs.Layouts.{flag_of, Masked, Number, Raw, Reserved};
+ghost use Rattle.field_bytes.specs.Layouts.{Masked, Number, Raw, Reserved};
+ghost use Rattle.dcd_base.specs.Words.{flag_of};
 ghost use Rattle.journal_core.specs.declared.acts.Act.{Act};
 ghost use Rattle.script_codec.specs.Reading.{script_in};
 ghost use Rattle.script_codec.specs.Scripts.{act_fields, actor_byte, head_fields, lanes_fields, line_fields, magic, region_fields, script_fields, start_fields};
@@ -14,31 +15,32 @@ use crate::script_line::Line;
 use crate::scripts::Script;
 use cci_codec::{Request, encode_request, law_request_is_spelled};
 use dcd_base::{Actor, Bytes, HostId, NoMemory, RegionId};
+use field_bytes::{add_u8, add_u16, add_u32, add_u64};
 use journal_core::Act;
 use region_config::{Config, RegionSpec};
 
 fn put_u8(number: u8, out: &mut Bytes) -> Result<(), NoMemory>
     ensures { OnOk result (Appends out.old out.new (Number w8 number ∷ [])) }
 {
-    out.extend_from_slice(number.to_le_bytes().as_slice())
+    add_u8(out, number)
 }
 
 fn put_u16(number: u16, out: &mut Bytes) -> Result<(), NoMemory>
     ensures { OnOk result (Appends out.old out.new (Number w16 number ∷ [])) }
 {
-    out.extend_from_slice(number.to_le_bytes().as_slice())
+    add_u16(out, number)
 }
 
 fn put_u32(number: u32, out: &mut Bytes) -> Result<(), NoMemory>
     ensures { OnOk result (Appends out.old out.new (Number w32 number ∷ [])) }
 {
-    out.extend_from_slice(number.to_le_bytes().as_slice())
+    add_u32(out, number)
 }
 
 fn put_u64(number: u64, out: &mut Bytes) -> Result<(), NoMemory>
     ensures { OnOk result (Appends out.old out.new (Number w64 number ∷ [])) }
 {
-    out.extend_from_slice(number.to_le_bytes().as_slice())
+    add_u64(out, number)
 }
 
 /// What every script begins with.

@@ -18,11 +18,11 @@ returns-then-from-rest-clause-only c = λ request reads.
 
 pub returns-clause-reads : goal.returns-clause-reads
 returns-clause-reads c =
-    let same : ◌≡◌ {A = Request} (record { tag = slice_index c.split_at.result.0.now 1; opcode = c.from_le_bytes.result; payload = c.in_ok-from_slice.field-0 }) (request_in c.args.bytes.now) = search rules in
+    let same : ◌≡◌ {A = Request} (record { tag = slice_index c.split_at.result.0.now 1; opcode = c.u16_at.result; payload = c.in_ok-from_slice.field-0 }) (request_in c.args.bytes.now) = search rules in
     let none : message_fault c.args.bytes.now ≡ None = search rules in
     rw same (request_reads c.args.bytes.now (λ i. omega (arith, c.type_inv.bytes i)) none)
 
 pub returns-clause-only : goal.returns-clause-only
 returns-clause-only c = λ request reads.
-    let same : ◌≡◌ {A = Request} (record { tag = slice_index c.split_at.result.0.now 1; opcode = c.from_le_bytes.result; payload = c.in_ok-from_slice.field-0 }) (request_in c.args.bytes.now) = search rules in
+    let same : ◌≡◌ {A = Request} (record { tag = slice_index c.split_at.result.0.now 1; opcode = c.u16_at.result; payload = c.in_ok-from_slice.field-0 }) (request_in c.args.bytes.now) = search rules in
     same ∙ sym (request_read _ request reads).1

@@ -1,4 +1,5 @@
 use Rattle.std.proofs.Common.{rules, ◌≡◌, None, Some, Ok, slice_index, refl, ap}
+use Rattle.dcd_base.specs.declared.capacity.Tag.{Tag}
 use Rattle.event_records.specs.Records.{record_fault}
 use Rattle.event_records.specs.declared.faults.RecordFault.{RecordFault}
 use Rattle.event_records.proofs.Records.{record_reads, record_read, not_read, same_event}
@@ -30,7 +31,7 @@ returns-clause-reads c =
       more = refl;
       start = c.u64_at.ensures;
       length = c.u64_at-2.ensures;
-      tag = c.tag_at.ensures;
+      tag = ap (λ (t : Tag). t.0) c.tag_at.ensures;
       sequence = c.u16_at.ensures;
       extents_available = c.u32_at.ensures;
       tags_available = c.u32_at-2.ensures;
@@ -46,7 +47,7 @@ returns-clause-only c = λ event reads.
       more = refl;
       start = c.u64_at.ensures;
       length = c.u64_at-2.ensures;
-      tag = c.tag_at.ensures;
+      tag = ap (λ (t : Tag). t.0) c.tag_at.ensures;
       sequence = c.u16_at.ensures;
       extents_available = c.u32_at.ensures;
       tags_available = c.u32_at-2.ensures;

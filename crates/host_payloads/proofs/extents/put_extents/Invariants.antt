@@ -1,6 +1,6 @@
 use Rattle.std.proofs.Common.{◌≡◌, ◌++◌, flat_map, take}
 use Rattle.std.specs.List.{AllByRecursion}
-use Rattle.host_payloads.specs.HostPayloads.{extent_bytes, FitsExtent}
+use Rattle.field_bytes.specs.Extents.{extent_bytes, FitsExtent}
 use Rattle.host_payloads.proofs.extents.put_extents.Given as goal
 
 abbrev pub invariant-loop-extent : goal.invariant-loop-extent

@@ -1,6 +1,6 @@
 use Rattle.std.proofs.Common.{take, map, length, ◌+◌, ◌*◌}
 use Rattle.std.specs.Int.{w64}
-use Rattle.dcd_base.specs.Layouts.{Number}
+use Rattle.field_bytes.specs.Layouts.{Number}
 use Rattle.script_codec.specs.Writing.{Appends}
 use Rattle.script_codec.proofs.writing.put_bases.Given as goal
 

@@ -1,0 +1,10 @@
+use Rattle.std.proofs.Common.{◌≡◌, ◌++◌, ◌*◌, ◌-◌, ◌≤◌, length, map}
+use Rattle.field_bytes.specs.Layouts.{pieces}
+use Rattle.std.specs.Int.{from_le_bytes, w16}
+use Rattle.field_bytes.proofs.event_commands.handles_of.Given as goal
+
+abbrev pub invariant-loop : goal.invariant-loop
+invariant-loop l = record {
+  enough : 2 * (l.count - l.counter) ≤ length l.rest;
+  read : l.handles ++ map (from_le_bytes w16) (pieces 2 (l.count - l.counter) l.rest) ≡ map (from_le_bytes w16) (pieces 2 l.count l.bytes);
+}

@@ -1,0 +1,4 @@
+pub mod EventCommands
+pub mod Extents
+pub mod Layouts
+pub mod Payloads
