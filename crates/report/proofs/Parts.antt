@@ -1,18 +1,18 @@
 -- How parts of a text make up the whole.
-use Rattle.std.proofs.Common.{◌*◌, get_or, set, drop, ◌≡◌, Bool, if◌then◌else◌, ℕ, zero, suc, ◌+◌, ◌≤◌, ◌<◌, List, [], ◌∷◌, ◌++◌, Option, Some, None, sym, ap, ◌∙◌, arith, take, length, flat_map, subst, refl}
+use Rattle.std.proofs.Common.{◌/◌, ◌%◌, slice_index, get_or, drop, ◌≡◌, Bool, if◌then◌else◌, ℕ, zero, suc, ◌+◌, ◌≤◌, ◌<◌, List, [], ◌∷◌, ◌++◌, Option, Some, None, sym, ap, ◌∙◌, arith, take, length, flat_map, subst, refl}
 use Rattle.std.specs.Prelude.{slice_get, IsFalse, OnErr, OnOk}
 use Rattle.std.specs.declared.result.Result.{Result}
 use Rattle.std.specs.declared.result.Result.TheVariants.{Ok, Err}
 use Rattle.std.specs.List.{enumerate_from, range_with_len}
-use Rattle.std.proofs.Math.Seq.{take-add, take-append-add}
-use Rattle.std.proofs.lemmas.List.{append_assoc, append-nil, flat_map_more, length-set, length-take-le, take_more, take_more_set, take-append-drop, take-take}
+use Rattle.std.proofs.Math.Seq.{take-add}
+use Rattle.std.proofs.lemmas.List.{append_assoc, append-nil, flat_map_more, length-take-le, take_more}
 use Rattle.std.proofs.lemmas.Option.{get_or_from_slice_get}
 use Rattle.std.proofs.lemmas.Grind.{flat_map-append}
 use Rattle.field_bytes.specs.Layouts.{Field, Raw, spell, spelling}
 use Rattle.cci_codec.specs.declared.messages.Response.{Response}
 use Rattle.cci_codec.specs.Messages.{response_bytes, response_head_fields}
 use Rattle.journal_core.specs.declared.entries.Entry.{Entry}
-use Rattle.report.specs.Texts.{hex_of, hex_pair}
+use Rattle.hex.specs.Hex.{encode_lower, encode_with, lower_digits}
 use Rattle.dcd_base.specs.Streams.{HasRisen, Passes}
 use Rattle.dcd_base.proofs.Passing.{passes_start, passes_more, passes_then, risen_before}
 use Rattle.report.specs.Printing.{with_bytes, Printed, Prints, with_byte}
@@ -68,65 +68,25 @@ prints_waiting t n w w' bytes e = record {
       subst (λ x. Printed start faults t n x (text ++ bytes)) (sym e) (printed_bytes start faults t n w text bytes printed);
 }
 
--- two more items behind a front
-pub two_more : {X : Type 0} (xs : List X) (at : ℕ) (a b : X) → at + 2 ≤ length xs → take (at + 2) (set (set xs at a) (at + 1) b) ≡ take at xs ++ a ∷ b ∷ []
-two_more xs at a b within =
-    let long : length (set xs at a) ≡ length xs = length-set xs at a in
-    ap (λ n. take n (set (set xs at a) (at + 1) b)) (omega arith) ∙ take_more_set (set xs at a) (at + 1) b (omega (arith, within, long)) ∙ ap (λ ys. ys ++ b ∷ []) (take_more_set xs at a (omega (arith, within))) ∙ append_assoc (take at xs) (a ∷ []) (b ∷ [])
+-- the digits of bytes that follow on others
+encode_with-append : (table xs ys : List ℕ) → encode_with table (xs ++ ys) ≡ encode_with table xs ++ encode_with table ys
+unfolding encode_with
+encode_with-append table [] ys = refl
+encode_with-append table (x ∷ xs) ys =
+    ap (λ digits. slice_index table (x / 16) ∷ slice_index table (x % 16) ∷ digits) (encode_with-append table xs ys)
 
--- the digits of one byte more
-pub pairs_more : (out out' bytes front : List ℕ) (at i byte : ℕ) → i < length bytes → byte ≡ get_or bytes i 0 → take (at + 2 * i) out ≡ front ++ hex_of (take i bytes)
-    → take (at + 2 * i + 2) out' ≡ take (at + 2 * i) out ++ hex_pair byte → take (at + 2 * (i + 1)) out' ≡ front ++ hex_of (take (i + 1) bytes)
-pairs_more out out' bytes front at i byte known is done written =
-    let size : at + 2 * (i + 1) ≡ at + 2 * i + 2 = omega arith in
-    let one : hex_of (take (i + 1) bytes) ≡ hex_of (take i bytes) ++ hex_pair byte =
-    ap hex_of (take_more bytes i 0 known) ∙ flat_map-append hex_pair (take i bytes) (get_or bytes i 0 ∷ []) ∙ ap (λ xs. hex_of (take i bytes) ++ xs) (append-nil (hex_pair (get_or bytes i 0)) ∙ ap hex_pair (sym is)) in
-    ap (λ n. take n out') size ∙ written ∙ ap (λ xs. xs ++ hex_pair byte) done ∙ append_assoc front (hex_of (take i bytes)) (hex_pair byte)
-    ∙ ap (λ xs. front ++ xs) (sym one)
-
--- the digits of a front
-pub hex_front : (k : ℕ) (bytes : List ℕ) → k ≤ length bytes → take (2 * k) (hex_of bytes) ≡ hex_of (take k bytes)
-hex_front zero bytes within = refl
-hex_front (suc k) [] within = absurd (omega (arith, within))
-hex_front (suc k) (byte ∷ bytes) within =
-    let size : 2 * suc k ≡ suc (suc (2 * k)) = omega arith in
-    ap (λ n. take n (hex_of (byte ∷ bytes))) size ∙ ap (λ ys. hex_pair byte ++ ys) (hex_front k bytes (omega (arith, within)))
-
--- the digits of eight bytes more
-pub eight_more : (out out' bytes rest eight front : List ℕ) (at done : ℕ) → rest ≡ drop done bytes → eight ≡ take 8 rest → take (at + 2 * done) out ≡ front ++ hex_of (take done bytes)
-    → take (at + 2 * done + 16) out' ≡ take (at + 2 * done) out ++ hex_of eight → take (at + 2 * (done + 8)) out' ≡ front ++ hex_of (take (done + 8) bytes)
-eight_more out out' bytes rest eight front at done behind is before written =
-    let size : at + 2 * (done + 8) ≡ at + 2 * done + 16 = omega arith in
-    let more : hex_of (take (done + 8) bytes) ≡ hex_of (take done bytes) ++ hex_of eight =
-    ap hex_of (take-add done 8 bytes) ∙ flat_map-append hex_pair (take done bytes) (take 8 (drop done bytes)) ∙ ap (λ xs. hex_of (take done bytes) ++ hex_of xs) (sym (is ∙ ap (take 8) behind)) in
-    ap (λ n. take n out') size ∙ written ∙ ap (λ xs. xs ++ hex_of eight) before ∙ append_assoc front (hex_of (take done bytes)) (hex_of eight)
-    ∙ ap (λ xs. front ++ xs) (sym more)
-
--- the digits of the last eight bytes, where those before them are done and maybe some of their own
-pub eight_last : (out out' bytes last front : List ℕ) (at done end : ℕ) → end + 8 ≡ length bytes → end ≤ done → done ≤ length bytes → length front ≡ at → last ≡ drop end bytes
-    → take (at + 2 * done) out ≡ front ++ hex_of (take done bytes) → take (at + 2 * end + 16) out' ≡ take (at + 2 * end) out ++ hex_of last → take (at + 2 * length bytes) out' ≡ front ++ hex_of bytes
-eight_last out out' bytes last front at done end count le within long is before written =
-    let size : at + 2 * length bytes ≡ at + 2 * end + 16 = omega (arith, count) in
-    let kept : take (at + 2 * end) out ≡ front ++ hex_of (take end bytes) =
-    sym (take-take (at + 2 * end) (at + 2 * done) out (omega (arith, le))) ∙ ap (take (at + 2 * end)) before
-    ∙ ap (λ n. take (n + 2 * end) (front ++ hex_of (take done bytes))) (sym long) ∙ take-append-add front (hex_of (take done bytes)) (2 * end)
-    ∙ ap (λ xs. front ++ xs) (hex_front end (take done bytes) (omega (arith, le, length-take-le done bytes within)) ∙ ap hex_of (take-take end done bytes le)) in
-    let whole : hex_of (take end bytes) ++ hex_of last ≡ hex_of bytes =
-    ap (λ xs. hex_of (take end bytes) ++ hex_of xs) is ∙ sym (flat_map-append hex_pair (take end bytes) (drop end bytes)) ∙ ap hex_of (take-append-drop end bytes) in
-    ap (λ n. take n out') size ∙ written ∙ ap (λ xs. xs ++ hex_of last) kept ∙ append_assoc front (hex_of (take end bytes)) (hex_of last)
-    ∙ ap (λ xs. front ++ xs) whole
+pub encode_lower-append : (xs ys : List ℕ) → encode_lower (xs ++ ys) ≡ encode_lower xs ++ encode_lower ys
+encode_lower-append xs ys = encode_with-append lower_digits xs ys
 
 -- the digits of one part more and of the byte behind it
 pub parts_more : (bytes rest part : List ℕ) (at n : ℕ) → rest ≡ drop at bytes → part ≡ take n rest → n < length rest
-    → hex_of (take (at + (length part + 1)) bytes) ≡ hex_of (take at bytes) ++ (hex_of part ++ hex_pair (get_or rest (length part) 0))
+    → encode_lower (take (at + (length part + 1)) bytes) ≡ encode_lower (take at bytes) ++ encode_lower (part ++ get_or rest (length part) 0 ∷ [])
 parts_more bytes rest part at n behind is within =
     let count : length part ≡ n = ap length is ∙ length-take-le n rest (omega (arith, within)) in
     let more : take (length part + 1) rest ≡ part ++ get_or rest (length part) 0 ∷ [] =
     take_more rest (length part) 0 (omega (arith, within, count)) ∙ ap (λ xs. xs ++ get_or rest (length part) 0 ∷ []) (ap (λ m. take m rest) count ∙ sym is) in
-    let digits : hex_of (part ++ get_or rest (length part) 0 ∷ []) ≡ hex_of part ++ hex_pair (get_or rest (length part) 0) =
-    flat_map-append hex_pair part (get_or rest (length part) 0 ∷ []) ∙ ap (λ xs. hex_of part ++ xs) (append-nil (hex_pair (get_or rest (length part) 0))) in
-    ap hex_of (take-add at (length part + 1) bytes) ∙ flat_map-append hex_pair (take at bytes) (take (length part + 1) (drop at bytes))
-    ∙ ap (λ xs. hex_of (take at bytes) ++ hex_of xs) (ap (take (length part + 1)) (sym behind) ∙ more) ∙ ap (λ xs. hex_of (take at bytes) ++ xs) digits
+    ap encode_lower (take-add at (length part + 1) bytes ∙ ap (λ xs. take at bytes ++ take (length part + 1) xs) (sym behind) ∙ ap (λ xs. take at bytes ++ xs) more)
+    ∙ encode_lower-append (take at bytes) (part ++ get_or rest (length part) 0 ∷ [])
 
 -- a text of which a piece waits, and what is left of it once the sink took some of the piece
 passes_piece : {start t t' : Option (List ℕ)} {piece text rest : List ℕ} → Passes start t piece text → Passes t t' rest piece
@@ -233,13 +193,13 @@ enumerate_push n (y ∷ xs) x =
 
 -- the digits of a response are those of its header and then those of its payload
 pub response_digits : (s : Response) (head payload end : List ℕ) → head ≡ spelling (response_head_fields s.tag s.opcode s.code (length s.payload)) → payload ≡ s.payload
-    → hex_of head ++ (hex_of payload ++ end) ≡ hex_of (response_bytes s) ++ end
+    → encode_lower head ++ (encode_lower payload ++ end) ≡ encode_lower (response_bytes s) ++ end
 unfolding response_bytes
 response_digits s head payload end e f =
     let front : List Field = response_head_fields s.tag s.opcode s.code (length s.payload) in
-    sym (append_assoc (hex_of head) (hex_of payload) end)
-    ∙ ap (λ ys. ys ++ end) (sym (flat_map-append hex_pair head payload))
-    ∙ ap (λ bytes. hex_of bytes ++ end) (ap (λ xs. xs ++ payload) e ∙ ap (λ ys. spelling front ++ ys) (f ∙ sym (append-nil s.payload))
+    sym (append_assoc (encode_lower head) (encode_lower payload) end)
+    ∙ ap (λ ys. ys ++ end) (sym (encode_lower-append head payload))
+    ∙ ap (λ bytes. encode_lower bytes ++ end) (ap (λ xs. xs ++ payload) e ∙ ap (λ ys. spelling front ++ ys) (f ∙ sym (append-nil s.payload))
     ∙ sym (flat_map-append spell front (Raw (length s.payload) s.payload ∷ [])))
 
 pub entries_push : (journal : List Entry) (i : ℕ) (e : Entry) → take (i + 1) journal ≡ take i journal ++ e ∷ [] → i < length journal

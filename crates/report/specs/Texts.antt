@@ -1,7 +1,8 @@
 -- What is printed of a journal.
-use Rattle.std.specs.Prelude.{ℕ, ◌/◌, ◌%◌, List, [], ◌∷◌, ◌++◌, length, flat_map, codes, decimal, slice_index}
+use Rattle.std.specs.Prelude.{ℕ, List, [], ◌∷◌, ◌++◌, length, flat_map, codes, decimal}
 use Rattle.std.specs.List.{enumerate_from}
 use Rattle.std.specs.Int.{w64, to_be_bytes}
+use Rattle.hex.specs.Hex.{encode_lower}
 use Rattle.dcd_base.specs.declared.ids.HostId.{HostId}
 use Rattle.dcd_base.specs.declared.steps.Actor.{Actor}
 use Rattle.dcd_base.specs.declared.steps.LogId.{LogId}
@@ -32,16 +33,6 @@ abbrev pub line_of : List (List ℕ) → List ℕ
 line_of [] = 10 ∷ []
 line_of (word ∷ words) = word ++ rest_of_line words
 
--- bytes as lower-case digits
-abbrev pub hex_digit : ℕ → ℕ
-hex_digit n = slice_index (codes "0123456789abcdef") n
-
-abbrev pub hex_pair : ℕ → List ℕ
-hex_pair byte = hex_digit (byte / 16) ∷ hex_digit (byte % 16) ∷ []
-
-abbrev pub hex_of : List ℕ → List ℕ
-hex_of bytes = flat_map hex_pair bytes
-
 abbrev pub host_name : HostId → List ℕ
 host_name h = codes "h" ++ decimal h
 
@@ -65,8 +56,8 @@ act_name (Act.Store d value) = codes "st"
 act_name (Act.Scrub n) = codes "sc"
 
 abbrev pub reply_words : Reply → List (List ℕ)
-reply_words (Reply.Answer s) = hex_of (response_bytes s) ∷ []
-reply_words (Reply.Word n) = hex_of (to_be_bytes w64 n) ∷ []
+reply_words (Reply.Answer s) = encode_lower (response_bytes s) ∷ []
+reply_words (Reply.Word n) = encode_lower (to_be_bytes w64 n) ∷ []
 reply_words Reply.Stored = codes "ok" ∷ []
 reply_words (Reply.Refused fault) = codes "refused" ∷ decimal (fault_number fault) ∷ []
 reply_words (Reply.Scrubbed n) = decimal n ∷ []
@@ -85,7 +76,7 @@ log_name (LogId.Host h) = host_name h
 log_name LogId.Manager = codes "fm"
 
 unfoldable pub record_line : LogId → Event → List ℕ
-record_line l event = line_of (codes "rec" ∷ log_name l ∷ hex_of (record_bytes event) ∷ [])
+record_line l event = line_of (codes "rec" ∷ log_name l ∷ encode_lower (record_bytes event) ∷ [])
 
 unfoldable pub record_lines : List Effect → LogId → List ℕ
 record_lines past l = flat_map (record_line l) (records_of l past)

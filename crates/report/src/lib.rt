@@ -3,8 +3,8 @@
 //! Whatever is printed goes to a sink in pieces and takes no memory.
 #![tactic(auto)]
 
-mod digits;
 mod entry_lines;
+mod places;
 mod printing;
 mod refusals;
 mod rendering;

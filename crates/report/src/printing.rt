@@ -1,11 +1,12 @@
 //! The printer: it gathers bytes into pieces and hands each full piece to a sink.
 
+ghost use Rattle.hex.specs.Hex.{encode_lower};
 ghost use Rattle.report.specs.Printing.{Prints, with_byte, with_bytes};
-ghost use Rattle.report.specs.Texts.{hex_of, hex_pair};
 ghost use Rattle.std.specs.Prelude.{◌≡◌, ◌+◌, ◌*◌, ◌<◌, ◌≤◌, [], ◌∷◌, ◌++◌, IfSome, None, OnErr, OnOk, Some, decimal, length};
 
-use crate::digits::{hex_digit, write_bytes, write_hex};
+use crate::places::{write_bytes, write_hex};
 use dcd_base::{Failed, Sink, write_all};
+use hex::encode_to_slice;
 use itoa::Buffer;
 use std::marker::Model;
 
@@ -97,7 +98,7 @@ impl Printer {
     /// Lets the digits of bytes wait.
     fn store_hex(&mut self, bytes: &[u8])
         requires { IfSome self.old (λ waits. length waits + 2 * length bytes.now ≤ 4096) }
-        ensures { self.new ≡ with_bytes (hex_of bytes.now) self.old }
+        ensures { self.new ≡ with_bytes (encode_lower bytes.now) self.old }
     {
         if !self.failed {
             write_hex(&mut self.buffer, self.len, bytes);
@@ -108,16 +109,18 @@ impl Printer {
     /// Puts the two digits of a byte.
     #[tactic(auto, using(crate::proofs::Parts::prints_then))]
     fn put_pair<K: Sink>(&mut self, sink: &mut K, byte: u8)
-        ensures { Prints (K.taken sink.old) (K.faults sink.old) self.old (K.taken sink.new) (K.faults sink.new) self.new (hex_pair byte) }
+        ensures { Prints (K.taken sink.old) (K.faults sink.old) self.old (K.taken sink.new) (K.faults sink.new) self.new (encode_lower (byte ∷ [])) }
     {
-        self.put_byte(sink, hex_digit(byte / 16));
-        self.put_byte(sink, hex_digit(byte % 16));
+        let mut digits = [0u8; 2];
+        encode_to_slice([byte], &mut digits).unwrap();
+        self.put_byte(sink, digits[0]);
+        self.put_byte(sink, digits[1]);
     }
 
     /// Puts the digits of bytes, which mostly fit into the piece.
     #[tactic(auto, using(crate::proofs::Parts::prints_waiting))]
     pub fn put_hex<K: Sink>(&mut self, sink: &mut K, bytes: &[u8])
-        ensures { Prints (K.taken sink.old) (K.faults sink.old) self.old (K.taken sink.new) (K.faults sink.new) self.new (hex_of bytes.now) }
+        ensures { Prints (K.taken sink.old) (K.faults sink.old) self.old (K.taken sink.new) (K.faults sink.new) self.new (encode_lower bytes.now) }
     {
         if bytes.len() <= (PIECE - self.len) / 2 {
             self.store_hex(bytes);
@@ -130,7 +133,7 @@ impl Printer {
     #[cold]
     #[inline(never)]
     fn put_hex_parts<K: Sink>(&mut self, sink: &mut K, bytes: &[u8])
-        ensures { Prints (K.taken sink.old) (K.faults sink.old) self.old (K.taken sink.new) (K.faults sink.new) self.new (hex_of bytes.now) }
+        ensures { Prints (K.taken sink.old) (K.faults sink.old) self.old (K.taken sink.new) (K.faults sink.new) self.new (encode_lower bytes.now) }
     {
         let mut at = 0;
         while at < bytes.len() {
@@ -144,7 +147,7 @@ impl Printer {
     /// Puts the digits of bytes that fit, and of one more byte.
     fn put_part<K: Sink>(&mut self, sink: &mut K, part: &[u8], byte: u8)
         requires { IfSome self.old (λ waits. length waits + 2 * length part.now ≤ 4096) }
-        ensures { Prints (K.taken sink.old) (K.faults sink.old) self.old (K.taken sink.new) (K.faults sink.new) self.new (hex_of part.now ++ hex_pair byte) }
+        ensures { Prints (K.taken sink.old) (K.faults sink.old) self.old (K.taken sink.new) (K.faults sink.new) self.new (encode_lower (part.now ++ byte ∷ [])) }
     {
         self.store_hex(part);
         self.put_pair(sink, byte);

@@ -1,6 +1,11 @@
 use Rattle.std.proofs.Common.{arith}
-use Rattle.report.proofs.Parts.{parts_more, prints_more}
+use Rattle.hex.specs.Hex.{encode_with}
+use Rattle.report.proofs.Parts.{parts_more, prints_more, prints_nothing}
 use Rattle.report.proofs.printing.Printer.put_hex_parts.Goals as goal
+
+pub loop-at-init : goal.loop-at-init
+unfolding encode_with
+loop-at-init g c = prints_nothing _ _ _
 
 pub loop-at-preserved : goal.loop-at-preserved
 loop-at-preserved g c =
