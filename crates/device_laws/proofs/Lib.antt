@@ -20,7 +20,6 @@ pub mod OpenLive
 pub mod OpenOnce
 pub mod OpenTags
 pub mod OpenedJournals
-pub mod OutcomeSteps
 pub mod Overlaps
 pub mod Pictures
 pub mod Quiet
@@ -28,4 +27,3 @@ pub mod Referring
 pub mod Responding
 pub mod Settling
 pub mod TagSteps
-pub mod ViewSteps

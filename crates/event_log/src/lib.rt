@@ -12,4 +12,4 @@ mod tests;
 
 pub use faults::{ClearFault, LogFull};
 pub use laws::law_history;
-pub use logs::EventLog;
+pub use logs::{EventLog, handle_after};
