@@ -27,7 +27,7 @@ use Rattle.device_rules.specs.Outcomes.{Outcome, effects_of, ended, entered_all}
 use Rattle.device_rules.specs.Views.{View, view_after, view_of}
 use Rattle.device_steps.proofs.EffectKinds.{any_log, tells_any, told_passes}
 use Rattle.device_steps.proofs.Leaving.{both_pass, map_passes, over-leaving}
-use Rattle.device_steps.proofs.OutcomeSteps.{over-outcome}
+use Rattle.device_rules.proofs.OutcomeSteps.{over-outcome}
 use Rattle.device_steps.proofs.ViewsLeft.{leaves_view, view_after-left}
 use Rattle.tag_laws.specs.Tables.{IsTable, among, among_offers, ending, told_anew}
 use Rattle.tag_refs.specs.declared.entries.TagEntry.{TagEntry}

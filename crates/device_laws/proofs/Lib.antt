@@ -21,7 +21,6 @@ pub mod OpenLive
 pub mod OpenOnce
 pub mod OpenTags
 pub mod OpenedJournals
-pub mod OutcomeSteps
 pub mod Overlaps
 pub mod Pictures
 pub mod Quiet
@@ -30,4 +29,3 @@ pub mod Responding
 pub mod Settling
 pub mod SoundPresent
 pub mod TagSteps
-pub mod ViewSteps

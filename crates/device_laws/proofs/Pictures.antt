@@ -14,7 +14,7 @@ use Rattle.device_rules.specs.Logs.{log_after, log_of}
 use Rattle.device_rules.specs.Outcomes.{Outcome, effects_of, ended, entered, entered_all}
 use Rattle.device_rules.specs.Tags.{last_offer_after, reference_after, tags_after}
 use Rattle.device_laws.specs.Pictures.{first_picture, picture_after, picture_of}
-use Rattle.device_laws.proofs.OutcomeSteps.{after-outcome}
+use Rattle.device_rules.proofs.OutcomeSteps.{after-outcome}
 use Rattle.device_laws.proofs.TagSteps.{tags-ends, without_tags}
 
 -- records leave what minds none

@@ -1,5 +1,5 @@
 -- The rule that a command breaks, and the answer to a command or a scrub.
-use Rattle.std.specs.Prelude.{ℕ, Bool, ◌==◌, ◌++◌, List, [], length, map, take, Option, Some, None, if◌then◌else◌}
+use Rattle.std.specs.Prelude.{ℕ, ◌==◌, ◌++◌, List, [], length, map, take, Option, Some, None, if◌then◌else◌}
 use Rattle.std.specs.Result.{result_err}
 use Rattle.std.specs.declared.result.Result.{Result}
 use Rattle.std.specs.declared.result.Result.TheVariants.{Ok, Err}

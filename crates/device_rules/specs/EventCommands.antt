@@ -1,11 +1,11 @@
 -- Reading a log and clearing it: 0100h and 0101h.
-use Rattle.std.specs.Prelude.{ℕ, Bool, not, ◌==◌, nat_le, nat_lt, List, [], ◌∷◌, ◌++◌, length, take, Option, Some, None, if◌then◌else◌}
-use Rattle.std.specs.List.{list_any}
+use Rattle.std.specs.Prelude.{ℕ, Bool, not, ◌==◌, nat_le, nat_lt, List, [], ◌∷◌, ◌++◌, length, take, Option, option_map, if◌then◌else◌}
 use Rattle.dcd_base.specs.declared.steps.LogId.{LogId}
 use Rattle.dcd_codes.specs.declared.rules.Rule.{Rule}
-use Rattle.event_records.specs.declared.events.Event.{Event}
 use Rattle.journal_core.specs.declared.outcome.Effect.{Effect}
+use Rattle.event_log.specs.LogStates.{clear_fault}
 use Rattle.event_log.specs.Logs.{Log, empty_log, records_in}
+use Rattle.event_log.specs.declared.faults.ClearFault.{ClearFault}
 use Rattle.dcd_codes.specs.Rules.{◌breaks◌}
 use Rattle.dcd_base.specs.Limits.{reply_records}
 use Rattle.dcd_base.specs.Words.{◌or◌}
@@ -23,20 +23,21 @@ no_such_log number = nat_le 5 number breaks Rule.NoSuchLog number
 abbrev pub events_reply : Log → List ℕ
 events_reply log = events_payload log.missed (nat_lt reply_records (length (records_in log))) (take reply_records (records_in log))
 
+-- the rule that is broken where records cannot be cleared
+abbrev pub rule_of : ClearFault → Rule
+rule_of (ClearFault.OlderLeft handle) = Rule.OlderLeft handle
+rule_of (ClearFault.UnknownHandle handle) = Rule.UnknownHandle handle
+rule_of ClearFault.NotOverflowed = Rule.NotOverflowed
+
 -- handles must be those of the oldest records, in order
-abbrev pub out_of_place : List ℕ → List Event → Option Rule
-out_of_place [] records = None
-out_of_place (h ∷ handles) [] = Some (Rule.UnknownHandle h)
-out_of_place (h ∷ handles) (e ∷ records) =
-    if h == e.handle then out_of_place handles records
-    else if list_any (λ other. other.handle == h) (e ∷ records) then Some (Rule.OlderLeft e.handle)
-    else Some (Rule.UnknownHandle h)
+abbrev pub handles_rule : List ℕ → Log → Option Rule
+handles_rule handles log = option_map rule_of (clear_fault handles (records_in log))
 
 -- 0101h
 abbrev pub clear_rule : ℕ → Log → Bool → List ℕ → Option Rule
 clear_rule number own all handles = let log = log_named number own in
     no_such_log number
-    or (if all then (log.missed == 0) breaks Rule.NotOverflowed else out_of_place handles (records_in log))
+    or (if all then (log.missed == 0) breaks Rule.NotOverflowed else handles_rule handles log)
 
 abbrev pub cleared : LogId → ℕ → List Effect
 cleared l n = if n == 0 then [] else Effect.Cleared l n ∷ []

@@ -32,7 +32,7 @@ use Rattle.dcd_base.specs.Hosts.{has_host}
 use Rattle.tag_refs.specs.Tables.{entry_of}
 use Rattle.tag_refs.specs.declared.entries.TagEntry.{TagEntry}
 use Rattle.device_laws.proofs.LegalSound.{legal_is_sound}
-use Rattle.device_laws.proofs.ViewSteps.{view_of-push}
+use Rattle.device_rules.proofs.ViewSteps.{view_of-push}
 use Rattle.device_rules.specs.Adding.{present}
 use Rattle.device_rules.specs.Hosts.{block_after, block_of, offers_of}
 use Rattle.device_rules.specs.Legal.{Legal, Meets}

@@ -1,7 +1,7 @@
 -- A log that is cleared as its row allows stays one that its history tells.
 use Rattle.std.proofs.Common.{◌≡◌, ℕ, ◌≤◌, Bool, true, false, List, [], ◌∷◌, ◌++◌, length, Option, Some, None, inl, inr, refl, sym, ap, subst, ◌∙◌, arith}
-use Rattle.std.specs.Prelude.{fold, not, ◌==◌, if◌then◌else◌}
-use Rattle.std.specs.List.{list_all, list_any}
+use Rattle.std.specs.Prelude.{fold, not, option_map, ◌==◌, if◌then◌else◌}
+use Rattle.std.specs.List.{list_all}
 use Rattle.std.proofs.lemmas.Bool.{cases_Bool}
 use Rattle.std.proofs.lemmas.List.Sums.{fold-append}
 use Rattle.std.proofs.lemmas.Option.{none-some}
@@ -9,31 +9,34 @@ use Rattle.dcd_base.specs.declared.steps.LogId.{LogId}
 use Rattle.dcd_codes.specs.Rules.{◌breaks◌}
 use Rattle.dcd_codes.specs.declared.rules.Rule.{Rule}
 use Rattle.event_log.proofs.Histories.{stays}
+use Rattle.event_log.specs.LogStates.{clear_fault, misplaced}
+use Rattle.event_log.specs.declared.faults.ClearFault.{ClearFault}
 use Rattle.event_log.specs.Logs.{IsHistory, Log, cleared_of, empty_log, records_in, reset}
 use Rattle.event_records.specs.declared.events.Event.{Event}
 use Rattle.journal_core.specs.declared.outcome.Effect.{Effect}
 use Rattle.region_config.proofs.Searches.{or_parts}
-use Rattle.device_rules.specs.EventCommands.{clear_changes, clear_rule, cleared, no_such_log, out_of_place}
+use Rattle.device_rules.specs.EventCommands.{clear_changes, clear_rule, cleared, handles_rule, no_such_log, rule_of}
 use Rattle.device_rules.specs.Logs.{log_after, log_of, same_log}
 use Rattle.device_steps.proofs.LogHistories.{one_log}
 use Rattle.device_steps.specs.Kept.{spares_hosts}
 use Rattle.device_steps.proofs.LogSteps.{same_log-self}
 
+-- a fault breaks a rule
+no_fault : (fault : Option ClearFault) → option_map rule_of fault ≡ None → fault ≡ None
+no_fault None none = refl
+no_fault (Some fault) none = absurd (none-some (rule_of fault) (sym none))
+
 -- handles of the oldest records, in order, are no more than there are records
-in_place_few : (handles : List ℕ) (records : List Event) → out_of_place handles records ≡ None → length handles ≤ length records
+in_place_few : (handles : List ℕ) (records : List Event) → clear_fault handles records ≡ None → length handles ≤ length records
 in_place_few [] records none = omega arith
-in_place_few (h ∷ handles) [] none = absurd (none-some (Rule.UnknownHandle h) (sym none))
+in_place_few (h ∷ handles) [] none = absurd (none-some (ClearFault.UnknownHandle h) (sym none))
 in_place_few (h ∷ handles) (e ∷ records) none = elim (cases_Bool (h == e.handle)) [
-  | inl same ↦ omega (arith, in_place_few handles records (sym (ap (λ b. if b then out_of_place handles records else other) same) ∙ none))
-  | inr apart ↦ absurd (found (list_any (λ (o : Event). o.handle == h) (e ∷ records)) (sym (ap (λ b. if b then out_of_place handles records else other) apart) ∙ none))
+  | inl same ↦ omega (arith, in_place_few handles records (sym (ap (λ b. if b then clear_fault handles records else Some other) same) ∙ none))
+  | inr apart ↦ absurd (none-some other (sym none ∙ ap (λ b. if b then clear_fault handles records else Some other) apart))
 ]
   where
-    other : Option Rule
-    other = if list_any (λ (o : Event). o.handle == h) (e ∷ records) then Some (Rule.OlderLeft e.handle) else Some (Rule.UnknownHandle h)
-
-    found : (b : Bool) → (if b then Some (Rule.OlderLeft e.handle) else Some (Rule.UnknownHandle h)) ≡ None → ⊥
-    found true none = none-some (Rule.OlderLeft e.handle) (sym none)
-    found false none = none-some (Rule.UnknownHandle h) (sym none)
+    other : ClearFault
+    other = misplaced h e.handle (e ∷ records)
 
 -- ---- the log that is cleared
 
@@ -87,11 +90,11 @@ few_handles : (number : ℕ) (own : Log) (all : Bool) (handles : List ℕ) → c
     (number == 4) ≡ true → all ≡ false → length handles ≤ length (records_in own)
 few_handles number own all handles rule fourth listed =
     let parts = or_parts (no_such_log number) (checked all (number == 4)) rule in
-    in_place_few handles (records_in own) (sym (λ i. checked (listed i) (fourth i)) ∙ parts.1)
+    in_place_few handles (records_in own) (no_fault _ (sym (λ i. checked (listed i) (fourth i)) ∙ parts.1))
   where
     checked : Bool → Bool → Option Rule
     checked all fourth = let log = if fourth then own else empty_log in
-        if all then (log.missed == 0) breaks Rule.NotOverflowed else out_of_place handles (records_in log)
+        if all then (log.missed == 0) breaks Rule.NotOverflowed else handles_rule handles log
 
 -- The log that is cleared stays one that its history tells.
 pub own_clear-history : (l : LogId) (log : Log) (number : ℕ) (all : Bool) (handles : List ℕ) → IsHistory log → clear_rule number log all handles ≡ None →

@@ -35,7 +35,7 @@ use Rattle.device_rules.specs.Views.{View, view_after, view_of}
 use Rattle.device_steps.proofs.AnswerEffects.{access_effects, host_effects, host_refused, manager_effects, manager_read_effects, manager_reads, manager_refused, only_reads, read_effects}
 use Rattle.device_steps.proofs.EffectKinds.{clear_passes, reference_passes, zeroes_pass}
 use Rattle.device_steps.proofs.Leaving.{over-leaving}
-use Rattle.device_steps.proofs.ViewSteps.{view_of-push}
+use Rattle.device_rules.proofs.ViewSteps.{view_of-push}
 use Rattle.device_steps.proofs.ViewsLeft.{leaves_view, outcome-leaves, view_of-left}
 
 -- ---- records of a log, and their clearing, change a view in its log alone

@@ -20,7 +20,7 @@ use Rattle.device_rules.specs.Outcomes.{Outcome, effects_of}
 use Rattle.device_rules.specs.Views.{View, view_after, view_of}
 use Rattle.device_steps.proofs.EffectKinds.{PassRecords, outcome_passes, tells}
 use Rattle.device_steps.proofs.Leaving.{over-leaving}
-use Rattle.device_steps.proofs.ViewSteps.{view_of-push}
+use Rattle.device_rules.proofs.ViewSteps.{view_of-push}
 
 -- The effect is none of this host's, no record of its log, and no block size.
 abbrev pub leaves_view : HostId → Effect → Bool

@@ -10,4 +10,4 @@ mod logs;
 
 pub use faults::{ClearFault, LogFull};
 pub use laws::law_history;
-pub use logs::EventLog;
+pub use logs::{EventLog, handle_after};

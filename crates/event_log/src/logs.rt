@@ -1,6 +1,6 @@
 //! The log.
 
-ghost use Rattle.event_log.specs.LogStates.{IsLog, clear_fault, emptied, has_handle, misplaced, new_log, with_missed, with_record, without_oldest};
+ghost use Rattle.event_log.specs.LogStates.{IsLog, clear_fault, emptied, handle_after, has_handle, misplaced, new_log, with_missed, with_record, without_oldest};
 ghost use Rattle.std.specs.Prelude.{◌≡◌, ◌==◌, ◌-◌, ◌<◌, ◌≤◌, IfErr, IfNone, IfOk, IfSome, None, OnErr, OnOk, Some, drop, length, slice_get};
 
 use crate::faults::{ClearFault, LogFull};
@@ -12,6 +12,13 @@ use std::marker::Model;
 
 /// The greatest handle.
 const LAST_HANDLE: u16 = 65_535;
+
+/// The handle that records go on with after this one: 1 after 65,535.
+pub fn handle_after(handle: u16) -> u16
+    ensures { result ≡ handle_after handle }
+{
+    1 + handle % LAST_HANDLE
+}
 
 /// An event log (CXL 3.1, 8.2.9.2). Handles go 1, 2, up to 65,535, and then 1 again; 0 is never given.
 #[derive(Drop)]
@@ -112,7 +119,7 @@ impl EventLog {
         let capacity = self.records.capacity();
         match self.records.try_push_back(Event { handle, ..event }) {
             Ok(()) => {
-                self.next = 1 + handle % LAST_HANDLE;
+                self.next = handle_after(handle);
                 Ok(handle)
             }
             Err(_) => Err(LogFull(capacity as u32)),

@@ -3,17 +3,10 @@ use Rattle.std.specs.Prelude.{ℕ, Bool, true, false, Some, None, ◌==◌, List
 use Rattle.dcd_base.specs.declared.steps.LogId.{LogId}
 use Rattle.dcd_codes.specs.declared.rules.Rule.{Rule}
 use Rattle.dcd_codes.specs.Rules.{◌breaks◌}
-use Rattle.event_log.specs.declared.faults.ClearFault.{ClearFault}
 use Rattle.event_log.specs.LogStates.{LogState, clear_fault}
 use Rattle.journal_core.specs.declared.outcome.Effect.{Effect}
-use Rattle.device_rules.specs.EventCommands.{cleared}
+use Rattle.device_rules.specs.EventCommands.{cleared, rule_of}
 use Rattle.device_rules.specs.Outcomes.{Outcome}
-
--- the rule that is broken where records cannot be cleared
-abbrev pub rule_of : ClearFault → Rule
-rule_of (ClearFault.OlderLeft handle) = Rule.OlderLeft handle
-rule_of (ClearFault.UnknownHandle handle) = Rule.UnknownHandle handle
-rule_of ClearFault.NotOverflowed = Rule.NotOverflowed
 
 -- a log is cleared whole only where it missed a record
 abbrev pub whole_rule : LogState → Option Rule

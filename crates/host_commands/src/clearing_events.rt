@@ -1,9 +1,9 @@
 //! Clear Event Records, 0101h, of a host and of the Fabric Manager.
 
 ghost use Rattle.dcd_codes.specs.Rules.{ByRow};
-ghost use Rattle.device_rules.specs.EventCommands.{clear_outcome, clear_rule, cleared};
+ghost use Rattle.device_rules.specs.EventCommands.{clear_outcome, clear_rule, cleared, rule_of};
 ghost use Rattle.event_log.specs.Logs.{Log};
-ghost use Rattle.host_commands.specs.Clearing.{changing, clearing_outcome, clearing_rule, empty_rule, listed_outcome, listed_rule, rule_of, whole_outcome, whole_rule};
+ghost use Rattle.host_commands.specs.Clearing.{changing, clearing_outcome, clearing_rule, empty_rule, listed_outcome, listed_rule, whole_outcome, whole_rule};
 ghost use Rattle.host_commands.specs.Parts.{IsLogOf, IsOutcome};
 ghost use Rattle.journal_core.specs.declared.outcome.Effect.{Effect};
 ghost use Rattle.std.specs.Prelude.{◌≡◌, ◌++◌, ◌≤◌, [], IfOk, None, OnOk, length};

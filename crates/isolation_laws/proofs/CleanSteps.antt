@@ -32,7 +32,7 @@ use Rattle.device_steps.specs.GranuleStates.{offered_to, stands_for}
 use Rattle.device_steps.proofs.HostSearches.{any_at, or_false}
 use Rattle.device_steps.proofs.JoinedRuns.{any_taken, joined_has, passes_there}
 use Rattle.device_steps.proofs.Leaving.{after_front, holding-over, is_quiet, leaves_holders, leaves_offers, map_passes}
-use Rattle.device_steps.proofs.OutcomeSteps.{after-outcome, over-outcome}
+use Rattle.device_rules.proofs.OutcomeSteps.{after-outcome, over-outcome}
 use Rattle.device_steps.proofs.RunEffects.{in_extents, run_from, takes, zeros}
 use Rattle.device_steps.proofs.StatusAnswers.{answering, holds-answer, not_offered-answer, offers-answer, taken-answer}
 use Rattle.device_steps.proofs.StatusKept.{no_later_offer, no_other_offer}

@@ -15,7 +15,7 @@ use Rattle.device_rules.specs.Legal.{Legal, Meets}
 use Rattle.device_rules.specs.Views.{View, extents_in, first_view, view_after, view_of}
 use Rattle.device_steps.proofs.LegalLogs.{legal_logs}
 use Rattle.device_steps.proofs.LegalSteps.{by_steps}
-use Rattle.device_steps.proofs.ViewSteps.{view_of-push}
+use Rattle.device_rules.proofs.ViewSteps.{view_of-push}
 use Rattle.isolation_laws.specs.Alone.{IsUnlawful}
 use Rattle.isolation_laws.specs.Laws.{AreLawful}
 use Rattle.isolation_laws.specs.Solo.{items_of, own_items, solo_after}

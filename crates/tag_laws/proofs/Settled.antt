@@ -17,7 +17,7 @@ use Rattle.device_rules.specs.Tags.{is_live, is_referenced, last_offer, last_off
 use Rattle.device_laws.specs.Pictures.{picture_of}
 use Rattle.device_laws.specs.Standing.{Sound}
 use Rattle.device_laws.proofs.ListSteps.{each-change}
-use Rattle.device_laws.proofs.OutcomeSteps.{after-outcome}
+use Rattle.device_rules.proofs.OutcomeSteps.{after-outcome}
 use Rattle.device_laws.proofs.Pictures.{picture-outcome}
 use Rattle.device_laws.proofs.TagSteps.{same_tag-is, without_tag, without_tags}
 use Rattle.device_steps.proofs.TagSearches.{filter_nothing, filter_twice}

@@ -1,0 +1,2 @@
+pub mod OutcomeSteps
+pub mod ViewSteps
