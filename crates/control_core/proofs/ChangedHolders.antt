@@ -1,6 +1,6 @@
 -- The holders that the changes of a step leave are those that its effects leave.
 use Rattle.std.proofs.Common.{◌≡◌, ◌≢◌, ◌⊎◌, ℕ, ◌+◌, ◌-◌, ◌*◌, ◌%◌, ◌^◌, Bool, true, false, ◌==◌, List, [], ◌∷◌, get_or, max, bit_and, bit_or, Option, Some, None, refl, sym, ap, subst, ◌∙◌, inl, inr, arith}
-use Rattle.std.specs.Prelude.{fold, if◌then◌else◌}
+use Rattle.std.specs.Prelude.{All, fold, if◌then◌else◌}
 use Rattle.std.specs.Int.{bit_at}
 use Rattle.std.specs.Int.Bits.{or_add_and}
 use Rattle.std.specs.List.{list_all}
@@ -19,9 +19,9 @@ use Rattle.region_config.specs.Configurations.{Configuration}
 use Rattle.region_config.specs.Granules.{granule_total}
 use Rattle.tag_laws.proofs.Bits.{with_has, without_has}
 use Rattle.dcd_base.specs.Hosts.{has_host, with_host, without_host}
-use Rattle.control_core.specs.ChangedRuns.{AreChanges}
+use Rattle.control_core.specs.ChangedRuns.{AreChanges, IsSoundChange}
 use Rattle.device_state.specs.Kept.{IsKept}
-use Rattle.control_core.specs.PutChanges.{AreOfOneHost, ArePut, bits_after, is_of}
+use Rattle.control_core.specs.PutChanges.{AreOfOneHost, ArePut, NameNoOthers, bits_after, is_of}
 use Rattle.device_state.specs.declared.state.State.{State}
 
 -- ---- bits of the other hosts
@@ -172,12 +172,13 @@ each_host (Some m) holders g h bits held new all table is = elim (cases_eq h m) 
 ]
 
 pub are_changes : (c : Configuration) (before : List Entry) (s : State) (new : List Effect) (changes : List Change) → ArePut (granule_total c) s.holders new changes →
-    AreOfOneHost new → IsKept c before s → AreChanges c (effects before) new changes
-are_changes c before s new changes put one kept = record {
+    (NameNoOthers c s.holders → All (IsSoundChange c) changes) → AreOfOneHost new → IsKept c before s → AreChanges c (effects before) new changes
+are_changes c before s new changes put sound one kept = record {
   holders = λ g below bits are h host.
       ap (λ b. has_host b h) (put.bits g below bits)
       ∙ each_host one.host s.holders g h bits (holds h g (effects before)) new one.each (kept.held g h below host) (are h host)
       ∙ sym (holds-append h g (effects before) new);
   zeroed = put.zeroed;
   touched = put.named;
+  sound = sound kept.no_others;
 }

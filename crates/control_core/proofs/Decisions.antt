@@ -1,5 +1,5 @@
 -- What a host's message comes to is the answer to it.
-use Rattle.std.proofs.Common.{◌≡◌, ℕ, ◌^◌, ◌<◌, Bool, true, false, ◌&&◌, List, [], ◌∷◌, ◌++◌, length, map, fold, None, inl, inr, refl, sym, ap, ◌∙◌, subst, arith}
+use Rattle.std.proofs.Common.{◌≡◌, ℕ, ◌^◌, ◌<◌, ◌≤◌, Bool, true, false, ◌&&◌, List, [], ◌∷◌, ◌++◌, length, map, fold, None, inl, inr, refl, sym, ap, ◌∙◌, subst, arith}
 use Rattle.std.specs.Prelude.{◌==◌, All, if◌then◌else◌}
 use Rattle.std.specs.List.{AllByRecursion}
 use Rattle.std.specs.declared.result.Result.TheVariants.{Ok, Err}
@@ -69,7 +69,7 @@ host_known hosts c h v (HostRequest.GiveBack false xs) = (tt, tt)
 
 module _ (c : Configuration) (before : List Entry) (h : HostId) (q : Request) where
   pub decided_host : (r : HostRequest) → host_request q.opcode q.payload ≡ Ok r → host_rule c h (view_of c h before) r ≡ None → (d : Decided) → IsDone c before q (host_outcome c h (view_of c h before) r) d →
-      length (host_outcome c h (view_of c h before) r).payload < 2 ^ 21 → IsDecidedBy c before (Actor.Host h) (Act.Command q) d
+      length (host_outcome c h (view_of c h before) r).payload ≤ 2048 → IsDecidedBy c before (Actor.Host h) (Act.Command q) d
   decided_host r asked row d done short =
       let v : View = view_of c h before in
       let o : Outcome = host_outcome c h (view_of c h before) r in

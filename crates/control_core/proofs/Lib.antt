@@ -24,4 +24,5 @@ pub mod RegionSizes
 pub mod Rows
 pub mod Scrubbed
 pub mod Shortness
+pub mod SoundChanges
 pub mod TagReadings

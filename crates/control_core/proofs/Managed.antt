@@ -216,7 +216,7 @@ module _ (c : Configuration) (before : List Entry) where
 
   module _ (q : Request) (r : FmRequest) (asked : manager_request q.opcode q.payload ≡ Ok r) where
     pub decided_manager : manager_rule c (effects before) (λ h. view_of c h before) r ≡ None → (d : Decided) → IsDone c before q (manager_outcome c (effects before) (λ h. view_of c h before) r) d →
-        length (manager_outcome c (effects before) (λ h. view_of c h before) r).payload < 2 ^ 21 → IsDecidedBy c before Actor.Manager (Act.Command q) d
+        length (manager_outcome c (effects before) (λ h. view_of c h before) r).payload ≤ 2048 → IsDecidedBy c before Actor.Manager (Act.Command q) d
     decided_manager row d done short =
         let o : Outcome = manager_outcome c (effects before) (λ h. view_of c h before) r in
         let is : manager_result c before (manager_request q.opcode q.payload) ≡ Ok (manager_outcome c (effects before) (λ h. view_of c h before) r) =

@@ -1,6 +1,6 @@
 -- What a control tells of its device is what the effects so far say.
 use Rattle.std.proofs.Common.{◌≡◌, ℕ, zero, suc, ◌+◌, ◌<◌, Bool, List, [], ◌∷◌, ◌++◌, length, get_or, cond, refl, sym, ap, subst, ◌∙◌, arith, zero-add}
-use Rattle.std.specs.Prelude.{count_by, flat_map, sum_by}
+use Rattle.std.specs.Prelude.{count_by, flat_map, map, sum_by}
 use Rattle.std.specs.List.{AllByRecursion, range_with_len}
 use Rattle.std.proofs.lemmas.List.{length-append}
 use Rattle.std.proofs.lemmas.List.Sums.{length-filter, sum_by-cons}
@@ -8,6 +8,7 @@ use Rattle.dcd_base.specs.declared.capacity.Extent.{Extent}
 use Rattle.dcd_base.specs.declared.ids.HostId.{HostId}
 use Rattle.dcd_base.specs.declared.steps.LogId.{LogId}
 use Rattle.event_log.specs.LogStates.{LogState}
+use Rattle.event_log.specs.Logs.{places_in, state_of}
 use Rattle.granule_laws.specs.Cells.{status_of}
 use Rattle.granule_map.specs.StateLists.{count_of, same_state}
 use Rattle.granule_map.specs.declared.states.GranuleState.{GranuleState}
@@ -17,6 +18,7 @@ use Rattle.host_lists.specs.Lists.{Lists}
 use Rattle.journal_core.specs.Entries.{effects}
 use Rattle.journal_core.specs.declared.entries.Entry.{Entry}
 use Rattle.journal_core.specs.declared.outcome.Effect.{Effect}
+use Rattle.journal_core.specs.declared.outcome.HeldKind.{HeldKind}
 use Rattle.media_map.specs.Places.{run_of}
 use Rattle.media_map.proofs.RunLemmas.{granular_from}
 use Rattle.region_config.specs.Configurations.{Configuration}
@@ -29,9 +31,9 @@ use Rattle.device_laws.proofs.LegalSound.{legal_is_sound}
 use Rattle.device_laws.specs.Pictures.{picture_of}
 use Rattle.device_laws.specs.Standing.{IsHome, Stands}
 use Rattle.device_rules.specs.Counts.{dirty_count, extent_count, free_count, granules_held, missed_of, records_of}
-use Rattle.device_rules.specs.Hosts.{accepted_of, offers_of}
+use Rattle.device_rules.specs.Hosts.{accepted_of, held_of, offers_of}
 use Rattle.device_rules.specs.Logs.{log_of}
-use Rattle.device_rules.specs.Tags.{is_dirty, is_free, status}
+use Rattle.device_rules.specs.Tags.{Status, granules_of, is_dirty, is_free, status}
 use Rattle.control_core.specs.Deciding.{Holds}
 use Rattle.control_core.specs.HeldExtents.{AreHeld, IsHeld}
 use Rattle.device_state.specs.Kept.{IsKept, part_of}
@@ -49,6 +51,19 @@ count_over p q d (x ∷ xs) a agree =
     let here : p x ≡ q a = agree 0 (omega arith) ∙ ap q first in
     let rest = count_over p q d xs (a + 1) (λ k below. agree (suc k) (omega (arith, below)) ∙ ap q (next k)) in
     sum_by-cons (λ s. cond (p s) 1 0) x xs ∙ (λ i. cond (here i) 1 0 + rest i) ∙ sym (sum_by-cons (λ n. cond (q n) 1 0) a (range_with_len (a + 1) (length xs)))
+  where
+    next : (k : ℕ) → a + suc k ≡ a + 1 + k
+    next k = omega arith
+
+-- what each state stands for is what is said of its granule
+status_over : (p : GranuleState → Status) (q : ℕ → Status) (d : GranuleState) (xs : List GranuleState) (a : ℕ) → ((k : ℕ) → k < length xs → p (get_or xs k d) ≡ q (a + k)) →
+    map p xs ≡ map q (range_with_len a (length xs))
+status_over p q d [] a agree = refl
+status_over p q d (x ∷ xs) a agree =
+    let first : a + 0 ≡ a = omega arith in
+    let here : p x ≡ q a = agree 0 (omega arith) ∙ ap q first in
+    let rest = status_over p q d xs (a + 1) (λ k below. agree (suc k) (omega (arith, below)) ∙ ap q (next k)) in
+    λ i. here i ∷ rest i
   where
     next : (k : ℕ) → a + suc k ≡ a + 1 + k
     next k = omega arith
@@ -84,6 +99,13 @@ module _ (c : Configuration) (before : List Entry) (s : State) (kept : IsKept c 
       ∙ ap (λ n. count_by (λ g. is_dirty (status c g (effects before))) (range_with_len 0 n)) kept.granule_count
       ∙ sym (length-filter (λ g. is_dirty (status c g (effects before))) (range_with_len 0 (granule_total c)))
 
+  -- the status of each granule
+  pub states_told : map status_of s.granules.states ≡ map (λ g. status c g (effects before)) (granules_of c)
+  states_told =
+      status_over status_of (λ g. status c g (effects before)) GranuleState.Dirty s.granules.states 0
+      (λ g below. (kept.cells g (omega (arith, below, kept.granule_count))).status_is ∙ sym (ap (λ k. status c k (effects before)) (zero-add g)))
+      ∙ ap (λ n. map (λ g. status c g (effects before)) (range_with_len 0 n)) kept.granule_count
+
   -- ---- logs
 
   pub log_known : (l : LogId) → IsOfLog c.hosts l → IsLogOf l (log_of l (effects before)) (log_in s l)
@@ -98,10 +120,22 @@ module _ (c : Configuration) (before : List Entry) (s : State) (kept : IsKept c 
   unfolding missed_of
   missed_told l known = ap (λ (log : LogState). log.missed) (log_known l known).is
 
+  pub log_is : (l : LogId) → IsOfLog c.hosts l → log_in s l ≡ state_of (places_in l) (log_of l (effects before))
+  log_is l known = (log_known l known).is
+
   -- ---- extents
 
   pub accepted_told : (h : HostId) → h < c.hosts → (part_of s h).lists.accepted ≡ accepted_of c h (effects before)
   accepted_told h host = ap (λ (l : Lists). l.accepted) (kept.parts h host).lists_are
+
+  pub offers_told : (h : HostId) → h < c.hosts → (part_of s h).lists.offers ≡ offers_of h (effects before)
+  offers_told h host = ap (λ (l : Lists). l.offers) (kept.parts h host).lists_are
+
+  pub responses_told : (h : HostId) → h < c.hosts → (part_of s h).lists.responses ≡ held_of h HeldKind.Responses (effects before)
+  responses_told h host = ap (λ (l : Lists). l.responses) (kept.parts h host).lists_are
+
+  pub releases_told : (h : HostId) → h < c.hosts → (part_of s h).lists.releases ≡ held_of h HeldKind.Releases (effects before)
+  releases_told h host = ap (λ (l : Lists). l.releases) (kept.parts h host).lists_are
 
 pub extents_told : (c : Configuration) (before : List Entry) (h : HostId) → length (accepted_of c h (effects before)) ≡ extent_count c h (effects before)
 unfolding extent_count

@@ -1,4 +1,4 @@
--- Every reply has a payload whose length its message can say.
+-- Every reply has a payload of at most 2,048 bytes.
 use Rattle.std.proofs.Common.{◌≡◌, ℕ, suc, mul-suc, ◌+◌, ◌*◌, ◌^◌, ◌<◌, ◌≤◌, Bool, true, false, List, [], ◌∷◌, ◌++◌, length, map, flat_map, take, drop, get_or, append-nil, refl, sym, ap, subst, ◌∙◌, arith, leb, None}
 use Rattle.std.specs.Prelude.{◌==◌, All, if◌then◌else◌, min, nat_lt}
 use Rattle.std.specs.List.{AllByRecursion}
@@ -96,14 +96,14 @@ spelled_tag v fits =
 
 -- ---- the replies
 
-short_events : (missed : ℕ) (more : Bool) (events : List Event) → length events ≤ 15 → All (λ (e : Event). TagFits e.extent.tag) events → length (events_payload missed more events) < 2 ^ 21
+short_events : (missed : ℕ) (more : Bool) (events : List Event) → length events ≤ 15 → All (λ (e : Event). TagFits e.extent.tag) events → length (events_payload missed more events) ≤ 2048
 unfolding events_payload
 short_events missed more events few fit =
     let front : length (spelling (events_fields missed more events)) ≡ 32 + length (spelling (flat_map record_fields events)) = spelled_both (events_head_fields missed more (length events)) (flat_map record_fields events) in
     let each : AllByRecursion (λ (e : Event). length (spelling (record_fields e)) ≡ 128) events = recursion_from_All (λ (e : Event). length (spelling (record_fields e)) ≡ 128) events (λ k d below. spelled_record (get_or events k d) (fit k d below)) in
     omega (arith, front, spelled_each record_fields 128 events each, few)
 
-short_page : (total generation : ℕ) (xs : List Extent) → length xs ≤ 50 → All (λ (x : Extent). TagFits x.tag) xs → length (extents_payload total generation xs) < 2 ^ 21
+short_page : (total generation : ℕ) (xs : List Extent) → length xs ≤ 50 → All (λ (x : Extent). TagFits x.tag) xs → length (extents_payload total generation xs) ≤ 2048
 unfolding extents_payload
 short_page total generation xs few fit =
     let front : length (spelling (page_fields total generation xs)) ≡ 16 + length (spelling (flat_map extent_fields xs)) = spelled_both (Number w32 (length xs) ∷ Number w32 total ∷ Number w32 generation ∷ Reserved 4 ∷ []) (flat_map extent_fields xs) in
@@ -117,7 +117,7 @@ spelled_views views = spelled_each view_fields 40 views (all views)
     all [] = tt
     all (v ∷ views) = (refl, all views)
 
-short_configuration : (total : ℕ) (views : List RegionView) (counts : Counts) → length views ≤ 8 → length (configuration_payload total views counts) < 2 ^ 21
+short_configuration : (total : ℕ) (views : List RegionView) (counts : Counts) → length views ≤ 8 → length (configuration_payload total views counts) ≤ 2048
 unfolding configuration_payload
 short_configuration total views counts few =
     let front : length (spelling (configuration_fields total views counts)) ≡ 8 + length (spelling (flat_map view_fields views ++ counts_fields counts)) = spelled_both (configuration_head_fields total (length views)) (flat_map view_fields views ++ counts_fields counts) in
@@ -125,19 +125,19 @@ short_configuration total views counts few =
     omega (arith, front, back, spelled_views views, few)
 
 -- the oldest records of a log
-pub short_log : (number : ℕ) (own : Log) → All (λ (e : Event). TagFits e.extent.tag) (records_in own) → length (events_reply (log_named number own)) < 2 ^ 21
+pub short_log : (number : ℕ) (own : Log) → All (λ (e : Event). TagFits e.extent.tag) (records_in own) → length (events_reply (log_named number own)) ≤ 2048
 short_log number own fit = by (number == 4)
   where
-    it : (log : Log) → All (λ (e : Event). TagFits e.extent.tag) (records_in log) → length (events_reply log) < 2 ^ 21
+    it : (log : Log) → All (λ (e : Event). TagFits e.extent.tag) (records_in log) → length (events_reply log) ≤ 2048
     it log fit = short_events log.missed (nat_lt 15 (length (records_in log))) (take 15 (records_in log)) (omega (arith, length-take 15 (records_in log))) (All-take (λ (e : Event). TagFits e.extent.tag) 15 (records_in log) fit)
 
-    by : (b : Bool) → length (events_reply (if b then own else empty_log)) < 2 ^ 21
+    by : (b : Bool) → length (events_reply (if b then own else empty_log)) ≤ 2048
     by true = it own fit
     by false = it empty_log (λ k d below. absurd (omega (arith, below)))
 
 -- ---- a host's commands
 
-pub short_host : (c : Configuration) (h : HostId) (v : View) (part : HostPart) → IsPart h v part → PartFits part → length c.regions ≤ 8 → (q : HostRequest) → length (host_outcome c h v q).payload < 2 ^ 21
+pub short_host : (c : Configuration) (h : HostId) (v : View) (part : HostPart) → IsPart h v part → PartFits part → length c.regions ≤ 8 → (q : HostRequest) → length (host_outcome c h v q).payload ≤ 2048
 short_host c h v part is fits few (HostRequest.GetEvents log) =
     short_log log v.log (subst (λ (s : LogState). All (λ (e : Event). TagFits e.extent.tag) s.records) is.log_is.is fits.records)
 short_host c h v part is fits few (HostRequest.ClearEvents log all handles) = omega arith
@@ -160,7 +160,7 @@ spelled_sizes (n ∷ sizes) =
     let both : length (spelling ((Number w64 n ∷ []) ++ map (Number w64) sizes)) ≡ 8 + length (spelling (map (Number w64) sizes)) = spelled_both (Number w64 n ∷ []) (map (Number w64) sizes) in
     omega (arith, both, rest)
 
-short_info : (hosts granules free dirty : ℕ) (sizes : List ℕ) → length sizes ≤ 8 → length (info_payload hosts granules free dirty sizes) < 2 ^ 21
+short_info : (hosts granules free dirty : ℕ) (sizes : List ℕ) → length sizes ≤ 8 → length (info_payload hosts granules free dirty sizes) ≤ 2048
 unfolding info_payload
 short_info hosts granules free dirty sizes few =
     let front : length (spelling (info_fields hosts granules free dirty sizes)) ≡ 24 + length (spelling (map (Number w64) sizes)) = spelled_both (info_head_fields hosts (length sizes) granules free dirty) (map (Number w64) sizes) in
@@ -200,7 +200,7 @@ long_views : (c : Configuration) (h : HostId) (v : View) (rs : List ℕ) → All
 long_views c h v [] = tt
 long_views c h v (r ∷ rs) = (long_region (region_seen c h v manager_flags r), long_views c h v rs)
 
-short_regions : (c : Configuration) (views : HostId → View) (h count first : ℕ) → length c.regions ≤ 8 → length (regions_reply c views h count first) < 2 ^ 21
+short_regions : (c : Configuration) (views : HostId → View) (h count first : ℕ) → length c.regions ≤ 8 → length (regions_reply c views h count first) ≤ 2048
 short_regions c views h count first few =
     let rs : List ℕ = page first count (regions_of c) in
     let f : ℕ → List ℕ = λ r. region_bytes (region_seen c h (views h) manager_flags r) in
@@ -217,7 +217,7 @@ short_regions c views h count first few =
       length-append (regions_head h (length c.regions) (length rs)) (flat_map f rs),
     )
 
-short_lists : (views : HostId → View) (host count first : ℕ) → All (λ (x : Extent). TagFits x.tag) (views host).accepted → length (lists_reply views host count first) < 2 ^ 21
+short_lists : (views : HostId → View) (host count first : ℕ) → All (λ (x : Extent). TagFits x.tag) (views host).accepted → length (lists_reply views host count first) ≤ 2048
 short_lists views host count first fit =
     let v : View = views host in
     let xs : List Extent = page first (min count 50) v.accepted in
@@ -236,7 +236,7 @@ tags_seen : (c : Configuration) (past : List Effect) (tags : List Tag) → AllBy
 tags_seen c past [] fit = tt
 tags_seen c past (t ∷ tags) fit = (spelled_tag (tag_seen c past t) fit.0, tags_seen c past tags fit.1)
 
-short_tags : (first total : ℕ) (views : List TagView) → length views ≤ 84 → AllByRecursion (λ (v : TagView). length (spelling (tag_fields v)) ≡ 24) views → length (tags_payload first total views) < 2 ^ 21
+short_tags : (first total : ℕ) (views : List TagView) → length views ≤ 84 → AllByRecursion (λ (v : TagView). length (spelling (tag_fields v)) ≡ 24) views → length (tags_payload first total views) ≤ 2048
 unfolding tags_payload
 short_tags first total views few each =
     let front : length (spelling (tags_fields first total views)) ≡ 16 + length (spelling (flat_map tag_fields views)) = spelled_both (tags_head_fields first (length views) total) (flat_map tag_fields views) in
@@ -248,7 +248,7 @@ entry_tags [] fit = tt
 entry_tags (e ∷ entries) fit = (fit.0, entry_tags entries fit.1)
 
 pub short_manager : (c : Configuration) (before : List Entry) (s : State) → IsKept c before s → length c.regions ≤ 8 → (q : FmRequest) → RequestFits s q →
-    manager_rule c (effects before) (λ h. view_of c h before) q ≡ None → length (manager_outcome c (effects before) (λ h. view_of c h before) q).payload < 2 ^ 21
+    manager_rule c (effects before) (λ h. view_of c h before) q ≡ None → length (manager_outcome c (effects before) (λ h. view_of c h before) q).payload ≤ 2048
 short_manager c before s kept few (FmRequest.GetEvents log) fits row =
     short_log log (log_of LogId.Manager (effects before)) (subst (λ (l : LogState). All (λ (e : Event). TagFits e.extent.tag) l.records) kept.manager_log.is fits)
 short_manager c before s kept few (FmRequest.ClearEvents log all handles) fits row = omega arith

@@ -1,5 +1,5 @@
 -- What a step comes to.
-use Rattle.std.specs.Prelude.{◌≡◌, ◌^◌, ◌<◌, List, length, All}
+use Rattle.std.specs.Prelude.{◌≡◌, ◌≤◌, List, length, All}
 use Rattle.dcd_base.specs.declared.steps.Actor.{Actor}
 use Rattle.region_config.specs.Configurations.{Configuration}
 use Rattle.region_config.specs.Soundness.{IsSound}
@@ -13,9 +13,9 @@ use Rattle.device_state.specs.Updates.{IsUpdate}
 use Rattle.control_core.specs.declared.decided.Decided.{Decided}
 use Rattle.device_state.specs.declared.state.State.{State}
 
--- The payload of a response has a length that the message can say.
+-- The payload of a response has at most 2,048 bytes: as much as the longest page, with some to spare.
 abbrev pub IsShort : Reply → Type 0
-IsShort (Reply.Answer s) = length s.payload < 2 ^ 21
+IsShort (Reply.Answer s) = length s.payload ≤ 2048
 IsShort (Reply.Word n) = Unit {0}
 IsShort Reply.Stored = Unit {0}
 IsShort (Reply.Refused fault) = Unit {0}

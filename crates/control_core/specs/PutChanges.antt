@@ -1,5 +1,5 @@
 -- Changes put one after another, from the holders before the step.
-use Rattle.std.specs.Prelude.{◌≡◌, ℕ, ◌<◌, Bool, true, false, ◌&&◌, ◌||◌, ◌==◌, nat_le, nat_lt, List, [], ◌∷◌, ◌++◌, fold, Option, Some, None, slice_index_or, if◌then◌else◌}
+use Rattle.std.specs.Prelude.{◌≡◌, ℕ, ◌<◌, ◌≤◌, Bool, true, false, ◌&&◌, ◌||◌, ◌==◌, nat_le, nat_lt, List, [], ◌∷◌, ◌++◌, fold, Option, Some, None, slice_index_or, if◌then◌else◌}
 use Rattle.std.specs.List.{list_all, list_any}
 use Rattle.dcd_base.specs.Words.{has_granule}
 use Rattle.dcd_base.specs.declared.ids.HostId.{HostId}
@@ -7,8 +7,10 @@ use Rattle.dcd_base.specs.declared.media.Change.{Change}
 use Rattle.dcd_base.specs.declared.media.Run.{Run}
 use Rattle.journal_core.specs.declared.outcome.Effect.{Effect}
 use Rattle.device_rules.specs.Legal.{is_zeroing}
-use Rattle.dcd_base.specs.Hosts.{with_host, without_host}
-use Rattle.control_core.specs.ChangedRuns.{holders_after, touches}
+use Rattle.region_config.specs.Configurations.{Configuration}
+use Rattle.region_config.specs.Granules.{granule_total}
+use Rattle.dcd_base.specs.Hosts.{has_host, with_host, without_host}
+use Rattle.control_core.specs.ChangedRuns.{IsInRegion, holders_after, touches}
 
 -- the granules that the effect gives, takes or zeroes
 abbrev pub touched_by : Effect → Option Run
@@ -59,6 +61,16 @@ pub record ArePut (n : ℕ) (holders : List ℕ) (effects : List Effect) (change
 -- With one more effect the changes go on.
 abbrev pub PutOne : ℕ → List ℕ → Effect → List Change → List Change → Type 0
 PutOne n holders e old new = (effects : List Effect) → ArePut n holders effects old → ArePut n holders (effects ++ e ∷ []) new
+
+-- ---- regions and hosts
+
+-- The granules are those of one region, if there are any.
+abbrev pub IsRegionOrNone : Configuration → Run → Type 0
+IsRegionOrNone c run = 0 < run.count → IsInRegion c run
+
+-- No granule has a holder that the device has not.
+abbrev pub NameNoOthers : Configuration → List ℕ → Type 0
+NameNoOthers c holders = (g : ℕ) (h : HostId) → g < granule_total c → c.hosts ≤ h → has_host (slice_index_or holders g 0) h ≡ false
 
 -- ---- one host
 

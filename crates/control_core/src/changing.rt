@@ -1,8 +1,8 @@
 //! What a step changes of the granules' holders and words.
 
-ghost use Rattle.control_core.specs.ChangedRuns.{AreChanges, LiesIn};
+ghost use Rattle.control_core.specs.ChangedRuns.{AreChanges, IsInRegion, IsSoundChange, LiesIn};
 ghost use Rattle.device_state.specs.Kept.{IsKept};
-ghost use Rattle.control_core.specs.PutChanges.{AreAdded, AreOfOneHost, ArePut, PutOne, bits_by, is_zero, touched_by};
+ghost use Rattle.control_core.specs.PutChanges.{AreAdded, AreOfOneHost, ArePut, IsRegionOrNone, NameNoOthers, PutOne, bits_by, is_zero, touched_by};
 ghost use Rattle.device_state.specs.Updates.{IsOfDevice};
 ghost use Rattle.journal_core.specs.Entries.{effects as effects_of};
 ghost use Rattle.journal_core.specs.declared.entries.Entry.{Entry};
@@ -45,27 +45,36 @@ fn put_all(
     requires { All (IsOfDevice config.now) effects.now }
     ensures put { IfOk result (λ changes. ArePut (granule_total config.now) holders.now effects.now changes) }
     ensures inside { IfOk result (λ changes. All (LiesIn (granule_total config.now)) changes) }
+    ensures sound { IfOk result (λ changes. NameNoOthers config.now holders.now → All (IsSoundChange config.now) changes) }
 {
     let mut changes = Changes::new(alloc);
+    let mut region = Run {
+        first: Granule(0),
+        count: 0,
+    };
     for i in 0..effects.len() {
-        put_change(config, holders, &effects[i], &mut changes)?;
+        put_change(config, holders, &effects[i], &mut region, &mut changes)?;
     }
     Ok(changes)
 }
 
-/// Puts what one effect changes.
+/// Puts what one effect changes. The region is that of the last change, or has no granule.
 fn put_change(
     config: &Config,
     holders: &Holders,
     effect: &Effect,
+    region: &mut Run,
     changes: &mut Changes,
 ) -> Result<(), NoMemory>
-    requires { IsOfDevice config.now effect.now }
+    requires of_device { IsOfDevice config.now effect.now }
+    requires region { IsRegionOrNone config.now region.old }
+    ensures region { IsRegionOrNone config.now region.new }
     ensures put { OnOk result (PutOne (granule_total config.now) holders.now effect.now changes.old changes.new) }
     ensures inside { OnOk result (All (LiesIn (granule_total config.now)) changes.old → All (LiesIn (granule_total config.now)) changes.new) }
+    ensures sound { OnOk result (NameNoOthers config.now holders.now → All (IsSoundChange config.now) changes.old → All (IsSoundChange config.now) changes.new) }
 {
     match touched_run(effect) {
-        Some(run) => put_runs(config, holders, effect, &run, changes),
+        Some(run) => put_runs(config, holders, effect, &run, region, changes),
         None => Ok(()),
     }
 }
@@ -82,28 +91,47 @@ fn touched_run(effect: &Effect) -> Option<Run>
     }
 }
 
-/// Puts the longest runs of granules of one set of holders that the run has, changed so. Granules past the last of the
-/// device are left out.
+/// Puts the longest runs of granules of one region and one set of holders that the run has, changed so. Granules past the
+/// last of the device are left out.
 fn put_runs(
     config: &Config,
     holders: &Holders,
     effect: &Effect,
     run: &Run,
+    region: &mut Run,
     changes: &mut Changes,
 ) -> Result<(), NoMemory>
-    requires { IsOfDevice config.now effect.now }
+    requires of_device { IsOfDevice config.now effect.now }
+    requires region { IsRegionOrNone config.now region.old }
+    ensures region { IsRegionOrNone config.now region.new }
     ensures added { OnOk result (AreAdded (granule_total config.now) holders.now effect.now run.now.first (run.now.first + run.now.count) changes.old changes.new) }
     ensures inside { OnOk result (All (LiesIn (granule_total config.now)) changes.old → All (LiesIn (granule_total config.now)) changes.new) }
+    ensures sound { OnOk result (NameNoOthers config.now holders.now → All (IsSoundChange config.now) changes.old → All (IsSoundChange config.now) changes.new) }
 {
     let granules = config.granules();
     let end = run.first.0.saturating_add(run.count).min(granules);
     let mut at = run.first.0;
     while at < end {
-        let next = run_end(holders, at, end);
+        go_to_region(config, Granule(at), region);
+        let most = end.min(region.first.0.saturating_add(region.count));
+        let next = run_end(holders, at, most);
         changes.push(change_of(config, holders, effect, at, next))?;
         at = next;
     }
     Ok(())
+}
+
+/// Makes this region that of the granule. Most often it is already.
+fn go_to_region(config: &Config, granule: Granule, region: &mut Run)
+    requires known { granule < granule_total config.now }
+    requires region { IsRegionOrNone config.now region.old }
+    ensures region { IsInRegion config.now region.new }
+    ensures from { region.new.first ≤ granule }
+    ensures to { granule < region.new.first + region.new.count }
+{
+    if granule.0 < region.first.0 || granule.0 - region.first.0 >= region.count {
+        *region = config.granules_of(config.region_of(granule));
+    }
 }
 
 /// The number of the first granule behind one that others hold, or the end.

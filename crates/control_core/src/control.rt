@@ -6,7 +6,7 @@ ghost use Rattle.device_rules.specs.Answers.{answer as answer_to};
 ghost use Rattle.device_rules.specs.Legal.{Legal};
 ghost use Rattle.control_core.specs.Steps.{IsNext, MayStep, entry_of};
 ghost use Rattle.device_state.specs.Updates.{IsUpdate};
-ghost use Rattle.journal_core.specs.Entries.{effects, effects as effects_in};
+ghost use Rattle.journal_core.specs.Entries.{effects};
 ghost use Rattle.region_config.specs.Granules.{granule_total};
 ghost use Rattle.std.specs.Prelude.{◌≡◌, ◌+◌, ◌++◌, ◌∷◌, ◌<◌, ◌≤◌, [], All, IfOk, OnErr, OnOk};
 
@@ -75,7 +75,7 @@ impl Control {
         &self.config
     }
 
-    /// Its commands and scrubs, in order. The payload of each response has a length that the message can say.
+    /// Its commands and scrubs, in order. The payload of each response has at most 2,048 bytes.
     pub fn entries(&self) -> &[Entry]
         ensures value { result.now ≡ self.now.entries }
         ensures legal { Legal self.now.config self.now.entries }
@@ -179,17 +179,37 @@ impl Control {
         ensures config { self.new.config ≡ self.old.config }
         ensures entered { self.new.entries ≡ self.old.entries ++ entry_of self.old.config self.old.entries pass line actor act ∷ [] }
     {
-        let number = self.entries.as_slice().len() as u64 + 1;
-        let entry = Entry {
+        let entry = self.next_entry(pass, line, actor, act, reply, effects);
+        self.take(entry, update);
+    }
+
+    /// The entry of a step behind the entries so far.
+    #[inline(always)]
+    fn next_entry(
+        &self,
+        pass: u32,
+        line: u32,
+        actor: Actor,
+        act: Act,
+        reply: Reply,
+        effects: EntryEffects,
+    ) -> Entry
+        requires reply { reply ≡ (answer_to self.now.config self.now.entries actor act).0 }
+        requires effects { effects ≡ (answer_to self.now.config self.now.entries actor act).1 }
+        ensures { result ≡ entry_of self.now.config self.now.entries pass line actor act }
+    {
+        Entry {
             pass,
             line,
             actor,
             act,
             reply,
             effects,
-            stamp: Stamp { number, count: 0 },
-        };
-        self.take(entry, update);
+            stamp: Stamp {
+                number: self.entries.as_slice().len() as u64 + 1,
+                count: 0,
+            },
+        }
     }
 
     /// Enters the next entry, and puts its update in place.
@@ -259,13 +279,13 @@ impl Control {
 
     /// The runs whose holders these effects change or whose words they zero, which are the effects of the step.
     #[inline(always)]
-    fn changes_by(&self, actor: &Actor, act: &Act, effects: &Effects) -> Result<Changes, NoMemory>
+    fn changes_by(&self, actor: &Actor, act: &Act, new: &Effects) -> Result<Changes, NoMemory>
         requires may { MayStep self.now.config actor.now act.now }
-        requires of_step { effects.now ≡ (answer_to self.now.config self.now.entries actor.now act.now).1 }
-        ensures changes { IfOk result (λ changes. AreChanges self.now.config (effects_in self.now.entries) effects.now changes) }
+        requires of_step { new.now ≡ (answer_to self.now.config self.now.entries actor.now act.now).1 }
+        ensures changes { IfOk result (λ changes. AreChanges self.now.config (effects self.now.entries) new.now changes) }
         ensures inside { IfOk result (λ changes. All (LiesIn (granule_total self.now.config)) changes) }
     {
-        let changes = changes_of(self.alloc, &self.config, &self.state, effects.as_slice())?;
+        let changes = changes_of(self.alloc, &self.config, &self.state, new.as_slice())?;
         Ok(changes)
     }
 
@@ -293,18 +313,7 @@ impl Control {
         } = decided;
         let changes = self.changes_by(&actor, &act, &effects)?;
         let effects = EntryEffects::of(effects)?;
-        let entry = Entry {
-            pass,
-            line,
-            actor,
-            act,
-            reply,
-            effects,
-            stamp: Stamp {
-                number: self.entries.as_slice().len() as u64 + 1,
-                count: 0,
-            },
-        };
+        let entry = self.next_entry(pass, line, actor, act, reply, effects);
         Ok(Plan {
             entry,
             changes,

@@ -1,19 +1,76 @@
-//! What a control tells of its device: extents, granules and logs.
+//! What a control tells of its device: blocks, extents, granules and logs.
 
 ghost use Rattle.control_core.specs.HeldExtents.{AreHeld};
-ghost use Rattle.device_state.specs.Updates.{IsOfLog};
+ghost use Rattle.device_rules.specs.Adding.{present as present_in};
 ghost use Rattle.device_rules.specs.Counts.{dirty_count, extent_count, free_count, granules_held, missed_of, records_of};
+ghost use Rattle.device_rules.specs.Hosts.{accepted_of, held_of, offers_of};
+ghost use Rattle.device_rules.specs.Logs.{log_of};
+ghost use Rattle.device_rules.specs.Tags.{granules_of, status};
+ghost use Rattle.device_state.specs.Updates.{IsOfLog};
+ghost use Rattle.event_log.specs.Logs.{places_in, state_of};
+ghost use Rattle.granule_laws.specs.Cells.{status_of};
 ghost use Rattle.journal_core.specs.Entries.{effects};
-ghost use Rattle.media_map.specs.Places.{run_of as granules_of};
-ghost use Rattle.std.specs.Prelude.{◌≡◌, ◌<◌, Some, length, slice_get, sum_by};
+ghost use Rattle.journal_core.specs.declared.outcome.HeldKind.{HeldKind};
+ghost use Rattle.media_map.specs.Places.{run_of as run_with};
+ghost use Rattle.std.specs.Prelude.{◌≡◌, ◌<◌, Some, length, map, slice_get, sum_by};
 
 use crate::control::Control;
 use dcd_base::{Extent, HostId, LogId};
+use event_log::EventLog;
 use event_records::Event;
+use granule_map::GranuleMap;
 use host_commands::run_of;
 use region_config::Config;
 
 impl Control {
+    /// The configuration with the present block size of each region; `config` answers the first ones.
+    pub fn present(&self) -> &Config
+        ensures { result.now ≡ present_in self.now.config (effects self.now.entries) }
+    {
+        &self.state.present
+    }
+
+    /// The extents that the host has accepted, in the order of its list.
+    pub fn accepted(&self, host: HostId) -> &[Extent]
+        requires { host < self.now.config.hosts }
+        ensures { result.now ≡ accepted_of self.now.config host (effects self.now.entries) }
+    {
+        self.state.part(host).lists.accepted().as_slice()
+    }
+
+    /// How many offers the host has not answered.
+    pub fn offers(&self, host: HostId) -> usize
+        requires { host < self.now.config.hosts }
+        ensures { result ≡ length (offers_of host (effects self.now.entries)) }
+    {
+        self.state.part(host).lists.offer_count()
+    }
+
+    /// The extents of an offer that the host has not answered, the oldest at 0.
+    pub fn offer(&self, host: HostId, index: usize) -> &[Extent]
+        requires host { host < self.now.config.hosts }
+        requires index { index < length (offers_of host (effects self.now.entries)) }
+        ensures { slice_get (offers_of host (effects self.now.entries)) index ≡ Some result.now }
+    {
+        self.state.part(host).lists.offer_at(index)
+    }
+
+    /// The extents that the host's responses with More hold so far.
+    pub fn held_responses(&self, host: HostId) -> &[Extent]
+        requires { host < self.now.config.hosts }
+        ensures { result.now ≡ held_of host HeldKind.Responses (effects self.now.entries) }
+    {
+        self.state.part(host).lists.responses().as_slice()
+    }
+
+    /// The extents that the host's releases with More hold so far.
+    pub fn held_releases(&self, host: HostId) -> &[Extent]
+        requires { host < self.now.config.hosts }
+        ensures { result.now ≡ held_of host HeldKind.Releases (effects self.now.entries) }
+    {
+        self.state.part(host).lists.releases().as_slice()
+    }
+
     /// How many extents the host has accepted.
     pub fn extents(&self, host: HostId) -> u32
         requires { host < self.now.config.hosts }
@@ -34,6 +91,16 @@ impl Control {
         )
     }
 
+    /// The state of each granule, in the order of the granules.
+    ///
+    /// Of a granule that is offered, held or tagged the state names a host or a tag, and of that the clause says nothing:
+    /// the accepted extents and the offers of the hosts tell it.
+    pub fn states(&self) -> &GranuleMap
+        ensures { map status_of result.now.states ≡ map (λ g. status self.now.config g (effects self.now.entries)) (granules_of self.now.config) }
+    {
+        self.state.granules.states()
+    }
+
     /// How many granules are free.
     pub fn free(&self) -> u32
         ensures { result ≡ free_count self.now.config (effects self.now.entries) }
@@ -46,6 +113,14 @@ impl Control {
         ensures { result ≡ dirty_count self.now.config (effects self.now.entries) }
     {
         self.state.granules.dirty()
+    }
+
+    /// The log: its records, the handle of the next one and how many found it full.
+    pub fn log(&self, log: LogId) -> &EventLog
+        requires { IsOfLog self.now.config.hosts log }
+        ensures { result.now ≡ state_of (places_in log) (log_of log (effects self.now.entries)) }
+    {
+        self.state.log(log)
     }
 
     /// How many records are in the log.
@@ -78,7 +153,7 @@ impl Control {
 fn granules_in(config: &Config, host: HostId, extents: &[Extent]) -> u32
     requires host { host < config.now.hosts }
     requires held { AreHeld config.now host extents.now }
-    ensures { result ≡ sum_by (λ x. (granules_of config.now host x).count) extents.now }
+    ensures { result ≡ sum_by (λ x. (run_with config.now host x).count) extents.now }
 {
     let mut granules = 0;
     for i in 0..extents.len() {

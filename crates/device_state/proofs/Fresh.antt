@@ -97,5 +97,6 @@ first_kept c s present hosts manager states unclean holders tags = record {
   cells = first_cells c s.granules states unclean;
   holder_count = ap length holders ∙ length-replicate (granule_total c) 0;
   held = λ g h granule host. ap (λ xs. has_host (get_or xs g 0) h) holders ∙ ap (λ b. has_host b h) (get_or-replicate (granule_total c) g 0 0 granule) ∙ ap (λ n. n == 1) (bit_at-zero h);
+  no_others = λ g h granule other. ap (λ xs. has_host (get_or xs g 0) h) holders ∙ ap (λ b. has_host b h) (get_or-replicate (granule_total c) g 0 0 granule) ∙ ap (λ n. n == 1) (bit_at-zero h);
   tags_are = subst (IsTable c []) (sym tags) (record { tags_are = refl; each = tt });
 }

@@ -119,6 +119,20 @@ module _ (c : Configuration) (few : c.hosts ≤ 16) (h : HostId) (g : ℕ) where
       holding_over (holders_by bits e) new (omega (arith, below, length-by bits e)) all.1
       ∙ ap (λ (held : Bool). fold (holding_after h g) held new) (holding_one bits e below all.0)
 
+  -- a host that the device has not holds nothing
+  never_one : (e : Effect) → c.hosts ≤ h → IsOfDevice c e → holding_after h g false e ≡ false
+  never_one (Effect.Take k run) other is = ap (λ b. if b && has_granule run g then true else false) (ne_eqb k h (λ same. omega (arith, is, other, same)))
+  never_one (Effect.Leave k run) other is = ap (λ b. if b && has_granule run g then false else false) (ne_eqb k h (λ same. omega (arith, is, other, same)))
+  never_one e other is = refl
+
+  never : (new : List Effect) → c.hosts ≤ h → AllByRecursion (IsOfDevice c) new → fold (holding_after h g) false new ≡ false
+  never [] other all = refl
+  never (e ∷ new) other all = ap (λ (held : Bool). fold (holding_after h g) held new) (never_one e other all.0) ∙ never new other all.1
+
+  pub none_over : (bits : List ℕ) (new : List Effect) → g < length bits → AllByRecursion (IsOfDevice c) new → c.hosts ≤ h → has_host (get_or bits g 0) h ≡ false →
+      has_host (get_or (fold holders_by bits new) g 0) h ≡ false
+  none_over bits new below all other none = holding_over bits new below all ∙ ap (λ (held : Bool). fold (holding_after h g) held new) none ∙ never new other all
+
 pub length-over : (bits : List ℕ) (new : List Effect) → length (fold holders_by bits new) ≡ length bits
 length-over bits [] = refl
 length-over bits (e ∷ new) = length-over (holders_by bits e) new ∙ length-by bits e

@@ -1,5 +1,5 @@
 -- What is kept is what the entries so far say, also once one more legal entry is entered.
-use Rattle.std.proofs.Common.{◌≡◌, ℕ, ◌<◌, ◌==◌, Bool, true, false, List, [], ◌∷◌, ◌++◌, length, get_or, inl, inr, refl, sym, ap, subst, ◌∙◌, arith}
+use Rattle.std.proofs.Common.{◌≡◌, ℕ, ◌<◌, ◌≤◌, ◌==◌, Bool, true, false, List, [], ◌∷◌, ◌++◌, length, get_or, inl, inr, refl, sym, ap, subst, ◌∙◌, arith}
 use Rattle.std.specs.Prelude.{fold, if◌then◌else◌, map, Some}
 use Rattle.std.specs.Cmp.Lexicographic.{same_text}
 use Rattle.std.specs.List.{AllByRecursion}
@@ -41,7 +41,7 @@ use Rattle.device_rules.specs.Tags.{last_offer, open_tags, tag_runs}
 use Rattle.device_rules.specs.Views.{view_of}
 use Rattle.device_steps.proofs.LegalLogs.{legal_logs}
 use Rattle.device_state.proofs.DeviceEffects.{each_of_device}
-use Rattle.device_state.proofs.HolderBits.{holding_over, length-over}
+use Rattle.device_state.proofs.HolderBits.{holding_over, length-over, none_over}
 use Rattle.device_state.proofs.RecordSteps.{log_all}
 use Rattle.device_state.proofs.Rooms.{room_for}
 use Rattle.device_state.specs.Entered.{IsEntered, lists_by, lists_put, log_by, oldest_in, present_by, runs_found, runs_in, tags_put}
@@ -153,6 +153,11 @@ module _ (c : Configuration) (sound : IsSound c) (before : List Entry) (legal : 
       ∙ ap (λ (b : Bool). fold (holding_after h g) b e.effects) (kept.held g h granule host)
       ∙ sym (over-push (holding_after h g) false before e)
 
+  no_others_now : (g : ℕ) (h : HostId) → g < granule_total c → c.hosts ≤ h → has_host (get_or now.holders g 0) h ≡ false
+  no_others_now g h granule other =
+      ap (λ (bits : List ℕ). has_host (get_or bits g 0) h) step.holders_are
+      ∙ none_over c sound.hosts h g old.holders e.effects (omega (arith, granule, kept.holder_count)) each other (kept.no_others g h granule other)
+
   tags_now : IsTable c (effects (before ++ e ∷ [])) now.tags.entries
   tags_now =
       let is : now.tags.entries ≡ tags_put u.tags (λ h. lists_after c h before e.effects) old.tags.entries =
@@ -172,5 +177,6 @@ module _ (c : Configuration) (sound : IsSound c) (before : List Entry) (legal : 
         (right (oldest_in old) (runs_in old) known g granule (cell_at old.granules g) (kept.cells g granule));
     holder_count = ap length step.holders_are ∙ length-over old.holders e.effects ∙ kept.holder_count;
     held = held_now;
+    no_others = no_others_now;
     tags_are = tags_now;
   }

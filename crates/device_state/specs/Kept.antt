@@ -1,5 +1,5 @@
 -- That what the device keeps is what the journal says.
-use Rattle.std.specs.Prelude.{◌≡◌, ℕ, ◌<◌, List, length, slice_index, slice_index_or}
+use Rattle.std.specs.Prelude.{◌≡◌, ℕ, ◌<◌, ◌≤◌, false, List, length, slice_index, slice_index_or}
 use Rattle.dcd_base.specs.declared.ids.HostId.{HostId}
 use Rattle.dcd_base.specs.declared.steps.LogId.{LogId}
 use Rattle.region_config.specs.Configurations.{Configuration}
@@ -44,6 +44,7 @@ pub record IsKept (c : Configuration) (journal : List Entry) (s : State) : Type 
   pub cells : (g : ℕ) → g < granule_total c → IsCell c (effects journal) g (cell_at s.granules g)
   pub holder_count : length s.holders ≡ granule_total c
   pub held : (g : ℕ) (h : HostId) → g < granule_total c → h < c.hosts → has_host (slice_index s.holders g) h ≡ holds h g (effects journal)
+  pub no_others : (g : ℕ) (h : HostId) → g < granule_total c → c.hosts ≤ h → has_host (slice_index s.holders g) h ≡ false
   pub tags_are : IsTable c (effects journal) s.tags.entries
 
 -- The state is one that a legal journal of the device leads to.

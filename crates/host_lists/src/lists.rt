@@ -6,7 +6,7 @@ ghost use Rattle.host_lists.specs.Lists.{extent_total, extents_in, no_lists};
 ghost use Rattle.host_lists.specs.Tags.{capped, tag_count};
 ghost use Rattle.offer_core.specs.Offerings.{oldest_of};
 ghost use Rattle.std.specs.List.{list_any};
-ghost use Rattle.std.specs.Prelude.{◌≡◌, ◌++◌, ◌+◌, ◌-◌, ◌^◌, ◌<◌, ◌≤◌, [], IfOk, length};
+ghost use Rattle.std.specs.Prelude.{◌≡◌, ◌++◌, ◌+◌, ◌-◌, ◌^◌, ◌<◌, ◌≤◌, [], IfOk, Some, length, slice_get};
 
 use crate::tag_counts::{has_in_offers, more_tags};
 use dcd_base::limits::{EXTENTS, TAGS};
@@ -103,6 +103,21 @@ impl HostLists {
         ensures { result.now ≡ self.now.releases }
     {
         self.releases.held()
+    }
+
+    /// How many offers are unanswered.
+    pub fn offer_count(&self) -> usize
+        ensures { result ≡ length self.now.offers }
+    {
+        self.offers.len()
+    }
+
+    /// The extents of an unanswered offer, the oldest at 0.
+    pub fn offer_at(&self, index: usize) -> &[Extent]
+        requires { index < length self.now.offers }
+        ensures { slice_get self.now.offers index ≡ Some result.now }
+    {
+        self.offers.at(index).extents.as_slice()
     }
 
     /// How often the accepted list changed, modulo 2^32 (CXL 3.1, 8.2.9.9.9.2).

@@ -1,14 +1,16 @@
 use Rattle.std.proofs.Common.{◌≤◌, ◌-◌, max}
 use Rattle.std.specs.Prelude.{All}
 use Rattle.region_config.specs.Granules.{granule_total}
-use Rattle.control_core.specs.ChangedRuns.{LiesIn}
-use Rattle.control_core.specs.PutChanges.{AreAdded}
+use Rattle.control_core.specs.ChangedRuns.{IsSoundChange, LiesIn}
+use Rattle.control_core.specs.PutChanges.{AreAdded, IsRegionOrNone, NameNoOthers}
 use Rattle.control_core.proofs.changing.put_runs.Given as goal
 
 abbrev pub invariant-loop-at : goal.invariant-loop-at
 invariant-loop-at l = record {
   added : AreAdded (granule_total l.config) l.holders l.effect l.run.first l.at l.fn.changes l.changes;
   inside : All (LiesIn (granule_total l.config)) l.fn.changes → All (LiesIn (granule_total l.config)) l.changes;
+  sound : NameNoOthers l.config l.holders → All (IsSoundChange l.config) l.fn.changes → All (IsSoundChange l.config) l.changes;
+  region : IsRegionOrNone l.config l.region;
   from : l.run.first ≤ l.at;
   most : l.at ≤ max l.run.first l.end;
 }

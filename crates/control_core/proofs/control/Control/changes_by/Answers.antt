@@ -12,9 +12,9 @@ pub changes_of-requires-clause-of_device : goal.changes_of-requires-clause-of_de
 changes_of-requires-clause-of_device c =
     let holds = subst (λ (d : Controlled). Holds d.config d.entries c.self.inside.state) c.self.view_is c.self.invariant in
     subst (λ (es : List Effect). All (IsOfDevice c.self.inside.config) es) (sym c.as_slice.ensures)
-    (subst (λ (d : Controlled). All (IsOfDevice d.config) c.args.effects.now) (sym c.self.view_is)
-    (decided_device c.args.self.now c.self.inside.state holds c.args.actor.now c.args.act.now c.requires.may c.args.effects.now c.requires.of_step))
+    (subst (λ (d : Controlled). All (IsOfDevice d.config) c.args.new.now) (sym c.self.view_is)
+    (decided_device c.args.self.now c.self.inside.state holds c.args.actor.now c.args.act.now c.requires.may c.args.new.now c.requires.of_step))
 
 pub changes_of-requires-clause-one : goal.changes_of-requires-clause-one
 changes_of-requires-clause-one c =
-    subst AreOfOneHost (sym c.as_slice.ensures) (decided_one c.args.self.now c.args.actor.now c.args.act.now c.requires.may c.args.effects.now c.requires.of_step)
+    subst AreOfOneHost (sym c.as_slice.ensures) (decided_one c.args.self.now c.args.actor.now c.args.act.now c.requires.may c.args.new.now c.requires.of_step)
