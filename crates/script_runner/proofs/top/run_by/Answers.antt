@@ -1,9 +1,9 @@
-use Rattle.std.proofs.Common.{refl, inl}
+use Rattle.std.proofs.Common.{None, refl, inl}
 use Rattle.report.specs.Refusals.{usage_line}
 use Rattle.script_runner.specs.Words.{words_of}
 use Rattle.script_runner.specs.declared.status.Status.{Status}
 use Rattle.script_runner.proofs.Choices.{complete_refused}
-use Rattle.script_runner.proofs.top.run.Goals as goal
+use Rattle.script_runner.proofs.top.run_by.Goals as goal
 
 -- Refused words stand in the way.
 pub returns-in-Ok-clause-complete : goal.returns-in-Ok-clause-complete
@@ -21,3 +21,7 @@ returns-in-Err-clause-begun g c = inl (
     took = c.in-Err.ensures.front.1;
   },
 )
+
+-- Refused words ask for no source.
+pub returns-in-Err-clause-taken_whole : goal.returns-in-Err-clause-taken_whole
+returns-in-Err-clause-taken_whole g c = λ asked. absurd (c.in-None.ensures None asked)
