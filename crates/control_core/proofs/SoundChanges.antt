@@ -9,7 +9,7 @@ use Rattle.device_state.specs.Updates.{IsOfDevice}
 use Rattle.journal_core.specs.declared.outcome.Effect.{Effect}
 use Rattle.region_config.specs.Configurations.{Configuration}
 use Rattle.region_config.specs.Granules.{granule_total}
-use Rattle.tag_refs.specs.Hosts.{has_host}
+use Rattle.dcd_base.specs.Hosts.{has_host}
 use Rattle.control_core.specs.ChangedRuns.{IsInRegion, IsSoundChange}
 use Rattle.control_core.specs.PutChanges.{NameNoOthers, bits_by, is_zero}
 use Rattle.control_core.proofs.ChangedHolders.{with_other, without_other}

@@ -5,19 +5,19 @@ mod std_sink;
 mod std_source;
 
 use dcd_base::NoGate;
-use script_runner::{Status, run};
+use script_runner::{Status, run_and_leave};
 use std::process::ExitCode;
 use std::{env, io};
 use std_sink::StdSink;
 use std_source::StdSource;
 
-/// Hands `run` the words of the command line, standard input and standard output, and exits with its status.
+/// Hands `run_and_leave` the words of the command line, standard input and standard output, and exits with its status.
 fn main(rt: HostRuntime) -> ExitCode {
     let status = match words(&rt) {
         Ok(words) => {
             let mut source = StdSource::new(rt.stdin());
             let mut sink = StdSink::new(rt.stdout());
-            run(
+            run_and_leave(
                 &rt,
                 rt.alloc(),
                 words.as_slice(),

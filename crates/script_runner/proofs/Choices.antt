@@ -9,8 +9,8 @@ use Rattle.std.proofs.lemmas.Cmp.{nat_list_eq_equiv}
 use Rattle.std.proofs.lemmas.List.{take-append-drop}
 use Rattle.dcd_base.specs.Streams.{HasRisen, IsAtEnd}
 use Rattle.script_runner.specs.Choosing.{EndsGenerated, IsBegunBy, IsSoundBy, IsWrittenBy}
-use Rattle.script_runner.specs.Planning.{IsBegun, IsSound, IsWritten}
-use Rattle.script_runner.specs.Statuses.{IfWhole, OnDone, OnNothing, OnReadFault, OnWriteFault, UnlessFinished}
+use Rattle.script_runner.specs.Planning.{IsBegun, IsSound, IsTakenWhole, IsWritten}
+use Rattle.script_runner.specs.Statuses.{IfWhole, OnDone, OnNothing, OnRead, OnReadFault, OnWriteFault, UnlessFinished}
 use Rattle.script_runner.specs.Words.{Accepts, AreRefused, IsChoice, IsNumber, choice_of, is_digit, is_number, number_in, same_word}
 use Rattle.script_runner.specs.declared.status.Status.{Status}
 use Rattle.script_runner.specs.declared.words.Choice.{Choice}
@@ -120,6 +120,15 @@ begun_source words left old new Status.NoMemory asked begun = tt
 begun_source words left old new Status.ReadFault asked begun = tt
 begun_source words left old new Status.WriteFault asked begun = inr (inl (asked, begun))
 
+pub taken_whole_source : (words : List (List ℕ)) (left now : Option (List ℕ)) (status : Status) → OnRead status (IsTakenWhole left now)
+    → OnRead status (Accepts words None → IsTakenWhole left now)
+taken_whole_source words left now Status.Done taken = λ asked. taken
+taken_whole_source words left now Status.Usage taken = tt
+taken_whole_source words left now (Status.ScriptRefused fault) taken = λ asked. taken
+taken_whole_source words left now Status.NoMemory taken = tt
+taken_whole_source words left now Status.ReadFault taken = tt
+taken_whole_source words left now Status.WriteFault taken = λ asked. taken
+
 pub to_the_end_source : (words : List (List ℕ)) (now : Option (List ℕ)) (status : Status) → OnDone status (IsAtEnd now)
     → OnDone status (Accepts words None → IsAtEnd now)
 to_the_end_source words now Status.Done ended = λ asked. ended
@@ -163,6 +172,14 @@ module _ (words : List (List ℕ)) (seed : ℕ) (asked : Accepts words (Some see
   nothing_generated Status.NoMemory ends = ends
   nothing_generated Status.ReadFault ends = absurd ends
   nothing_generated Status.WriteFault ends = tt
+
+  pub taken_whole_generated : (left now : Option (List ℕ)) (status : Status) → OnRead status (Accepts words None → IsTakenWhole left now)
+  taken_whole_generated left now Status.Done = λ none. absurd (one_choice words seed none asked)
+  taken_whole_generated left now Status.Usage = tt
+  taken_whole_generated left now (Status.ScriptRefused fault) = λ none. absurd (one_choice words seed none asked)
+  taken_whole_generated left now Status.NoMemory = tt
+  taken_whole_generated left now Status.ReadFault = tt
+  taken_whole_generated left now Status.WriteFault = λ none. absurd (one_choice words seed none asked)
 
   pub to_the_end_generated : (now : Option (List ℕ)) (status : Status) → OnDone status (Accepts words None → IsAtEnd now)
   to_the_end_generated now Status.Done = λ none. absurd (one_choice words seed none asked)

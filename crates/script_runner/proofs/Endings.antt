@@ -1,13 +1,13 @@
 -- From how a run of the input ends to how the run of what the source has left ends.
-use Rattle.std.proofs.Common.{◌≡◌, ℕ, ◌<◌, ◌≤◌, true, List, Option, Some, None, length, take, refl, sym, ap, subst, ◌∙◌, arith, min}
+use Rattle.std.proofs.Common.{◌≡◌, ℕ, ◌<◌, ◌≤◌, true, List, [], Option, Some, None, length, take, refl, sym, ap, subst, ◌∙◌, arith, min}
 use Rattle.std.proofs.lemmas.List.{length-take, take_all}
 use Rattle.std.specs.Option.{IfSome}
-use Rattle.dcd_base.specs.Streams.{HasRisen, IsAtEnd}
+use Rattle.dcd_base.specs.Streams.{HasRisen, IsAtEnd, with_front}
 use Rattle.script_codec.specs.declared.faults.ScriptFault.{ScriptFault}
 use Rattle.script_codec.specs.Reading.{fault_of, first_fault}
 use Rattle.script_runner.specs.declared.status.Status.{Status}
-use Rattle.script_runner.specs.Planning.{EndsFor, IsBegun, IsBegunFor, IsPlanned, IsPlannedFor, IsSound, IsSoundInput, IsTextOf, IsWritten, IsWrittenFor, most_read}
-use Rattle.script_runner.specs.Statuses.{IfWhole, OnDone, OnNothing, OnReadFault, OnUsage, OnWriteFault, UnlessFinished}
+use Rattle.script_runner.specs.Planning.{EndsFor, IsBegun, IsBegunFor, IsPlanned, IsPlannedFor, IsSound, IsSoundInput, IsTaken, IsTakenWhole, IsTextOf, IsWritten, IsWrittenFor, Takes, most_read}
+use Rattle.script_runner.specs.Statuses.{IfWhole, OnDone, OnNothing, OnRead, OnReadFault, OnUsage, OnWriteFault, UnlessFinished}
 
 -- The input is what was left, up to the most that is read.
 abbrev IsInput : Option (List ℕ) → List ℕ → Type 0
@@ -86,6 +86,25 @@ to_the_end left input old new faults count (Status.ScriptRefused fault) end ends
 to_the_end left input old new faults count Status.NoMemory end ends = tt
 to_the_end left input old new faults count Status.ReadFault end ends = tt
 to_the_end left input old new faults count Status.WriteFault end ends = tt
+
+-- ---- what was taken from the source
+
+still : (left : Option (List ℕ)) → left ≡ with_front [] left
+still None = refl
+still (Some all) = refl
+
+-- Nothing was taken.
+pub taken_nothing : (left now : Option (List ℕ)) → now ≡ left → IsTaken left now
+taken_nothing left now same = ([], record { given = still left ∙ ap (with_front []) (sym same); most = omega arith })
+
+pub taken_whole : (left now : Option (List ℕ)) (input : List ℕ) (old new : Option (List ℕ)) (faults count : ℕ) (status : Status) → Takes input left now
+    → (length input < most_read → IsAtEnd now) → EndsFor input old faults new count status → OnRead status (IsTakenWhole left now)
+taken_whole left now input old new faults count Status.Done takes end ends = (input, takes, end)
+taken_whole left now input old new faults count Status.Usage takes end ends = tt
+taken_whole left now input old new faults count (Status.ScriptRefused fault) takes end ends = (input, takes, end)
+taken_whole left now input old new faults count Status.NoMemory takes end ends = tt
+taken_whole left now input old new faults count Status.ReadFault takes end ends = tt
+taken_whole left now input old new faults count Status.WriteFault takes end ends = (input, takes, end)
 
 pub no_usage : (input : List ℕ) (old new : Option (List ℕ)) (faults count : ℕ) (status : Status) → EndsFor input old faults new count status
     → OnUsage status ⊥

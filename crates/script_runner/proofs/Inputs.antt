@@ -1,7 +1,7 @@
 -- What was read is the input, once the source is at its end or the input is full.
-use Rattle.std.proofs.Common.{◌≡◌, ℕ, ◌≤◌, List, [], ◌++◌, Option, Some, None, length, take, sym, ap, ◌∙◌}
+use Rattle.std.proofs.Common.{◌≡◌, ℕ, ◌-◌, ◌≤◌, arith, List, [], ◌++◌, Option, Some, None, length, take, sym, ap, ◌∙◌}
 use Rattle.std.specs.Option.{IfSome}
-use Rattle.std.proofs.lemmas.List.{append-nil, take_all, take_at}
+use Rattle.std.proofs.lemmas.List.{append-nil, append_assoc, length-append, length-take, take_all, take_at}
 use Rattle.dcd_base.specs.Streams.{IsAtEnd, with_front}
 
 never_told : {A : Type 0} (x : A) → Some x ≡ None → ⊥
@@ -31,3 +31,14 @@ still_at_end None now piece given nothing end = tt
 still_at_end (Some all) None piece given nothing end = absurd (never_told all given)
 still_at_end (Some all) (Some rest) piece given nothing end =
     inner all (piece ++ rest) given ∙ ap (λ xs. xs ++ rest) nothing ∙ end
+
+-- What was taken in two parts.
+pub in_two : (left mid now : Option (List ℕ)) (first second : List ℕ) → left ≡ with_front first mid → mid ≡ with_front second now
+    → left ≡ with_front (first ++ second) now
+in_two left mid None first second begun more = begun ∙ ap (with_front first) more
+in_two left mid (Some rest) first second begun more = begun ∙ ap (with_front first) more ∙ ap Some (sym (append_assoc first second rest))
+
+pub within_two : (first piece : List ℕ) (n places most : ℕ) → n ≤ places → places ≤ most - length first → length first ≤ most
+    → length (first ++ take n piece) ≤ most
+within_two first piece n places most count room within =
+    omega (arith, length-append first (take n piece), length-take n piece, count, room, within)

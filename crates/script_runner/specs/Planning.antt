@@ -1,8 +1,8 @@
 -- What is to be written, and what was.
-use Rattle.std.specs.Prelude.{◌≡◌, ℕ, Bool, true, false, ◌≤◌, List, [], length, take, Option, Some}
+use Rattle.std.specs.Prelude.{◌≡◌, ℕ, Bool, true, false, ◌<◌, ◌≤◌, List, [], length, take, Option, Some}
 use Rattle.std.specs.Option.{IfSome}
 use Rattle.std.specs.declared.result.Result.TheVariants.{Ok}
-use Rattle.dcd_base.specs.Streams.{Passes, HasRisen}
+use Rattle.dcd_base.specs.Streams.{Passes, HasRisen, IsAtEnd, with_front}
 use Rattle.journal_core.specs.declared.entries.Entry.{Entry}
 use Rattle.script_codec.specs.declared.scripts.Script.{Script}
 use Rattle.script_codec.specs.Reading.{script_in, first_fault}
@@ -15,6 +15,19 @@ use Rattle.script_runner.specs.Running.{IsSerialRun}
 -- the most bytes that are read: one more than a script may have
 abbrev pub most_read : ℕ
 most_read = 16777217
+
+-- These bytes and no others were taken from the source, no more than are read.
+pub record Takes (bytes : List ℕ) (left now : Option (List ℕ)) : Type 0 where
+  pub given : left ≡ with_front bytes now
+  pub most : length bytes ≤ most_read
+
+-- At most so many bytes were taken.
+abbrev pub IsTaken : Option (List ℕ) → Option (List ℕ) → Type 0
+IsTaken left now = (bytes : List ℕ) × Takes bytes left now
+
+-- All that was left was taken, or as many bytes as are read.
+abbrev pub IsTakenWhole : Option (List ℕ) → Option (List ℕ) → Type 0
+IsTakenWhole left now = (bytes : List ℕ) × Takes bytes left now × (length bytes < most_read → IsAtEnd now)
 
 -- The input reads as a script, whatever its reserved bits, and the text is that of its serial run.
 pub record IsTextOf (input printed : List ℕ) : Type 0 where

@@ -61,6 +61,15 @@ IfWhole Status.NoMemory P = Unit {0}
 IfWhole Status.ReadFault P = Unit {0}
 IfWhole Status.WriteFault P = Unit {0}
 
+-- all that is read was read
+abbrev pub OnRead : Status → Type 0 → Type 0
+OnRead Status.Done P = P
+OnRead Status.Usage P = Unit {0}
+OnRead (Status.ScriptRefused fault) P = P
+OnRead Status.NoMemory P = Unit {0}
+OnRead Status.ReadFault P = Unit {0}
+OnRead Status.WriteFault P = P
+
 -- neither done nor out of memory
 abbrev pub UnlessFinished : Status → Type 0 → Type 0
 UnlessFinished Status.Done P = Unit {0}

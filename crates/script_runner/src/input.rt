@@ -1,7 +1,7 @@
 //! The bytes of a script out of a source.
 
-ghost use Rattle.dcd_base.specs.Streams.{HasRisen, IsAtEnd, with_front};
-ghost use Rattle.script_runner.specs.Planning.{most_read};
+ghost use Rattle.dcd_base.specs.Streams.{HasRisen, IsAtEnd};
+ghost use Rattle.script_runner.specs.Planning.{IsTaken, Takes, most_read};
 ghost use Rattle.std.specs.Option.{IfSome};
 ghost use Rattle.std.specs.Prelude.{◌≡◌, ◌<◌, ◌≤◌, [], IsErrOf, OnOk, length, take};
 
@@ -26,6 +26,8 @@ pub(crate) enum InputFault {
 pub(crate) fn fill<S: Source>(source: &mut S, input: &mut Bytes) -> Result<(), InputFault>
     requires { input.old ≡ [] }
     ensures input { OnOk result (IfSome (S.left source.old) (λ all. input.new ≡ take most_read all)) }
+    ensures taken { IsTaken (S.left source.old) (S.left source.new) }
+    ensures takes { OnOk result (Takes input.new (S.left source.old) (S.left source.new)) }
     ensures left { OnOk result (length input.new < most_read → IsAtEnd (S.left source.new)) }
     ensures failed { IsErrOf result InputFault.Failed → HasRisen (S.faults source.old) (S.faults source.new) }
     ensures never_falls { S.faults source.old ≤ S.faults source.new }

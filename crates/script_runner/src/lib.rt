@@ -15,7 +15,7 @@ mod whole;
 mod words;
 
 pub use status::Status;
-pub use top::run;
+pub use top::{run, run_and_leave};
 
 #[cfg(test)]
 mod tests;

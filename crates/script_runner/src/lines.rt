@@ -87,7 +87,9 @@ pub(crate) fn is_isolated(device: &Device)
     let _journal = device.journal();
 }
 
-/// Leaves the memory of the device to the end of the program, when all of it goes back at once.
-pub(crate) fn leave(device: Device) {
-    let _ = ManuallyDrop::new(device);
+/// Leaves the memory of the device to the end of the program, when all of it goes back at once, or else gives it back.
+pub(crate) fn part(device: Device, leaves: bool) {
+    if leaves {
+        let _ = ManuallyDrop::new(device);
+    }
 }

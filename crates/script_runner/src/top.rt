@@ -2,7 +2,8 @@
 
 ghost use Rattle.dcd_base.specs.Streams.{HasRisen, IsAtEnd};
 ghost use Rattle.script_runner.specs.Choosing.{IsBegunBy, IsSoundBy, IsWrittenBy};
-ghost use Rattle.script_runner.specs.Statuses.{IfWhole, OnDone, OnNothing, OnReadFault, OnWriteFault, UnlessFinished};
+ghost use Rattle.script_runner.specs.Planning.{IsTaken, IsTakenWhole};
+ghost use Rattle.script_runner.specs.Statuses.{IfWhole, OnDone, OnNothing, OnRead, OnReadFault, OnWriteFault, UnlessFinished};
 ghost use Rattle.script_runner.specs.Words.{Accepts, words_of};
 ghost use Rattle.std.specs.Prelude.{◌≡◌, None};
 
@@ -18,10 +19,9 @@ use std::alloc::Global;
 /// `--gen=N`, where N is 1 to 18 decimal digits, it runs the generated script of that seed and writes its summary, and
 /// the source is not read.
 ///
-/// The words are tried first, then the source is read, then each line of the script is read and run, then the text is
-/// written. The first failed read or write ends the run. All memory is taken before the first write of the text or the
-/// summary. What the device of a whole run took is left to the end of the program.
-#[tactic(auto, using(crate::proofs::Choices::written_source, crate::proofs::Choices::begun_source, crate::proofs::Choices::complete_source, crate::proofs::Choices::written_generated, crate::proofs::Choices::begun_generated, crate::proofs::Choices::nothing_generated, crate::proofs::Choices::fault_generated, crate::proofs::Choices::complete_generated, crate::proofs::Choices::no_read_generated))]
+/// The words are tried first, then the source is read, at most 16,777,217 bytes of it, then each line of the script is
+/// read and run, then the text is written. A failed read or write ends the run. All memory is taken before the first
+/// write of the text or the summary, and all of it goes back.
 pub fn run<R, S: Source, K: Sink, G: Gate>(
     _rt: &R,
     alloc: Global,
@@ -37,6 +37,55 @@ pub fn run<R, S: Source, K: Sink, G: Gate>(
     ensures written { IfWhole result (IsWrittenBy (words_of words.now) (S.left source.old) (K.taken sink.old) (K.taken sink.new)) }
     ensures begun { OnWriteFault result (IsBegunBy (words_of words.now) (S.left source.old) (K.taken sink.old) (K.taken sink.new)) }
     ensures nothing { OnNothing result (K.taken sink.new ≡ K.taken sink.old) }
+    ensures taken { IsTaken (S.left source.old) (S.left source.new) }
+    ensures taken_whole { OnRead result (Accepts (words_of words.now) None → IsTakenWhole (S.left source.old) (S.left source.new)) }
+    ensures to_the_end { OnDone result (Accepts (words_of words.now) None → IsAtEnd (S.left source.new)) }
+    ensures untouched { (Accepts (words_of words.now) None → ⊥) → source.new ≡ source.old }
+    ensures read_fault { OnReadFault result (HasRisen (S.faults source.old) (S.faults source.new)) }
+    ensures write_fault { OnWriteFault result (HasRisen (K.faults sink.old) (K.faults sink.new)) }
+    ensures complete { UnlessFinished result (¬ IsSoundBy (words_of words.now) (S.left source.old) (S.faults source.old, S.faults source.new) (K.faults sink.old, K.faults sink.new)) }
+{
+    run_by(alloc, words, source, sink, false)
+}
+
+/// As `run`, but what the device of a whole run took stays taken, and goes back at the end of the program, all at once.
+/// For a program that ends then.
+pub fn run_and_leave<R, S: Source, K: Sink, G: Gate>(
+    _rt: &R,
+    alloc: Global,
+    words: &[String],
+    source: &mut S,
+    sink: &mut K,
+    _gate: &G,
+) -> Status
+    ensures written { IfWhole result (IsWrittenBy (words_of words.now) (S.left source.old) (K.taken sink.old) (K.taken sink.new)) }
+    ensures begun { OnWriteFault result (IsBegunBy (words_of words.now) (S.left source.old) (K.taken sink.old) (K.taken sink.new)) }
+    ensures nothing { OnNothing result (K.taken sink.new ≡ K.taken sink.old) }
+    ensures taken { IsTaken (S.left source.old) (S.left source.new) }
+    ensures taken_whole { OnRead result (Accepts (words_of words.now) None → IsTakenWhole (S.left source.old) (S.left source.new)) }
+    ensures to_the_end { OnDone result (Accepts (words_of words.now) None → IsAtEnd (S.left source.new)) }
+    ensures untouched { (Accepts (words_of words.now) None → ⊥) → source.new ≡ source.old }
+    ensures read_fault { OnReadFault result (HasRisen (S.faults source.old) (S.faults source.new)) }
+    ensures write_fault { OnWriteFault result (HasRisen (K.faults sink.old) (K.faults sink.new)) }
+    ensures complete { UnlessFinished result (¬ IsSoundBy (words_of words.now) (S.left source.old) (S.faults source.old, S.faults source.new) (K.faults sink.old, K.faults sink.new)) }
+{
+    run_by(alloc, words, source, sink, true)
+}
+
+/// Runs what the words ask for. Where it `leaves`, the device of a whole run keeps its memory.
+#[tactic(auto, using(crate::proofs::Choices::written_source, crate::proofs::Choices::begun_source, crate::proofs::Choices::taken_whole_source, crate::proofs::Choices::complete_source, crate::proofs::Choices::written_generated, crate::proofs::Choices::begun_generated, crate::proofs::Choices::nothing_generated, crate::proofs::Choices::fault_generated, crate::proofs::Choices::complete_generated, crate::proofs::Choices::no_read_generated, crate::proofs::Choices::taken_whole_generated, crate::proofs::Endings::taken_nothing))]
+fn run_by<S: Source, K: Sink>(
+    alloc: Global,
+    words: &[String],
+    source: &mut S,
+    sink: &mut K,
+    leaves: bool,
+) -> Status
+    ensures written { IfWhole result (IsWrittenBy (words_of words.now) (S.left source.old) (K.taken sink.old) (K.taken sink.new)) }
+    ensures begun { OnWriteFault result (IsBegunBy (words_of words.now) (S.left source.old) (K.taken sink.old) (K.taken sink.new)) }
+    ensures nothing { OnNothing result (K.taken sink.new ≡ K.taken sink.old) }
+    ensures taken { IsTaken (S.left source.old) (S.left source.new) }
+    ensures taken_whole { OnRead result (Accepts (words_of words.now) None → IsTakenWhole (S.left source.old) (S.left source.new)) }
     ensures to_the_end { OnDone result (Accepts (words_of words.now) None → IsAtEnd (S.left source.new)) }
     ensures untouched { (Accepts (words_of words.now) None → ⊥) → source.new ≡ source.old }
     ensures read_fault { OnReadFault result (HasRisen (S.faults source.old) (S.faults source.new)) }
@@ -44,8 +93,8 @@ pub fn run<R, S: Source, K: Sink, G: Gate>(
     ensures complete { UnlessFinished result (¬ IsSoundBy (words_of words.now) (S.left source.old) (S.faults source.old, S.faults source.new) (K.faults sink.old, K.faults sink.new)) }
 {
     match chosen(words) {
-        Some(Choice::Source) => run_source(alloc, source, sink),
-        Some(Choice::Generated(seed)) => run_generated(alloc, seed, sink),
+        Some(Choice::Source) => run_source(alloc, source, sink, leaves),
+        Some(Choice::Generated(seed)) => run_generated(alloc, seed, sink, leaves),
         None => match usage(sink) {
             Ok(()) => Status::Usage,
             Err(Failed) => Status::WriteFault,

@@ -4,12 +4,12 @@ ghost use Rattle.dcd_base.specs.Streams.{HasRisen, IsAtEnd};
 ghost use Rattle.isolation_laws.specs.Solo.{Isolated};
 ghost use Rattle.script_codec.specs.Reading.{first_fault};
 ghost use Rattle.script_runner.specs.Fronts.{RanScript};
-ghost use Rattle.script_runner.specs.Planning.{EndsFor, IsBegun, IsSound, IsWritten};
-ghost use Rattle.script_runner.specs.Statuses.{IfWhole, OnDone, OnNothing, OnReadFault, OnUsage, OnWriteFault, UnlessFinished};
+ghost use Rattle.script_runner.specs.Planning.{EndsFor, IsBegun, IsSound, IsTaken, IsTakenWhole, IsWritten};
+ghost use Rattle.script_runner.specs.Statuses.{IfWhole, OnDone, OnNothing, OnRead, OnReadFault, OnUsage, OnWriteFault, UnlessFinished};
 ghost use Rattle.std.specs.Prelude.{◌≡◌, ◌≢◌, IfErr, IfOk, Some, true};
 
 use crate::input::{InputFault, fill};
-use crate::lines::leave;
+use crate::lines::part;
 use crate::script::run_script;
 use crate::status::Status;
 use dcd_base::{Bytes, Failed, Sink, Source};
@@ -18,12 +18,20 @@ use report::{refusal, render};
 use script_codec::ScriptFault;
 use std::alloc::Global;
 
-/// Runs what is left in the source, up to one byte more than a script may have.
-#[tactic(auto, using(crate::proofs::Endings::whole, crate::proofs::Endings::begun, crate::proofs::Endings::nothing, crate::proofs::Endings::to_the_end, crate::proofs::Endings::no_usage, crate::proofs::Endings::write_fault, crate::proofs::Endings::complete))]
-pub(crate) fn run_source<S: Source, K: Sink>(alloc: Global, source: &mut S, sink: &mut K) -> Status
+/// Runs what is left in the source, up to one byte more than a script may have. Where it `leaves`, the device of a whole
+/// run keeps its memory.
+#[tactic(auto, using(crate::proofs::Endings::whole, crate::proofs::Endings::begun, crate::proofs::Endings::nothing, crate::proofs::Endings::to_the_end, crate::proofs::Endings::no_usage, crate::proofs::Endings::write_fault, crate::proofs::Endings::complete, crate::proofs::Endings::taken_whole))]
+pub(crate) fn run_source<S: Source, K: Sink>(
+    alloc: Global,
+    source: &mut S,
+    sink: &mut K,
+    leaves: bool,
+) -> Status
     ensures written { IfWhole result (IsWritten true (S.left source.old) (K.taken sink.old) (K.taken sink.new)) }
     ensures begun { OnWriteFault result (IsBegun true (S.left source.old) (K.taken sink.old) (K.taken sink.new)) }
     ensures nothing { OnNothing result (K.taken sink.new ≡ K.taken sink.old) }
+    ensures taken { IsTaken (S.left source.old) (S.left source.new) }
+    ensures taken_whole { OnRead result (IsTakenWhole (S.left source.old) (S.left source.new)) }
     ensures to_the_end { OnDone result (IsAtEnd (S.left source.new)) }
     ensures no_usage { OnUsage result ⊥ }
     ensures read_fault { OnReadFault result (HasRisen (S.faults source.old) (S.faults source.new)) }
@@ -32,14 +40,14 @@ pub(crate) fn run_source<S: Source, K: Sink>(alloc: Global, source: &mut S, sink
 {
     let mut input = Bytes::new(alloc);
     match fill(source, &mut input) {
-        Ok(()) => run_input(alloc, input, sink),
+        Ok(()) => run_input(alloc, input, sink, leaves),
         Err(InputFault::Failed) => Status::ReadFault,
         Err(InputFault::NoMemory) => Status::NoMemory,
     }
 }
 
 /// Runs the script that the input is, or writes the line on its first fault.
-fn run_input<K: Sink>(alloc: Global, input: Bytes, sink: &mut K) -> Status
+fn run_input<K: Sink>(alloc: Global, input: Bytes, sink: &mut K, leaves: bool) -> Status
     ensures { EndsFor input (K.taken sink.old) (K.faults sink.old) (K.taken sink.new) (K.faults sink.new) result }
 {
     match run_bytes(alloc, input) {
@@ -47,7 +55,7 @@ fn run_input<K: Sink>(alloc: Global, input: Bytes, sink: &mut K) -> Status
             let control = device.control();
             match render(control, device.journal(), sink) {
                 Ok(()) => {
-                    leave(device);
+                    part(device, leaves);
                     Status::Done
                 }
                 Err(Failed) => Status::WriteFault,

@@ -1,0 +1,119 @@
+//! The runs of a conversation: whole, in small pieces, and with a read or a write that fails.
+
+use crate::conversation::Conversation;
+use crate::outcome::{Ends, Outcome};
+use dcd_base::NoMemory;
+use std::alloc::Global;
+
+/// How many of the first reads, and how many of the first writes, fail in turn.
+const MOST_FAILING: usize = 40;
+
+/// As many bytes a read and a write as the run asks for.
+const WHOLE: Ends = Ends {
+    read: usize::MAX,
+    written: usize::MAX,
+    failing_read: 0,
+    failing_write: 0,
+};
+
+/// A few bytes a read and a write.
+const SMALL: Ends = Ends {
+    read: 7,
+    written: 16,
+    failing_read: 0,
+    failing_write: 0,
+};
+
+/// The exit status after a failed read.
+const READ_FAULT: u8 = 5;
+
+/// The exit status after a failed write.
+const WRITE_FAULT: u8 = 6;
+
+/// What first comes out otherwise than it should in the runs of the conversation, in words.
+pub(crate) fn first_difference<R>(
+    rt: &R,
+    alloc: Global,
+    conversation: &Conversation,
+) -> Result<Option<String>, NoMemory> {
+    let whole = Outcome::of(rt, alloc, conversation, WHOLE)?;
+    if let Some(difference) = whole.difference(alloc, conversation)? {
+        return Ok(Some(difference));
+    }
+    let small = Outcome::of(rt, alloc, conversation, SMALL)?;
+    if let Some(difference) = small.difference(alloc, conversation)? {
+        return Ok(Some(format!(in alloc; "in small pieces, {difference}")?));
+    }
+    if let Some(call) = wrong_read(rt, alloc, conversation)? {
+        return Ok(Some(format!(in alloc; "read {call} fails, and the run ends wrong")?));
+    }
+    if let Some(call) = wrong_write(rt, alloc, conversation)? {
+        return Ok(Some(format!(in alloc; "write {call} fails, and the run ends wrong")?));
+    }
+    Ok(None)
+}
+
+/// How many reads of few bytes the run makes: none where there are words, else one more than give bytes.
+fn reads_of(conversation: &Conversation) -> usize {
+    if conversation.words.is_empty() {
+        conversation
+            .script
+            .len()
+            .div_ceil(SMALL.read)
+            .saturating_add(1)
+    } else {
+        0
+    }
+}
+
+/// The first of the reads whose failure does not end the run with nothing written. The failure of a read that the run
+/// does not come to changes nothing.
+fn wrong_read<R>(
+    rt: &R,
+    alloc: Global,
+    conversation: &Conversation,
+) -> Result<Option<usize>, NoMemory> {
+    let reads = reads_of(conversation);
+    for call in 1..MOST_FAILING.min(reads.saturating_add(1)).saturating_add(1) {
+        let ends = Ends {
+            failing_read: call as u64,
+            ..SMALL
+        };
+        let outcome = Outcome::of(rt, alloc, conversation, ends)?;
+        let is_right = if call <= reads {
+            outcome.is(READ_FAULT, &[])
+        } else {
+            outcome.is(conversation.status, conversation.text.as_slice())
+        };
+        if !is_right {
+            return Ok(Some(call));
+        }
+    }
+    Ok(None)
+}
+
+/// The first of the writes whose failure does not end the run with just what the writes before it took.
+fn wrong_write<R>(
+    rt: &R,
+    alloc: Global,
+    conversation: &Conversation,
+) -> Result<Option<usize>, NoMemory> {
+    let text = conversation.text.as_slice();
+    let mut taken = 0usize;
+    for call in 1..MOST_FAILING.saturating_add(1) {
+        if taken >= text.len() {
+            return Ok(None);
+        }
+        let ends = Ends {
+            failing_write: call as u64,
+            ..SMALL
+        };
+        let outcome = Outcome::of(rt, alloc, conversation, ends)?;
+        let (front, _) = text.split_at(taken);
+        if !outcome.is(WRITE_FAULT, front) {
+            return Ok(Some(call));
+        }
+        taken = taken.saturating_add(SMALL.written);
+    }
+    Ok(None)
+}
