@@ -14,13 +14,10 @@ ghost use Rattle.std.specs.Prelude.{◌≡◌, ◌++◌, ◌-◌, All, List, OnO
 
 use dcd_base::{LogId, NoMemory, Seq, Tag};
 use device_state::State;
-use event_log::EventLog;
+use event_log::{EventLog, handle_after};
 use event_records::Event;
 use host_commands::Notice;
 use journal_core::{Effect, Effects};
-
-/// The greatest handle of a record.
-const LAST_HANDLE: u16 = 65_535;
 
 /// Puts the ends of tags behind the changes.
 pub(crate) fn put_ends(tags: &[Tag], effects: &mut Effects) -> Result<(), NoMemory>
@@ -103,6 +100,6 @@ fn next_behind(next: u16, room: u32) -> u16
     if room == 0 {
         next
     } else {
-        1 + next % LAST_HANDLE
+        handle_after(next)
     }
 }

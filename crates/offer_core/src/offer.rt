@@ -7,6 +7,7 @@ use dcd_base::{Extents, NoMemory, RegionId};
 /// Extents of one region that a host may accept, in the order in which they were chosen.
 #[derive(Debug, Drop)]
 pub struct Offer {
+    /// The region of the extents. It is there for callers; the device tells it from the addresses.
     pub region: RegionId,
     pub extents: Extents,
 }

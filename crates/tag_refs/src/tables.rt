@@ -286,7 +286,8 @@ impl Tags {
         }
     }
 
-    /// Makes a live tag's granules dirty once it ends, also where the region does not sanitize.
+    /// Makes a live tag's granules dirty once it ends, also where the region does not sanitize. It is there for callers
+    /// that keep this of tags; the device keeps it of granules.
     pub fn soil(&mut self, tag: &Tag)
         requires { IsTrue (is_live tag.now self.old.entries) }
         ensures soiled { self.new.entries ≡ changed tag.now with_soil self.old.entries }
