@@ -5,14 +5,14 @@ ghost use Rattle.device_plain.specs.Accesses.{AreMade};
 ghost use Rattle.device_plain.specs.Histories.{journal_by};
 ghost use Rattle.device_plain.specs.Readied.{IsReady};
 ghost use Rattle.region_config.specs.Granules.{granule_total};
-ghost use Rattle.std.specs.Prelude.{◌≡◌, ◌∷◌, ◌++◌, [], IfOk, length};
+ghost use Rattle.std.specs.Prelude.{◌≡◌, ◌∷◌, ◌++◌, [], IfOk, None, Some, if◌then◌else◌, length};
 
 use crate::history::History;
 use crate::making::make_all;
 use control_core::{Control, Plan};
 use dcd_base::{Actor, Boxed, NoMemory};
 use granule_mem::Memory;
-use journal_core::{Act, Entry};
+use journal_core::{Act, Entry, Reply};
 
 /// A command or a scrub with all the memory that it needs.
 #[derive(Drop)]
@@ -42,6 +42,17 @@ pub(crate) fn make_ready(
     let plan = control.prepare(pass, line, actor, act)?;
     let copy = history.copy_of(plan.entry())?;
     Ok(Ready { plan, copy })
+}
+
+/// A copy of the entry's reply, if it is asked for.
+pub(crate) fn reply_of(entry: &Entry, asked: bool) -> Result<Option<Reply>, NoMemory>
+    ensures { IfOk result (λ told. told ≡ (if asked then Some entry.now.reply else None)) }
+{
+    if asked {
+        Ok(Some(entry.reply.copy()?))
+    } else {
+        Ok(None)
+    }
 }
 
 /// Enters it: changes holders and words, and puts its entry at the end of the journal. No access came since.

@@ -3,7 +3,7 @@
 ghost use Rattle.control_core.specs.Deciding.{AreShort};
 ghost use Rattle.control_core.specs.Steps.{MayStep};
 ghost use Rattle.dcd_base.specs.declared.steps.Actor.{Actor};
-ghost use Rattle.device_plain.specs.Devices.{Appends, Enters};
+ghost use Rattle.device_plain.specs.Devices.{Appends, Enters, Tells};
 ghost use Rattle.device_plain.specs.Numbering.{IsCounted, commands_of};
 ghost use Rattle.device_rules.specs.Legal.{Exclusive, Legal};
 ghost use Rattle.journal_core.specs.declared.acts.Act.{Act};
@@ -14,7 +14,7 @@ ghost use Rattle.std.specs.Prelude.{◌≡◌, ◌<◌, [], IfOk, IsTrue, OnErr,
 use crate::accesses::{
     access_entry, granted, load_reply, stamp_of, store_at, store_reply, word_at,
 };
-use crate::commands::{enter_ready, make_ready};
+use crate::commands::{enter_ready, make_ready, reply_of};
 use crate::history::History;
 use crate::making::make_all;
 use control_core::Control;
@@ -102,8 +102,8 @@ impl Device {
         ensures kept { OnErr result (self.new ≡ self.old) }
     {
         match act {
-            Act::Command(_) => self.command(pass, line, actor, act),
-            Act::Scrub(_) => self.command(pass, line, actor, act),
+            Act::Command(_) => self.answered(pass, line, actor, act),
+            Act::Scrub(_) => self.answered(pass, line, actor, act),
             Act::Load(dpa) => match actor {
                 Actor::Host(host) => self.load(pass, line, host, *dpa),
                 _ => unreachable!(),
@@ -143,23 +143,17 @@ impl Device {
         }
     }
 
-    /// Takes a command or a scrub. The reply is copied before anything changes.
-    fn command(&mut self, pass: u32, line: u32, actor: Actor, act: &Act) -> Result<Reply, NoMemory>
+    /// Takes a command or a scrub and tells its reply.
+    fn answered(&mut self, pass: u32, line: u32, actor: Actor, act: &Act) -> Result<Reply, NoMemory>
         requires { MayStep self.old.config actor act.now }
         ensures entered { IfOk result (Enters self.old self.new pass line actor act.now) }
         ensures kept { OnErr result (self.new ≡ self.old) }
     {
         let act = act.copy()?;
-        let ready = make_ready(&mut self.control, &mut self.history, pass, line, actor, act)?;
-        let reply = ready.plan.entry().reply.copy()?;
-        enter_ready(
-            &mut self.control,
-            &mut self.memory,
-            &mut self.history,
-            &mut self.since,
-            ready,
-        );
-        Ok(reply)
+        match self.command(pass, line, actor, act, true)? {
+            Some(reply) => Ok(reply),
+            None => unreachable!(),
+        }
     }
 
     /// Takes a command or a scrub that is handed over.
@@ -175,7 +169,8 @@ impl Device {
         ensures kept { OnErr result (self.new ≡ self.old) }
     {
         if self.history.is_own() {
-            return self.enter_twice(pass, line, actor, act);
+            let _reply = self.command(pass, line, actor, act, false)?;
+            return Ok(());
         }
         let changes = self.control.step(pass, line, actor, act)?;
         make_all(&mut self.memory, changes.as_slice());
@@ -183,14 +178,23 @@ impl Device {
         Ok(())
     }
 
-    /// Takes a command or a scrub that is handed over, and enters it in the control and in the device's own journal.
+    /// Takes a command or a scrub, and enters it in the control and in the device's own journal, where there is one. Its
+    /// reply is told if it is asked for, in a copy that is made before anything changes.
     #[inline(never)]
-    fn enter_twice(&mut self, pass: u32, line: u32, actor: Actor, act: Act) -> Result<(), NoMemory>
+    fn command(
+        &mut self,
+        pass: u32,
+        line: u32,
+        actor: Actor,
+        act: Act,
+        asked: bool,
+    ) -> Result<Option<Reply>, NoMemory>
         requires { MayStep self.old.config actor act }
-        ensures entered { OnOk result (Appends self.old self.new pass line actor act) }
+        ensures entered { IfOk result (Tells self.old self.new pass line actor act asked) }
         ensures kept { OnErr result (self.new ≡ self.old) }
     {
         let ready = make_ready(&mut self.control, &mut self.history, pass, line, actor, act)?;
+        let reply = reply_of(ready.plan.entry(), asked)?;
         enter_ready(
             &mut self.control,
             &mut self.memory,
@@ -198,7 +202,7 @@ impl Device {
             &mut self.since,
             ready,
         );
-        Ok(())
+        Ok(reply)
     }
 
     /// Takes a load of a host.
