@@ -1,7 +1,7 @@
 //! Events to records.
 
 ghost use Rattle.event_records.specs.Records.{end_bytes, head_bytes, record_bytes, record_uuid};
-ghost use Rattle.std.specs.Prelude.{◌≡◌, ◌+◌, ◌++◌, ◌≤◌, length, take};
+ghost use Rattle.std.specs.Prelude.{◌≡◌, ◌+◌, ◌++◌, ◌≤◌, drop, length, take};
 
 use crate::events::Event;
 use crate::identifier::identifier;
@@ -57,10 +57,11 @@ fn fill_record(out: &mut [u8], event: &Event)
     put_end(out, event);
 }
 
-/// Puts an event's record of 128 bytes at a place, and leaves what stands before it.
+/// Puts an event's record of 128 bytes at a place, and leaves what stands before and behind it.
 pub fn put_record(out: &mut [u8], at: usize, event: &Event)
     requires { at + 128 ≤ length out.old }
-    ensures { take (at + 128) out.new ≡ take at out.old ++ record_bytes event.now }
+    ensures put { take (at + 128) out.new ≡ take at out.old ++ record_bytes event.now }
+    ensures rest { drop (at + 128) out.new ≡ drop (at + 128) out.old }
 {
     let (_, rest) = out.split_at_mut(at);
     let (front, _) = rest.split_at_mut(128);

@@ -3,7 +3,7 @@
 ghost use Rattle.field_bytes.specs.Extents.{FitsExtent, extent_bytes, whole_extent};
 ghost use Rattle.field_bytes.specs.Layouts.{pieces};
 ghost use Rattle.std.specs.List.{AllByRecursion};
-ghost use Rattle.std.specs.Prelude.{◌≡◌, ◌+◌, ◌*◌, ◌≤◌, ◌++◌, IfOk, flat_map, length, map, take};
+ghost use Rattle.std.specs.Prelude.{◌≡◌, ◌+◌, ◌*◌, ◌≤◌, ◌++◌, IfOk, drop, flat_map, length, map, take};
 
 use crate::reading::{tag_at, u16_at, u64_at};
 use crate::writing::{put_tag, put_u16, put_u64, put_zeros};
@@ -54,10 +54,11 @@ fn fill_extent(out: &mut [u8], extent: &Extent)
     put_zeros::<6>(out, 34);
 }
 
-/// Puts an extent's 40 bytes at a place, and leaves what stands before it.
+/// Puts an extent's 40 bytes at a place, and leaves what stands before and behind them.
 pub fn put_extent(out: &mut [u8], at: usize, extent: &Extent)
     requires { at + 40 ≤ length out.old }
     ensures put { take (at + 40) out.new ≡ take at out.old ++ extent_bytes extent.now }
+    ensures rest { drop (at + 40) out.new ≡ drop (at + 40) out.old }
     // The numbers and the tag are those of so many bytes.
     ensures fits { FitsExtent extent.now }
 {
@@ -66,10 +67,11 @@ pub fn put_extent(out: &mut [u8], at: usize, extent: &Extent)
     fill_extent(front, extent);
 }
 
-/// Puts extents at a place, 40 bytes each, and leaves what stands before them.
+/// Puts extents at a place, 40 bytes each, and leaves what stands before and behind them.
 pub fn put_extents(out: &mut [u8], at: usize, extents: &[Extent])
     requires { at + 40 * length extents.now ≤ length out.old }
     ensures put { take (at + 40 * length extents.now) out.new ≡ take at out.old ++ flat_map extent_bytes extents.now }
+    ensures rest { drop (at + 40 * length extents.now) out.new ≡ drop (at + 40 * length extents.now) out.old }
     ensures fit { AllByRecursion FitsExtent extents.now }
 {
     let mut place = at;
