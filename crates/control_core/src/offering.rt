@@ -16,6 +16,7 @@ ghost use Rattle.tag_refs.specs.declared.entries.TagEntry.{TagEntry};
 
 use crate::choosing::{Asked, new_extents};
 use crate::logs::log_full;
+use dcd_base::limits::TAGS;
 use dcd_base::{Boxed, Bytes, Extents, HostId, LogId, NoMemory, RegionId, Seq, Tag, is_no_tag};
 use dcd_codes::{Refusal, Rule};
 use device_state::State;
@@ -25,9 +26,6 @@ use journal_core::{Effect, Effects};
 use list_rules::too_many_extents;
 use region_config::Config;
 use std::alloc::Global;
-
-/// How many tags a host may have.
-const TAGS: u32 = 32;
 
 /// The policies above 0 Free.
 pub(crate) const CONTIGUOUS: u8 = 1;

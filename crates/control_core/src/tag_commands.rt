@@ -8,6 +8,7 @@ ghost use Rattle.journal_core.specs.declared.outcome.Effect.{Effect};
 ghost use Rattle.std.specs.Prelude.{◌≡◌, ◌≤◌, ◌∷◌, [], IfOk, if◌then◌else◌, length, map, true};
 ghost use Rattle.tag_refs.specs.Tables.{is_referenced, passes, view_of};
 
+use dcd_base::limits::PAGE_TAGS;
 use dcd_base::{Bytes, NoMemory, Seq, Tag, TagView};
 use dcd_codes::{Refusal, Rule};
 use device_state::State;
@@ -17,9 +18,6 @@ use journal_core::{Effect, Effects};
 use region_config::Config;
 use std::alloc::Global;
 use tag_refs::Tags;
-
-/// How many tags a reply has at most (profile).
-const PAGE: u32 = 84;
 
 /// The manager refers to an open tag (profile). `NoSuchTag` comes exactly where the tag is not open.
 pub(crate) fn add_reference(
@@ -93,7 +91,12 @@ pub(crate) fn list_tags(
     if first > total {
         return Err(Refusal::Broken(Rule::PastEnd { first, total }));
     }
-    let views = views_of(alloc, &state.tags, first as usize, count.min(PAGE) as usize)?;
+    let views = views_of(
+        alloc,
+        &state.tags,
+        first as usize,
+        count.min(PAGE_TAGS) as usize,
+    )?;
     let mut payload = Bytes::new(alloc);
     write_tags(first, total, views.as_slice(), &mut payload)?;
     Ok(Draft::only(payload))

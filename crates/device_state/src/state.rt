@@ -6,6 +6,7 @@ ghost use Rattle.std.specs.Prelude.{◌≡◌, ◌<◌, [], IfOk, length, replic
 
 use crate::holders::Holders;
 use crate::parts::HostPart;
+use dcd_base::limits::{HOST_RECORDS, MANAGER_RECORDS};
 use dcd_base::{HostId, LogId, NoMemory};
 use event_log::EventLog;
 use granule_table::GranuleTable;
@@ -13,11 +14,6 @@ use host_lists::HostLists;
 use region_config::Config;
 use std::alloc::Global;
 use tag_refs::Tags;
-
-/// How many records the log of a host, and that of the Fabric Manager, can have (profile).
-const HOST_RECORDS: u32 = 64;
-
-const MANAGER_RECORDS: u32 = 128;
 
 /// The present configuration, what is kept of each host, the manager's log, the granules and the open tags.
 #[derive(Drop)]

@@ -9,14 +9,12 @@ ghost use Rattle.host_lists.specs.Lists.{extent_total};
 ghost use Rattle.std.specs.Prelude.{◌≡◌, ◌≤◌, IfOk, None, length, min};
 
 use crate::drafts::Draft;
+use dcd_base::limits::PAGE_EXTENTS;
 use dcd_base::{Bytes, Extent};
 use dcd_codes::{Refusal, Rule};
 use host_lists::HostLists;
 use host_payloads::write_extents;
 use std::alloc::Global;
-
-/// How many extents a reply has at most (profile).
-const PAGE: u32 = 50;
 
 /// At most `count` accepted extents from `first` on, 50 at most, with how many there are and how often the list
 /// changed (CXL 3.1, 8.2.9.9.9.2). `PastEnd` comes exactly where the first index is above their number.
@@ -47,5 +45,5 @@ pub fn extents_page(lists: &HostLists, count: u32, first: u32) -> &[Extent]
 {
     lists
         .accepted()
-        .part(first as usize, count.min(PAGE) as usize)
+        .part(first as usize, count.min(PAGE_EXTENTS) as usize)
 }

@@ -9,6 +9,7 @@ ghost use Rattle.host_payloads.specs.HostPayloads.{events_payload};
 ghost use Rattle.std.specs.Prelude.{◌≡◌, ◌≤◌, IfOk, None, [], length, nat_lt, take, false};
 
 use crate::drafts::Draft;
+use dcd_base::limits::REPLY_RECORDS;
 use dcd_base::{Bytes, LogId, NoMemory, Seq};
 use dcd_codes::{Refusal, Rule};
 use event_log::EventLog;
@@ -21,9 +22,6 @@ pub(crate) const LOGS: u8 = 5;
 
 /// The number of the log of dynamic capacity (CXL 3.1, 8.2.9.2.2).
 pub(crate) const DYNAMIC_CAPACITY: u8 = 4;
-
-/// How many records a reply has at most (profile).
-const RECORDS: usize = 15;
 
 /// The oldest records of the log, 15 at most; nothing of a log whose number is below that of dynamic capacity.
 /// `NoSuchLog` comes exactly where the number is 5 or more.
@@ -57,7 +55,7 @@ fn oldest_events(alloc: Global, log: &EventLog) -> Result<Bytes, NoMemory>
 {
     let events = oldest(alloc, log)?;
     let mut payload = Bytes::new(alloc);
-    let more = log.len() as usize > RECORDS;
+    let more = log.len() as usize > REPLY_RECORDS;
     write_events(log.missed(), more, events.as_slice(), &mut payload)?;
     Ok(payload)
 }
@@ -68,7 +66,7 @@ fn oldest(alloc: Global, log: &EventLog) -> Result<Seq<Event>, NoMemory>
     ensures few { IfOk result (λ events. length events ≤ 15) }
 {
     let mut events = Seq::new(alloc);
-    for index in 0..log.len().min(RECORDS as u32) {
+    for index in 0..log.len().min(REPLY_RECORDS as u32) {
         events.push(log.at(index))?;
     }
     Ok(events)

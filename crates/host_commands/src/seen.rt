@@ -11,16 +11,12 @@ ghost use Rattle.region_config.specs.Granules.{regions_of, region_spec, with_blo
 ghost use Rattle.region_config.specs.Configurations.{Configuration};
 ghost use Rattle.std.specs.Prelude.{◌≡◌, ◌<◌, ◌≤◌, IfOk, length, map};
 
+use dcd_base::limits::{EXTENTS, TAGS};
 use dcd_base::{HostId, NoMemory, RegionId, Seq};
 use host_lists::HostLists;
 use host_payloads::{Counts, RegionView};
 use region_config::{Config, RegionSpec};
 use std::alloc::Global;
-
-/// How many extents and how many tags a host may have.
-const EXTENTS: u32 = 64;
-
-const TAGS: u32 = 32;
 
 /// Which flags of a region are shown.
 #[derive(Clone, Copy, Debug, PartialEq, Eq)]
@@ -88,7 +84,7 @@ pub fn host_counts(lists: &HostLists) -> Counts
     ensures { (v : View) → lists.now ≡ lists_in v → result ≡ host_counts v }
 {
     Counts {
-        extents: EXTENTS,
+        extents: EXTENTS as u32,
         extents_available: lists.extents_available(),
         tags: TAGS,
         tags_available: lists.tags_available(),

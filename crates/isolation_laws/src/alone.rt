@@ -6,17 +6,12 @@ ghost use Rattle.isolation_laws.specs.Alone.{IsAlone};
 ghost use Rattle.std.specs.Prelude.{IfOk};
 
 use dcd_base::NoMemory;
+use dcd_base::limits::HOST_RECORDS;
 use event_log::EventLog;
 use host_lists::HostLists;
 use region_config::Config;
 use std::alloc::Global;
 use std::collections::BTreeMap;
-
-/// How many extents a host may have, accepted and offered together (profile).
-pub(crate) const EXTENTS: usize = 64;
-
-/// How many records a host's log may have (profile).
-const RECORDS: u32 = 64;
 
 /// A device that has one host alone: the present block sizes, the lists and the log of the host, and the words that it
 /// stored, by their DPA, since it last accepted an extent with that DPA.
@@ -55,7 +50,7 @@ impl Alone {
         Ok(Alone {
             present: config.copy()?,
             lists: HostLists::new(alloc),
-            log: EventLog::new(alloc, RECORDS)?,
+            log: EventLog::new(alloc, HOST_RECORDS)?,
             words: BTreeMap::new(alloc),
         })
     }

@@ -10,7 +10,8 @@ ghost use Rattle.isolation_laws.specs.declared.items.Item.{Item};
 ghost use Rattle.region_config.specs.Configurations.{Configuration};
 ghost use Rattle.std.specs.Prelude.{◌≡◌, ◌+◌, ◌^◌, ◌<◌, ◌≤◌, ◌↔◌, All, IsTrue, OnErr, OnOk, fold, length};
 
-use crate::alone::{Alone, EXTENTS, Stop};
+use crate::alone::{Alone, Stop};
+use dcd_base::limits::EXTENTS;
 use dcd_base::{Extent, Extents, HostId, RegionId};
 use event_log::EventLog;
 use event_records::{Event, EventKind};
