@@ -5,7 +5,8 @@ ghost use Rattle.device_rules.specs.Outcomes.{no_extent};
 ghost use Rattle.device_rules.specs.ResponseOutcomes.{hold, respond_outcome, unhold};
 ghost use Rattle.device_rules.specs.Views.{View};
 ghost use Rattle.extent_list.specs.ExtentLists.{tags_of};
-ghost use Rattle.host_commands.specs.Parts.{Drafts, lists_in};
+ghost use Rattle.dcd_base.specs.declared.steps.LogId.{LogId};
+ghost use Rattle.host_commands.specs.Parts.{Drafts, lists_in, told_in};
 ghost use Rattle.host_commands.specs.Told.{Tells, changed, takes, told_of};
 ghost use Rattle.host_lists.specs.Lists.{extent_total};
 ghost use Rattle.journal_core.specs.declared.outcome.Effect.{Effect};
@@ -14,12 +15,12 @@ ghost use Rattle.media_map.specs.Places.{is_granular};
 ghost use Rattle.offer_core.specs.Offerings.{oldest_of};
 ghost use Rattle.offer_core.specs.Responses.{respond_rule};
 ghost use Rattle.region_config.specs.Granules.{with_blocks};
-ghost use Rattle.std.specs.Prelude.{◌≡◌, ◌++◌, ◌∷◌, ◌<◌, ◌≤◌, [], All, IfOk, IfSome, IsTrue, OnOk, length};
+ghost use Rattle.std.specs.Prelude.{◌≡◌, ◌++◌, ◌∷◌, ◌<◌, ◌≤◌, [], All, IfOk, IfSome, IsTrue, OnOk, length, map};
 
 use crate::draft_parts::DraftParts;
 use crate::drafts::Draft;
 use crate::held_lists::{hold, unhold};
-use crate::notices::{event_for, notices_of, one_notice};
+use crate::notices::{Notice, event_for, notices_of, one_notice};
 use crate::runs::run_of;
 use crate::tags::tags_of;
 use dcd_base::{Boxed, Bytes, Extent, Extents, HostId, LogId, NoMemory, Seq, no_tag};
@@ -106,12 +107,9 @@ fn done(
         after) }
     ensures few { IfOk result (λ draft. IfSome draft.lists (λ new. extent_total new ≤ 64)) }
 {
-    let mut changes = unhold(alloc, host, HeldKind::Responses, lists.responses())?;
-    changes.push(Effect::Answer(host, accepted.copy()?))?;
-    put_takes(present, host, accepted.as_slice(), &mut changes)?;
+    let changes = answered(alloc, present, host, lists, &accepted)?;
     let tags = tags_of(alloc, lists.oldest())?;
-    let events = told(alloc, host, &after, accepted.as_slice())?;
-    let notices = one_notice(alloc, LogId::Manager, events)?;
+    let notices = notices_to_manager(alloc, host, &after, accepted.as_slice())?;
     let after = Boxed::new(alloc, after)?;
     Draft::of(
         alloc,
@@ -123,6 +121,38 @@ fn done(
             lists: Some(after),
         },
     )
+}
+
+/// What is held goes, the offer is answered, and the host takes the extents.
+fn answered(
+    alloc: Global,
+    present: &Config,
+    host: HostId,
+    lists: &HostLists,
+    accepted: &Extents,
+) -> Result<Effects, NoMemory>
+    requires host { host < present.now.hosts }
+    requires granular { All (λ x. IsTrue (is_granular present.now host x.start x.length)) accepted.now }
+    ensures { IfOk result (λ changes. changes ≡ unhold host HeldKind.Responses lists.now.responses ++ Effect.Answer host accepted.now ∷ takes present.now host accepted.now) }
+{
+    let mut changes = unhold(alloc, host, HeldKind::Responses, lists.responses())?;
+    changes.push(Effect::Answer(host, accepted.copy()?))?;
+    put_takes(present, host, accepted.as_slice(), &mut changes)?;
+    Ok(changes)
+}
+
+/// The notice of what the Fabric Manager is told.
+fn notices_to_manager(
+    alloc: Global,
+    host: HostId,
+    after: &HostLists,
+    accepted: &[Extent],
+) -> Result<Seq<Notice>, NoMemory>
+    requires { extent_total after.now ≤ 64 }
+    ensures { IfOk result (λ notices. (w : View) → after.now ≡ lists_in w → map told_in notices ≡ (LogId.Manager, told_of host w accepted.now) ∷ []) }
+{
+    let events = told(alloc, host, after, accepted)?;
+    one_notice(alloc, LogId::Manager, events)
 }
 
 /// What the Fabric Manager is told: each accepted extent, or one of zeros where none is accepted.

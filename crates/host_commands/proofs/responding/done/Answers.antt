@@ -16,14 +16,13 @@ pub returns-clause-drafts : goal.returns-clause-drafts
 returns-clause-drafts c =
     let h = c.args.host in
     let present = c.args.present.now in
-    let made : DraftParts = record { payload = c.new-2.result; changes = c.put_takes.new.changes; tags = c.in_ok-tags.tags; notices = c.in_ok-notices.notices; lists = Some c.in_ok-after.after } in
+    let made : DraftParts = record { payload = c.new-2.result; changes = c.in_ok-changes.changes; tags = c.in_ok-tags.tags; notices = c.in_ok-notices.notices; lists = Some c.in_ok-after.after } in
     let it : Tells (unhold h HeldKind.Responses c.args.lists.now.responses ++ Effect.Answer h c.args.accepted ∷ takes present h c.args.accepted)
     (tags_of (oldest_of c.args.lists.now.offers)) (λ w. told_of h w c.args.accepted) c.args.after made = record {
       payload = c.new-2.ensures;
-      changes_are = rw (c.in_ok-put_takes.ensures, c.in_ok-push.ensures.pushed, c.in_ok-changes.ensures, c.in_ok-copy.ensures, c.as_slice.ensures, c.responses.ensures)
-          (append_assoc (unhold h HeldKind.Responses c.args.lists.now.responses) (Effect.Answer h c.args.accepted ∷ []) (takes present h c.args.accepted));
+      changes_are = c.in_ok-changes.ensures;
       tags_are = c.in_ok-tags.ensures ∙ ap tags_of c.oldest.ensures;
-      notices = λ w is. ap (λ (ns : List Notice). map told_in ns) c.in_ok-notices.ensures ∙ ap (λ events. (LogId.Manager, events) ∷ []) (rw (c.as_slice-2.ensures) at (c.in_ok-events.ensures w is));
+      notices = λ w is. rw (c.as_slice.ensures) at (c.in_ok-notices.ensures w is);
       lists_are = ap Some c.in_ok-after.ensures;
     } in
     made_as (Tells (unhold h HeldKind.Responses c.args.lists.now.responses ++ Effect.Answer h c.args.accepted ∷ takes present h c.args.accepted)
