@@ -11,12 +11,7 @@ use std::alloc::Global;
 
 /// Runs the generated script of the seed and writes the summary of its journal. Where it `leaves`, the device of a whole
 /// run keeps its memory.
-pub(crate) fn run_generated<K: Sink>(
-    alloc: Global,
-    seed: u64,
-    sink: &mut K,
-    leaves: bool,
-) -> Status
+pub(crate) fn run_generated<K: Sink>(alloc: Global, seed: u64, sink: &mut K, leaves: bool) -> Status
     ensures { EndsGenerated seed (K.taken sink.old) (K.faults sink.old) (K.taken sink.new) (K.faults sink.new) result }
 {
     match generate(alloc, seed) {

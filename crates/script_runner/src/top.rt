@@ -20,8 +20,8 @@ use std::alloc::Global;
 /// the source is not read.
 ///
 /// The words are tried first, then the source is read, at most 16,777,217 bytes of it, then each line of the script is
-/// read and run, then the text is written. A failed read or write ends the run. All memory is taken before the first
-/// write of the text or the summary, and all of it goes back.
+/// read and run, then the text is written. All memory is taken before the first write of the text or the summary, and all
+/// of it goes back.
 pub fn run<R, S: Source, K: Sink, G: Gate>(
     _rt: &R,
     alloc: Global,
