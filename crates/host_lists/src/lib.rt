@@ -11,8 +11,6 @@ mod offering;
 mod releasing;
 mod responded;
 mod tag_counts;
-#[cfg(test)]
-mod tests;
 
 pub use lists::HostLists;
 pub use responded::Responded;

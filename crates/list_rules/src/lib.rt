@@ -8,8 +8,6 @@ mod limits;
 mod owners;
 mod placing;
 mod tags;
-#[cfg(test)]
-mod tests;
 
 pub use limits::{too_many_extents, too_many_listed};
 pub use owners::{is_in, marked, not_whole, shares_address};

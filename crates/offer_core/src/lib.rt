@@ -9,8 +9,6 @@ mod offer;
 mod offers;
 mod responding;
 mod row;
-#[cfg(test)]
-mod tests;
 
 pub use answered::Answered;
 pub use offer::Offer;

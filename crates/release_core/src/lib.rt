@@ -11,8 +11,6 @@ mod leaving;
 mod marking;
 mod releases;
 mod removals;
-#[cfg(test)]
-mod tests;
 
 pub use releases::{GivenBack, Releases};
 pub use removals::{by_tag, removal};

@@ -6,7 +6,5 @@
 
 mod scrubbing;
 mod search;
-#[cfg(test)]
-mod tests;
 
 pub use scrubbing::{dirty_runs, turn};

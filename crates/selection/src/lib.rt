@@ -8,8 +8,6 @@ mod adjacent;
 mod blocks;
 mod listed;
 mod lowest;
-#[cfg(test)]
-mod tests;
 
 pub use adjacent::contiguous;
 pub use listed::prescriptive;

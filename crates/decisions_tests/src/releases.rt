@@ -1,61 +1,16 @@
-//! Each rule with its values, and what leaves, for a host with three accepted extents.
+//! Releases and removals: each rule with its values, and what leaves, for a host with three accepted extents.
 
-ghost use Rattle.std.specs.Prelude.{◌≡◌, IfOk};
-
-use crate::*;
-use dcd_base::{Extent, Extents, HostId, NoMemory, RegionId, Tag};
+use crate::fixtures::{BASE, M, extent, listed, two_regions};
+use dcd_base::{Extents, HostId, NoMemory, RegionId, Tag};
 use dcd_codes::{Refusal, Rule};
 use extent_list::ExtentList;
-use region_config::{Config, ConfigFault, RegionSpec};
+use region_config::Config;
+use release_core::{GivenBack, Releases, by_tag, removal};
 use std::alloc::Global;
 use std::test::Fail;
 
-/// 1 MiB.
-const M: u64 = 0x10_0000;
-
-/// Where the shareable region begins for host 0.
-const BASE: u64 = 0x1000_0000;
-
 /// How many extents the host is offered: with three accepted ones, 64 in all.
 const OFFERED: usize = 61;
-
-fn region(length: u64, shareable: bool) -> RegionSpec {
-    RegionSpec {
-        decode_units: 1,
-        length,
-        block: M,
-        sizes: M,
-        handle: 0,
-        sanitize: true,
-        shareable,
-    }
-}
-
-/// A region of 16 MiB and a shareable one of 4 MiB; blocks have 1 MiB.
-fn two_regions(alloc: Global) -> Result<Config, ConfigFault>
-    ensures { IfOk result (λ c. c.hosts ≡ 1) }
-{
-    let regions = [region(16 * M, false), region(4 * M, true)];
-    Config::new(alloc, 1, &regions, &[0, BASE])
-}
-
-fn extent(start: u64, length: u64, tag: u8, sequence: u16) -> Extent {
-    Extent {
-        start,
-        length,
-        tag: Tag([tag; 16]),
-        sequence,
-    }
-}
-
-/// Extents as a message lists them, each a start and a length: tags and sequences are not read.
-fn listed(alloc: Global, ranges: &[(u64, u64)]) -> Result<Extents, NoMemory> {
-    let mut list = Extents::new(alloc);
-    for (start, length) in ranges {
-        list.push(extent(*start, *length, 0xEE, 99))?;
-    }
-    Ok(list)
-}
 
 /// Six blocks of tag 7, and two shared extents of tag 9 out of the order of their addresses.
 fn accepted(alloc: Global) -> Result<ExtentList, NoMemory> {
@@ -90,7 +45,7 @@ struct Host {
 impl Host {
     fn new(alloc: Global) -> Result<Host, Fail> {
         Ok(Host {
-            config: two_regions(alloc)?,
+            config: two_regions(alloc, M)?,
             accepted: accepted(alloc)?,
             releases: Releases::new(alloc),
             left: Extents::new(alloc),
@@ -163,16 +118,19 @@ fn what_leaves_has_the_tag_of_its_extent(rt: HostRuntime) -> Result<(), Fail> {
 #[test]
 fn lists_with_more_are_held_until_a_refusal(rt: HostRuntime) -> Result<(), Fail> {
     let mut host = Host::new(rt.alloc())?;
-    assert_eq!(rt; host.release(&[(0, 2 * M)], true)?, Told::Held);
-    assert_eq!(rt; host.releases.copy()?.held().len(), 1);
+    let none = [(0, 0); 40];
     let overlap = Rule::Overlap { index: 1, with: 0 };
-    assert_eq!(rt; host.release(&[(M, M)], false)?, Told::Broken(overlap));
-    assert!(rt; host.releases.held().is_empty());
-    assert_eq!(rt; host.release(&[(0, 3 * M)], false)?, Told::Done);
-    assert_eq!(rt; host.release(&[(0, 0); 40], true)?, Told::Held);
-    let many = Rule::TooManyListed(65);
-    assert_eq!(rt; host.release(&[(0, 0); 25], true)?, Told::Broken(many));
-    assert_eq!(rt; host.release(&[], false)?, Told::Nothing);
+    for (list, more, told, held) in [
+        ([(0, 2 * M)].as_slice(), true, Told::Held, 1),
+        (&[(M, M)], false, Told::Broken(overlap), 0),
+        (&[(0, 3 * M)], false, Told::Done, 0),
+        (&none[..40], true, Told::Held, 40),
+        (&none[..25], true, Told::Broken(Rule::TooManyListed(65)), 0),
+        (&none[..0], false, Told::Nothing, 0),
+    ] {
+        assert_eq!(rt; host.release(list, more)?, told);
+        assert_eq!(rt; host.releases.copy()?.held().len(), held);
+    }
     Ok(())
 }
 
@@ -211,50 +169,38 @@ fn each_rule_of_a_release_counts_from_the_held_list(rt: HostRuntime) -> Result<(
 #[test]
 fn each_rule_of_a_removal(rt: HostRuntime) -> Result<(), Fail> {
     let host = Host::new(rt.alloc())?;
-    for (region, start, length, told) in [
-        (2, 0, M, Told::Broken(Rule::NoSuchRegion(2))),
-        (0, 0, 0, Told::Broken(Rule::ZeroLength(0))),
-        (0, BASE, 2 * M, Told::Broken(Rule::OutsideRegion(0))),
-        (0, M / 2, M, Told::Broken(Rule::Unaligned(0))),
-        (0, 8 * M, M, Told::Broken(Rule::NotAccepted(0))),
-        (1, BASE, M, Told::Broken(Rule::NotWhole(0))),
-        (
-            1,
-            BASE,
-            2 * M,
-            Told::Broken(Rule::TagIncomplete { listed: 1, need: 2 }),
-        ),
-        (0, M, M, Told::Broken(Rule::TooManyExtents(65))),
-        (0, 0, M, Told::Done),
-    ] {
-        assert_eq!(rt;
-            host.remove(region, &[(start, length)], true)?,
-            told,
-            "{start:x}, {length:x}"
-        );
-    }
-    Ok(())
-}
-
-#[test]
-fn each_rule_of_a_list_to_remove(rt: HostRuntime) -> Result<(), Fail> {
-    let host = Host::new(rt.alloc())?;
-    assert_eq!(rt; host.remove(0, &[], false)?, Told::Broken(Rule::EmptyList));
-    let many = Rule::TooManyListed(65);
-    assert_eq!(rt; host.remove(0, &[(0, 0); 65], false)?, Told::Broken(many));
+    let many = [(0, 0); 65];
+    let incomplete = Rule::TagIncomplete { listed: 1, need: 2 };
     let twice = Rule::Overlap { index: 2, with: 0 };
-    let list = [(0, M), (M, M), (0, 2 * M)];
-    assert_eq!(rt; host.remove(0, &list, false)?, Told::Broken(twice));
-    assert_eq!(rt;
-        host.remove(0, &[(M, M)], false)?,
-        Told::Done,
-        "not counted"
-    );
-    assert_eq!(rt;
-        host.remove(0, &[(M, M), (0, M)], true)?,
-        Told::Done,
-        "the whole list"
-    );
+    for (region, list, forced, told) in [
+        (
+            2,
+            [(0, M)].as_slice(),
+            true,
+            Told::Broken(Rule::NoSuchRegion(2)),
+        ),
+        (0, &many[..0], false, Told::Broken(Rule::EmptyList)),
+        (0, &many, false, Told::Broken(Rule::TooManyListed(65))),
+        (0, &[(0, 0)], true, Told::Broken(Rule::ZeroLength(0))),
+        (
+            0,
+            &[(BASE, 2 * M)],
+            true,
+            Told::Broken(Rule::OutsideRegion(0)),
+        ),
+        (0, &[(M / 2, M)], true, Told::Broken(Rule::Unaligned(0))),
+        (0, &[(8 * M, M)], true, Told::Broken(Rule::NotAccepted(0))),
+        (0, &[(0, M), (M, M), (0, 2 * M)], false, Told::Broken(twice)),
+        (1, &[(BASE, M)], true, Told::Broken(Rule::NotWhole(0))),
+        (1, &[(BASE, 2 * M)], true, Told::Broken(incomplete)),
+        (0, &[(M, M)], true, Told::Broken(Rule::TooManyExtents(65))),
+        // A request counts nothing, and a list is counted whole.
+        (0, &[(M, M)], false, Told::Done),
+        (0, &[(M, M), (0, M)], true, Told::Done),
+        (0, &[(0, M)], true, Told::Done),
+    ] {
+        assert_eq!(rt; host.remove(region, list, forced)?, told);
+    }
     Ok(())
 }
 
