@@ -16,6 +16,3 @@ pub use messages::{Request, Response};
 pub use payloads::Payload;
 pub use requests::{decode, encode_request};
 pub use responses::response_head;
-
-#[cfg(test)]
-mod tests;

@@ -28,6 +28,3 @@ mod tag_commands;
 
 pub use control::Control;
 pub use plan::Plan;
-
-#[cfg(test)]
-mod tests;

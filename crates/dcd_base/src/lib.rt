@@ -19,8 +19,6 @@ mod reading;
 mod sequence;
 mod steps;
 mod tags;
-#[cfg(test)]
-mod tests;
 mod writing;
 
 pub use boxed::Boxed;

@@ -9,6 +9,3 @@ mod words;
 pub use codes::{Code, number_of};
 pub use refusals::Refusal;
 pub use rules::{Rule, code_of};
-
-#[cfg(test)]
-mod tests;

@@ -8,6 +8,3 @@ mod history;
 mod making;
 
 pub use device::Device;
-
-#[cfg(test)]
-mod tests;

@@ -12,8 +12,6 @@ mod laws;
 mod parts;
 mod records;
 mod state;
-#[cfg(test)]
-mod tests;
 mod updates;
 
 pub use holders::{Holders, with_bit};

@@ -14,6 +14,3 @@ pub use faults::RecordFault;
 pub use laws::{decoded_again, law_event_is_spelled, law_spelling_reads};
 pub use reading::decode;
 pub use writing::{encode, put_record};
-
-#[cfg(test)]
-mod tests;

@@ -19,6 +19,3 @@ pub use encoding::encode;
 pub use field_bytes::PayloadFault;
 pub use replies::{lists_head, regions_head, write_info, write_tags};
 pub use requests::FmRequest;
-
-#[cfg(test)]
-mod tests;

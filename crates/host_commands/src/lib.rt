@@ -35,6 +35,3 @@ pub use responses::{answer, refused};
 pub use runs::run_of;
 pub use seen::{Flags, host_counts, regions_seen};
 pub use tags::tags_of;
-
-#[cfg(test)]
-mod tests;

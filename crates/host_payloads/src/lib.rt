@@ -24,6 +24,3 @@ pub use pages::{ExtentsPage, read_extents, write_extents};
 pub use replies::{write_configuration, write_events};
 pub use requests::HostRequest;
 pub use views::{Counts, RegionView, counts_bytes, region_bytes};
-
-#[cfg(test)]
-mod tests;

@@ -14,6 +14,3 @@ pub use deliveries::own_items;
 pub use items::{Item, Items, SoloReplies, SoloReply};
 pub use laws::{law_clean, law_holdings, law_isolated, law_lawful, law_two_worlds, law_view};
 pub use replying::{SoloFault, solo_replies};
-
-#[cfg(test)]
-mod tests;

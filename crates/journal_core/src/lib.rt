@@ -17,6 +17,3 @@ pub use entry_effects::EntryEffects;
 pub use holding::holds;
 pub use merging::merge;
 pub use outcome::{Effect, HeldKind};
-
-#[cfg(test)]
-mod tests;

@@ -13,6 +13,3 @@ mod words;
 
 pub use refusals::{refusal, usage};
 pub use rendering::{render, summary};
-
-#[cfg(test)]
-mod tests;

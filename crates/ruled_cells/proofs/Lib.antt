@@ -14,4 +14,3 @@ pub mod Opening
 pub mod AtRest
 pub mod MakingSteps
 pub mod ClosingSteps
-pub mod TallySteps

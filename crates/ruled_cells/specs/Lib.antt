@@ -8,4 +8,3 @@ pub mod Resting
 pub mod Seats
 pub mod Calls
 pub mod Making
-pub mod Tally

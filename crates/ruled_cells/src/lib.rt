@@ -18,6 +18,3 @@ pub use cells::Cells;
 pub use chief::Chief;
 pub use member::Member;
 pub use seat::{Busy, Seat};
-
-#[cfg(test)]
-mod tests;

@@ -25,6 +25,3 @@ pub use reading::read;
 pub use script_line::{Line, Lines};
 pub use scripts::Script;
 pub use writing::write;
-
-#[cfg(test)]
-mod tests;

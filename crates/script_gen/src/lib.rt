@@ -10,8 +10,6 @@ mod draws;
 mod generating;
 mod rounds;
 mod settings;
-#[cfg(test)]
-mod tests;
 mod uses;
 
 pub use generating::generate;

@@ -16,6 +16,3 @@ mod words;
 
 pub use status::Status;
 pub use top::{run, run_and_leave};
-
-#[cfg(test)]
-mod tests;

@@ -1,0 +1,27 @@
+//! Tests of names, lists and streams, and of all that goes over the wire.
+#![tactic(auto)]
+
+#[cfg(test)]
+mod codes;
+#[cfg(test)]
+mod ends;
+#[cfg(test)]
+mod generated;
+#[cfg(test)]
+mod host_replies;
+#[cfg(test)]
+mod host_requests;
+#[cfg(test)]
+mod lists;
+#[cfg(test)]
+mod manager_replies;
+#[cfg(test)]
+mod manager_requests;
+#[cfg(test)]
+mod messages;
+#[cfg(test)]
+mod names;
+#[cfg(test)]
+mod records;
+#[cfg(test)]
+mod scripts;

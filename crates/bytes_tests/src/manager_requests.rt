@@ -1,0 +1,299 @@
+//! Requests of the Fabric Manager, both ways.
+
+ghost use Rattle.fm_payloads.specs.ManagerPayloads.{CountsFit};
+ghost use Rattle.std.specs.Prelude.{◌↔◌, IsTrue};
+
+use dcd_base::{Bytes, Extent, Extents, Handles, Tag};
+use fm_payloads::{FmRequest, PayloadFault, decode, encode};
+use std::alloc::Global;
+use std::process::Abort;
+use std::test::Fail;
+
+const TAG: Tag = Tag([1, 2, 3, 4, 5, 6, 7, 8, 9, 10, 11, 12, 13, 14, 15, 16]);
+
+fn counts_fit(request: &FmRequest) -> bool
+    ensures { IsTrue result ↔ CountsFit request.now }
+{
+    match request {
+        FmRequest::ClearEvents { handles, .. } => handles.len() <= 255,
+        FmRequest::Add { extents, .. } | FmRequest::Remove { extents, .. } => extents.len()
+            <= 65535,
+        _ => true,
+    }
+}
+
+/// The handles of records to clear.
+fn cleared(request: FmRequest) -> Option<Handles> {
+    match request {
+        FmRequest::ClearEvents {
+            log: 4,
+            all: false,
+            handles,
+        } => Some(handles),
+        _other => None,
+    }
+}
+
+/// The tag and the extents of an add of one KiB by policy 2, or of a forced prescriptive release, in region 1 of
+/// host 258.
+fn placed(request: FmRequest) -> Option<(Tag, Extents)> {
+    match request {
+        FmRequest::Add {
+            host: 258,
+            policy: 2,
+            region: 1,
+            length: 1024,
+            tag,
+            extents,
+        } => Some((tag, extents)),
+        FmRequest::Remove {
+            host: 258,
+            flags: 0x11,
+            region: 1,
+            length: 1024,
+            tag,
+            extents,
+        } => Some((tag, extents)),
+        _other => None,
+    }
+}
+
+/// The tag that a reference is added to or removed from.
+fn referred(request: FmRequest) -> Option<Tag> {
+    match request {
+        FmRequest::AddReference { tag } => Some(tag),
+        FmRequest::RemoveReference { tag } => Some(tag),
+        _other => None,
+    }
+}
+
+/// Reads a payload as a request and sees that the request is written as this payload.
+fn again(rt: &impl Abort, alloc: Global, opcode: u16, payload: &[u8]) -> Result<FmRequest, Fail> {
+    let request = decode(alloc, opcode, payload)?;
+    assert!(rt; counts_fit(&request));
+    let mut out = Bytes::new(alloc);
+    encode(&request, &mut out)?;
+    assert_eq!(rt; out.as_slice(), payload);
+    Ok(request)
+}
+
+/// The number as four bytes.
+fn spelled(number: u16) -> [u8; 4] {
+    [(number % 256) as u8, (number / 256) as u8, 0, 0]
+}
+
+/// The payload that places so many extents, each with a length of its own.
+fn placing(alloc: Global, choice: u8, count: u16) -> Result<Bytes, Fail> {
+    let mut payload = Bytes::from_slice(alloc, &[2, 1, choice, 1, 0, 4, 0, 0, 0, 0, 0, 0])?;
+    payload.extend_from_slice(&TAG.0)?;
+    payload.extend_from_slice(&spelled(count))?;
+    for i in 0..count {
+        payload.extend_from_slice(&[0, 0, 0, 0, 0, 16, 0, 0])?;
+        payload.extend_from_slice(&spelled(i))?;
+        payload.extend_from_slice(&[0; 4])?;
+        payload.extend_from_slice(&TAG.0)?;
+        payload.extend_from_slice(&[3, 1, 0, 0, 0, 0, 0, 0])?;
+    }
+    Ok(payload)
+}
+
+/// A payload of 5604h that counts as many extents as can be.
+const MOST: [u8; 32] = [
+    0, 0, 0, 0, 0, 0, 0, 0, 0, 0, 0, 0, 0, 0, 0, 0, 0, 0, 0, 0, 0, 0, 0, 0, 0, 0, 0, 0, 255, 255,
+    255, 255,
+];
+
+/// Payloads that are refused: the opcode, the bytes and the fault.
+const REFUSED: [(u16, &[u8], PayloadFault); 16] = [
+    (0x4800, &[0; 2], PayloadFault::UnknownOpcode(0x4800)),
+    (0x5609, &[0; 0], PayloadFault::UnknownOpcode(0x5609)),
+    (
+        0x5600,
+        &[0; 1],
+        PayloadFault::WrongLength { need: 0, have: 1 },
+    ),
+    (
+        0x0100,
+        &[0; 2],
+        PayloadFault::WrongLength { need: 1, have: 2 },
+    ),
+    (
+        0x0101,
+        &[4, 0, 1, 0, 0, 0, 7],
+        PayloadFault::WrongLength { need: 8, have: 7 },
+    ),
+    (
+        0x5601,
+        &[0; 3],
+        PayloadFault::WrongLength { need: 4, have: 3 },
+    ),
+    (
+        0x5602,
+        &[0; 17],
+        PayloadFault::WrongLength { need: 16, have: 17 },
+    ),
+    (
+        0x5603,
+        &[0; 11],
+        PayloadFault::WrongLength { need: 12, have: 11 },
+    ),
+    (
+        0x5604,
+        &[0; 31],
+        PayloadFault::WrongLength { need: 32, have: 31 },
+    ),
+    (
+        0x5604,
+        &[0; 33],
+        PayloadFault::WrongLength { need: 32, have: 33 },
+    ),
+    (
+        0x5605,
+        &[0; 31],
+        PayloadFault::WrongLength { need: 32, have: 31 },
+    ),
+    (
+        0x5605,
+        &[0; 33],
+        PayloadFault::WrongLength { need: 32, have: 33 },
+    ),
+    (
+        0x5606,
+        &[0; 15],
+        PayloadFault::WrongLength { need: 16, have: 15 },
+    ),
+    (
+        0x5607,
+        &[0; 17],
+        PayloadFault::WrongLength { need: 16, have: 17 },
+    ),
+    (
+        0x5608,
+        &[0; 7],
+        PayloadFault::WrongLength { need: 8, have: 7 },
+    ),
+    (
+        // the greatest count needs a length that does not wrap
+        0x5604,
+        &MOST,
+        PayloadFault::WrongLength {
+            need: 171_798_691_832,
+            have: 32,
+        },
+    ),
+];
+
+#[test]
+fn each_payload_has_its_own_length_once_the_opcode_is_known(rt: HostRuntime) {
+    for (opcode, payload, fault) in REFUSED {
+        assert_eq!(rt; decode(rt.alloc(), opcode, payload).err(), Some(fault));
+    }
+}
+
+#[test]
+fn each_short_request_goes_both_ways(rt: HostRuntime) -> Result<(), Fail> {
+    let asked = again(&rt, rt.alloc(), 0x0100, &[4])?;
+    assert!(rt; matches!(asked, FmRequest::GetEvents { log: 4 }));
+    let asked = again(&rt, rt.alloc(), 0x5600, &[])?;
+    assert!(rt; matches!(asked, FmRequest::GetInfo));
+    let asked = again(&rt, rt.alloc(), 0x5601, &[2, 1, 8, 3])?;
+    assert!(rt;
+        matches!(
+            asked,
+            FmRequest::GetRegions {
+                host: 258,
+                count: 8,
+                first: 3
+            }
+        )
+    );
+    let asked = again(
+        &rt,
+        rt.alloc(),
+        0x5602,
+        &[1, 0, 0, 0, 0, 0, 32, 0, 0, 0, 0, 0, 1, 0, 0, 0],
+    )?;
+    assert!(rt;
+        matches!(
+            asked,
+            FmRequest::SetRegion {
+                region: 1,
+                sanitize: true,
+                block: 0x20_0000
+            }
+        )
+    );
+    let asked = again(
+        &rt,
+        rt.alloc(),
+        0x5603,
+        &[2, 1, 0, 0, 5, 0, 0, 0, 6, 0, 0, 0],
+    )?;
+    assert!(rt;
+        matches!(
+            asked,
+            FmRequest::GetExtentLists {
+                host: 258,
+                count: 5,
+                first: 6
+            }
+        )
+    );
+    let asked = again(&rt, rt.alloc(), 0x5606, &TAG.0)?;
+    assert_eq!(rt; referred(asked), Some(TAG));
+    let asked = again(&rt, rt.alloc(), 0x5607, &TAG.0)?;
+    assert_eq!(rt; referred(asked), Some(TAG));
+    let asked = again(&rt, rt.alloc(), 0x5608, &[1, 0, 0, 0, 5, 0, 0, 0])?;
+    assert!(rt; matches!(asked, FmRequest::ListTags { first: 1, count: 5 }));
+    Ok(())
+}
+
+#[test]
+fn extents_are_placed_with_their_tags(rt: HostRuntime) -> Result<(), Fail> {
+    for (opcode, choice) in [(0x5604, 2), (0x5605, 0x11)] {
+        for count in [0, 65535] {
+            let payload = placing(rt.alloc(), choice, count)?;
+            let asked = again(&rt, rt.alloc(), opcode, payload.as_slice())?;
+            let (tag, extents) = placed(asked).ok_or("5604h and 5605h place extents")?;
+            assert_eq!(rt; tag, TAG);
+            assert_eq!(rt; extents.len(), count as usize);
+            for extent in extents.as_slice() {
+                let want = Extent {
+                    start: 0x1000_0000_0000,
+                    length: extent.length,
+                    tag: TAG,
+                    sequence: 259,
+                };
+                assert_eq!(rt; *extent, want);
+            }
+        }
+    }
+    Ok(())
+}
+
+#[test]
+fn flags_are_part_of_a_release_as_they_stand(rt: HostRuntime) -> Result<(), Fail> {
+    let mut payload = [0u8; 32];
+    payload[2] = 0xFF;
+    let asked = again(&rt, rt.alloc(), 0x5605, &payload)?;
+    assert!(rt; matches!(asked, FmRequest::Remove { flags: 0xFF, .. }));
+    Ok(())
+}
+
+#[test]
+fn reserved_bits_are_free(rt: HostRuntime) -> Result<(), Fail> {
+    for (byte, stands) in [(0xFE, false), (0xFF, true)] {
+        let payload = [1, 9, 9, 9, 0, 0, 32, 0, 0, 0, 0, 0, byte, 9, 9, 9];
+        let asked = decode(rt.alloc(), 0x5602, &payload)?;
+        let flag = matches!(
+            asked,
+            FmRequest::SetRegion {
+                region: 1,
+                sanitize: true,
+                block: 0x20_0000
+            }
+        );
+        assert_eq!(rt; flag, stands);
+    }
+    Ok(())
+}

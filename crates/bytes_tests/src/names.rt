@@ -1,0 +1,33 @@
+//! Ids, tags, granules and the texts of failures.
+
+use dcd_base::{AccessFault, Failed, Granule, HostId, NoMemory, Tag, is_no_tag, no_tag, shard_of};
+use std::test::Fail;
+
+#[test]
+fn sixteen_shards_share_the_granules(rt: HostRuntime) -> Result<(), Fail> {
+    assert_eq!(rt; shard_of(Granule(15)), 15);
+    assert_eq!(rt; shard_of(Granule(16)), 0);
+    assert_eq!(rt; shard_of(Granule(4095)), 15);
+    Ok(())
+}
+
+#[test]
+fn only_sixteen_zero_bytes_are_no_tag(rt: HostRuntime) -> Result<(), Fail> {
+    assert!(rt; is_no_tag(&no_tag()));
+    let mut bytes = [0u8; 16];
+    bytes[15] = 1;
+    assert!(rt; !is_no_tag(&Tag(bytes)));
+    assert!(rt; HostId(2) < HostId(11));
+    Ok(())
+}
+
+#[test]
+fn failures_have_a_text(rt: HostRuntime) -> Result<(), Fail> {
+    let alloc = rt.alloc();
+    let text = format!(in alloc; "{}; {}; {}", NoMemory, Failed, AccessFault::Misaligned)?;
+    assert_eq!(rt;
+        text.as_str(),
+        "out of memory; a read or a write failed; the address is no multiple of 8"
+    );
+    Ok(())
+}

@@ -1,0 +1,40 @@
+//! A first cell that is a journal and no more.
+
+use dcd_base::{Actor, NoMemory, Stamp};
+use journal_core::{Act, Effects, Entry, Journal, Reply};
+use ruled_cells::Chief;
+use std::alloc::Global;
+use std::marker::Model;
+
+/// A journal of scrubs.
+#[derive(Drop)]
+pub struct Ledger {
+    pub entries: Journal,
+}
+
+impl Model for Ledger {
+    ghost use Rattle.std.specs.Prelude.{List};
+    ghost use Rattle.journal_core.specs.declared.entries.Entry.{Entry};
+
+    ghost Value = { List Entry };
+
+    ghost view = { λ ledger. ledger.entries };
+}
+
+impl Chief for Ledger {
+    ghost use Rattle.std.specs.Prelude.{[], ◌∷◌};
+    ghost use Rattle.dcd_base.specs.declared.steps.Actor.TheVariants.{Sanitizer};
+    ghost use Rattle.cells_tests.specs.Tally.{no_config};
+
+    ghost journal = { λ ledger. ledger };
+
+    ghost config = { λ _. no_config };
+
+    ghost actors = { λ _. Sanitizer ∷ Sanitizer ∷ [] };
+
+    ghost sound = { λ _. Unit {0} };
+
+    fn count(&self) -> u64 {
+        self.entries.as_slice().len() as u64
+    }
+}

@@ -1,0 +1,260 @@
+//! The calls, by one thread and by two.
+ghost use Rattle.std.specs.Prelude.{◌≡◌, ◌+◌, ◌^◌, ◌<◌, ◌≤◌, ℕ, suc, [], ◌∷◌, false, length, slice_set, IfOk, None};
+ghost use mathlib.Core.Option.{some};
+ghost use lib.ListN.{get_elem?};
+ghost use Rattle.dcd_base.specs.declared.steps.Actor.TheVariants.{Sanitizer};
+ghost use Rattle.journal_core.specs.Entries.{is_control};
+ghost use Rattle.ruled_cells.specs.Calls.{IsNew, IsOf, row_of, seats_of};
+ghost use Rattle.ruled_cells.specs.Seats.{HasCell, IsSameSeat, NoTurns, number_of, turns_of, view_of};
+ghost use Rattle.ruled_cells.specs.Stamps.{stamp};
+ghost use Rattle.cells_tests.specs.Tally.{IsIdle, MayHaveAdded, no_config};
+
+use crate::counter::Counter;
+use crate::ledger::Ledger;
+use dcd_base::{Actor, NoMemory, Stamp};
+use journal_core::{Act, Entry, EntryEffects, Journal, Reply};
+use ruled_cells::{Busy, Cells, Seat};
+use std::alloc::Global;
+use std::sync::Wait;
+use std::test::*;
+use std::thread::{Threads, join};
+
+pub type Tallies = Cells<Ledger, Counter>;
+
+pub type Worker = Seat<Ledger, Counter>;
+
+fn counter(alloc: Global, index: u32) -> Counter
+    ensures { result ≡ record { index = index; value = 0; entries = []; clock = stamp 0 0 } }
+{
+    Counter {
+        index,
+        value: 0,
+        entries: Journal::new(alloc),
+        clock: Stamp {
+            number: 0,
+            count: 0,
+        },
+    }
+}
+
+/// An access of the seat, above both stamps.
+fn access(pass: u32, line: u32, stamp: Stamp) -> Entry
+    ensures { (result.pass ≡ pass) × (result.actor ≡ Sanitizer) × (is_control result.act ≡ false) × (result.stamp ≡ stamp) }
+{
+    Entry {
+        pass,
+        line,
+        actor: Actor::Sanitizer,
+        act: Act::Load(0),
+        reply: Reply::Word(0),
+        effects: EntryEffects::none(),
+        stamp,
+    }
+}
+
+/// Counts an access of the seat, or does nothing: without memory, or at the greatest value.
+fn add(mut counter: Counter, pass: u32, line: u32, seen: Stamp) -> (Counter, Stamp)
+    requires seen { seen.count + 1 < 2 ^ 64 }
+    requires clock { counter.clock.count + 1 < 2 ^ 64 }
+    ensures { MayHaveAdded pass seen counter result.0 result.1 }
+{
+    let stamp = Stamp {
+        number: seen.number.max(counter.clock.number),
+        count: seen.count.max(counter.clock.count) + 1,
+    };
+    if counter.value == u64::MAX {
+        return (counter, seen);
+    }
+    let entry = access(pass, line, stamp);
+    if counter.entries.push(entry).is_err() {
+        return (counter, seen);
+    }
+    counter.value += 1;
+    counter.clock = stamp;
+    (counter, stamp)
+}
+
+/// Takes the cell of index 0, counts an access and gives the cell back.
+fn step<R: Wait>(rt: &R, cells: &Tallies, seat: &mut Worker, seen: Stamp, line: u32) -> Stamp
+    requires of { IsOf cells.now seat.old × (0 < row_of cells.now) }
+    requires idle { NoTurns seat.old × IsIdle (number_of seat.old) seen (view_of seat.old) }
+    requires room { length (view_of seat.old).calls < 2 ^ 32 }
+    ensures seat { IsSameSeat seat.old seat.new }
+    ensures idle { NoTurns seat.new × IsIdle (number_of seat.new) result (view_of seat.new) }
+    ensures calls { length (view_of seat.new).calls ≤ length (view_of seat.old).calls + 1 }
+{
+    let counter = cells.take(rt, seat, 0);
+    let (counter, seen) = add(counter, seat.number(), line, seen);
+    cells.give(seat, 0, counter);
+    seen
+}
+
+/// Counts so many accesses of the seat.
+fn work<R: Wait>(rt: &R, cells: &Tallies, mut seat: Worker, rounds: u32) -> Worker
+    requires of { IsOf cells.now seat × (0 < row_of cells.now) }
+    requires idle { NoTurns seat × IsIdle (number_of seat) (view_of seat).seen (view_of seat) }
+    requires new { ((view_of seat).seen ≡ stamp 0 0) × ((view_of seat).calls ≡ []) }
+    ensures seat { IsSameSeat seat result × NoTurns result }
+{
+    let mut seen = Stamp {
+        number: 0,
+        count: 0,
+    };
+    for i in 0..rounds {
+        seen = step(rt, cells, &mut seat, seen, i);
+    }
+    seat
+}
+
+/// A first cell, two counters and two seats.
+pub fn made(alloc: Global) -> Result<(Tallies, Worker, Worker), NoMemory>
+    ensures cells { IfOk result (λ made. (row_of made.0 ≡ 2) × (seats_of made.0 ≡ 2)) }
+    ensures one { IfOk result (λ made. IsNew made.0 (record { config = no_config; actors = Sanitizer ∷ Sanitizer ∷ [] }) 0 made.1) }
+    ensures two { IfOk result (λ made. IsNew made.0 (record { config = no_config; actors = Sanitizer ∷ Sanitizer ∷ [] }) 1 made.2) }
+{
+    let mut rest = Vec::new(alloc);
+    rest.push(counter(alloc, 0))?;
+    rest.push(counter(alloc, 1))?;
+    let ledger = Ledger {
+        entries: Journal::new(alloc),
+    };
+    let Ok((cells, mut seats)) = Cells::make(alloc, ledger, rest, 2) else {
+        return Err(NoMemory);
+    };
+    let Some(two) = seats.pop() else {
+        unreachable!()
+    };
+    let Some(one) = seats.pop() else {
+        unreachable!()
+    };
+    Ok((cells, one, two))
+}
+
+/// Takes the cells apart again.
+pub fn closed(
+    alloc: Global,
+    cells: Tallies,
+    one: Worker,
+    two: Worker,
+) -> Result<(Ledger, Vec<Counter>), NoMemory>
+    requires of { IsOf cells one × IsOf cells two × (seats_of cells ≡ 2) }
+    requires numbers { (number_of one ≡ 0) × (number_of two ≡ 1) }
+    requires no_turns { NoTurns one × NoTurns two }
+    ensures { IfOk result (λ values. length values.1.items ≡ row_of cells) }
+{
+    let mut seats = Vec::new(alloc);
+    seats.push(one)?;
+    seats.push(two)?;
+    let Ok(values) = cells.close(alloc, seats) else {
+        return Err(NoMemory);
+    };
+    Ok(values)
+}
+
+/// Each seat in a thread of its own.
+fn work_both<R: Threads + Wait + Sync>(
+    rt: &R,
+    cells: &Tallies,
+    one: Worker,
+    two: Worker,
+) -> (Worker, Worker)
+    requires of { IsOf cells.now one × IsOf cells.now two × (0 < row_of cells.now) }
+    requires first { NoTurns one × IsIdle (number_of one) (view_of one).seen (view_of one) × ((view_of one).seen ≡ stamp 0 0) × ((view_of one).calls ≡ []) }
+    requires second { NoTurns two × IsIdle (number_of two) (view_of two).seen (view_of two) × ((view_of two).seen ≡ stamp 0 0) × ((view_of two).calls ≡ []) }
+    ensures first { IsSameSeat one result.0 × NoTurns result.0 }
+    ensures second { IsSameSeat two result.1 × NoTurns result.1 }
+{
+    join(
+        rt,
+        || -> Worker
+            requires of { IsOf cells.now one × (0 < row_of cells.now) }
+            requires idle { NoTurns one × IsIdle (number_of one) (view_of one).seen (view_of one) }
+            requires new { ((view_of one).seen ≡ stamp 0 0) × ((view_of one).calls ≡ []) }
+            ensures { IsSameSeat one result × NoTurns result }
+        { work(rt, cells, one, 1000) },
+        || -> Worker
+            requires of { IsOf cells.now two × (0 < row_of cells.now) }
+            requires idle { NoTurns two × IsIdle (number_of two) (view_of two).seen (view_of two) }
+            requires new { ((view_of two).seen ≡ stamp 0 0) × ((view_of two).calls ≡ []) }
+            ensures { IsSameSeat two result × NoTurns result }
+        { work(rt, cells, two, 1000) },
+    )
+}
+
+/// Gives a counter back as it was taken.
+pub fn put_back(cells: &Tallies, seat: &mut Worker, index: u32, counter: Counter)
+    requires of { IsOf cells.now seat.old × (index < row_of cells.now) }
+    requires turn { HasCell seat.old index counter }
+    requires idle { (view_of seat.old).entry ≡ None }
+    ensures seat { IsSameSeat seat.old seat.new }
+    ensures turn { turns_of seat.new ≡ slice_set (turns_of seat.old) (suc index) None }
+    ensures view { view_of seat.new ≡ view_of seat.old }
+{
+    cells.give(seat, index, counter);
+}
+
+/// The value of a counter, if its turn is free.
+fn try_once(cells: &Tallies, seat: &mut Worker, index: u32) -> Result<u64, Busy>
+    requires of { IsOf cells.now seat.old × (index < row_of cells.now) }
+    requires idle { NoTurns seat.old × ((view_of seat.old).entry ≡ None) }
+    ensures seat { IsSameSeat seat.old seat.new × NoTurns seat.new × (view_of seat.new ≡ view_of seat.old) }
+{
+    match cells.try_take(seat, index) {
+        Ok(counter) => {
+            let value = counter.value;
+            put_back(cells, seat, index, counter);
+            Ok(value)
+        }
+        Err(busy) => Err(busy),
+    }
+}
+
+/// What seat 1 finds at the counter of index 1 while seat 0 has it, and after that.
+fn row<R: Wait>(
+    rt: &R,
+    cells: &Tallies,
+    one: &mut Worker,
+    two: &mut Worker,
+) -> (Result<u64, Busy>, Result<u64, Busy>)
+    requires of { IsOf cells.now one.old × IsOf cells.now two.old × (row_of cells.now ≡ 2) }
+    requires first { NoTurns one.old × ((view_of one.old).entry ≡ None) }
+    requires second { NoTurns two.old × ((view_of two.old).entry ≡ None) }
+    ensures first { IsSameSeat one.old one.new × NoTurns one.new }
+    ensures second { IsSameSeat two.old two.new × NoTurns two.new }
+{
+    let counter = cells.take(rt, one, 1);
+    let during = try_once(cells, two, 1);
+    put_back(cells, one, 1, counter);
+    (during, try_once(cells, two, 1))
+}
+
+#[test]
+fn a_taken_cell_is_busy_until_it_is_given_back(rt: HostRuntime) -> Result<(), Fail> {
+    let alloc = rt.alloc();
+    let (cells, mut one, mut two) = made(alloc).ok().ok_or("memory")?;
+    let (during, after) = row(&rt, &cells, &mut one, &mut two);
+    let (_, values) = closed(alloc, cells, one, two).ok().ok_or("memory")?;
+    assert!(rt; values.len() == 2);
+    assert_eq!(rt; during, Err(Busy { seat_seen: 0 }));
+    assert_eq!(rt; after, Ok(0));
+    Ok(())
+}
+
+#[test]
+fn two_threads_count_a_thousand_times_each(rt: HostRuntime) -> Result<(), Fail> {
+    let alloc = rt.alloc();
+    let (cells, one, two) = made(alloc).ok().ok_or("memory")?;
+    let (one, two) = work_both(&rt, &cells, one, two);
+    let (ledger, row) = closed(alloc, cells, one, two).ok().ok_or("memory")?;
+    assert!(rt; ledger.entries.as_slice().is_empty() && row.len() == 2);
+    assert!(rt; row[0].value == 2000 && row[0].entries.as_slice().len() == 2000);
+    assert!(rt;
+        row[1].value == 0
+            && row[0].clock
+                == (Stamp {
+                    number: 0,
+                    count: 2000
+                })
+    );
+    Ok(())
+}

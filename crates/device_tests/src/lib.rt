@@ -1,0 +1,9 @@
+//! Tests of the journal, of steps of the device, and of what a host is replied alone.
+#![tactic(auto)]
+
+#[cfg(test)]
+mod items;
+#[cfg(test)]
+mod journals;
+#[cfg(test)]
+mod steps;

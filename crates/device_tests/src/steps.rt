@@ -1,0 +1,144 @@
+//! Steps of a device: a block that is offered and accepted, a scrub and accesses.
+
+ghost use Rattle.std.specs.Prelude.{◌≡◌, IfOk};
+
+use cci_codec::{Payload, Request};
+use control_core::Control;
+use dcd_base::{AccessFault, Actor, HostId, LogId};
+use device_plain::Device;
+use event_records::EventKind;
+use journal_core::{Act, Reply};
+use region_config::{Config, RegionSpec};
+use std::alloc::Global;
+use std::test::Fail;
+
+const MIB: u64 = 0x10_0000;
+
+const HOST: HostId = HostId(0);
+
+/// One region of 16 MiB with blocks of 1 MiB that sanitizes.
+const REGION: RegionSpec = RegionSpec {
+    decode_units: 1,
+    length: 16 * MIB,
+    block: MIB,
+    sizes: MIB,
+    handle: 7,
+    sanitize: true,
+    shareable: false,
+};
+
+/// Initiate Dynamic Capacity Add (5604h), Prescriptive: the block at 2 MiB is offered to host 0.
+const OFFER: [u8; 72] = [
+    0, 0, 2, 0, 0, 0, 0x10, 0, 0, 0, 0, 0, // host 0, policy 2, region 0, 1 MiB
+    0, 0, 0, 0, 0, 0, 0, 0, 0, 0, 0, 0, 0, 0, 0, 0, // no tag
+    1, 0, 0, 0, // one extent
+    0, 0, 0x20, 0, 0, 0, 0, 0, 0, 0, 0x10, 0, 0, 0, 0, 0, // 1 MiB at 2 MiB
+    0, 0, 0, 0, 0, 0, 0, 0, 0, 0, 0, 0, 0, 0, 0, 0, 0, 0, 0, 0, 0, 0, 0, 0,
+];
+
+/// Add Dynamic Capacity Response (4802h): the host accepts it.
+const RESPONSE: [u8; 32] = [
+    1, 0, 0, 0, 0, 0, 0, 0, // one extent, and no more
+    0, 0, 0x20, 0, 0, 0, 0, 0, 0, 0, 0x10, 0, 0, 0, 0, 0, // 1 MiB at 2 MiB
+    0, 0, 0, 0, 0, 0, 0, 0,
+];
+
+/// A device of one host.
+fn device(alloc: Global) -> Result<Device, Fail>
+    ensures { IfOk result (λ device. device.config.hosts ≡ 1) }
+{
+    Ok(Device::new(alloc, Config::new(alloc, 1, &[REGION], &[0])?)?)
+}
+
+/// A step of the device, whose journal has the line and what the step replied.
+fn step(device: &mut Device, line: u32, actor: Actor, act: &Act) -> Result<Reply, Fail>
+    requires { device.old.config.hosts ≡ 1 }
+    ensures { device.new.config ≡ device.old.config }
+{
+    if !journal_core::fits(1, &actor, act) {
+        return Err("the actor may not do the act".into());
+    }
+    Ok(device.step(4, line, actor, act)?)
+}
+
+/// A command with this payload.
+fn command(alloc: Global, opcode: u16, payload: &[u8]) -> Result<Act, Fail> {
+    Ok(Act::Command(Request {
+        tag: 1,
+        opcode,
+        payload: Payload::from_slice(alloc, payload)?,
+    }))
+}
+
+/// Whether a command succeeded, by the code of its response.
+fn is_success(reply: &Reply) -> bool {
+    match reply {
+        Reply::Answer(response) => response.code == 0,
+        _ => false,
+    }
+}
+
+/// The block is offered and accepted, zero granules are scrubbed, a word of it is loaded, and one beside it stored.
+fn five_steps(alloc: Global, device: &mut Device) -> Result<bool, Fail>
+    requires { device.old.config.hosts ≡ 1 }
+    ensures { device.new.config ≡ device.old.config }
+{
+    let host = Actor::Host(HOST);
+    let offered = step(device, 1, Actor::Manager, &command(alloc, 0x5604, &OFFER)?)?;
+    let accepted = step(device, 2, host, &command(alloc, 0x4802, &RESPONSE)?)?;
+    device.enter(4, 3, Actor::Sanitizer, Act::Scrub(2))?;
+    let loaded = step(device, 4, host, &Act::Load(2 * MIB))?;
+    let stored = step(device, 5, host, &Act::Store(8, 7))?;
+    Ok(
+        is_success(&offered)
+            && is_success(&accepted)
+            && matches!(loaded, Reply::Word(0))
+            && matches!(stored, Reply::Refused(AccessFault::NotGranted)),
+    )
+}
+
+#[test]
+fn steps_are_entered_in_the_journal_with_their_stamps(rt: HostRuntime) -> Result<(), Fail> {
+    let alloc = rt.alloc();
+    let mut device = device(alloc)?;
+    assert!(rt; five_steps(alloc, &mut device)?);
+    let stamps = [(1, 0), (2, 0), (3, 0), (3, 1), (3, 2)];
+    let journal = device.journal();
+    assert_eq!(rt; journal.len(), 5);
+    for (i, (entry, stamp)) in journal.iter().zip(stamps.iter()).enumerate() {
+        assert_eq!(rt; (entry.pass, entry.line as usize), (4, i + 1));
+        assert_eq!(rt; (entry.stamp.number, entry.stamp.count), *stamp);
+    }
+    assert_eq!(rt; device.control().entries().len(), 3);
+    Ok(())
+}
+
+/// Free and dirty granules, the host's extents and their granules, and the records of both logs.
+fn counts(control: &Control) -> [u32; 6]
+    requires { control.now.config.hosts ≡ 1 }
+{
+    [
+        control.free(),
+        control.dirty(),
+        control.extents(HOST),
+        control.granules_held(HOST),
+        control.records(LogId::Host(HOST)),
+        control.records(LogId::Manager),
+    ]
+}
+
+#[test]
+fn an_accepted_block_is_counted_and_told(rt: HostRuntime) -> Result<(), Fail> {
+    let alloc = rt.alloc();
+    let mut device = device(alloc)?;
+    let _right = five_steps(alloc, &mut device)?;
+    let control = device.control();
+    assert_eq!(rt; counts(control), [15, 0, 1, 1, 1, 1]);
+    assert_eq!(rt; control.missed(LogId::Manager), 0);
+    if control.records(LogId::Manager) > 0 {
+        let record = control.record(LogId::Manager, 0);
+        assert_eq!(rt; record.kind, EventKind::AddResponse);
+        assert_eq!(rt; (record.host, record.extent.start), (0, 2 * MIB));
+    }
+    Ok(())
+}

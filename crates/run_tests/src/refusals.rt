@@ -1,0 +1,59 @@
+//! The line that is printed of a script that is refused, or of words that are not taken.
+
+ghost use Rattle.script_codec.specs.declared.faults.ScriptFault.{ScriptFault};
+ghost use Rattle.std.specs.Prelude.{◌≢◌};
+
+use cci_codec::MessageFault;
+use dcd_base::MemSink;
+use region_config::ConfigFault;
+use report::{refusal, usage};
+use script_codec::ScriptFault;
+use std::alloc::Global;
+use std::test::Fail;
+
+/// What is printed of the fault.
+fn line_of(alloc: Global, fault: ScriptFault) -> MemSink {
+    let mut sink = MemSink::new(alloc, 16, Vec::new(alloc));
+    if fault != ScriptFault::NoMemory {
+        let _ = refusal(&fault, &mut sink);
+    }
+    sink
+}
+
+/// Faults with the number and the place that are printed.
+const FAULTS: [(ScriptFault, u32, u32); 11] = [
+    (ScriptFault::BadMagic, 1, 0),
+    (ScriptFault::BadVersion(9), 2, 4),
+    (ScriptFault::BadConfig(ConfigFault::Count), 3, 8),
+    (ScriptFault::Truncated(137), 4, 137),
+    (ScriptFault::UnknownKind(128), 5, 128),
+    (ScriptFault::UnknownActor(129), 6, 129),
+    (
+        ScriptFault::BadMessage {
+            at: 130,
+            fault: MessageFault::Short(3),
+        },
+        7,
+        130,
+    ),
+    (ScriptFault::TooLong, 8, 16_777_216),
+    (ScriptFault::AfterEnd(129), 9, 129),
+    (ScriptFault::TooManyLines(4000), 10, 4000),
+    (ScriptFault::BadLanes(5), 12, 10),
+];
+
+#[test]
+fn a_refused_script_has_the_number_and_the_place_of_its_fault(rt: HostRuntime) -> Result<(), Fail> {
+    for (fault, number, place) in FAULTS {
+        let line = format!(in rt.alloc(); "script refused: {number} at {place}\n")?;
+        let printed = line_of(rt.alloc(), fault);
+        assert_eq!(rt; printed.taken().as_slice(), line.as_bytes());
+    }
+    let mut words = MemSink::new(rt.alloc(), 4, Vec::new(rt.alloc()));
+    assert_eq!(rt; usage(&mut words), Ok(()));
+    assert_eq!(rt;
+        words.taken().as_slice(),
+        b"usage: dcdsim [--gen N]\n".as_slice()
+    );
+    Ok(())
+}

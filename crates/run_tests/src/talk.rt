@@ -1,0 +1,99 @@
+//! A device, and the commands and accesses that it is asked for; their replies stand in its journal.
+
+use cci_codec::{Payload, Request};
+use dcd_base::{Actor, Bytes, HostId};
+use device_plain::Device;
+use journal_core::{Act, fits};
+use std::alloc::Global;
+use std::test::Fail;
+
+/// A device and the number of its last line.
+#[derive(Drop)]
+pub struct Talk {
+    pub device: Device,
+    line: u32,
+}
+
+/// So many MiB, below 4 GiB, as eight bytes.
+fn mib(count: u16) -> [u8; 8] {
+    let (low, high) = (count % 16 * 16, count / 16 % 256);
+    [0, 0, low as u8, high as u8, 0, 0, 0, 0]
+}
+
+impl Talk {
+    pub fn new(device: Device) -> Talk {
+        Talk { device, line: 0 }
+    }
+
+    pub fn into_device(self) -> Device {
+        self.device
+    }
+
+    pub fn plays(&mut self, actor: Actor, act: &Act) -> Result<(), Fail> {
+        if !fits(self.device.control().config().hosts(), &actor, act) {
+            return Err("the actor may not do the act".into());
+        }
+        self.line = self.line.wrapping_add(1);
+        let _reply = self.device.step(0, self.line, actor, act)?;
+        Ok(())
+    }
+
+    pub fn asks(
+        &mut self,
+        alloc: Global,
+        actor: Actor,
+        opcode: u16,
+        payload: &[u8],
+    ) -> Result<(), Fail> {
+        let payload = Payload::from_slice(alloc, payload)?;
+        let request = Request {
+            tag: 0,
+            opcode,
+            payload,
+        };
+        self.plays(actor, &Act::Command(request))
+    }
+
+    /// The host lists extents, each a MiB and a count of MiB: it answers an offer (4802h) or gives them back (4803h).
+    pub fn lists(
+        &mut self,
+        alloc: Global,
+        host: u8,
+        opcode: u16,
+        more: bool,
+        extents: &[(u16, u16)],
+    ) -> Result<(), Fail> {
+        let count = u8::try_from(extents.len())?;
+        let mut payload = Bytes::from_slice(alloc, &[count, 0, 0, 0, u8::from(more), 0, 0, 0])?;
+        for (first, count) in extents {
+            payload.extend_from_slice(&mib(*first))?;
+            payload.extend_from_slice(&mib(*count))?;
+            payload.extend_from_slice(&[0; 8])?;
+        }
+        self.asks(alloc, Actor::Host(HostId(host)), opcode, payload.as_slice())
+    }
+
+    /// The Fabric Manager gives by a policy (5604h) or takes by flags (5605h), with a tag of equal bytes.
+    pub fn places(
+        &mut self,
+        alloc: Global,
+        opcode: u16,
+        head: [u8; 3],
+        length: u16,
+        tag: u8,
+        extents: &[(u16, u16)],
+    ) -> Result<(), Fail> {
+        let [host, choice, region] = head;
+        let count = u8::try_from(extents.len())?;
+        let mut payload = Bytes::from_slice(alloc, &[host, 0, choice, region])?;
+        payload.extend_from_slice(&mib(length))?;
+        payload.extend_from_slice(&[tag; 16])?;
+        payload.extend_from_slice(&[count, 0, 0, 0])?;
+        for (first, count) in extents {
+            payload.extend_from_slice(&mib(*first))?;
+            payload.extend_from_slice(&mib(*count))?;
+            payload.extend_from_slice(&[0; 24])?;
+        }
+        self.asks(alloc, Actor::Manager, opcode, payload.as_slice())
+    }
+}
