@@ -9,6 +9,7 @@ mod event_commands;
 mod extents;
 mod faults;
 mod lengths;
+mod page_requests;
 mod ranges;
 mod reading;
 mod writing;
@@ -18,6 +19,7 @@ pub use event_commands::{clear_length, clear_payload, handles_of};
 pub use extents::{extents_of, put_extent, put_extents};
 pub use faults::PayloadFault;
 pub use lengths::{expect_length, zeros};
+pub use page_requests::page_request;
 pub use ranges::{are_bytes, fits_8, fits_16, fits_32, fits_64};
 pub use reading::{flag_at, tag_at, u16_at, u32_at, u64_at};
 pub use writing::{

@@ -10,7 +10,8 @@ use crate::placing::placed_payload;
 use crate::requests::FmRequest;
 use dcd_base::{Bytes, NoMemory};
 use field_bytes::{
-    are_bytes, clear_payload, put_flag, put_u8, put_u16, put_u32, put_u64, put_zeros, zeros,
+    are_bytes, clear_payload, page_request, put_flag, put_u8, put_u16, put_u32, put_u64, put_zeros,
+    zeros,
 };
 use std::alloc::Global;
 
@@ -85,23 +86,6 @@ fn lists_wanted(alloc: Global, host: u16, count: u32, first: u32) -> Result<Byte
     Ok(Bytes::from_vec(alloc, payload))
 }
 
-/// Fills the eight bytes that ask for tags.
-fn fill_tags_wanted(out: &mut [u8], first: u32, count: u32)
-    requires { length out.old ≡ 8 }
-    ensures { out.new ≡ spelling (Number w32 first ∷ Number w32 count ∷ []) }
-{
-    put_u32(out, 0, first);
-    put_u32(out, 4, count);
-}
-
-fn tags_wanted(alloc: Global, first: u32, count: u32) -> Result<Bytes, NoMemory>
-    ensures { IfOk result (λ bytes. bytes ≡ spelling (Number w32 first ∷ Number w32 count ∷ [])) }
-{
-    let mut payload = zeros(alloc, 8)?;
-    fill_tags_wanted(&mut payload, first, count);
-    Ok(Bytes::from_vec(alloc, payload))
-}
-
 fn payload_of(alloc: Global, request: &FmRequest) -> Result<Bytes, NoMemory>
     requires { CountsFit request.now }
     ensures spelled { IfOk result (λ bytes. bytes ≡ spelling (manager_fields request.now)) }
@@ -162,7 +146,7 @@ fn payload_of(alloc: Global, request: &FmRequest) -> Result<Bytes, NoMemory>
         }
         FmRequest::AddReference { tag } => raw_payload(alloc, &tag.0),
         FmRequest::RemoveReference { tag } => raw_payload(alloc, &tag.0),
-        FmRequest::ListTags { first, count } => tags_wanted(alloc, *first, *count),
+        FmRequest::ListTags { first, count } => page_request(alloc, *first, *count),
     }
 }
 

@@ -9,7 +9,7 @@ ghost use Rattle.std.specs.Prelude.{[], ◌∷◌, ◌≡◌, ◌+◌, ◌*◌, 
 use crate::list_writing::put_all_listed;
 use crate::requests::HostRequest;
 use dcd_base::{Bytes, Extent, NoMemory};
-use field_bytes::{clear_payload, put_flag, put_u32, put_zeros, zeros};
+use field_bytes::{clear_payload, page_request, put_flag, put_u32, put_zeros, zeros};
 use std::alloc::Global;
 
 /// Puts what stands before the extents of a list at the start: how many they are, and More.
@@ -42,23 +42,6 @@ fn list_payload(alloc: Global, more: bool, extents: &[Extent]) -> Result<Bytes, 
 {
     let mut payload = zeros(alloc, 8 + 24 * extents.len())?;
     fill_list(&mut payload, more, extents);
-    Ok(Bytes::from_vec(alloc, payload))
-}
-
-/// Fills the payload that asks for a page of extents.
-fn fill_page_request(out: &mut [u8], count: u32, first: u32)
-    requires { length out.old ≡ 8 }
-    ensures { out.new ≡ spelling (Number w32 count ∷ Number w32 first ∷ []) }
-{
-    put_u32(out, 0, count);
-    put_u32(out, 4, first);
-}
-
-fn page_request(alloc: Global, count: u32, first: u32) -> Result<Bytes, NoMemory>
-    ensures { IfOk result (λ bytes. bytes ≡ spelling (Number w32 count ∷ Number w32 first ∷ [])) }
-{
-    let mut payload = zeros(alloc, 8)?;
-    fill_page_request(&mut payload, count, first);
     Ok(Bytes::from_vec(alloc, payload))
 }
 
