@@ -16,7 +16,7 @@ mod state;
 mod tests;
 mod updates;
 
-pub use holders::{Holders, with_bit};
+pub use holders::Holders;
 pub use laws::law_kept_entered;
 pub use parts::HostPart;
 pub use records::change_log_named;
