@@ -97,9 +97,5 @@ fn record_of(id: &LogId, next: u16, room: u32, event: &Event) -> Effect
 fn next_behind(next: u16, room: u32) -> u16
     ensures { result ≡ next_by next room }
 {
-    if room == 0 {
-        next
-    } else {
-        handle_after(next)
-    }
+    if room == 0 { next } else { handle_after(next) }
 }
