@@ -1,5 +1,5 @@
 -- A command of the Fabric Manager that changes no lists is entered as its outcome.
-use Rattle.std.proofs.Common.{◌≡◌, ℕ, ◌+◌, ◌%◌, ◌^◌, ◌<◌, true, false, not, ◌||◌, ◌≤◌, Some, List, [], ◌∷◌, ◌++◌, length, map, flat_map, None, append-nil, refl, sym, ap, ◌∙◌, subst, arith, zero, suc}
+use Rattle.std.proofs.Common.{◌≡◌, ℕ, ◌+◌, ◌%◌, ◌^◌, true, false, not, ◌||◌, ◌≤◌, Some, List, [], ◌∷◌, ◌++◌, length, map, flat_map, None, append-nil, refl, sym, ap, ◌∙◌, subst, arith, zero, suc}
 use Rattle.std.specs.Prelude.{All, if◌then◌else◌}
 use Rattle.std.specs.List.{AllByRecursion, list_all, list_any, range_with_len}
 use Rattle.std.specs.declared.result.Result.TheVariants.{Ok, Err}

@@ -9,8 +9,8 @@ ghost use Rattle.journal_core.specs.declared.entries.Entry.{Entry};
 ghost use Rattle.region_config.specs.Granules.{granule_total};
 ghost use Rattle.std.specs.Prelude.{◌≡◌, ◌+◌, ◌-◌, ◌<◌, ◌≤◌, All, IfOk, List, OnOk, Some, slice_index_or, ℕ};
 
-use dcd_base::{Change, Changes, Granule, NoMemory, Run};
-use device_state::{Holders, State, with_bit};
+use dcd_base::{Change, Changes, Granule, NoMemory, Run, host_bits};
+use device_state::{Holders, State};
 use journal_core::Effect;
 use region_config::Config;
 use std::alloc::Global;
@@ -175,8 +175,8 @@ fn holders_by(config: &Config, effect: &Effect, bits: u16) -> u16
     // There are 16 hosts at most.
     let _hosts = config.hosts();
     match effect {
-        Effect::Take(host, _) => with_bit(bits, *host, true),
-        Effect::Leave(host, _) => with_bit(bits, *host, false),
+        Effect::Take(host, _) => host_bits::with(bits, *host),
+        Effect::Leave(host, _) => host_bits::without(bits, *host),
         _ => bits,
     }
 }

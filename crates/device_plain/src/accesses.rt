@@ -6,22 +6,13 @@ ghost use Rattle.dcd_base.specs.declared.media.Place.{Place};
 ghost use Rattle.media_map.specs.Places.{locate};
 ghost use Rattle.region_config.specs.Granules.{granule_total};
 ghost use Rattle.std.specs.Prelude.{◌≡◌, ◌+◌, ◌<◌, ◌^◌, IfOk, OnErr, OnOk, length};
-ghost use Rattle.dcd_base.specs.Hosts.{has_host};
 
 use control_core::Control;
-use dcd_base::{AccessFault, Actor, HostId, NoMemory, Place, Stamp};
+use dcd_base::{AccessFault, Actor, HostId, NoMemory, Place, Stamp, host_bits};
 use granule_mem::Memory;
 use journal_core::{Act, Entry, EntryEffects, Reply};
 use media_map::locate;
 use region_config::Config;
-
-/// Whether the host, below 16, is among the holders: bit h stands for host h.
-fn is_held_by(holders: u16, host: u8) -> bool
-    requires { host < 16 }
-    ensures { result ≡ has_host holders host }
-{
-    holders >> host & 1 == 1
-}
 
 /// The place of the host's address, where the host holds it, or why there is none.
 #[tactic(auto, using(crate::proofs::MadeChanges::word_inside))]
@@ -41,7 +32,7 @@ pub(crate) fn granted(
     let _hosts = config.hosts();
     match locate(config, host, dpa) {
         Ok(place) => {
-            if is_held_by(memory.holders(place.granule), host.0) {
+            if host_bits::has(memory.holders(place.granule), host) {
                 Ok(place)
             } else {
                 Err(AccessFault::NotGranted)

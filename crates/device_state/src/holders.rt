@@ -4,7 +4,7 @@ ghost use Rattle.device_state.specs.Entered.{held_in};
 ghost use Rattle.std.specs.Prelude.{◌≡◌, ◌&&◌, ◌<◌, ◌≤◌, IfOk, if◌then◌else◌, length, nat_le, nat_lt, replicate, slice_index_or, ℕ};
 ghost use Rattle.dcd_base.specs.Hosts.{with_host, without_host};
 
-use dcd_base::{Granule, HostId, NoMemory, Run};
+use dcd_base::{Granule, HostId, NoMemory, Run, host_bits};
 use std::alloc::Global;
 use std::marker::Model;
 
@@ -62,35 +62,7 @@ impl Holders {
         ensures each { (g : ℕ) → slice_index_or self.new g 0 ≡ (if nat_le first g && nat_lt g end then (if held then with_host (slice_index_or self.old g 0) host else without_host (slice_index_or self.old g 0) host) else slice_index_or self.old g 0) }
     {
         for granule in first..end {
-            self.bits[granule] = with_bit(self.bits[granule], host, held);
+            self.bits[granule] = host_bits::set(self.bits[granule], host, held);
         }
     }
-}
-
-/// The hosts with this one, or without it.
-pub fn with_bit(hosts: u16, host: HostId, held: bool) -> u16
-    requires { host < 16 }
-    ensures { result ≡ (if held then with_host hosts host else without_host hosts host) }
-{
-    if held {
-        with(hosts, host.0)
-    } else {
-        without(hosts, host.0)
-    }
-}
-
-/// The hosts with the one of this number.
-fn with(hosts: u16, host: u8) -> u16
-    requires { host < 16 }
-    ensures { result ≡ with_host hosts host }
-{
-    hosts | 1 << host
-}
-
-/// The hosts without the one of this number.
-fn without(hosts: u16, host: u8) -> u16
-    requires { host < 16 }
-    ensures { result ≡ without_host hosts host }
-{
-    hosts & !(1 << host)
 }

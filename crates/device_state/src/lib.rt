@@ -14,7 +14,7 @@ mod records;
 mod state;
 mod updates;
 
-pub use holders::{Holders, with_bit};
+pub use holders::Holders;
 pub use laws::law_kept_entered;
 pub use parts::HostPart;
 pub use records::change_log_named;

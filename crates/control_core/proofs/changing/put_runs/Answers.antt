@@ -1,4 +1,4 @@
-use Rattle.std.proofs.Common.{◌≡◌, ◌+◌, ◌<◌, ◌≤◌, ap, arith}
+use Rattle.std.proofs.Common.{◌+◌, ◌<◌, ◌≤◌, ap, arith}
 use Rattle.dcd_base.specs.declared.media.Run.{Run}
 use Rattle.region_config.specs.Granules.{granule_total}
 use Rattle.control_core.proofs.Changed.{added_more, inside_more}

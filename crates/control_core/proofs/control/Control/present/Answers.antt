@@ -1,4 +1,4 @@
-use Rattle.std.proofs.Common.{◌≡◌, subst, ◌∙◌}
+use Rattle.std.proofs.Common.{◌≡◌, subst}
 use Rattle.journal_core.specs.Entries.{effects}
 use Rattle.device_rules.specs.Adding.{present}
 use Rattle.control_core.specs.Steps.{Controlled}
