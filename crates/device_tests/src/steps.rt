@@ -78,6 +78,16 @@ fn is_success(reply: &Reply) -> bool {
     }
 }
 
+/// How many extents the oldest offer to the host has.
+fn offered_to(control: &Control) -> usize
+    requires { control.now.config.hosts ≡ 1 }
+{
+    if control.offers(HOST) == 0 {
+        return 0;
+    }
+    control.offer(HOST, 0).len()
+}
+
 /// The block is offered and accepted, zero granules are scrubbed, a word of it is loaded, and one beside it stored.
 fn five_steps(alloc: Global, device: &mut Device) -> Result<bool, Fail>
     requires { device.old.config.hosts ≡ 1 }
@@ -127,6 +137,20 @@ fn counts(control: &Control) -> [u32; 6]
     ]
 }
 
+/// The host's accepted, offered and held extents, the records of the manager's log, and all granules.
+fn lengths(control: &Control) -> [usize; 6]
+    requires { control.now.config.hosts ≡ 1 }
+{
+    [
+        control.accepted(HOST).len(),
+        offered_to(control),
+        control.held_responses(HOST).len(),
+        control.held_releases(HOST).len(),
+        control.log(LogId::Manager).len() as usize,
+        control.states().len() as usize,
+    ]
+}
+
 #[test]
 fn an_accepted_block_is_counted_and_told(rt: HostRuntime) -> Result<(), Fail> {
     let alloc = rt.alloc();
@@ -134,7 +158,11 @@ fn an_accepted_block_is_counted_and_told(rt: HostRuntime) -> Result<(), Fail> {
     let _right = five_steps(alloc, &mut device)?;
     let control = device.control();
     assert_eq!(rt; counts(control), [15, 0, 1, 1, 1, 1]);
-    assert_eq!(rt; control.missed(LogId::Manager), 0);
+    assert_eq!(rt; lengths(control), [1, 0, 0, 0, 1, 16]);
+    assert_eq!(rt;
+        (control.present().hosts(), control.missed(LogId::Manager)),
+        (1, 0)
+    );
     if control.records(LogId::Manager) > 0 {
         let record = control.record(LogId::Manager, 0);
         assert_eq!(rt; record.kind, EventKind::AddResponse);
