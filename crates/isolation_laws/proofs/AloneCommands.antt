@@ -1,10 +1,12 @@
 -- A command of the host of a device that has it alone: what is kept is what the host sees after it.
-use Rattle.std.proofs.Common.{◌≡◌, ℕ, ◌≤◌, Option, Some, None, Result, Ok, sym, ap, subst, ◌∙◌}
-use Rattle.std.specs.Prelude.{unwrap_or, IfSome, if◌then◌else◌}
+use Rattle.std.proofs.Common.{◌≡◌, ℕ, ◌≤◌, Bool, true, false, List, [], ◌∷◌, Option, Some, None, Result, Ok, Err, refl, sym, ap, subst, ◌∙◌}
+use Rattle.std.specs.Prelude.{◌==◌, unwrap_or, IfSome, if◌then◌else◌}
 use Rattle.std.specs.List.{list_any}
 use Rattle.cci_codec.specs.declared.messages.Request.{Request}
+use Rattle.dcd_base.specs.declared.capacity.Extent.{Extent}
 use Rattle.dcd_base.specs.declared.ids.HostId.{HostId}
 use Rattle.dcd_base.specs.declared.steps.LogId.{LogId}
+use Rattle.dcd_codes.specs.Rules.{code_of}
 use Rattle.dcd_codes.specs.declared.codes.Code.{Code}
 use Rattle.dcd_codes.specs.declared.rules.Rule.{Rule}
 use Rattle.host_commands.specs.Messages.{IsDraft}
@@ -13,11 +15,14 @@ use Rattle.host_commands.specs.declared.draft_parts.DraftParts.{DraftParts}
 use Rattle.host_lists.specs.Lists.{Lists, extent_total}
 use Rattle.journal_core.specs.declared.acts.Act.{Act}
 use Rattle.journal_core.specs.declared.acts.Reply.{Reply}
+use Rattle.journal_core.specs.declared.outcome.HeldKind.{HeldKind}
 use Rattle.region_config.specs.Configurations.{Configuration}
-use Rattle.device_rules.specs.Answers.{host_outcome, host_result, host_result_in, reply_with, response, unless}
+use Rattle.device_rules.specs.Answers.{dropped, host_outcome, host_result, host_result_in, reply_with, response, unless}
 use Rattle.device_rules.specs.Outcomes.{Outcome}
+use Rattle.device_rules.specs.ResponseOutcomes.{unhold}
 use Rattle.device_rules.specs.Views.{View, view_after}
-use Rattle.isolation_laws.specs.Acting.{IsChanged}
+use Rattle.device_steps.proofs.ViewCommands.{after_refusal, view_after-dropped}
+use Rattle.isolation_laws.specs.Acting.{IsChanged, without_held}
 use Rattle.isolation_laws.specs.Alone.{Does, IsAlone}
 use Rattle.isolation_laws.specs.Solo.{accepts_byte, changes_with}
 use Rattle.isolation_laws.specs.declared.alone.Alone.{Alone}
@@ -58,3 +63,39 @@ module _ (c : Configuration) (h : HostId) (q : Request) (old new : Alone) where
             words_are = λ a. by.words_by a ∙ ap (λ n. if list_any (accepts_byte a) o.changes then 0 else n) (was.words_are a);
           },
         )
+
+  -- what a command does that breaks a rule: the held list of its kind goes
+  no_answer : (kind : HeldKind) (xs : List Extent) (d : ℕ) → list_any (accepts_byte d) (unhold h kind xs) ≡ false
+  no_answer kind [] d = refl
+  no_answer kind (x ∷ xs) d = refl
+
+  without : (v : View) (word : ℕ → ℕ) → IsAlone c h v word old → (a b : Bool) →
+      IsAlone c h (if a then record v { responses = [] } else if b then record v { releases = [] } else v)
+      (λ d. if list_any (accepts_byte d) (if a then unhold h HeldKind.Responses v.responses else if b then unhold h HeldKind.Releases v.releases else []) then 0 else word d)
+      (record old { lists = if a then record old.lists { responses = [] } else if b then record old.lists { releases = [] } else old.lists })
+  without v word was true b = record {
+    present_is = was.present_is;
+    lists_are = ap (λ (l : Lists). record l { responses = [] }) was.lists_are;
+    few = was.few;
+    log_is = was.log_is;
+    words_are = λ d. was.words_are d ∙ ap (λ (answered : Bool). if answered then 0 else word d) (sym (no_answer HeldKind.Responses v.responses d));
+  }
+  without v word was false true = record {
+    present_is = was.present_is;
+    lists_are = ap (λ (l : Lists). record l { releases = [] }) was.lists_are;
+    few = was.few;
+    log_is = was.log_is;
+    words_are = λ d. was.words_are d ∙ ap (λ (answered : Bool). if answered then 0 else word d) (sym (no_answer HeldKind.Releases v.releases d));
+  }
+  without v word was false false = was
+
+  pub command_refused : new ≡ record old { lists = without_held q.opcode old.lists } → (rule : Rule) →
+      ((v : View) (word : ℕ → ℕ) → IsAlone c h v word old → host_result_in c h v q ≡ Err rule) → Does c h (Act.Command q) old new (SoloReply.Said (response q (code_of rule) []))
+  command_refused is rule broken v word was =
+      let words : ℕ → ℕ = λ d. if list_any (accepts_byte d) (dropped h v q.opcode) then 0 else word d in
+      let kept : IsAlone c h (after_refusal q.opcode v) words (record old { lists = without_held q.opcode old.lists }) = without v word was (q.opcode == 0x4802) (q.opcode == 0x4803) in
+      subst (Did v word (response q (code_of rule) [])) (sym (broken v word was)) (
+        refl,
+        subst (λ (seen : View). IsAlone c h seen words new) (sym (view_after-dropped c h v q.opcode))
+            (subst (λ (a : Alone). IsAlone c h (after_refusal q.opcode v) words a) (sym is) kept),
+      )
