@@ -18,7 +18,7 @@ use std::process::ExitCode;
 use trials::first_difference;
 
 /// Goes over the folder that the first word names, or over the one that it runs in. Prints a line for each conversation
-/// that is wrong, and how many are right. Ends with status 1 where one is wrong or there is none.
+/// that is wrong, and whether all are right. Ends with status 1 where one is wrong or there is none.
 fn main(rt: HostRuntime) -> Result<ExitCode, anyhow::Error> {
     let folder = match env::args(&rt)?.nth(1) {
         Some(folder) => folder,
@@ -33,6 +33,11 @@ fn main(rt: HostRuntime) -> Result<ExitCode, anyhow::Error> {
             Some(difference) => println!(rt; "{name}: {difference}")?,
         }
     }
-    println!(rt; "{right} of {} conversations are right", names.len())?;
-    Ok(ExitCode::from(u8::from(right == 0 || right != names.len())))
+    let is_all = right != 0 && right == names.len();
+    if is_all {
+        println!(rt; "all conversations are right")?;
+    } else {
+        println!(rt; "{right} of {} conversations are right", names.len())?;
+    }
+    Ok(ExitCode::from(u8::from(!is_all)))
 }
