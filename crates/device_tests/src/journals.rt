@@ -97,19 +97,29 @@ fn hosts_command_and_access_the_manager_commands_and_the_sanitizer_scrubs(
     Ok(())
 }
 
+/// The granules 4 and 5.
+fn two_granules() -> Run {
+    Run {
+        first: Granule(4),
+        count: 2,
+    }
+}
+
 #[test]
 fn the_last_take_or_leave_says_who_holds(rt: HostRuntime) -> Result<(), Fail> {
     let alloc = rt.alloc();
-    let run = Run {
-        first: Granule(4),
-        count: 2,
-    };
     let mut effects = Effects::new(alloc);
     for (effect, holding) in [
-        (Effect::Zero(run), [false, false, false]),
-        (Effect::Take(HostId(0), run), [true, false, false]),
-        (Effect::Zero(run), [true, false, false]),
-        (Effect::Leave(HostId(0), run), [false, false, false]),
+        (Effect::Zero(two_granules()), [false, false, false]),
+        (
+            Effect::Take(HostId(0), two_granules()),
+            [true, false, false],
+        ),
+        (Effect::Zero(two_granules()), [true, false, false]),
+        (
+            Effect::Leave(HostId(0), two_granules()),
+            [false, false, false],
+        ),
     ] {
         effects.push(effect).ok().ok_or("memory")?;
         for ((host, granule), expected) in [(0, 5), (0, 6), (1, 5)].iter().zip(holding.iter()) {

@@ -85,28 +85,35 @@ fn put_offer(talk: &mut Talk, alloc: Global, host: u8, at: u16) -> Result<(), Fa
 
 /// The host loads and stores, at bytes behind an address.
 fn put_use(talk: &mut Talk, host: u8, start: u64, word: u64) -> Result<(), Fail> {
-    let actor = Actor::Host(HostId(host));
-    talk.plays(actor, &Act::Load(start.wrapping_add(8)))?;
-    talk.plays(actor, &Act::Store(start.wrapping_add(8), word))?;
-    talk.plays(actor, &Act::Store(start.wrapping_add(5 * MIB), 7))?;
-    talk.plays(actor, &Act::Store(start.wrapping_add(2 * MIB), 7))?;
-    talk.plays(actor, &Act::Load(start.wrapping_add(8)))?;
-    talk.plays(actor, &Act::Load(start.wrapping_add(1)))
+    talk.plays(Actor::Host(HostId(host)), &Act::Load(start.wrapping_add(8)))?;
+    talk.plays(
+        Actor::Host(HostId(host)),
+        &Act::Store(start.wrapping_add(8), word),
+    )?;
+    talk.plays(
+        Actor::Host(HostId(host)),
+        &Act::Store(start.wrapping_add(5 * MIB), 7),
+    )?;
+    talk.plays(
+        Actor::Host(HostId(host)),
+        &Act::Store(start.wrapping_add(2 * MIB), 7),
+    )?;
+    talk.plays(Actor::Host(HostId(host)), &Act::Load(start.wrapping_add(8)))?;
+    talk.plays(Actor::Host(HostId(host)), &Act::Load(start.wrapping_add(1)))
 }
 
-/// The host asks for what it has, clears its log, gives a block back, is asked for another, and loses the rest by force.
-fn put_loss(talk: &mut Talk, alloc: Global, host: u8, at: u16, handle: u8) -> Result<(), Fail> {
-    let actor = Actor::Host(HostId(host));
-    for (opcode, payload) in [
-        (0x4801, [10, 0, 0, 0, 0, 0, 0, 0].as_slice()),
-        (0x4800, &[8, 0]),
-        (0x4800, &[8, 0, 0, 0]),
-        (0x0100, &[4]),
-        (0x0101, &[4, 0, 1, 0, 0, 0, handle, 0]),
-        (0x0101, &[4, 1, 0, 0, 0, 0]),
-    ] {
-        talk.asks(alloc, actor, opcode, payload)?;
-    }
+/// The host asks for what it has, and clears its log.
+fn put_questions(talk: &mut Talk, alloc: Global, host: u8, handle: u8) -> Result<(), Fail> {
+    talk.asks_of(alloc, host, 0x4801, &[10, 0, 0, 0, 0, 0, 0, 0])?;
+    talk.asks_of(alloc, host, 0x4800, &[8, 0])?;
+    talk.asks_of(alloc, host, 0x4800, &[8, 0, 0, 0])?;
+    talk.asks_of(alloc, host, 0x0100, &[4])?;
+    talk.asks_of(alloc, host, 0x0101, &[4, 0, 1, 0, 0, 0, handle, 0])?;
+    talk.asks_of(alloc, host, 0x0101, &[4, 1, 0, 0, 0, 0])
+}
+
+/// The host gives a block back, is asked for another, and loses the rest by force.
+fn put_loss(talk: &mut Talk, alloc: Global, host: u8, at: u16) -> Result<(), Fail> {
     let (second, fifth) = ((at.wrapping_add(1), 1), (at.wrapping_add(4), 1));
     talk.lists(alloc, host, 0x4803, false, &[second])?;
     // By a list and not forced; the same forced, clean and from a list; and all that is left, forced.
@@ -114,8 +121,11 @@ fn put_loss(talk: &mut Talk, alloc: Global, host: u8, at: u16, handle: u8) -> Re
     talk.lists(alloc, host, 0x4803, false, &[fifth])?;
     talk.places(alloc, 0x5605, [host, 0x31, 0], 0, 0, &[(at, 1)])?;
     talk.places(alloc, 0x5605, [host, 0x10, 0], 0, 0, &[])?;
-    talk.plays(actor, &Act::Load(u64::from(at) * MIB + 8))?;
-    talk.asks(alloc, actor, 0x4801, &[10, 0, 0, 0, 0, 0, 0, 0])
+    talk.plays(
+        Actor::Host(HostId(host)),
+        &Act::Load(u64::from(at) * MIB + 8),
+    )?;
+    talk.asks_of(alloc, host, 0x4801, &[10, 0, 0, 0, 0, 0, 0, 0])
 }
 
 /// Both hosts share a block under a tag, load what the other stored, and give it back.
@@ -135,11 +145,13 @@ fn put_round(talk: &mut Talk, alloc: Global, round: u8) -> Result<(), Fail> {
     let handle = round.wrapping_mul(3).wrapping_add(1);
     put_offer(talk, alloc, 0, 0)?;
     put_use(talk, 0, 0, 7)?;
-    put_loss(talk, alloc, 0, 0, handle)?;
+    put_questions(talk, alloc, 0, handle)?;
+    put_loss(talk, alloc, 0, 0)?;
     talk.plays(Actor::Sanitizer, &Act::Scrub(u16::from(round)))?;
     put_offer(talk, alloc, 1, 256)?;
     put_use(talk, 1, 256 * MIB, 8)?;
-    put_loss(talk, alloc, 1, 256, handle)?;
+    put_questions(talk, alloc, 1, handle)?;
+    put_loss(talk, alloc, 1, 256)?;
     talk.plays(Actor::Sanitizer, &Act::Scrub(16))?;
     let block = [0, 0, 0, 0, 0, 0, 16, 0, 0, 0, 0, 0, 1, 0, 0, 0];
     talk.asks(alloc, Actor::Manager, 0x5602, &block)?;

@@ -54,6 +54,17 @@ impl Talk {
         self.plays(actor, &Act::Command(request))
     }
 
+    /// A host's command of this opcode and payload.
+    pub fn asks_of(
+        &mut self,
+        alloc: Global,
+        host: u8,
+        opcode: u16,
+        payload: &[u8],
+    ) -> Result<(), Fail> {
+        self.asks(alloc, Actor::Host(HostId(host)), opcode, payload)
+    }
+
     /// The host lists extents, each a MiB and a count of MiB: it answers an offer (4802h) or gives them back (4803h).
     pub fn lists(
         &mut self,
