@@ -4,7 +4,6 @@
 #![tactic(auto)]
 
 mod entry_lines;
-mod hex_pairs;
 mod places;
 mod printing;
 mod refusals;
