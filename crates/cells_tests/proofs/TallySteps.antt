@@ -7,19 +7,18 @@ use lib.ListN.{get_elem?}
 use Rattle.atomic_table.proofs.Lists.{at_set, set_else}
 use Rattle.dcd_base.specs.declared.steps.Stamp.{Stamp}
 use Rattle.dcd_base.specs.declared.steps.Actor.{Actor}
-use Rattle.region_config.specs.Configurations.{Configuration}
 use Rattle.journal_core.specs.declared.entries.Entry.{Entry}
 use Rattle.journal_core.specs.declared.acts.Act.{Act}
-use Rattle.ruled_cells.specs.declared.about.About.{About}
-use Rattle.ruled_cells.specs.declared.about.View.{View}
-use Rattle.ruled_cells.specs.declared.kept.Kept.{Kept}
+use Rattle.ruled_cells.specs.declared.about.SeatView.{SeatView}
+use Rattle.ruled_cells.specs.declared.cell_value.CellValue.{CellValue}
 use Rattle.ruled_cells.specs.Turning.{NoTurn, HasTurn}
 use Rattle.ruled_cells.specs.Stamps.{Below, after, is_in, pending, stamp}
+use Rattle.ruled_cells.specs.Reads.{ChiefReads, about_of}
 use Rattle.ruled_cells.specs.Ruling.{Names, names, access_cell, touches_cell}
 use Rattle.ruled_cells.specs.Telling.{Alike, MayEnter, MayGive, MayGiveFirst, MayNote, GaveCell, last_of, entered_view, changed_view}
-use Rattle.cells_tests.specs.Tally.{Tally, Adds, IsAdded, MayHaveAdded, IsIdle, above_both, anywhere, counts, follows, no_config, scrubs, turns}
+use Rattle.cells_tests.specs.Tally.{Tally, Adds, IsAdded, MayHaveAdded, IsIdle, above_both, follows, scrubs, tally_reads, turns}
 use Rattle.journal_core.specs.Entries.{is_control}
-use Rattle.ruled_cells.specs.declared.kept.Kept.TheVariants.{First, Rest}
+use Rattle.ruled_cells.specs.declared.cell_value.CellValue.TheVariants.{First, Rest}
 use Rattle.ruled_cells.specs.declared.seat.Seat.{Seat}
 use Rattle.ruled_cells.specs.declared.cells.Cells.{Cells}
 use Rattle.ruled_cells.specs.Seats.{IsSameSeat, NoTurns, number_of}
@@ -45,14 +44,14 @@ one_above : (a b : ℕ) → Dec (a < b) → (max a b + 1 ≤ a + 1) ⊎ (max a b
 one_above a b (yes h) = inr (omega (arith, h))
 one_above a b (Dec.no h) = inl (omega (arith, h))
 
-module _ {F : Type 0} (journal : F → List Entry) (config : F → Configuration) (actors : F → List Actor) (sound : F → Type 0) where
+module _ {F : Type 0} (chief : ChiefReads F) where
   abbrev w : Names F Tally
-  w = names journal config actors sound (λ x. no_config) (λ x. x.entries) (λ x. x.clock) turns anywhere counts
+  w = names chief tally_reads
 
   alike_itself : (x y : Tally) → y ≡ x → Alike w x y
   alike_itself x y e = record { config_is = refl; entries_are = ap (λ (t : Tally). t.entries) e; clock_is = ap (λ (t : Tally). t.clock) e; right_too = λ k log r. subst (λ (t : Tally). w.right k t log) (sym e) r }
 
-  enters : (index number : ℕ) (seen : Stamp) (v : View) (x y : Tally) → IsIdle number seen v → length v.calls < 2 ^ 32 → x.index ≡ index → IsAdded number seen x y → MayEnter w (access_cell Adds) (suc index) number v x y
+  enters : (index number : ℕ) (seen : Stamp) (v : SeatView) (x y : Tally) → IsIdle number seen v → length v.calls < 2 ^ 32 → x.index ≡ index → IsAdded number seen x y → MayEnter w (access_cell Adds) (suc index) number v x y
   enters index number seen v x y idle room at a =
       let clock : y.clock ≡ above_both v.seen x.clock = a.clock_is ∙ ap (λ (s : Stamp). above_both s x.clock) idle.seen_is in
       let s : Stamp = v.seen in let t : Stamp = x.clock in record {
@@ -66,23 +65,23 @@ module _ {F : Type 0} (journal : F → List Entry) (config : F → Configuration
         room = room;
       }
 
-  none_waits : (v : View) (k : ℕ) → v.entry ≡ None → pending w.touches v.entry v.changed k ≡ false
+  none_waits : (v : SeatView) (k : ℕ) → v.entry ≡ None → pending w.touches v.entry v.changed k ≡ false
   none_waits v k e = ap (λ o. pending w.touches o v.changed k) e
 
-  pub may_give : (index number : ℕ) (seen after : Stamp) (v : View) (x y : Tally) → IsIdle number seen v → length v.calls < 2 ^ 32 → x.index ≡ index → MayHaveAdded number seen x y after → MayGive w (access_cell Adds) follows (suc index) number v x y
-  may_give index number seen after v x y idle room at done = record {
-    at_pending = λ e is p. never (pending w.touches v.entry v.changed (suc index)) p (none_waits v (suc index) idle.entry);
+  pub may_give : (index number : ℕ) (taken : List (Option (CellValue F Tally))) (seen after : Stamp) (v : SeatView) (x y : Tally) → IsIdle number seen v → length v.calls < 2 ^ 32 → x.index ≡ index → MayHaveAdded number seen x y after → MayGive w (access_cell Adds) follows (suc index) number taken v x y
+  may_give index number taken seen after v x y idle room at done = record {
+    at_pending = λ e is p right. never (pending w.touches v.entry v.changed (suc index)) p (none_waits v (suc index) idle.entry);
     at_others = λ _. ⊎_elim (λ (q : (y ≡ x) × (after ≡ seen)). inl (alike_itself x y q.0)) (λ (q : IsAdded number seen x y × (after ≡ y.clock)). inr (enters index number seen v x y idle room at q.0)) done;
   }
 
   -- what the seat knows then
-  pub idle_again : (index number : ℕ) (seen after : Stamp) (v v' : View) (a x y : Tally) → IsIdle number seen v → a ≡ x → MayHaveAdded number seen x y after → GaveCell w (suc index) v a y v' → IsIdle number after v' × (length v'.calls ≤ length v.calls + 1)
+  pub idle_again : (index number : ℕ) (seen after : Stamp) (v v' : SeatView) (a x y : Tally) → IsIdle number seen v → a ≡ x → MayHaveAdded number seen x y after → GaveCell w (suc index) v a y v' → IsIdle number after v' × (length v'.calls ≤ length v.calls + 1)
   idle_again index number seen after v v' a x y idle same done gave =
       let Goal : Type 0 = IsIdle number after v' × (length v'.calls ≤ length v.calls + 1) in
       let entries : a.entries ≡ x.entries = ap (λ (t : Tally). t.entries) same in
       ⊎_elim
       (λ (p : (y.entries ≡ a.entries) × (((pending w.touches v.entry v.changed (suc index) ≡ false) × (v' ≡ v)) ⊎ ((pending w.touches v.entry v.changed (suc index) ≡ true) × (v' ≡ changed_view (suc index) v)))).
-      let stays : (v' ≡ v) → (after ≡ seen) → Goal = λ q r. (subst (IsIdle number after) (sym q) record { entry = idle.entry; actor = idle.actor; seen_is = r ∙ idle.seen_is }, let l : length v'.calls ≡ length v.calls = ap (λ (u : View). length u.calls) q in omega (arith, l)) in
+      let stays : (v' ≡ v) → (after ≡ seen) → Goal = λ q r. (subst (IsIdle number after) (sym q) record { entry = idle.entry; actor = idle.actor; seen_is = r ∙ idle.seen_is }, let l : length v'.calls ≡ length v.calls = ap (λ (u : SeatView). length u.calls) q in omega (arith, l)) in
       ⊎_elim (λ (q : (pending w.touches v.entry v.changed (suc index) ≡ false) × (v' ≡ v)). ⊎_elim (λ (r : (y ≡ x) × (after ≡ seen)). stays q.1 r.1)
       (λ (r : IsAdded number seen x y × (after ≡ y.clock)). absurd (let z = r.0.adds in let l : length y.entries ≡ length x.entries + 1 = ap (λ (t : Tally). length t.entries) z.is ∙ length_push x.entries z.entry in
       let m : length y.entries ≡ length x.entries = ap length (p.0 ∙ entries) in omega (arith, l, m))) done)
@@ -91,7 +90,7 @@ module _ {F : Type 0} (journal : F → List Entry) (config : F → Configuration
       (λ (r : (y ≡ x) × (after ≡ seen)). absurd (let l : length y.entries ≡ length a.entries + 1 = ap length p.1 ∙ length_push a.entries p.0 in let m : length y.entries ≡ length a.entries = ap (λ (t : Tally). length t.entries) r.0 ∙ ap length (sym entries) in omega (arith, l, m)))
       (λ (r : IsAdded number seen x y × (after ≡ y.clock)). (
         subst (IsIdle number after) (sym p.3) record { entry = idle.entry; actor = idle.actor; seen_is = r.1 ∙ p.2 },
-        let l : length v'.calls ≡ length v.calls + 1 = ap (λ (u : View). length u.calls) p.3 ∙ length_push v.calls p.0 in omega (arith, l),
+        let l : length v'.calls ≡ length v.calls + 1 = ap (λ (u : SeatView). length u.calls) p.3 ∙ length_push v.calls p.0 in omega (arith, l),
       )) done)
       gave
 
@@ -101,7 +100,7 @@ given_again s t u k x bare took gave j y e = ⊎_elim (λ (p : (j ≡ k) × (Non
     (λ (p : (j ≢ k) × (get_elem? t j ≡ some (Some y))). ⊎_elim (λ (q : (j ≡ k) × (Some x ≡ Some y)). p.0 q.0) (λ (q : (j ≢ k) × (get_elem? s j ≡ some (Some y))). bare j y q.1) (at_set s k j (Some x) (Some y) (ap (λ l. get_elem? l j) (sym took) ∙ p.1)))
     (at_set t k j None (Some y) (ap (λ l. get_elem? l j) (sym gave) ∙ e))
 
-pub same_cell : {F S : Type 0} (taken : List (Option (Kept F S))) (k : ℕ) (a b : S) → HasTurn taken k (Rest a) → HasTurn taken k (Rest b) → a ≡ b
+pub same_cell : {F S : Type 0} (taken : List (Option (CellValue F S))) (k : ℕ) (a b : S) → HasTurn taken k (Rest a) → HasTurn taken k (Rest b) → a ≡ b
 same_cell {F} {S} taken k a b p q = rest_same a b (some_some (Rest a) (Rest b) (sym p ∙ q))
 
 pub added : (pass : ℕ) (seen stamp : Stamp) (x : Tally) (index value : ℕ) (entries more : List Entry) (clock : Stamp) (e : Entry) → record { index = index; value = value; entries = entries; clock = clock } ≡ x → more ≡ entries ++ e ∷ [] → e.stamp ≡ stamp → stamp ≡ above_both seen x.clock
@@ -136,18 +135,18 @@ last_at all front a n is long =
     let l : length front ≡ n = (let p = ap length is ∙ length_push front a in omega (arith, p, long)) in
     (ap (get_elem? all) (sym l) ∙ at_end all front a is, l)
 
-module _ {F : Type 0} (journal : F → List Entry) (config : F → Configuration) (actors : F → List Actor) (sound : F → Type 0) where
+module _ {F : Type 0} (chief : ChiefReads F) where
   abbrev tallies : Names F Tally
-  tallies = names journal config actors sound (λ x. no_config) (λ x. x.entries) (λ x. x.clock) turns anywhere counts
+  tallies = names chief tally_reads
 
   -- a counter that is given back as it was taken
-  pub may_put_back : (k number : ℕ) (v : View) (x : Tally) → v.entry ≡ None → MayGive tallies (access_cell Adds) follows k number v x x
-  may_put_back k number v x none = record {
-    at_pending = λ e is p. never (pending tallies.touches v.entry v.changed k) p (ap (λ o. pending tallies.touches o v.changed k) none);
+  pub may_put_back : (k number : ℕ) (taken : List (Option (CellValue F Tally))) (v : SeatView) (x : Tally) → v.entry ≡ None → MayGive tallies (access_cell Adds) follows k number taken v x x
+  may_put_back k number taken v x none = record {
+    at_pending = λ e is p right. never (pending tallies.touches v.entry v.changed k) p (ap (λ o. pending tallies.touches o v.changed k) none);
     at_others = λ _. inl record { config_is = refl; entries_are = refl; clock_is = refl; right_too = λ j log r. r };
   }
 
-  pub same_view : (k : ℕ) (v v' : View) (a x : Tally) → v.entry ≡ None → a ≡ x → GaveCell tallies k v a x v' → v' ≡ v
+  pub same_view : (k : ℕ) (v v' : SeatView) (a x : Tally) → v.entry ≡ None → a ≡ x → GaveCell tallies k v a x v' → v' ≡ v
   same_view k v v' a x none same gave = ⊎_elim
       (λ (p : (x.entries ≡ a.entries) × (((pending tallies.touches v.entry v.changed k ≡ false) × (v' ≡ v)) ⊎ ((pending tallies.touches v.entry v.changed k ≡ true) × (v' ≡ changed_view k v)))).
       ⊎_elim (λ (q : (pending tallies.touches v.entry v.changed k ≡ false) × (v' ≡ v)). q.1)
@@ -172,20 +171,20 @@ names_zero index e act t = let q : eqb 0 (suc index) ≡ false = ne_eqb 0 (suc i
 waits : (e : Entry) → e.act ≡ Act.Scrub 0 → pending (touches_cell turns) (Some e) [] 1 ≡ true
 waits e act = pending_new (touches_cell turns) e 1 ∙ ap (λ a. scrubs 0 a) act
 
-module _ {F : Type 0} (journal : F → List Entry) (config : F → Configuration) (actors : F → List Actor) (sound : F → Type 0) where
-  touched : (taken : List (Option (Kept F Tally))) (e : Entry) (x : Tally) → e.act ≡ Act.Scrub 0 → HasTurn taken 1 (Rest x) → (k : ℕ) → 0 < k → k < 3 → (names journal config actors sound (λ (t : Tally). no_config) (λ t. t.entries) (λ t. t.clock) turns anywhere counts).touches k e ≡ true → (y : Kept F Tally) × HasTurn taken k y
+module _ {F : Type 0} (chief : ChiefReads F) where
+  touched : (taken : List (Option (CellValue F Tally))) (e : Entry) (x : Tally) → e.act ≡ Act.Scrub 0 → HasTurn taken 1 (Rest x) → (k : ℕ) → 0 < k → k < 3 → (names chief tally_reads).touches k e ≡ true → (y : CellValue F Tally) × HasTurn taken k y
   touched taken e x act turn zero pos lt t = absurd (omega (arith, pos))
   touched taken e x act turn (suc zero) pos lt t = (Rest x, turn)
   touched taken e x act turn (suc (suc i)) pos lt t = absurd (names_zero i e act t)
 
-  pub may_note : (number : ℕ) (taken : List (Option (Kept F Tally))) (v : View) (f g : F) (e : Entry) (x : Tally) → HasTurn taken 0 (First f) → HasTurn taken 1 (Rest x) → v.entry ≡ None
-      → ◌≡◌ {A = About} (record { config = config g; actors = actors g }) (record { config = config f; actors = actors f }) → sound g → journal g ≡ journal f ++ e ∷ [] → e.act ≡ Act.Scrub 0 → e.stamp ≡ stamp (length (journal f) + 1) 0 → e.pass ≡ number
+  pub may_note : (number : ℕ) (taken : List (Option (CellValue F Tally))) (v : SeatView) (f g : F) (e : Entry) (x : Tally) → HasTurn taken 0 (First f) → HasTurn taken 1 (Rest x) → v.entry ≡ None
+      → about_of chief g ≡ about_of chief f → chief.sound g → chief.journal g ≡ chief.journal f ++ e ∷ [] → e.act ≡ Act.Scrub 0 → e.stamp ≡ stamp (length (chief.journal f) + 1) 0 → e.pass ≡ number
       → get_elem? v.about.actors number ≡ some e.actor → length v.calls < 2 ^ 32
-      → MayNote (names journal config actors sound (λ (t : Tally). no_config) (λ t. t.entries) (λ t. t.clock) turns anywhere counts) 3 number taken v f g (last_of (journal g))
+      → MayNote (names chief tally_reads) 3 number taken v f g (last_of (chief.journal g))
   may_note number taken v f g e x first cell none about ok longer act at pass actor room =
-      let last : last_of (journal g) ≡ e = ap last_of longer ∙ last_is (journal f) e in
-      let long : length (journal g) ≡ length (journal f) + 1 = ap length longer ∙ length_push (journal f) e in
-      subst (λ (z : Entry). MayNote (names journal config actors sound (λ (t : Tally). no_config) (λ t. t.entries) (λ t. t.clock) turns anywhere counts) 3 number taken v f g z) (sym last) record {
+      let last : last_of (chief.journal g) ≡ e = ap last_of longer ∙ last_is (chief.journal f) e in
+      let long : length (chief.journal g) ≡ length (chief.journal f) + 1 = ap length longer ∙ length_push (chief.journal f) e in
+      subst (λ (z : Entry). MayNote (names chief tally_reads) 3 number taken v f g z) (sym last) record {
         turn = first;
         not_yet = none;
         about_is = about;
@@ -200,16 +199,16 @@ module _ {F : Type 0} (journal : F → List Entry) (config : F → Configuration
       }
 
   -- the counter counts it, and the seat has noted it
-  pub may_count : (number : ℕ) (v : View) (e : Entry) (x y : Tally) → v.entry ≡ Some e → v.changed ≡ [] → e.act ≡ Act.Scrub 0 → follows e x y → MayGive (names journal config actors sound (λ (t : Tally). no_config) (λ t. t.entries) (λ t. t.clock) turns anywhere counts) (access_cell Adds) follows 1 number v x y
-  may_count number v e x y noted fresh act does = record {
-    at_pending = λ f is p. subst (λ (z : Entry). follows z x y) (let q : Some e ≡ Some f = sym noted ∙ is in let r : e ≡ f = cc in r) does;
+  pub may_count : (number : ℕ) (taken : List (Option (CellValue F Tally))) (v : SeatView) (e : Entry) (x y : Tally) → v.entry ≡ Some e → v.changed ≡ [] → e.act ≡ Act.Scrub 0 → follows e x y → MayGive (names chief tally_reads) (access_cell Adds) follows 1 number taken v x y
+  may_count number taken v e x y noted fresh act does = record {
+    at_pending = λ f is p right. subst (λ (z : Entry). follows z x y) (let q : Some e ≡ Some f = sym noted ∙ is in let r : e ≡ f = cc in r) does;
     at_others = λ p. absurd (let q : pending (touches_cell turns) (Some e) [] 1 ≡ true = waits e act in let r : pending (touches_cell turns) v.entry v.changed 1 ≡ true = (λ i. pending (touches_cell turns) (noted i) (fresh i) 1) ∙ q in let z : true ≡ false = sym r ∙ p in (cc));
   }
 
-module _ {F : Type 0} (journal : F → List Entry) (config : F → Configuration) (actors : F → List Actor) (sound : F → Type 0) where
+module _ {F : Type 0} (chief : ChiefReads F) where
   -- a first cell with nothing noted is given back as it was taken
-  pub may_return : (v : View) (f : F) → sound f → v.entry ≡ None → MayGiveFirst (names journal config actors sound (λ (t : Tally). no_config) (λ t. t.entries) (λ t. t.clock) turns anywhere counts) 3 v f f
-  may_return v f ok none = record { about_is = refl; sound = ok; journal_is = ap (after (journal f)) (sym none); none_left = λ k pos lt. ap (λ o. pending (touches_cell turns) o v.changed k) none }
+  pub may_return : (v : SeatView) (f : F) → chief.sound f → v.entry ≡ None → MayGiveFirst (names chief tally_reads) 3 v f f
+  may_return v f ok none = record { about_is = refl; sound = ok; journal_is = ap (after (chief.journal f)) (sym none); none_left = λ k pos lt. ap (λ o. pending (touches_cell turns) o v.changed k) none }
 
   all_done : (e : Entry) → e.act ≡ Act.Scrub 0 → (k : ℕ) → 0 < k → k < 3 → pending (touches_cell turns) (Some e) (1 ∷ []) k ≡ false
   all_done e act zero pos lt = absurd (omega (arith, pos))
@@ -218,12 +217,12 @@ module _ {F : Type 0} (journal : F → List Entry) (config : F → Configuration
   all_done e act (suc (suc (suc k))) pos lt = absurd (omega (arith, lt))
 
   -- once the counter has counted, the first cell is given back with the entry
-  pub may_end : (v : View) (f g : F) (e : Entry) → ◌≡◌ {A = About} (record { config = config g; actors = actors g }) (record { config = config f; actors = actors f }) → sound g → journal g ≡ journal f ++ e ∷ [] → e.act ≡ Act.Scrub 0 → v.entry ≡ Some e → v.changed ≡ 1 ∷ []
-      → MayGiveFirst (names journal config actors sound (λ (t : Tally). no_config) (λ t. t.entries) (λ t. t.clock) turns anywhere counts) 3 v f g
-  may_end v f g e about ok longer act noted done = record { about_is = about; sound = ok; journal_is = longer ∙ ap (after (journal f)) (sym noted); none_left = λ k pos lt. (λ i. pending (touches_cell turns) (noted i) (done i) k) ∙ all_done e act k pos lt }
+  pub may_end : (v : SeatView) (f g : F) (e : Entry) → about_of chief g ≡ about_of chief f → chief.sound g → chief.journal g ≡ chief.journal f ++ e ∷ [] → e.act ≡ Act.Scrub 0 → v.entry ≡ Some e → v.changed ≡ 1 ∷ []
+      → MayGiveFirst (names chief tally_reads) 3 v f g
+  may_end v f g e about ok longer act noted done = record { about_is = about; sound = ok; journal_is = longer ∙ ap (after (chief.journal f)) (sym noted); none_left = λ k pos lt. (λ i. pending (touches_cell turns) (noted i) (done i) k) ∙ all_done e act k pos lt }
 
   -- what the seat knows once the counter has counted
-  pub counted_view : (v v' : View) (e : Entry) (a x y : Tally) → v.entry ≡ Some e → v.changed ≡ [] → e.act ≡ Act.Scrub 0 → a ≡ x → follows e x y → GaveCell (names journal config actors sound (λ (t : Tally). no_config) (λ t. t.entries) (λ t. t.clock) turns anywhere counts) 1 v a y v' → v' ≡ changed_view 1 v
+  pub counted_view : (v v' : SeatView) (e : Entry) (a x y : Tally) → v.entry ≡ Some e → v.changed ≡ [] → e.act ≡ Act.Scrub 0 → a ≡ x → follows e x y → GaveCell (names chief tally_reads) 1 v a y v' → v' ≡ changed_view 1 v
   counted_view v v' e a x y noted fresh act same does gave =
       let q : pending (touches_cell turns) v.entry v.changed 1 ≡ true = (λ i. pending (touches_cell turns) (noted i) (fresh i) 1) ∙ waits e act in
       let entries : y.entries ≡ a.entries = ap (λ (t : Tally). t.entries) does ∙ ap (λ (t : Tally). t.entries) (sym same) in

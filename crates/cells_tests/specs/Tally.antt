@@ -1,6 +1,6 @@
 -- A counter with its history: a small value of a cell, for the tests.
 -- It counts its accesses, and the scrubs of the journal that name its index.
-use Rattle.std.specs.Prelude.{◌≡◌, ℕ, ◌+◌, ◌<◌, Bool, false, ◌==◌, List, [], ◌∷◌, ◌++◌, length, if◌then◌else◌, max, ◌⊎◌, None}
+use Rattle.std.specs.Prelude.{◌≡◌, ℕ, ◌+◌, ◌^◌, ◌<◌, Bool, false, ◌==◌, List, [], ◌∷◌, ◌++◌, length, if◌then◌else◌, max, ◌⊎◌, None}
 use Rattle.std.proofs.Common.{refl, ap, ◌∙◌, arith, cond}
 use Rattle.std.proofs.lemmas.List.{length_push}
 use mathlib.Core.Option.{some}
@@ -12,8 +12,12 @@ use Rattle.journal_core.specs.declared.acts.Act.{Act}
 use Rattle.journal_core.specs.declared.entries.Entry.{Entry}
 use Rattle.journal_core.specs.Entries.{is_control}
 use Rattle.ruled_cells.specs.Laws.{AccessEnters, ChangeIs, Stays, AccessKeeps, ChangeMakes}
-use Rattle.ruled_cells.specs.declared.about.View.{View}
+use Rattle.ruled_cells.specs.declared.about.SeatView.{SeatView}
 use Rattle.ruled_cells.specs.Booking.{weigh}
+use Rattle.ruled_cells.specs.Reads.{ChiefReads, MemberReads}
+use Rattle.ruled_cells.specs.Seats.{HasFirst, NoTurns, number_of, view_of}
+use Rattle.ruled_cells.specs.Stamps.{stamp}
+use Rattle.ruled_cells.specs.declared.seat.Seat.{Seat}
 
 pub record Tally : Type 0 where
   pub index : ℕ
@@ -57,6 +61,28 @@ follows e x y = y ≡ record x { value = x.value + turned x.index e; clock = e.s
 abbrev pub anywhere : Configuration → ℕ → Entry → Type 0
 anywhere c index e = Unit {0}
 
+-- what the rule of the cells reads of it
+abbrev pub tally_reads : MemberReads Tally
+tally_reads = record {
+  config = λ x. no_config;
+  entries = λ x. x.entries;
+  clock = λ x. x.clock;
+  touches = turns;
+  belongs = anywhere;
+  right = counts;
+  access = Adds;
+  change = follows;
+}
+
+-- what it reads of a journal of scrubs
+abbrev pub ledger_reads : ChiefReads (List Entry)
+ledger_reads = record {
+  journal = λ ledger. ledger;
+  config = λ ledger. no_config;
+  actors = λ ledger. Actor.Sanitizer ∷ Actor.Sanitizer ∷ [];
+  sound = λ ledger. Unit {0};
+}
+
 -- the first stamp above both whose number is one of theirs
 abbrev pub above_both : Stamp → Stamp → Stamp
 above_both s t = record { number = max s.number t.number; count = max s.count t.count + 1 }
@@ -71,10 +97,19 @@ abbrev pub MayHaveAdded : ℕ → Stamp → Tally → Tally → Stamp → Type 0
 MayHaveAdded seat seen x y after = ((y ≡ x) × (after ≡ seen)) ⊎ (IsAdded seat seen x y × (after ≡ y.clock))
 
 -- the seat may work: it is in the midst of no command, and has an actor
-pub record IsIdle (number : ℕ) (seen : Stamp) (v : View) : Type 0 where
+pub record IsIdle (number : ℕ) (seen : Stamp) (v : SeatView) : Type 0 where
   pub entry : v.entry ≡ None
   pub actor : get_elem? v.about.actors number ≡ some Actor.Sanitizer
   pub seen_is : seen ≡ v.seen
+
+-- the seat has the turn of the first cell, and its journal has a new entry behind what was taken: a scrub by this seat that names the counter of index 0
+abbrev pub HasScrubbed : {S : Type 0} → Seat (List Entry) S → List Entry → Type 0
+HasScrubbed s ledger = (taken : List Entry) × (e : Entry) × HasFirst s taken × (ledger ≡ taken ++ e ∷ []) × (e.act ≡ Act.Scrub 0) × (e.stamp ≡ stamp (length taken + 1) 0)
+    × (e.pass ≡ number_of s) × (get_elem? (view_of s).about.actors (number_of s) ≡ some e.actor)
+
+-- the seat has no turn, room for one call more, and is the sanitizer's
+abbrev pub MayScrub : {F S : Type 0} → Seat F S → Type 0
+MayScrub s = NoTurns s × (length (view_of s).calls < 2 ^ 32) × (get_elem? (view_of s).about.actors (number_of s) ≡ some Actor.Sanitizer)
 
 -- ---- the laws
 

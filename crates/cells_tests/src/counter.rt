@@ -1,5 +1,5 @@
 //! A cell that is a counter with its history.
-ghost use Rattle.cells_tests.specs.Tally.{Adds, Tally, anywhere, counts, follows, no_config, tally_changes, tally_enters, tally_keeps, tally_makes, tally_stays, turns};
+ghost use Rattle.cells_tests.specs.Tally.{Tally, tally_changes, tally_enters, tally_keeps, tally_makes, tally_reads, tally_stays};
 
 use dcd_base::Stamp;
 use journal_core::Journal;
@@ -22,21 +22,7 @@ impl Model for Counter {
 }
 
 impl Member for Counter {
-    ghost config = { λ _. no_config };
-
-    ghost entries = { λ x. x.entries };
-
-    ghost clock = { λ x. x.clock };
-
-    ghost touches = { turns };
-
-    ghost belongs = { anywhere };
-
-    ghost right = { counts };
-
-    ghost access = { Adds };
-
-    ghost change = { follows };
+    ghost reads = { tally_reads };
 
     ghost enters = { tally_enters };
 

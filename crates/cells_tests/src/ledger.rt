@@ -22,17 +22,9 @@ impl Model for Ledger {
 }
 
 impl Chief for Ledger {
-    ghost use Rattle.std.specs.Prelude.{[], ◌∷◌};
-    ghost use Rattle.dcd_base.specs.declared.steps.Actor.TheVariants.{Sanitizer};
-    ghost use Rattle.cells_tests.specs.Tally.{no_config};
+    ghost use Rattle.cells_tests.specs.Tally.{ledger_reads};
 
-    ghost journal = { λ ledger. ledger };
-
-    ghost config = { λ _. no_config };
-
-    ghost actors = { λ _. Sanitizer ∷ Sanitizer ∷ [] };
-
-    ghost sound = { λ _. Unit {0} };
+    ghost reads = { ledger_reads };
 
     fn count(&self) -> u64 {
         self.entries.as_slice().len() as u64

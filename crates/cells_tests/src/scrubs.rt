@@ -8,7 +8,7 @@ ghost use Rattle.journal_core.specs.declared.entries.Entry.{Entry};
 ghost use Rattle.ruled_cells.specs.Calls.{IsOf, row_of};
 ghost use Rattle.ruled_cells.specs.Seats.{HasCell, HasFirst, IsSameSeat, NoTurns, number_of, turns_of, view_of};
 ghost use Rattle.ruled_cells.specs.Stamps.{stamp};
-ghost use Rattle.cells_tests.specs.Tally.{follows};
+ghost use Rattle.cells_tests.specs.Tally.{HasScrubbed, MayScrub, follows};
 
 use crate::counter::Counter;
 use crate::ledger::Ledger;
@@ -49,8 +49,7 @@ fn follow(mut counter: Counter, number: u64) -> Counter
 /// Notes the last entry of the first cell, has the counter count it, and gives both back.
 fn finish(cells: &Tallies, seat: &mut Worker, ledger: Ledger, counter: Counter)
     requires of { IsOf cells.now seat.old × (row_of cells.now ≡ 2) }
-    requires ledger { (taken : Ledger) × (e : Entry) × HasFirst seat.old taken × (ledger ≡ taken ++ e ∷ []) × (e.act ≡ Scrub 0) × (e.stamp ≡ stamp (length taken + 1) 0)
-        × (e.pass ≡ number_of seat.old) × (get_elem? (view_of seat.old).about.actors (number_of seat.old) ≡ some e.actor) }
+    requires ledger { HasScrubbed seat.old ledger }
     requires counter { HasCell seat.old 0 counter × (counter.value < 2 ^ 64 - 1) }
     requires idle { ((view_of seat.old).entry ≡ None) × (length (view_of seat.old).calls < 2 ^ 32) }
     ensures seat { IsSameSeat seat.old seat.new }
@@ -85,7 +84,7 @@ fn give_up(cells: &Tallies, seat: &mut Worker, ledger: Ledger, counter: Counter)
 /// Takes both, enters the scrub, and gives both back; without memory as they were.
 fn run<R: Wait>(rt: &R, cells: &Tallies, seat: &mut Worker) -> bool
     requires of { IsOf cells.now seat.old × (row_of cells.now ≡ 2) }
-    requires idle { NoTurns seat.old × (length (view_of seat.old).calls < 2 ^ 32) × (get_elem? (view_of seat.old).about.actors (number_of seat.old) ≡ some Sanitizer) }
+    requires idle { MayScrub seat.old }
     ensures seat { IsSameSeat seat.old seat.new }
     ensures turns { NoTurns seat.new }
 {

@@ -17,7 +17,7 @@ use Rattle.journal_core.specs.declared.outcome.Effect.{Effect}
 use Rattle.journal_core.proofs.HoldingSteps.{holds-append}
 use Rattle.region_config.specs.Configurations.{Configuration}
 use Rattle.region_config.specs.Granules.{granule_total}
-use Rattle.tag_laws.proofs.Bits.{with_has, without_has}
+use Rattle.table_laws.proofs.HostBits.{with_has, without_has}
 use Rattle.dcd_base.specs.Hosts.{has_host, with_host, without_host}
 use Rattle.control_core.specs.ChangedRuns.{AreChanges, IsSoundChange}
 use Rattle.device_state.specs.Kept.{IsKept}

@@ -22,14 +22,15 @@ use Rattle.journal_core.specs.declared.acts.Reply.{Reply}
 use Rattle.journal_core.specs.declared.entries.Entry.{Entry}
 use Rattle.journal_core.specs.declared.outcome.Effect.{Effect}
 use Rattle.journal_core.specs.declared.outcome.HeldKind.{HeldKind}
-use Rattle.host_commands.specs.Parts.{lists_in, told_in}
-use Rattle.host_commands.specs.declared.notices.Notice.{Notice}
+use Rattle.device_state.specs.Kept.{lists_in}
+use Rattle.device_commands.specs.Drafts.{told_in}
+use Rattle.device_commands.specs.declared.log_records.Notice.{Notice}
 use Rattle.device_rules.specs.Answers.{dropped, effects_with, host_outcome, host_result, host_result_in, host_rule, reply_with, response, unless}
 use Rattle.device_rules.specs.Outcomes.{Outcome}
 use Rattle.device_rules.specs.ResponseOutcomes.{response_notices, respond_changes, unhold}
 use Rattle.device_rules.specs.Views.{View, view_after, view_of}
-use Rattle.device_steps.proofs.ViewOthers.{dropped-leaves}
-use Rattle.tag_laws.proofs.QuietSteps.{table-refused}
+use Rattle.step_laws.proofs.ViewOthers.{dropped-leaves}
+use Rattle.table_laws.proofs.QuietSteps.{table-refused}
 use Rattle.control_core.specs.Deciding.{IsDecidedBy, IsShort}
 use Rattle.control_core.specs.Doing.{IsDone}
 use Rattle.device_state.specs.Entered.{lists_by, unheld}

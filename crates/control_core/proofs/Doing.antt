@@ -18,22 +18,23 @@ use Rattle.journal_core.specs.declared.acts.Reply.{Reply}
 use Rattle.journal_core.specs.declared.entries.Entry.{Entry}
 use Rattle.journal_core.specs.declared.outcome.Effect.{Effect}
 use Rattle.journal_core.specs.declared.outcome.HeldKind.{HeldKind}
-use Rattle.host_commands.specs.Parts.{AreAfter, Drafts, lists_in}
-use Rattle.host_commands.specs.declared.draft_parts.DraftParts.{DraftParts}
+use Rattle.device_commands.specs.Drafts.{AreAfter, Drafts}
+use Rattle.device_state.specs.Kept.{lists_in, IsKept}
+use Rattle.device_commands.specs.declared.draft.DraftParts.{DraftParts}
 use Rattle.device_rules.specs.Answers.{response}
 use Rattle.device_rules.specs.Hosts.{accepted_after, accepted_of, held_after, moves, offers_after, offers_of}
 use Rattle.device_rules.specs.Logs.{log_of}
 use Rattle.device_rules.specs.Outcomes.{Outcome, effects_of, ended, entered_all}
 use Rattle.device_rules.specs.Views.{View, view_after, view_of}
-use Rattle.device_steps.proofs.EffectKinds.{any_log, tells_any, told_passes}
-use Rattle.device_steps.proofs.Leaving.{both_pass, map_passes, over-leaving}
+use Rattle.device_rules.proofs.EffectKinds.{any_log, tells_any, told_passes}
+use Rattle.device_rules.proofs.Leaving.{both_pass, map_passes, over-leaving}
 use Rattle.device_rules.proofs.OutcomeSteps.{over-outcome}
-use Rattle.device_steps.proofs.ViewsLeft.{leaves_view, view_after-left}
-use Rattle.tag_laws.specs.Tables.{IsTable, among, among_offers, ending, told_anew}
+use Rattle.step_laws.proofs.ViewsLeft.{leaves_view, view_after-left}
+use Rattle.table_laws.specs.TagTable.{IsTable, among, among_offers, ending, told_anew}
 use Rattle.tag_refs.specs.declared.entries.TagEntry.{TagEntry}
-use Rattle.control_core.specs.Doing.{IsDone, IsOfHost, told_change}
+use Rattle.control_core.specs.Doing.{IsDone, IsOfHost}
+use Rattle.device_commands.specs.TagChanges.{told_change}
 use Rattle.device_state.specs.Entered.{lists_by, lists_put, unheld}
-use Rattle.device_state.specs.Kept.{IsKept}
 use Rattle.control_core.specs.Recording.{told}
 use Rattle.device_state.specs.Updates.{IsUpdate, lists_after}
 use Rattle.device_state.specs.declared.state.State.{State}

@@ -15,7 +15,7 @@ use Rattle.journal_core.specs.declared.entries.Entry.{Entry}
 use Rattle.journal_core.specs.declared.outcome.Effect.{Effect}
 use Rattle.journal_core.specs.declared.outcome.HeldKind.{HeldKind}
 use Rattle.media_map.specs.Places.{run_of}
-use Rattle.host_commands.specs.Parts.{lists_in}
+use Rattle.device_state.specs.Kept.{lists_in}
 use Rattle.device_rules.specs.Answers.{host_outcome, host_rule}
 use Rattle.device_rules.specs.Hosts.{accepted_of, held_after, offers_of}
 use Rattle.device_rules.specs.Legal.{Legal}
@@ -23,13 +23,13 @@ use Rattle.device_rules.specs.Outcomes.{Outcome, effects_of, ended}
 use Rattle.device_rules.specs.ReleaseOutcomes.{leaves}
 use Rattle.device_rules.specs.ResponseOutcomes.{answered, hold, unhold}
 use Rattle.device_rules.specs.Views.{View, view_after, view_of}
-use Rattle.device_steps.proofs.EffectKinds.{PassClearing, clear_passes}
-use Rattle.device_steps.proofs.Leaving.{both_pass, map_passes, over-leaving}
-use Rattle.device_steps.proofs.ViewOthers.{host-leaves}
-use Rattle.tag_laws.specs.Steps.{IsToldAnew}
-use Rattle.tag_laws.specs.Tables.{IsTable, among, among_offers, ending, told_anew}
-use Rattle.tag_laws.proofs.GivingSteps.{table-release, table-response}
-use Rattle.tag_laws.proofs.QuietSteps.{table-host}
+use Rattle.device_rules.proofs.EffectKinds.{PassClearing, clear_passes}
+use Rattle.device_rules.proofs.Leaving.{both_pass, map_passes, over-leaving}
+use Rattle.step_laws.proofs.ViewOthers.{host-leaves}
+use Rattle.table_laws.specs.TagTableSteps.{IsToldAnew}
+use Rattle.table_laws.specs.TagTable.{IsTable, among, among_offers, ending, told_anew}
+use Rattle.table_laws.proofs.GivingSteps.{table-release, table-response}
+use Rattle.table_laws.proofs.QuietSteps.{table-host}
 use Rattle.tag_refs.specs.declared.entries.TagEntry.{TagEntry}
 use Rattle.control_core.specs.Doing.{IsOfHost}
 use Rattle.device_state.specs.Entered.{lists_by, unheld}

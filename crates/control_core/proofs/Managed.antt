@@ -26,28 +26,28 @@ use Rattle.journal_core.specs.declared.acts.Reply.{Reply}
 use Rattle.journal_core.specs.declared.entries.Entry.{Entry}
 use Rattle.journal_core.specs.declared.outcome.Effect.{Effect}
 use Rattle.journal_core.specs.declared.outcome.HeldKind.{HeldKind}
-use Rattle.host_commands.specs.Parts.{IsOutcome, lists_in, told_in}
-use Rattle.host_commands.specs.declared.draft_parts.DraftParts.{DraftParts}
-use Rattle.host_commands.specs.declared.notices.Notice.{Notice}
+use Rattle.device_commands.specs.Drafts.{IsOutcome, told_in}
+use Rattle.device_state.specs.Kept.{lists_in, IsKept}
+use Rattle.device_commands.specs.declared.draft.DraftParts.{DraftParts}
+use Rattle.device_commands.specs.declared.log_records.Notice.{Notice}
 use Rattle.device_rules.specs.Answers.{effects_with, manager_outcome, manager_result, manager_rule, reply_with, response, unless}
 use Rattle.device_rules.specs.Hosts.{accepted_after, held_after, moves, offers_after}
 use Rattle.device_rules.specs.Legal.{Legal}
 use Rattle.device_rules.specs.Logs.{log_of}
 use Rattle.device_rules.specs.Outcomes.{Outcome, effects_of, ended, entered_all}
 use Rattle.device_rules.specs.Views.{View, view_after, view_of}
-use Rattle.device_steps.proofs.EffectKinds.{PassClearing, clear_passes, reference_passes}
-use Rattle.device_steps.proofs.Leaving.{over-leaving}
-use Rattle.tag_laws.specs.QuietRequests.{is_quiet_manager}
-use Rattle.tag_laws.specs.Tables.{IsTable}
-use Rattle.tag_laws.proofs.QuietSteps.{table-manager}
-use Rattle.tag_laws.proofs.ReferenceSteps.{ended-reference, table-add_reference, table-remove_reference}
-use Rattle.device_laws.proofs.LegalSound.{legal_is_sound}
+use Rattle.device_rules.proofs.EffectKinds.{PassClearing, clear_passes, reference_passes}
+use Rattle.device_rules.proofs.Leaving.{over-leaving}
+use Rattle.table_laws.specs.QuietRequests.{is_quiet_manager}
+use Rattle.table_laws.specs.TagTable.{IsTable}
+use Rattle.table_laws.proofs.QuietSteps.{table-manager}
+use Rattle.table_laws.proofs.ReferenceSteps.{ended-reference, table-add_reference, table-remove_reference}
+use Rattle.holding_laws.proofs.LegalSound.{legal_is_sound}
 use Rattle.device_rules.specs.Tags.{is_referenced}
 use Rattle.tag_refs.specs.Tables.{is_used, passes, with_reference}
 use Rattle.control_core.specs.Deciding.{IsDecidedBy, IsShort}
 use Rattle.control_core.specs.Doing.{IsDone}
 use Rattle.device_state.specs.Entered.{lists_by}
-use Rattle.device_state.specs.Kept.{IsKept}
 use Rattle.control_core.specs.Managing.{IsOfNone, Manages, leaves_lists}
 use Rattle.control_core.specs.Recording.{told}
 use Rattle.device_state.specs.Updates.{IsOfLog, IsUpdate}
@@ -57,6 +57,7 @@ use Rattle.device_state.specs.declared.updates.TagChange.{TagChange}
 use Rattle.control_core.proofs.Doing.{lists_over, unheld_over}
 use Rattle.control_core.proofs.Decisions.{notices_known}
 use Rattle.control_core.proofs.Recorded.{told_is}
+use Rattle.device_commands.specs.ManagerMessages.{DraftsFor}
 
 -- ---- what leaves lists leaves them
 
@@ -252,6 +253,12 @@ refused_manager c before q rule is reply new answers none = record {
 }
 
 -- ---- the logs that a draft tells are kept
+
+-- the draft of a request that changes no extents and no tags changes no lists
+pub quiet_drafts : (c : Configuration) (journal : List Entry) (q : FmRequest) → is_quiet_manager q ≡ true → (o : Outcome) (d : DraftParts) → DraftsFor c journal q o d → IsOutcome o d
+quiet_drafts c journal (FmRequest.Add h policy r bytes tag list) quiet o d is = absurd (false≢true quiet)
+quiet_drafts c journal (FmRequest.Remove h flags r bytes tag list) quiet o d is = absurd (false≢true quiet)
+quiet_drafts c journal q quiet o d is = is
 
 pub quiet_notices : (c : Configuration) (before : List Entry) (s : State) → IsKept c before s → (q : FmRequest) → is_quiet_manager q ≡ true →
     (draft : DraftParts) → IsOutcome (manager_outcome c (effects before) (λ h. view_of c h before) q) draft → All (λ (n : Notice). IsOfLog (length s.hosts.items) n.log) draft.notices

@@ -6,9 +6,9 @@ use Rattle.dcd_base.specs.declared.capacity.Tag.{Tag}
 use Rattle.fm_payloads.specs.declared.requests.FmRequest.{FmRequest}
 use Rattle.region_config.specs.Configurations.{Configuration}
 use Rattle.region_config.specs.Soundness.{IsSound}
-use Rattle.host_commands.specs.Parts.{told_in}
-use Rattle.host_commands.specs.declared.draft_parts.DraftParts.{DraftParts}
-use Rattle.host_commands.specs.declared.notices.Notice.{Notice}
+use Rattle.device_commands.specs.Drafts.{told_in}
+use Rattle.device_commands.specs.declared.draft.DraftParts.{DraftParts}
+use Rattle.device_commands.specs.declared.log_records.Notice.{Notice}
 use Rattle.journal_core.specs.Entries.{effects}
 use Rattle.journal_core.specs.declared.entries.Entry.{Entry}
 use Rattle.journal_core.specs.declared.outcome.Effect.{Effect}
@@ -16,10 +16,10 @@ use Rattle.device_rules.specs.Answers.{manager_outcome, manager_rule}
 use Rattle.device_rules.specs.Legal.{Legal}
 use Rattle.device_rules.specs.ReleaseOutcomes.{is_cleaning, is_forced, removed}
 use Rattle.device_rules.specs.Views.{View, view_of}
-use Rattle.device_steps.proofs.EffectKinds.{removals_pass}
-use Rattle.device_steps.proofs.ViewOthers.{remove-leaves}
-use Rattle.tag_laws.proofs.GivingSteps.{table-removal}
-use Rattle.tag_laws.proofs.LeavingSteps.{removal_row}
+use Rattle.device_rules.proofs.EffectKinds.{removals_pass}
+use Rattle.step_laws.proofs.ViewOthers.{remove-leaves}
+use Rattle.table_laws.proofs.GivingSteps.{table-removal}
+use Rattle.table_laws.proofs.LeavingSteps.{removal_row}
 use Rattle.control_core.specs.Doing.{IsOfHost}
 use Rattle.device_state.specs.Kept.{IsKept}
 use Rattle.device_state.specs.Updates.{IsOfLog}

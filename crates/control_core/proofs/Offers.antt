@@ -14,9 +14,10 @@ use Rattle.dcd_codes.specs.declared.codes.Code.{Code}
 use Rattle.extent_list.specs.ExtentLists.{has_extent_of}
 use Rattle.fm_payloads.specs.declared.requests.FmRequest.{FmRequest}
 use Rattle.host_lists.specs.Lists.{Lists}
-use Rattle.host_commands.specs.Parts.{AreAfter, Drafts, lists_in, told_in}
-use Rattle.host_commands.specs.declared.draft_parts.DraftParts.{DraftParts}
-use Rattle.host_commands.specs.declared.notices.Notice.{Notice}
+use Rattle.device_commands.specs.Drafts.{AreAfter, Drafts, told_in}
+use Rattle.device_state.specs.Kept.{lists_in, IsKept}
+use Rattle.device_commands.specs.declared.draft.DraftParts.{DraftParts}
+use Rattle.device_commands.specs.declared.log_records.Notice.{Notice}
 use Rattle.region_config.specs.Configurations.{Configuration}
 use Rattle.region_config.specs.Granules.{region_spec}
 use Rattle.region_config.specs.Soundness.{IsSound}
@@ -25,12 +26,12 @@ use Rattle.journal_core.specs.Entries.{effects}
 use Rattle.journal_core.specs.declared.acts.Reply.{Reply}
 use Rattle.journal_core.specs.declared.entries.Entry.{Entry}
 use Rattle.journal_core.specs.declared.outcome.Effect.{Effect}
-use Rattle.device_laws.specs.Pictures.{Picture, picture_of}
-use Rattle.device_laws.specs.Standing.{IsMade}
-use Rattle.device_laws.proofs.Adding.{IsAdded, IsRow, added, row_of}
-use Rattle.device_laws.proofs.Holding.{present_whole}
-use Rattle.device_laws.proofs.Homes.{made_granular, made_region}
-use Rattle.device_laws.proofs.LegalSound.{legal_is_sound}
+use Rattle.holding_laws.specs.Pictures.{Picture, picture_of}
+use Rattle.holding_laws.specs.Standing.{IsMade}
+use Rattle.holding_laws.proofs.Adding.{IsAdded, IsRow, added, row_of}
+use Rattle.holding_laws.proofs.Holding.{present_whole}
+use Rattle.holding_laws.proofs.Homes.{made_granular, made_region}
+use Rattle.holding_laws.proofs.LegalSound.{legal_is_sound}
 use Rattle.device_rules.specs.Adding.{offered}
 use Rattle.device_rules.specs.Answers.{manager_outcome, manager_rule, response}
 use Rattle.device_rules.specs.Hosts.{accepted_of}
@@ -38,16 +39,16 @@ use Rattle.device_rules.specs.Legal.{Legal}
 use Rattle.device_rules.specs.Logs.{log_of}
 use Rattle.device_rules.specs.Outcomes.{Outcome, effects_of, ended, entered_all}
 use Rattle.device_rules.specs.Views.{view_after, view_of}
-use Rattle.device_steps.proofs.ViewOthers.{add-leaves}
-use Rattle.tag_laws.specs.Tables.{IsTable}
-use Rattle.tag_laws.proofs.AddSteps.{table-add}
-use Rattle.tag_laws.proofs.Entries.{table_live}
+use Rattle.step_laws.proofs.ViewOthers.{add-leaves}
+use Rattle.table_laws.specs.TagTable.{IsTable}
+use Rattle.table_laws.proofs.AddSteps.{table-add}
+use Rattle.table_laws.proofs.TagEntries.{table_live}
 use Rattle.tag_refs.specs.Tables.{changed, is_live, set_by, still_used}
 use Rattle.tag_refs.specs.declared.entries.TagEntry.{TagEntry}
 use Rattle.control_core.specs.Doing.{IsDone}
 use Rattle.device_state.specs.Entered.{lists_by, lists_put, tags_put}
-use Rattle.device_state.specs.Kept.{IsKept}
-use Rattle.control_core.specs.Offers.{AreGranular, IsOfOffer, lists_for, offer_change}
+use Rattle.device_commands.specs.TagChanges.{AreGranular, offer_change}
+use Rattle.control_core.specs.Offers.{IsOfOffer, lists_for}
 use Rattle.control_core.specs.Recording.{told}
 use Rattle.device_state.specs.Updates.{CanChange, IsOfHosts, IsOfLog, IsUpdate, lists_after}
 use Rattle.device_state.specs.declared.state.State.{State}
@@ -56,7 +57,7 @@ use Rattle.control_core.proofs.Decisions.{notices_known}
 use Rattle.control_core.proofs.Doing.{lists_over, others_stay, unheld_over}
 use Rattle.control_core.proofs.Recorded.{told_is}
 use Rattle.media_map.proofs.RunLemmas.{granular_from}
-use Rattle.device_laws.proofs.TagSteps.{same_tag-self}
+use Rattle.device_rules.proofs.TagSteps.{same_tag-self}
 
 module _ (c : Configuration) (before : List Entry) (s : State) (kept : IsKept c before s) (h : HostId) (r : ℕ) (tag : Tag) (new : List Extent) (o : Outcome) (of : IsOfOffer c before h r tag new o) where
   own_after : lists_after c h before (effects_of c (effects before) o) ≡ lists_in (view_after c h (view_of c h before) o.changes)

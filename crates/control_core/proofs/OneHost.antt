@@ -16,8 +16,8 @@ use Rattle.device_rules.specs.Outcomes.{Outcome, effects_of}
 use Rattle.device_rules.specs.ReleaseOutcomes.{is_cleaning, is_forced, removed}
 use Rattle.device_rules.specs.Tags.{is_referenced}
 use Rattle.device_rules.specs.Views.{View, view_of}
-use Rattle.device_steps.proofs.EffectKinds.{PassClearing, PassHeld, PassRecords, any_log, clear_passes, host_passes, outcome_passes, reference_passes, removals_pass, tells_any, unhold_passes, zeroes_pass}
-use Rattle.device_steps.proofs.LegalSteps.{step_case}
+use Rattle.device_rules.proofs.EffectKinds.{PassClearing, PassHeld, PassRecords, any_log, clear_passes, host_passes, outcome_passes, reference_passes, removals_pass, tells_any, unhold_passes, zeroes_pass}
+use Rattle.device_rules.proofs.LegalSteps.{step_case}
 use Rattle.control_core.specs.PutChanges.{AreOfOneHost, is_of}
 
 -- what is of no host is of any

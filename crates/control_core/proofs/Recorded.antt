@@ -13,12 +13,12 @@ use Rattle.journal_core.specs.Entries.{effects}
 use Rattle.journal_core.specs.declared.entries.Entry.{Entry}
 use Rattle.journal_core.specs.declared.outcome.Effect.{Effect}
 use Rattle.region_config.specs.Configurations.{Configuration}
-use Rattle.host_commands.specs.Parts.{IsLogOf, told_in}
-use Rattle.host_commands.specs.declared.notices.Notice.{Notice}
+use Rattle.device_state.specs.Kept.{IsLogOf, IsKept}
+use Rattle.device_commands.specs.Drafts.{told_in}
+use Rattle.device_commands.specs.declared.log_records.Notice.{Notice}
 use Rattle.device_rules.specs.Logs.{log_after, log_of}
 use Rattle.device_rules.specs.Outcomes.{entered, entered_all}
-use Rattle.device_steps.proofs.LogSteps.{IsSound, IsSound-recorded, room-recorded, same_log-self}
-use Rattle.device_state.specs.Kept.{IsKept}
+use Rattle.step_laws.proofs.LogSteps.{IsSound, IsSound-recorded, room-recorded, same_log-self}
 use Rattle.control_core.specs.Recording.{records_by, told}
 use Rattle.device_state.specs.Updates.{IsOfLog, log_in}
 use Rattle.device_state.specs.declared.state.State.{State}

@@ -22,7 +22,7 @@ use Rattle.fm_payloads.specs.ManagerPayloads.{info_fields, info_head_fields, inf
 use Rattle.fm_payloads.specs.declared.requests.FmRequest.{FmRequest}
 use Rattle.dcd_codes.specs.Rules.{◌breaks◌}
 use Rattle.dcd_codes.specs.declared.rules.Rule.{Rule}
-use Rattle.device_steps.proofs.LogOutcomes.{whole as broken_not}
+use Rattle.step_laws.proofs.LogOutcomes.{whole as broken_not}
 use Rattle.region_config.proofs.Searches.{or_parts}
 use Rattle.region_config.specs.declared.region_spec.RegionSpec.{RegionSpec}
 use Rattle.journal_core.specs.declared.outcome.Effect.{Effect}

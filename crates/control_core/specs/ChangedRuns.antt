@@ -1,5 +1,5 @@
 -- What a step changes of holders and words, as a list of runs.
-use Rattle.std.specs.Prelude.{◌≡◌, ℕ, suc, ◌+◌, ◌<◌, ◌≤◌, All, Bool, false, ◌&&◌, List, ◌++◌, fold, length, if◌then◌else◌}
+use Rattle.std.specs.Prelude.{◌≡◌, ℕ, suc, ◌+◌, ◌<◌, ◌≤◌, Bool, All, false, ◌&&◌, List, ◌++◌, fold, if◌then◌else◌, length}
 use Rattle.std.specs.List.{list_any}
 use Rattle.dcd_base.specs.Words.{has_granule}
 use Rattle.dcd_base.specs.declared.ids.HostId.{HostId}

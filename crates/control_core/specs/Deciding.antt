@@ -1,5 +1,5 @@
 -- What a step comes to.
-use Rattle.std.specs.Prelude.{◌≡◌, ◌≤◌, List, length, All}
+use Rattle.std.specs.Prelude.{◌≡◌, ◌≤◌, All, List, length}
 use Rattle.dcd_base.specs.declared.steps.Actor.{Actor}
 use Rattle.region_config.specs.Configurations.{Configuration}
 use Rattle.region_config.specs.Soundness.{IsSound}

@@ -1,10 +1,9 @@
 -- What a command comes to that breaks no rule, and how its message is read.
-use Rattle.std.specs.Prelude.{◌≡◌, ◌≢◌, ◌<◌, true, List, [], ◌∷◌, fold}
+use Rattle.std.specs.Prelude.{◌≡◌, ◌≢◌, ◌<◌, true, List, fold}
 use Rattle.std.specs.List.{list_all}
 use Rattle.std.specs.declared.result.Result.{Result}
 use Rattle.std.specs.declared.result.Result.TheVariants.{Err}
 use Rattle.cci_codec.specs.declared.messages.Request.{Request}
-use Rattle.dcd_base.specs.declared.capacity.Tag.{Tag}
 use Rattle.dcd_base.specs.declared.ids.HostId.{HostId}
 use Rattle.dcd_codes.specs.declared.codes.Code.{Code}
 use Rattle.dcd_base.specs.declared.steps.Actor.{Actor}
@@ -15,28 +14,22 @@ use Rattle.control_core.specs.Deciding.{IsDecidedBy}
 use Rattle.region_config.specs.Configurations.{Configuration}
 use Rattle.journal_core.specs.Entries.{effects}
 use Rattle.journal_core.specs.declared.entries.Entry.{Entry}
-use Rattle.host_commands.specs.Messages.{IsDrafted}
-use Rattle.host_commands.specs.Parts.{Drafts, lists_in}
-use Rattle.host_commands.specs.declared.draft_parts.DraftParts.{DraftParts}
+use Rattle.device_commands.specs.HostMessages.{IsDrafted}
+use Rattle.device_commands.specs.Drafts.{Drafts}
+use Rattle.device_state.specs.Kept.{IsKept, lists_in}
+use Rattle.device_commands.specs.declared.draft.DraftParts.{DraftParts}
 use Rattle.device_rules.specs.Answers.{host_result_in, response}
 use Rattle.device_rules.specs.Legal.{Legal}
 use Rattle.device_rules.specs.Outcomes.{Outcome, effects_of}
 use Rattle.device_rules.specs.Views.{view_after, view_of}
-use Rattle.device_steps.proofs.ViewsLeft.{leaves_view}
-use Rattle.tag_laws.specs.Steps.{IsToldAnew}
-use Rattle.tag_laws.specs.Tables.{IsTable}
+use Rattle.step_laws.proofs.ViewsLeft.{leaves_view}
+use Rattle.table_laws.specs.TagTableSteps.{IsToldAnew}
+use Rattle.table_laws.specs.TagTable.{IsTable}
 use Rattle.tag_refs.specs.declared.entries.TagEntry.{TagEntry}
 use Rattle.device_state.specs.Entered.{lists_by}
-use Rattle.device_state.specs.Kept.{IsKept}
 use Rattle.device_state.specs.Updates.{IsUpdate}
 use Rattle.control_core.specs.declared.decided.Decided.{Decided}
 use Rattle.device_state.specs.declared.state.State.{State}
-use Rattle.device_state.specs.declared.updates.TagChange.{TagChange}
-
--- what the host has of the tags is told anew, where there are any
-abbrev pub told_change : HostId → List Tag → TagChange
-told_change h [] = TagChange.Nothing
-told_change h (t ∷ ts) = TagChange.OfHost h (t ∷ ts)
 
 -- It answers the outcome, has its effects, and puts in place what they make of lists and tags.
 pub record IsDone (c : Configuration) (before : List Entry) (q : Request) (o : Outcome) (d : Decided) : Type 0 where

@@ -1,15 +1,10 @@
-pub mod Answering
-pub mod Asking
 pub mod ChangedRuns
 pub mod Deciding
 pub mod Doing
 pub mod Fitting
 pub mod HeldExtents
 pub mod Managing
-pub mod Notices
 pub mod Offers
 pub mod PutChanges
 pub mod Recording
 pub mod Steps
-pub mod Takings
-pub mod Uses

@@ -1,5 +1,5 @@
 -- What a message of the Fabric Manager comes to.
-use Rattle.std.specs.Prelude.{◌≡◌, ◌≤◌, Bool, true, false, List, ◌++◌, length}
+use Rattle.std.specs.Prelude.{◌≡◌, Bool, true, false, List, ◌++◌}
 use Rattle.std.specs.List.{list_all}
 use Rattle.std.specs.declared.result.Result.{Result}
 use Rattle.std.specs.declared.result.Result.TheVariants.{Ok, Err}
@@ -8,18 +8,17 @@ use Rattle.dcd_base.specs.declared.capacity.Tag.{Tag}
 use Rattle.dcd_base.specs.declared.steps.Actor.{Actor}
 use Rattle.dcd_codes.specs.declared.refusals.Refusal.{Refusal}
 use Rattle.fm_payloads.specs.ManagerPayloads.{manager_request}
-use Rattle.fm_payloads.specs.declared.requests.FmRequest.{FmRequest}
 use Rattle.region_config.specs.Configurations.{Configuration}
 use Rattle.journal_core.specs.Entries.{effects}
 use Rattle.journal_core.specs.declared.acts.Act.{Act}
 use Rattle.journal_core.specs.declared.entries.Entry.{Entry}
 use Rattle.journal_core.specs.declared.outcome.Effect.{Effect}
-use Rattle.host_commands.specs.Parts.{IsOutcome}
-use Rattle.host_commands.specs.declared.draft_parts.DraftParts.{DraftParts}
+use Rattle.device_commands.specs.Drafts.{IsOutcome}
+use Rattle.device_commands.specs.declared.draft.DraftParts.{DraftParts}
 use Rattle.device_rules.specs.Answers.{manager_result}
 use Rattle.device_rules.specs.Legal.{Legal}
 use Rattle.device_rules.specs.Outcomes.{Outcome, effects_of, ended}
-use Rattle.tag_laws.specs.Tables.{IsTable}
+use Rattle.table_laws.specs.TagTable.{IsTable}
 use Rattle.tag_refs.specs.declared.entries.TagEntry.{TagEntry}
 use Rattle.control_core.specs.Deciding.{IsDecided}
 use Rattle.control_core.specs.Doing.{IsDone}
@@ -35,11 +34,6 @@ abbrev pub Manages : Configuration → State → Request → Result Decided Refu
 Manages c s q (Ok d) = IsDecided c s Actor.Manager (Act.Command q) d
 Manages c s q (Err (Refusal.Broken rule)) = (before : List Entry) → Legal c before → IsKept c before s → manager_result c before (manager_request q.opcode q.payload) ≡ Err rule
 Manages c s q (Err Refusal.NoMemory) = Unit {0}
-
--- A request to clear records lists so many at most.
-abbrev pub FewCleared : FmRequest → Type 0
-FewCleared (FmRequest.ClearEvents log all handles) = length handles ≤ 255
-FewCleared q = Unit {0}
 
 -- ---- commands that change no lists
 

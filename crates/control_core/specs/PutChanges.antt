@@ -1,5 +1,5 @@
 -- Changes put one after another, from the holders before the step.
-use Rattle.std.specs.Prelude.{◌≡◌, ℕ, ◌<◌, ◌≤◌, Bool, true, false, ◌&&◌, ◌||◌, ◌==◌, nat_le, nat_lt, List, [], ◌∷◌, ◌++◌, fold, Option, Some, None, slice_index_or, if◌then◌else◌}
+use Rattle.std.specs.Prelude.{◌+◌, ◌≡◌, ℕ, ◌<◌, ◌≤◌, Bool, true, false, ◌&&◌, ◌||◌, ◌==◌, nat_le, nat_lt, List, [], ◌∷◌, ◌++◌, fold, Option, Some, None, slice_index_or, if◌then◌else◌, ◌-◌, All}
 use Rattle.std.specs.List.{list_all, list_any}
 use Rattle.dcd_base.specs.Words.{has_granule}
 use Rattle.dcd_base.specs.declared.ids.HostId.{HostId}
@@ -10,7 +10,11 @@ use Rattle.device_rules.specs.Legal.{is_zeroing}
 use Rattle.region_config.specs.Configurations.{Configuration}
 use Rattle.region_config.specs.Granules.{granule_total}
 use Rattle.dcd_base.specs.Hosts.{has_host, with_host, without_host}
-use Rattle.control_core.specs.ChangedRuns.{IsInRegion, holders_after, touches}
+use Rattle.control_core.specs.ChangedRuns.{IsInRegion, holders_after, touches, AreChanges, IsSoundChange, LiesIn}
+use Rattle.journal_core.specs.Entries.{effects as effects_of}
+use Rattle.journal_core.specs.declared.entries.Entry.{Entry}
+use Rattle.device_state.specs.Kept.{IsKept}
+use Rattle.device_state.specs.declared.state.State.{State}
 
 -- the granules that the effect gives, takes or zeroes
 abbrev pub touched_by : Effect → Option Run
@@ -87,3 +91,29 @@ is_of host e = true
 pub record AreOfOneHost (effects : List Effect) : Type 0 where
   pub host : Option HostId
   pub each : list_all (is_of host) effects ≡ true
+
+-- ---- what the code says of its changes
+
+-- They are the changes of the effects, by every journal that leads to what is kept.
+abbrev pub AreChangesFrom : Configuration → State → List Effect → List Change → Type 0
+AreChangesFrom c s new changes = (before : List Entry) → IsKept c before s → AreChanges c (effects_of before) new changes
+
+-- All granules of the run are changed as the effect says.
+abbrev pub IsRunAdded : ℕ → List ℕ → Effect → Run → List Change → List Change → Type 0
+IsRunAdded n holders e run old new = AreAdded n holders e run.first (run.first + run.count) old new
+
+-- Where the changes so far name granules of the device alone, all do.
+abbrev pub StayInside : ℕ → List Change → List Change → Type 0
+StayInside n old new = All (LiesIn n) old → All (LiesIn n) new
+
+-- Where they are sound so far, all are.
+abbrev pub StaySound : Configuration → List ℕ → List Change → List Change → Type 0
+StaySound c holders old new = NameNoOthers c holders → All (IsSoundChange c) old → All (IsSoundChange c) new
+
+-- the change of the granules from one up to the one before the next
+abbrev pub change_by : Effect → List ℕ → ℕ → ℕ → Change
+change_by e holders at next = record {
+  run = record { first = at; count = next - at };
+  holders = bits_by e (slice_index_or holders at 0);
+  zero = is_zero e;
+}

@@ -1,12 +1,25 @@
 -- The records of a step, by the logs that are kept.
-use Rattle.std.specs.Prelude.{ℕ, ◌-◌, ◌==◌, List, [], ◌∷◌, flat_map, if◌then◌else◌}
+use Rattle.std.specs.Prelude.{ℕ, ◌-◌, ◌==◌, List, [], ◌∷◌, flat_map, if◌then◌else◌, ◌≡◌, ◌++◌, Bool, map, not}
 use Rattle.dcd_base.specs.declared.steps.LogId.{LogId}
 use Rattle.event_log.specs.LogStates.{handle_after}
 use Rattle.event_records.specs.declared.events.Event.{Event}
-use Rattle.host_commands.specs.declared.notices.Notice.{Notice}
+use Rattle.device_commands.specs.declared.log_records.Notice.{Notice}
 use Rattle.journal_core.specs.declared.outcome.Effect.{Effect}
 use Rattle.device_rules.specs.Logs.{log_of}
 use Rattle.device_rules.specs.Outcomes.{entered_all}
+use Rattle.std.specs.List.{list_any}
+use Rattle.dcd_base.specs.declared.capacity.Tag.{Tag}
+use Rattle.dcd_base.specs.declared.ids.HostId.{HostId}
+use Rattle.extent_list.specs.ExtentLists.{has_extent_of}
+use Rattle.host_lists.specs.Lists.{Lists}
+use Rattle.journal_core.specs.Entries.{effects}
+use Rattle.journal_core.specs.declared.entries.Entry.{Entry}
+use Rattle.region_config.specs.Configurations.{Configuration}
+use Rattle.table_laws.specs.TagTable.{ending}
+use Rattle.tag_refs.specs.Tables.{is_used, passes, set_by}
+use Rattle.tag_refs.specs.declared.entries.TagEntry.{TagEntry}
+use Rattle.device_state.specs.Kept.{IsKept}
+use Rattle.device_state.specs.declared.state.State.{State}
 
 -- one record, by the next handle and the room of its log, and the next handle after it
 abbrev pub record_by : LogId → ℕ → ℕ → Event → Effect
@@ -23,3 +36,25 @@ records_by l next room (event ∷ events) = record_by l next room event ∷ reco
 -- the records of all notices
 abbrev pub told : List Effect → List Notice → List Effect
 told past notices = flat_map (λ (n : Notice). entered_all n.log (log_of n.log past) n.events) notices
+
+-- whether a tag ends once a host has these lists, and those of some tags that do
+abbrev pub ends_by_lists : HostId → Lists → List TagEntry → Tag → Bool
+ends_by_lists h l entries t = passes t (λ e. not (is_used (set_by h (has_extent_of t l.accepted) (list_any (has_extent_of t) l.offers) e))) entries
+
+abbrev pub ending_with : HostId → Lists → List TagEntry → List Tag → List Tag
+ending_with h l entries tags = ending h (λ t. has_extent_of t l.accepted) (λ t. list_any (has_extent_of t) l.offers) entries tags
+
+-- ---- by each journal that leads to what is kept
+
+-- The records of a notice come behind the effects, and so do those of all notices.
+abbrev pub IsToldBehind : State → Notice → List Effect → List Effect → Type 0
+IsToldBehind s n old new = (c : Configuration) (journal : List Entry) → IsKept c journal s →
+    new ≡ old ++ entered_all n.log (log_of n.log (effects journal)) n.events
+
+abbrev pub AreToldBehind : State → List Notice → List Effect → List Effect → Type 0
+AreToldBehind s ns old new = (c : Configuration) (journal : List Entry) → IsKept c journal s → new ≡ old ++ told (effects journal) ns
+
+-- The effects are the changes, the ends of those of the tags that end once a host has these lists, and the records.
+abbrev pub AreRecorded : State → HostId → Lists → List Effect → List Tag → List Notice → List Effect → Type 0
+AreRecorded s h l changes tags ns all = (c : Configuration) (journal : List Entry) → IsKept c journal s →
+    all ≡ (changes ++ map Effect.TagEnd (ending_with h l s.tags.entries tags)) ++ told (effects journal) ns

@@ -1,13 +1,11 @@
 //! What a step changes of the granules' holders and words.
 
-ghost use Rattle.control_core.specs.ChangedRuns.{AreChanges, IsInRegion, IsSoundChange, LiesIn};
-ghost use Rattle.device_state.specs.Kept.{IsKept};
-ghost use Rattle.control_core.specs.PutChanges.{AreAdded, AreOfOneHost, ArePut, IsRegionOrNone, NameNoOthers, PutOne, bits_by, is_zero, touched_by};
+ghost use Rattle.control_core.specs.PutChanges.{AreChangesFrom, IsRunAdded, StayInside, StaySound, change_by, AreOfOneHost, ArePut};
+ghost use Rattle.control_core.specs.PutChanges.{IsRegionOrNone, NameNoOthers, PutOne, bits_by, is_zero, touched_by};
+ghost use Rattle.control_core.specs.ChangedRuns.{IsInRegion, IsSoundChange, LiesIn};
 ghost use Rattle.device_state.specs.Updates.{IsOfDevice};
-ghost use Rattle.journal_core.specs.Entries.{effects as effects_of};
-ghost use Rattle.journal_core.specs.declared.entries.Entry.{Entry};
 ghost use Rattle.region_config.specs.Granules.{granule_total};
-ghost use Rattle.std.specs.Prelude.{◌≡◌, ◌+◌, ◌-◌, ◌<◌, ◌≤◌, All, IfOk, List, OnOk, Some, slice_index_or, ℕ};
+ghost use Rattle.std.specs.Prelude.{◌≡◌, ◌+◌, ◌-◌, ◌<◌, ◌≤◌, All, IfOk, OnOk, Some, slice_index_or, ℕ};
 
 use dcd_base::{Change, Changes, Granule, NoMemory, Run, host_bits};
 use device_state::{Holders, State};
@@ -27,7 +25,7 @@ pub(crate) fn changes_of(
 ) -> Result<Changes, NoMemory>
     requires of_device { All (IsOfDevice config.now) effects.now }
     requires one { AreOfOneHost effects.now }
-    ensures changes { IfOk result (λ changes. (before : List Entry) → IsKept config.now before state.now → AreChanges config.now (effects_of before) effects.now changes) }
+    ensures changes { IfOk result (AreChangesFrom config.now state.now effects.now) }
     ensures inside { IfOk result (λ changes. All (LiesIn (granule_total config.now)) changes) }
 {
     let changes = put_all(alloc, config, &state.holders, effects)?;
@@ -70,8 +68,8 @@ fn put_change(
     requires region { IsRegionOrNone config.now region.old }
     ensures region { IsRegionOrNone config.now region.new }
     ensures put { OnOk result (PutOne (granule_total config.now) holders.now effect.now changes.old changes.new) }
-    ensures inside { OnOk result (All (LiesIn (granule_total config.now)) changes.old → All (LiesIn (granule_total config.now)) changes.new) }
-    ensures sound { OnOk result (NameNoOthers config.now holders.now → All (IsSoundChange config.now) changes.old → All (IsSoundChange config.now) changes.new) }
+    ensures inside { OnOk result (StayInside (granule_total config.now) changes.old changes.new) }
+    ensures sound { OnOk result (StaySound config.now holders.now changes.old changes.new) }
 {
     match touched_run(effect) {
         Some(run) => put_runs(config, holders, effect, &run, region, changes),
@@ -104,9 +102,9 @@ fn put_runs(
     requires of_device { IsOfDevice config.now effect.now }
     requires region { IsRegionOrNone config.now region.old }
     ensures region { IsRegionOrNone config.now region.new }
-    ensures added { OnOk result (AreAdded (granule_total config.now) holders.now effect.now run.now.first (run.now.first + run.now.count) changes.old changes.new) }
-    ensures inside { OnOk result (All (LiesIn (granule_total config.now)) changes.old → All (LiesIn (granule_total config.now)) changes.new) }
-    ensures sound { OnOk result (NameNoOthers config.now holders.now → All (IsSoundChange config.now) changes.old → All (IsSoundChange config.now) changes.new) }
+    ensures added { OnOk result (IsRunAdded (granule_total config.now) holders.now effect.now run.now changes.old changes.new) }
+    ensures inside { OnOk result (StayInside (granule_total config.now) changes.old changes.new) }
+    ensures sound { OnOk result (StaySound config.now holders.now changes.old changes.new) }
 {
     let granules = config.granules();
     let end = run.first.0.saturating_add(run.count).min(granules);
@@ -154,7 +152,7 @@ fn run_end(holders: &Holders, at: u32, end: u32) -> u32
 fn change_of(config: &Config, holders: &Holders, effect: &Effect, at: u32, next: u32) -> Change
     requires rising { at < next }
     requires of_device { IsOfDevice config.now effect.now }
-    ensures { result ≡ record { run = record { first = at; count = next - at }; holders = bits_by effect.now (slice_index_or holders.now at 0); zero = is_zero effect.now } }
+    ensures { result ≡ change_by effect.now holders.now at next }
 {
     let bits = holders.at(Granule(at));
     Change {

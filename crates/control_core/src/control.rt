@@ -1,10 +1,10 @@
 //! The control: a configuration and the commands and scrubs so far.
 
+ghost use Rattle.control_core.specs.Steps.{AreChangesOf, IsNext, MayStep, entry_of};
 ghost use Rattle.control_core.specs.ChangedRuns.{AreChanges, LiesIn};
 ghost use Rattle.control_core.specs.Deciding.{AreShort, IsDecidedBy, IsShort};
 ghost use Rattle.device_rules.specs.Answers.{answer as answer_to};
 ghost use Rattle.device_rules.specs.Legal.{Legal};
-ghost use Rattle.control_core.specs.Steps.{IsNext, MayStep, entry_of};
 ghost use Rattle.device_state.specs.Updates.{IsUpdate};
 ghost use Rattle.journal_core.specs.Entries.{effects};
 ghost use Rattle.region_config.specs.Granules.{granule_total};
@@ -146,7 +146,7 @@ impl Control {
         ensures entered { OnOk result (self.new.entries ≡ self.old.entries ++ entry_of self.old.config self.old.entries pass line actor act ∷ []) }
         ensures kept { OnErr result (self.new.entries ≡ self.old.entries) }
         ensures short { OnOk result (IsShort (entry_of self.old.config self.old.entries pass line actor act).reply) }
-        ensures changes { IfOk result (λ changes. AreChanges self.old.config (effects self.old.entries) (entry_of self.old.config self.old.entries pass line actor act).effects changes) }
+        ensures changes { IfOk result (AreChangesOf self.old.config self.old.entries actor act) }
         ensures inside { IfOk result (λ changes. All (LiesIn (granule_total self.old.config)) changes) }
     {
         self.make_room()?;
@@ -157,30 +157,9 @@ impl Control {
         } = self.decide(&actor, &act)?;
         let changes = self.changes_by(&actor, &act, &effects)?;
         let effects = EntryEffects::of(effects)?;
-        self.take_decided(pass, line, actor, act, reply, effects, update);
-        Ok(changes)
-    }
-
-    /// Enters a step that is decided.
-    #[inline(always)]
-    fn take_decided(
-        &mut self,
-        pass: u32,
-        line: u32,
-        actor: Actor,
-        act: Act,
-        reply: Reply,
-        effects: EntryEffects,
-        update: Update,
-    )
-        requires may { MayStep self.old.config actor act }
-        requires room { 0 < self.old.spare }
-        requires decided { IsDecidedBy self.old.config self.old.entries actor act (record { reply = reply; effects = effects; update = update }) }
-        ensures config { self.new.config ≡ self.old.config }
-        ensures entered { self.new.entries ≡ self.old.entries ++ entry_of self.old.config self.old.entries pass line actor act ∷ [] }
-    {
         let entry = self.next_entry(pass, line, actor, act, reply, effects);
         self.take(entry, update);
+        Ok(changes)
     }
 
     /// The entry of a step behind the entries so far.

@@ -8,8 +8,8 @@ ghost use Rattle.std.specs.Prelude.{◌≡◌, [], None};
 use cci_codec::Request;
 use dcd_base::Bytes;
 use dcd_codes::Code;
+use device_commands::answer;
 use device_state::Update;
-use host_commands::answer;
 use journal_core::{Effects, Reply};
 use std::alloc::Global;
 

@@ -1,10 +1,7 @@
 //! Which tags end by a step.
 
-ghost use Rattle.extent_list.specs.ExtentLists.{has_extent_of};
-ghost use Rattle.std.specs.List.{list_any};
-ghost use Rattle.std.specs.Prelude.{◌≡◌, ◌<◌, ◌++◌, ◌∷◌, [], IfOk, OnOk, if◌then◌else◌, not};
-ghost use Rattle.tag_laws.specs.Tables.{ending as ending_by};
-ghost use Rattle.tag_refs.specs.Tables.{is_used, passes, set_by};
+ghost use Rattle.control_core.specs.Recording.{ending_with, ends_by_lists};
+ghost use Rattle.std.specs.Prelude.{◌≡◌, ◌<◌, ◌++◌, ◌∷◌, [], IfOk, OnOk};
 
 use dcd_base::{HostId, NoMemory, Seq, Tag};
 use device_state::State;
@@ -20,7 +17,7 @@ pub(crate) fn ending(
     tags: &[Tag],
 ) -> Result<Seq<Tag>, NoMemory>
     requires few { host < 16 }
-    ensures { IfOk result (λ ended. ended ≡ ending_by host (λ t. has_extent_of t lists.now.accepted) (λ t. list_any (has_extent_of t) lists.now.offers) state.now.tags.entries tags.now) }
+    ensures { IfOk result (λ ended. ended ≡ ending_with host lists.now state.now.tags.entries tags.now) }
 {
     let mut ended = Seq::new(alloc);
     for i in 0..tags.len() {
@@ -38,7 +35,7 @@ fn put_ending(
     ended: &mut Seq<Tag>,
 ) -> Result<(), NoMemory>
     requires few { host < 16 }
-    ensures { OnOk result (ended.new ≡ ended.old ++ ending_by host (λ t. has_extent_of t lists.now.accepted) (λ t. list_any (has_extent_of t) lists.now.offers) state.now.tags.entries (tag.now ∷ [])) }
+    ensures { OnOk result (ended.new ≡ ended.old ++ ending_with host lists.now state.now.tags.entries (tag.now ∷ [])) }
 {
     if ends(state, host, lists, tag) {
         return ended.push(*tag);
@@ -49,7 +46,7 @@ fn put_ending(
 /// Whether the tag is open and ends once the host has these lists.
 fn ends(state: &State, host: HostId, lists: &HostLists, tag: &Tag) -> bool
     requires few { host < 16 }
-    ensures { result ≡ passes tag.now (λ e. not (is_used (set_by host (has_extent_of tag.now lists.now.accepted) (list_any (has_extent_of tag.now) lists.now.offers) e))) state.now.tags.entries }
+    ensures { result ≡ ends_by_lists host lists.now state.now.tags.entries tag.now }
 {
     state
         .tags

@@ -1,21 +1,15 @@
 //! A command of a host, from its message to its response and effects.
 
+ghost use Rattle.control_core.specs.Recording.{AreRecorded, told};
 ghost use Rattle.control_core.specs.Deciding.{IsDecided};
-ghost use Rattle.control_core.specs.Doing.{Does, Drafted, Refuses, told_change};
-ghost use Rattle.device_state.specs.Kept.{IsKept, IsReached};
-ghost use Rattle.control_core.specs.Recording.{told};
+ghost use Rattle.control_core.specs.Doing.{Does, Drafted, Refuses};
+ghost use Rattle.device_commands.specs.TagChanges.{told_change};
+ghost use Rattle.device_state.specs.Kept.{IsReached};
 ghost use Rattle.device_state.specs.Updates.{IsOfLog};
 ghost use Rattle.dcd_base.specs.declared.steps.Actor.{Actor};
-ghost use Rattle.extent_list.specs.ExtentLists.{has_extent_of};
-ghost use Rattle.host_commands.specs.declared.notices.Notice.{Notice};
-ghost use Rattle.journal_core.specs.Entries.{effects as effects_in};
+ghost use Rattle.device_commands.specs.declared.log_records.Notice.{Notice};
 ghost use Rattle.journal_core.specs.declared.acts.Act.{Act};
-ghost use Rattle.journal_core.specs.declared.entries.Entry.{Entry};
-ghost use Rattle.journal_core.specs.declared.outcome.Effect.{Effect};
-ghost use Rattle.region_config.specs.Configurations.{Configuration};
-ghost use Rattle.std.specs.List.{list_any};
-ghost use Rattle.std.specs.Prelude.{◌≡◌, ◌++◌, ◌<◌, All, IfOk, List, length, map};
-ghost use Rattle.tag_laws.specs.Tables.{ending as ending_by};
+ghost use Rattle.std.specs.Prelude.{◌<◌, All, IfOk, length};
 
 use crate::decided::{Decided, replied};
 use crate::ending::ending;
@@ -24,8 +18,10 @@ use crate::recording::{put_ends, put_notices};
 use cci_codec::Request;
 use dcd_base::{HostId, NoMemory, Seq, Tag};
 use dcd_codes::{Code, Refusal, Rule};
+use device_commands::{
+    Content, Draft, DraftParts, Notice, answer, dropped, host_draft, refused, told_change,
+};
 use device_state::{NewLists, State, TagChange, Update};
-use host_commands::{Content, Draft, DraftParts, Notice, answer, draft_of, dropped, refused};
 use host_lists::HostLists;
 use journal_core::Effects;
 use region_config::Config;
@@ -66,7 +62,7 @@ fn drafted(
     ensures { Drafted config.now state.now host request.now result }
 {
     let part = state.part(host);
-    draft_of(
+    host_draft(
         alloc,
         config,
         &state.present,
@@ -121,7 +117,7 @@ fn all_done(
     match lists {
         Some(lists) => {
             let effects = told(alloc, state, host, lists.get(), changes, &tags, &notices)?;
-            let change = told_of(host, tags);
+            let change = told_change(host, tags);
             let update = Update::new(alloc, Some(NewLists { host, lists }), change)?;
             Ok(Decided {
                 reply: answer(request, Code::Success, payload),
@@ -132,24 +128,13 @@ fn all_done(
         None => {
             let lists = &state.part(host).lists;
             let effects = told(alloc, state, host, lists, changes, &tags, &notices)?;
-            let update = Update::new(alloc, None, told_of(host, tags))?;
+            let update = Update::new(alloc, None, told_change(host, tags))?;
             Ok(Decided {
                 reply: answer(request, Code::Success, payload),
                 effects,
                 update,
             })
         }
-    }
-}
-
-/// What the host has of the tags is told anew, where there are any.
-fn told_of(host: HostId, tags: Seq<Tag>) -> TagChange
-    ensures { result ≡ told_change host tags }
-{
-    if tags.is_empty() {
-        TagChange::Nothing
-    } else {
-        TagChange::OfHost { host, tags }
     }
 }
 
@@ -165,8 +150,7 @@ fn told(
 ) -> Result<Effects, NoMemory>
     requires few { host < 16 }
     requires known { All (λ (n : Notice). IsOfLog (length state.now.hosts.items) n.log) notices.now }
-    ensures { IfOk result (λ all. (c : Configuration) (journal : List Entry) → IsKept c journal state.now →
-        all ≡ (changes ++ map Effect.TagEnd (ending_by host (λ t. has_extent_of t lists.now.accepted) (λ t. list_any (has_extent_of t) lists.now.offers) state.now.tags.entries tags.now)) ++ told (effects_in journal) notices.now) }
+    ensures { IfOk result (AreRecorded state.now host lists.now changes tags.now notices.now) }
 {
     let mut effects = changes;
     let ended = ending(alloc, state, host, lists, tags.as_slice())?;

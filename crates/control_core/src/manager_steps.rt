@@ -1,46 +1,40 @@
 //! A command of the Fabric Manager, from its message to its response and effects.
 
-ghost use Rattle.control_core.specs.Answering.{Answers};
+ghost use Rattle.device_commands.specs.InitiateDynamicCapacityAdd.{add_request};
+ghost use Rattle.device_commands.specs.InitiateDynamicCapacityRelease.{remove_request};
 ghost use Rattle.control_core.specs.Deciding.{IsDecided};
 ghost use Rattle.device_state.specs.Kept.{IsReached};
-ghost use Rattle.control_core.specs.Managing.{Enters, FewCleared, Manages};
-ghost use Rattle.control_core.specs.Offers.{AreGranular, Offers, OffersGranular, lists_for, offer_change};
+ghost use Rattle.control_core.specs.Managing.{Enters, Manages};
+ghost use Rattle.device_commands.specs.ManagerMessages.{FewCleared};
+ghost use Rattle.device_commands.specs.TagChanges.{OffersGranular, offer_change};
+ghost use Rattle.control_core.specs.Offers.{Offers, lists_for};
 ghost use Rattle.device_state.specs.Updates.{IsOfLog};
 ghost use Rattle.device_state.specs.declared.updates.TagChange.{TagChange};
-ghost use Rattle.dcd_base.specs.declared.capacity.Extent.{Extent};
 ghost use Rattle.dcd_base.specs.declared.steps.Actor.{Actor};
 ghost use Rattle.fm_payloads.specs.ManagerPayloads.{manager_request};
 ghost use Rattle.fm_payloads.specs.declared.requests.FmRequest.{FmRequest};
-ghost use Rattle.host_commands.specs.declared.notices.Notice.{Notice};
+ghost use Rattle.device_commands.specs.declared.log_records.Notice.{Notice};
 ghost use Rattle.journal_core.specs.declared.acts.Act.{Act};
-ghost use Rattle.journal_core.specs.declared.outcome.Effect.{Effect};
-ghost use Rattle.media_map.specs.Places.{run_of};
-ghost use Rattle.std.specs.Prelude.{◌≡◌, ◌<◌, ◌∷◌, List, map, [], All, IfOk, false, if◌then◌else◌, length, not, true};
+ghost use Rattle.std.specs.Prelude.{◌≡◌, ◌<◌, ◌∷◌, [], All, IfOk, false, if◌then◌else◌, length, not, true};
 ghost use Rattle.std.specs.declared.result.Result.TheVariants.{Ok};
-ghost use Rattle.tag_laws.specs.QuietRequests.{is_quiet_manager};
-ghost use Rattle.tag_refs.specs.Tables.{is_live, is_used, passes, with_reference};
+ghost use Rattle.table_laws.specs.QuietRequests.{is_quiet_manager};
+ghost use Rattle.tag_refs.specs.Tables.{is_used, passes, with_reference};
 
 use crate::decided::{Decided, replied};
-use crate::extent_lists::get_extent_lists;
 use crate::fitting::request_fits;
 use crate::host_steps::done;
-use crate::info::get_info;
-use crate::offering::add;
 use crate::recording::{put_ends, put_notices};
-use crate::region_replies::get_regions;
-use crate::removing::remove;
-use crate::setting::set_region;
-use crate::tag_commands::{add_reference, list_tags, remove_reference};
 use cci_codec::Request;
-use dcd_base::{Boxed, Extents, HostId, LogId, NoMemory, RegionId, Runs, Seq, Tag};
+use dcd_base::{Boxed, Extents, HostId, NoMemory, RegionId, Seq, Tag};
 use dcd_codes::{Code, Refusal, Rule};
+use device_commands::{
+    AddRequest, Content, Draft, DraftParts, RemoveRequest, add, add_reference, answer,
+    offer_change, quiet_draft, refused, remove, remove_reference,
+};
 use device_state::{NewLists, State, TagChange, Update};
 use fm_payloads::{FmRequest, PayloadFault, decode};
-use host_commands::{
-    Content, Draft, DraftParts, answer, clear_events, get_events, refused, run_of,
-};
 use host_lists::HostLists;
-use journal_core::{Effect, Effects};
+use journal_core::Effects;
 use region_config::Config;
 use std::alloc::Global;
 
@@ -110,9 +104,16 @@ fn step_asked(
             length,
             tag,
             extents,
-        } => step_add(
-            alloc, config, state, request, *host, *policy, *region, *length, tag, extents,
-        ),
+        } => {
+            let offer = AddRequest {
+                host: *host,
+                policy: *policy,
+                region: *region,
+                length: *length,
+                tag: *tag,
+            };
+            step_add(alloc, config, state, request, &offer, extents)
+        }
         FmRequest::Remove {
             host,
             flags,
@@ -120,9 +121,16 @@ fn step_asked(
             length,
             tag,
             extents,
-        } => step_remove(
-            alloc, config, state, request, *host, *flags, *region, *length, tag, extents,
-        ),
+        } => {
+            let removal = RemoveRequest {
+                host: *host,
+                flags: *flags,
+                region: *region,
+                length: *length,
+                tag: *tag,
+            };
+            step_remove(alloc, config, state, request, &removal, extents)
+        }
         FmRequest::AddReference { tag } => step_refer(alloc, config, state, request, tag),
         FmRequest::RemoveReference { tag } => step_unrefer(alloc, config, state, request, tag),
         _ => step_read(alloc, config, state, request, asked),
@@ -144,7 +152,7 @@ fn step_read(
     ensures { Manages config.now state.now request.now result }
 {
     request_fits(state, asked);
-    match read_draft(alloc, config, state, asked) {
+    match quiet_draft(alloc, config, state, asked) {
         Ok(draft) => Ok(read(alloc, state, request, draft)?),
         Err(refusal) => Err(refusal),
     }
@@ -165,61 +173,21 @@ fn read(alloc: Global, state: &State, request: &Request, draft: Draft) -> Result
     }
 }
 
-/// The draft of a request that changes no extents and no tags.
-fn read_draft(
-    alloc: Global,
-    config: &Config,
-    state: &State,
-    asked: &FmRequest,
-) -> Result<Draft, Refusal>
-    requires reached { IsReached config.now state.now }
-    requires few { FewCleared asked.now }
-    requires quiet { is_quiet_manager asked.now ≡ true }
-    ensures { Answers config.now state.now asked.now result }
-{
-    match asked {
-        FmRequest::GetEvents { log } => get_events(alloc, *log, &state.manager),
-        FmRequest::ClearEvents { log, all, handles } => {
-            clear_events(alloc, LogId::Manager, *log, &state.manager, *all, handles)
-        }
-        FmRequest::GetInfo => get_info(alloc, config, state),
-        FmRequest::GetRegions { host, count, first } => {
-            get_regions(alloc, config, state, *host, *count, *first)
-        }
-        FmRequest::SetRegion {
-            region,
-            sanitize,
-            block,
-        } => set_region(alloc, config, state, *region, *sanitize, *block),
-        FmRequest::GetExtentLists { host, count, first } => {
-            get_extent_lists(alloc, config, state, *host, *count, *first)
-        }
-        FmRequest::ListTags { first, count } => list_tags(alloc, config, state, *first, *count),
-        _ => unreachable!(),
-    }
-}
-
 /// What a 5605h comes to.
 fn step_remove(
     alloc: Global,
     config: &Config,
     state: &State,
     request: &Request,
-    host: u16,
-    flags: u8,
-    region: u8,
-    bytes: u64,
-    tag: &Tag,
-    extents: &Extents,
+    asked: &RemoveRequest,
+    list: &Extents,
 ) -> Result<Decided, Refusal>
     requires reached { IsReached config.now state.now }
-    requires asked { manager_request request.now.opcode request.now.payload ≡ Ok (FmRequest.Remove host flags region bytes tag.now extents.now) }
+    requires asked { manager_request request.now.opcode request.now.payload ≡ Ok (remove_request asked.now list.now) }
     ensures { Manages config.now state.now request.now result }
 {
-    match remove(
-        alloc, config, state, host, flags, region, bytes, tag, extents,
-    ) {
-        Ok(draft) => Ok(done(alloc, state, HostId(host as u8), request, draft)?),
+    match remove(alloc, config, state, asked, list) {
+        Ok(draft) => Ok(done(alloc, state, HostId(asked.host as u8), request, draft)?),
         Err(refusal) => Err(refusal),
     }
 }
@@ -285,25 +253,17 @@ fn step_add(
     config: &Config,
     state: &State,
     request: &Request,
-    host: u16,
-    policy: u8,
-    region: u8,
-    bytes: u64,
-    tag: &Tag,
-    extents: &Extents,
+    asked: &AddRequest,
+    list: &Extents,
 ) -> Result<Decided, Refusal>
     requires reached { IsReached config.now state.now }
-    requires asked { manager_request request.now.opcode request.now.payload ≡ Ok (FmRequest.Add host policy region bytes tag.now extents.now) }
+    requires asked { manager_request request.now.opcode request.now.payload ≡ Ok (add_request asked.now list.now) }
     ensures { Manages config.now state.now request.now result }
 {
-    match add(
-        alloc, config, state, host, policy, region, bytes, tag, extents,
-    ) {
+    match add(alloc, config, state, asked, list) {
         Ok(draft) => {
-            let host = HostId(host as u8);
-            let region = RegionId(region);
             let parts = draft.into_parts(alloc);
-            Ok(added(alloc, config, state, request, host, region, tag, parts)?)
+            Ok(added(alloc, config, state, request, asked, parts)?)
         }
         Err(refusal) => Err(refusal),
     }
@@ -315,18 +275,27 @@ fn added(
     config: &Config,
     state: &State,
     request: &Request,
-    host: HostId,
-    region: RegionId,
-    tag: &Tag,
+    asked: &AddRequest,
     parts: DraftParts,
 ) -> Result<Decided, NoMemory>
-    requires host { host < config.now.hosts }
-    requires region { region < length config.now.regions }
-    requires granular { OffersGranular config.now host parts.changes }
+    requires host { asked.now.host < config.now.hosts }
+    requires byte { asked.now.host < 256 }
+    requires region { asked.now.region < length config.now.regions }
+    requires granular { OffersGranular config.now asked.now.host parts.changes }
     requires known { All (λ (n : Notice). IsOfLog (length state.now.hosts.items) n.log) parts.notices }
-    ensures { IfOk result (Offers config.now state.now host region tag.now request.now parts) }
+    ensures { IfOk result (Offers config.now state.now asked.now.host asked.now.region asked.now.tag request.now parts) }
 {
-    let change = tag_change(alloc, config, state, host, region, tag, &parts.changes)?;
+    let host = HostId(asked.host as u8);
+    let region = RegionId(asked.region);
+    let change = offer_change(
+        alloc,
+        config,
+        state,
+        host,
+        region,
+        &asked.tag,
+        &parts.changes,
+    )?;
     let DraftParts {
         payload,
         changes,
@@ -352,65 +321,6 @@ fn new_lists(host: HostId, lists: Option<Boxed<HostLists>>) -> Option<NewLists>
         Some(lists) => Some(NewLists { host, lists }),
         None => None,
     }
-}
-
-/// What an offer changes of the open tags: nothing outside shareable regions; else the tag is opened, or told anew.
-fn tag_change(
-    alloc: Global,
-    config: &Config,
-    state: &State,
-    host: HostId,
-    region: RegionId,
-    tag: &Tag,
-    changes: &Effects,
-) -> Result<TagChange, NoMemory>
-    requires host { host < config.now.hosts }
-    requires region { region < length config.now.regions }
-    requires granular { OffersGranular config.now host changes.now }
-    ensures { IfOk result (λ change. (new : List Extent) → changes.now ≡ Effect.Offer host new ∷ [] → change ≡ offer_change config.now host region tag.now new (is_live tag.now state.now.tags.entries)) }
-{
-    if !config.region(region).shareable {
-        return Ok(TagChange::Nothing);
-    }
-    if state.tags.is_live(tag) {
-        return told_again(alloc, host, tag);
-    }
-    match changes.as_slice().first() {
-        Some(Effect::Offer(_, extents)) => Ok(TagChange::Begin {
-            tag: *tag,
-            region,
-            runs: runs_of(alloc, config, host, extents)?,
-            host,
-        }),
-        _ => Ok(TagChange::Nothing),
-    }
-}
-
-/// The tag alone is told anew for the host.
-fn told_again(alloc: Global, host: HostId, tag: &Tag) -> Result<TagChange, NoMemory>
-    ensures { IfOk result (λ change. change ≡ TagChange.OfHost host (tag.now ∷ [])) }
-{
-    let mut tags = Seq::new(alloc);
-    tags.push(*tag)?;
-    Ok(TagChange::OfHost { host, tags })
-}
-
-/// The runs of the extents.
-fn runs_of(
-    alloc: Global,
-    config: &Config,
-    host: HostId,
-    extents: &Extents,
-) -> Result<Runs, NoMemory>
-    requires host { host < config.now.hosts }
-    requires granular { AreGranular config.now host extents.now }
-    ensures { IfOk result (λ runs. runs ≡ map (run_of config.now host) extents.now) }
-{
-    let mut runs = Runs::new(alloc);
-    for i in 0..extents.len() {
-        runs.push(run_of(config, host, &extents.as_slice()[i]))?;
-    }
-    Ok(runs)
 }
 
 /// A command that changes no lists is entered, by which these tags end.

@@ -8,7 +8,7 @@ ghost use Rattle.device_rules.specs.Logs.{log_of};
 ghost use Rattle.device_rules.specs.Tags.{granules_of, status};
 ghost use Rattle.device_state.specs.Updates.{IsOfLog};
 ghost use Rattle.event_log.specs.Logs.{places_in, state_of};
-ghost use Rattle.granule_laws.specs.Cells.{status_of};
+ghost use Rattle.table_laws.specs.GranuleCells.{status_of};
 ghost use Rattle.journal_core.specs.Entries.{effects};
 ghost use Rattle.journal_core.specs.declared.outcome.HeldKind.{HeldKind};
 ghost use Rattle.media_map.specs.Places.{run_of as run_with};
@@ -16,10 +16,10 @@ ghost use Rattle.std.specs.Prelude.{◌≡◌, ◌<◌, Some, length, map, slice
 
 use crate::control::Control;
 use dcd_base::{Extent, HostId, LogId};
+use device_commands::run_of;
 use event_log::EventLog;
 use event_records::Event;
 use granule_map::GranuleMap;
-use host_commands::run_of;
 use region_config::Config;
 
 impl Control {

@@ -1,22 +1,16 @@
 //! The effects of a step: its changes, the ends of tags, and its records.
 
-ghost use Rattle.device_state.specs.Kept.{IsKept};
-ghost use Rattle.control_core.specs.Recording.{next_by, record_by, records_by, told};
+ghost use Rattle.control_core.specs.Recording.{AreToldBehind, IsToldBehind, next_by, record_by, records_by};
 ghost use Rattle.device_state.specs.Updates.{IsOfLog};
-ghost use Rattle.device_rules.specs.Logs.{log_of};
-ghost use Rattle.device_rules.specs.Outcomes.{entered_all};
-ghost use Rattle.host_commands.specs.declared.notices.Notice.{Notice};
-ghost use Rattle.journal_core.specs.Entries.{effects as effects_in};
-ghost use Rattle.journal_core.specs.declared.entries.Entry.{Entry};
+ghost use Rattle.device_commands.specs.declared.log_records.Notice.{Notice};
 ghost use Rattle.journal_core.specs.declared.outcome.Effect.{Effect};
-ghost use Rattle.region_config.specs.Configurations.{Configuration};
-ghost use Rattle.std.specs.Prelude.{◌≡◌, ◌++◌, ◌-◌, All, List, OnOk, length, map};
+ghost use Rattle.std.specs.Prelude.{◌≡◌, ◌++◌, ◌-◌, All, OnOk, length, map};
 
 use dcd_base::{LogId, NoMemory, Seq, Tag};
+use device_commands::Notice;
 use device_state::State;
 use event_log::{EventLog, handle_after};
 use event_records::Event;
-use host_commands::Notice;
 use journal_core::{Effect, Effects};
 
 /// Puts the ends of tags behind the changes.
@@ -36,7 +30,7 @@ pub(crate) fn put_notices(
     effects: &mut Effects,
 ) -> Result<(), NoMemory>
     requires known { All (λ (n : Notice). IsOfLog (length state.now.hosts.items) n.log) notices.now }
-    ensures { OnOk result ((c : Configuration) (journal : List Entry) → IsKept c journal state.now → effects.new ≡ effects.old ++ told (effects_in journal) notices.now) }
+    ensures { OnOk result (AreToldBehind state.now notices.now effects.old effects.new) }
 {
     for i in 0..notices.len() {
         put_notice(state, &notices.as_slice()[i], effects)?;
@@ -47,7 +41,7 @@ pub(crate) fn put_notices(
 /// Puts the records of a notice behind the changes.
 fn put_notice(state: &State, notice: &Notice, effects: &mut Effects) -> Result<(), NoMemory>
     requires known { IsOfLog (length state.now.hosts.items) notice.now.log }
-    ensures { OnOk result ((c : Configuration) (journal : List Entry) → IsKept c journal state.now → effects.new ≡ effects.old ++ entered_all notice.now.log (log_of notice.now.log (effects_in journal)) notice.now.events) }
+    ensures { OnOk result (IsToldBehind state.now notice.now effects.old effects.new) }
 {
     put_records(
         state.log(notice.log),

@@ -1,2 +1,10 @@
+pub mod EffectKinds
+pub mod HostSearches
+pub mod Leaving
+pub mod LegalSteps
+pub mod ListSteps
 pub mod OutcomeSteps
+pub mod RunEffects
+pub mod TagSearches
+pub mod TagSteps
 pub mod ViewSteps

@@ -1,5 +1,5 @@
 -- The lists of one host, each as the effects so far leave it.
-use Rattle.std.specs.Prelude.{ℕ, ◌+◌, ◌%◌, ◌^◌, Bool, true, false, ◌&&◌, not, ◌==◌, List, [], ◌∷◌, ◌++◌, fold, drop, if◌then◌else◌}
+use Rattle.std.specs.Prelude.{ℕ, ◌+◌, Bool, true, false, ◌&&◌, not, ◌==◌, List, [], ◌∷◌, ◌++◌, fold, drop, if◌then◌else◌}
 use Rattle.std.specs.List.{list_any}
 use Rattle.dcd_base.specs.declared.ids.HostId.{HostId}
 use Rattle.dcd_base.specs.declared.capacity.Extent.{Extent}
@@ -41,10 +41,6 @@ moves h e = false
 -- how often the accepted list has changed, an entry counting once
 abbrev pub changes_of : HostId → List Entry → ℕ
 changes_of h journal = fold (λ n (e : Entry). if list_any (moves h) e.effects then n + 1 else n) 0 journal
-
--- the same as a number of 32 bits
-abbrev pub generation_of : HostId → List Entry → ℕ
-generation_of h journal = changes_of h journal % 2 ^ 32
 
 abbrev pub same_kind : HeldKind → HeldKind → Bool
 same_kind HeldKind.Responses HeldKind.Responses = true

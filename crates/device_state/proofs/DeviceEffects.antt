@@ -36,9 +36,9 @@ use Rattle.device_rules.specs.ReleaseOutcomes.{is_cleaning, is_forced, policy_in
 use Rattle.device_rules.specs.Settings.{no_such_region, set_rule}
 use Rattle.device_rules.specs.Tags.{is_referenced}
 use Rattle.device_rules.specs.Views.{View, view_of}
-use Rattle.device_laws.proofs.Adding.{row_of}
-use Rattle.device_steps.proofs.EffectKinds.{PassClearing, PassHeld, PassLists, PassRecords, clear_passes, dropped_passes, host_passes, outcome_passes, reference_passes, removals_pass, tells, zeroes_pass}
-use Rattle.device_steps.proofs.LogOutcomes.{whole}
+use Rattle.holding_laws.proofs.Adding.{row_of}
+use Rattle.device_rules.proofs.EffectKinds.{PassClearing, PassHeld, PassLists, PassRecords, clear_passes, dropped_passes, host_passes, outcome_passes, reference_passes, removals_pass, tells, zeroes_pass}
+use Rattle.step_laws.proofs.LogOutcomes.{whole}
 use Rattle.device_state.specs.Updates.{IsOfDevice, IsOfLog}
 
 -- ---- the same as a test

@@ -4,7 +4,7 @@ use Rattle.std.specs.Prelude.{All}
 use Rattle.journal_core.specs.declared.entries.Entry.{Entry}
 use Rattle.region_config.specs.Configurations.{Configuration}
 use Rattle.region_config.specs.Soundness.{IsSound}
-use Rattle.granule_laws.proofs.Commands.{granules_kept}
+use Rattle.table_laws.proofs.GranuleCommands.{granules_kept}
 use Rattle.device_rules.specs.Legal.{Legal, Meets}
 use Rattle.device_state.specs.Entered.{IsEntered}
 use Rattle.device_state.specs.Kept.{IsKept}

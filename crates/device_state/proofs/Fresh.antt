@@ -1,6 +1,6 @@
 -- What a device keeps at first.
-use Rattle.std.proofs.Common.{◌≡◌, ℕ, ◌<◌, Bool, true, false, ◌&&◌, ◌||◌, not, List, [], ◌∷◌, length, get_or, replicate, refl, sym, ap, ◌∙◌, subst, arith}
-use Rattle.std.specs.Prelude.{if◌then◌else◌, ◌==◌}
+use Rattle.std.proofs.Common.{◌≡◌, ℕ, ◌<◌, Bool, true, false, ◌&&◌, ◌||◌, not, List, [], ◌∷◌, length, get_or, replicate, refl, ap, sym, subst, ◌∙◌, arith}
+use Rattle.std.specs.Prelude.{◌==◌, if◌then◌else◌}
 use Rattle.std.specs.List.{enumerate_from, list_any}
 use Rattle.std.proofs.lemmas.List.{ext_get_or, get_or-replicate, length-map, length-replicate}
 use Rattle.std.proofs.lemmas.List.FromFn.{length-enumerate_from}
@@ -9,10 +9,10 @@ use Rattle.dcd_base.specs.declared.ids.HostId.{HostId}
 use Rattle.dcd_base.specs.declared.steps.LogId.{LogId}
 use Rattle.event_log.proofs.Histories.{begins}
 use Rattle.event_log.specs.Logs.{empty_log}
-use Rattle.granule_laws.specs.Cells.{IsCell}
+use Rattle.table_laws.specs.GranuleCells.{IsCell}
 use Rattle.granule_map.specs.declared.states.GranuleState.{GranuleState}
 use Rattle.granule_table.specs.Tables.{Table, cell_at}
-use Rattle.host_commands.specs.Parts.{IsLogOf}
+use Rattle.device_state.specs.Kept.{IsLogOf, IsKept, IsPart, no_part}
 use Rattle.region_config.specs.Configurations.{Configuration}
 use Rattle.region_config.specs.declared.region_spec.RegionSpec.{RegionSpec}
 use Rattle.region_config.specs.Granules.{granule_total, hosts_of, no_region, region_of, region_spec, with_blocks}
@@ -20,8 +20,7 @@ use Rattle.region_config.proofs.PresentBlocks.{region_spec-with_blocks}
 use Rattle.device_rules.specs.Tags.{Dirty, Free, Held, Offered, Status, Tagged, is_offered, status}
 use Rattle.device_rules.specs.Views.{view_of}
 use Rattle.dcd_base.specs.Hosts.{has_host}
-use Rattle.tag_laws.specs.Tables.{IsTable}
-use Rattle.device_state.specs.Kept.{IsKept, IsPart, no_part}
+use Rattle.table_laws.specs.TagTable.{IsTable}
 use Rattle.device_state.specs.declared.state.State.{State}
 
 -- the configuration with its own blocks

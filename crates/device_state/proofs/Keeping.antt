@@ -1,9 +1,9 @@
 -- What is kept is what the entries so far say, also once one more legal entry is entered.
-use Rattle.std.proofs.Common.{◌≡◌, ℕ, ◌<◌, ◌≤◌, ◌==◌, Bool, true, false, List, [], ◌∷◌, ◌++◌, length, get_or, inl, inr, refl, sym, ap, subst, ◌∙◌, arith}
-use Rattle.std.specs.Prelude.{fold, if◌then◌else◌, map, Some}
+use Rattle.std.proofs.Common.{◌≡◌, ℕ, ◌<◌, ◌≤◌, Bool, true, false, ◌==◌, List, [], ◌∷◌, ◌++◌, length, get_or, inl, inr, refl, ap, sym, subst, ◌∙◌, arith}
+use Rattle.std.specs.Prelude.{fold, map, Some, if◌then◌else◌}
 use Rattle.std.specs.Cmp.Lexicographic.{same_text}
 use Rattle.std.specs.List.{AllByRecursion}
-use Rattle.std.proofs.lemmas.Bool.{cases_eq, cases_lt, eq-eqb, ne_eqb, false≢true}
+use Rattle.std.proofs.lemmas.Bool.{cases_eq, cases_lt, eq-eqb, false≢true, ne_eqb}
 use Rattle.std.proofs.lemmas.List.{get_or_past}
 use Rattle.dcd_base.specs.Words.{has_tag, same_tag}
 use Rattle.dcd_base.specs.declared.capacity.Tag.{Tag}
@@ -11,10 +11,10 @@ use Rattle.dcd_base.specs.declared.ids.HostId.{HostId}
 use Rattle.dcd_base.specs.declared.steps.LogId.{LogId}
 use Rattle.event_log.specs.LogStates.{LogState}
 use Rattle.event_log.specs.Logs.{empty_log, places_in, state_of}
-use Rattle.granule_laws.specs.Cells.{IsCell}
-use Rattle.granule_laws.specs.Kept.{AreKnown, StaysRight}
+use Rattle.table_laws.specs.GranuleCells.{IsCell}
+use Rattle.table_laws.specs.GranuleTable.{AreKnown, StaysRight}
 use Rattle.granule_table.specs.Tables.{cell_at}
-use Rattle.host_commands.specs.Parts.{IsLogOf, lists_in}
+use Rattle.device_state.specs.Kept.{IsLogOf, lists_in, IsKept, IsPart, no_part, part_of}
 use Rattle.host_lists.specs.Lists.{Lists}
 use Rattle.journal_core.proofs.EachSteps.{Each-push}
 use Rattle.journal_core.proofs.JournalSteps.{effects-push, over-push}
@@ -27,11 +27,11 @@ use Rattle.region_config.proofs.PresentBlocks.{with_block-with_blocks}
 use Rattle.region_config.specs.Configurations.{Configuration}
 use Rattle.region_config.specs.Granules.{granule_total, region_spec, with_blocks}
 use Rattle.region_config.specs.Soundness.{IsSound}
-use Rattle.tag_laws.specs.Tables.{IsEntry, IsTable}
+use Rattle.table_laws.specs.TagTable.{IsEntry, IsTable}
 use Rattle.dcd_base.specs.Hosts.{has_host}
 use Rattle.tag_refs.specs.Tables.{entry_of}
 use Rattle.tag_refs.specs.declared.entries.TagEntry.{TagEntry}
-use Rattle.device_laws.proofs.LegalSound.{legal_is_sound}
+use Rattle.holding_laws.proofs.LegalSound.{legal_is_sound}
 use Rattle.device_rules.proofs.ViewSteps.{view_of-push}
 use Rattle.device_rules.specs.Adding.{present}
 use Rattle.device_rules.specs.Hosts.{block_after, block_of, offers_of}
@@ -39,13 +39,12 @@ use Rattle.device_rules.specs.Legal.{Legal, Meets}
 use Rattle.device_rules.specs.Logs.{log_after, log_of}
 use Rattle.device_rules.specs.Tags.{last_offer, open_tags, tag_runs}
 use Rattle.device_rules.specs.Views.{view_of}
-use Rattle.device_steps.proofs.LegalLogs.{legal_logs}
+use Rattle.step_laws.proofs.LegalLogs.{legal_logs}
 use Rattle.device_state.proofs.DeviceEffects.{each_of_device}
 use Rattle.device_state.proofs.HolderBits.{holding_over, length-over, none_over}
 use Rattle.device_state.proofs.RecordSteps.{log_all}
 use Rattle.device_state.proofs.Rooms.{room_for}
 use Rattle.device_state.specs.Entered.{IsEntered, lists_by, lists_put, log_by, oldest_in, present_by, runs_found, runs_in, tags_put}
-use Rattle.device_state.specs.Kept.{IsKept, IsPart, no_part, part_of}
 use Rattle.device_state.specs.Updates.{CanChange, IsOfDevice, IsUpdate, lists_after}
 use Rattle.device_state.specs.declared.parts.HostPart.{HostPart}
 use Rattle.device_state.specs.declared.state.State.{State}

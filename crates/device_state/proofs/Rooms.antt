@@ -25,12 +25,12 @@ use Rattle.device_rules.specs.ResponseOutcomes.{response_notices, unhold}
 use Rattle.device_rules.specs.Tags.{is_referenced}
 use Rattle.device_rules.specs.Views.{View, view_after, view_of}
 use Rattle.device_rules.specs.ResponseOutcomes.{respond_changes}
-use Rattle.device_steps.proofs.EffectKinds.{clear_passes, give_back_passes, reference_passes, removals_pass, respond_passes, unhold_passes, zeroes_pass}
-use Rattle.device_steps.proofs.Leaving.{all_pass, both_pass, map_passes, over-leaving}
-use Rattle.device_steps.proofs.LegalLogs.{legal_logs}
-use Rattle.device_steps.proofs.LegalSteps.{step_case}
-use Rattle.device_steps.proofs.LogHistories.{entered-history, entered_all-other, leaves_logs, log-left, one_log, told}
-use Rattle.device_steps.proofs.LogOutcomes.{held_leaves, lists_leave}
+use Rattle.device_rules.proofs.EffectKinds.{clear_passes, give_back_passes, reference_passes, removals_pass, respond_passes, unhold_passes, zeroes_pass}
+use Rattle.device_rules.proofs.Leaving.{all_pass, both_pass, map_passes, over-leaving}
+use Rattle.step_laws.proofs.LegalLogs.{legal_logs}
+use Rattle.device_rules.proofs.LegalSteps.{step_case}
+use Rattle.step_laws.proofs.LogHistories.{entered-history, entered_all-other, leaves_logs, log-left, one_log, told}
+use Rattle.step_laws.proofs.LogOutcomes.{held_leaves, lists_leave}
 use Rattle.device_state.specs.Rooms.{HasRoom, HaveRoom, RoomFor}
 
 -- ---- effects without records

@@ -1,5 +1,5 @@
 -- What entering a step makes of what is kept, part by part.
-use Rattle.std.specs.Prelude.{◌≡◌, ℕ, ◌<◌, true, false, ◌==◌, nat_lt, List, [], ◌∷◌, ◌++◌, fold, length, map, Option, Some, None, if◌then◌else◌}
+use Rattle.std.specs.Prelude.{◌≡◌, ℕ, ◌<◌, true, false, ◌==◌, nat_lt, List, [], ◌∷◌, ◌++◌, fold, length, map, Option, Some, None, if◌then◌else◌, Bool, ◌&&◌, nat_le, slice_index_or, slice_set}
 use Rattle.std.specs.List.{enumerate_from, list_any}
 use Rattle.dcd_base.specs.Words.{has_granule}
 use Rattle.dcd_base.specs.declared.capacity.Extent.{Extent}
@@ -10,7 +10,7 @@ use Rattle.dcd_base.specs.declared.steps.LogId.{LogId}
 use Rattle.event_log.specs.LogStates.{LogState, with_missed, with_record, without_oldest}
 use Rattle.event_records.specs.declared.events.Event.{Event}
 use Rattle.extent_list.specs.ExtentLists.{has_extent_of}
-use Rattle.granule_laws.specs.Cells.{cell_over}
+use Rattle.table_laws.specs.GranuleCells.{cell_over}
 use Rattle.granule_table.specs.Tables.{cell_at}
 use Rattle.host_lists.specs.Lists.{Lists}
 use Rattle.journal_core.specs.declared.outcome.Effect.{Effect}
@@ -19,11 +19,12 @@ use Rattle.offer_core.specs.Offerings.{oldest_of}
 use Rattle.region_config.specs.Blocks.{with_block}
 use Rattle.region_config.specs.Configurations.{Configuration}
 use Rattle.device_rules.specs.Logs.{same_log}
-use Rattle.tag_laws.specs.Tables.{told_anew}
+use Rattle.table_laws.specs.TagTable.{told_anew}
 use Rattle.dcd_base.specs.Hosts.{with_host, without_host}
-use Rattle.tag_refs.specs.Tables.{changed, entry_of, opened, still_used, with_reference}
+use Rattle.tag_refs.specs.Tables.{changed, entry_of, opened, still_used, with_reference, set_by}
 use Rattle.tag_refs.specs.declared.entries.TagEntry.{TagEntry}
 use Rattle.device_state.specs.Kept.{part_of}
+use Rattle.device_state.specs.declared.parts.HostPart.{HostPart}
 use Rattle.device_state.specs.declared.state.State.{State}
 use Rattle.device_state.specs.declared.updates.NewLists.{NewLists}
 use Rattle.device_state.specs.declared.updates.TagChange.{TagChange}
@@ -99,3 +100,25 @@ pub record IsEntered (c : Configuration) (new : List Effect) (u : NewParts) (old
   pub logs : (h : HostId) → h < length old.hosts.items → (part_of now h).log ≡ fold (log_by (LogId.Host h)) (part_of old h).log new
   pub lists : (h : HostId) → h < length old.hosts.items → (part_of now h).lists ≡ lists_put u.lists h (fold (lists_by h) (part_of old h).lists new)
   pub tags_are : now.tags.entries ≡ tags_put u.tags (λ h. (part_of now h).lists) old.tags.entries
+
+-- ---- one host's part
+
+-- the open tags once what a host has of one tag, or of some, is told by these lists
+abbrev pub one_told : HostId → Lists → Tag → List TagEntry → List TagEntry
+one_told h l t entries = still_used (changed t (set_by h (has_extent_of t l.accepted) (list_any (has_extent_of t) l.offers)) entries)
+
+abbrev pub tags_told : HostId → Lists → List Tag → List TagEntry → List TagEntry
+tags_told h l tags entries = told_anew h (λ t. has_extent_of t l.accepted) (λ t. list_any (has_extent_of t) l.offers) tags entries
+
+-- the parts of the hosts with another log of one, or other lists
+abbrev pub with_log : State → HostId → LogState → List HostPart
+with_log s h log = slice_set s.hosts.items h (record (part_of s h) { log = log })
+
+abbrev pub with_lists : State → HostId → Lists → List HostPart
+with_lists s h lists = slice_set s.hosts.items h (record (part_of s h) { lists = lists })
+
+-- who holds a granule once a host holds those from the first up to the one before the end, or holds them no longer
+abbrev pub bits_set : ℕ → ℕ → HostId → Bool → List ℕ → ℕ → ℕ
+bits_set first end h held bits g =
+    if nat_le first g && nat_lt g end then (if held then with_host (slice_index_or bits g 0) h else without_host (slice_index_or bits g 0) h)
+    else slice_index_or bits g 0

@@ -5,20 +5,20 @@ use Rattle.dcd_base.specs.declared.steps.LogId.{LogId}
 use Rattle.region_config.specs.Configurations.{Configuration}
 use Rattle.region_config.specs.Granules.{granule_total}
 use Rattle.region_config.specs.Soundness.{IsSound}
-use Rattle.event_log.specs.LogStates.{new_log}
+use Rattle.event_log.specs.LogStates.{LogState, new_log}
+use Rattle.event_log.specs.Logs.{IsHistory, Log, places_in, state_of}
 use Rattle.journal_core.specs.Entries.{effects}
 use Rattle.journal_core.specs.Holders.{holds}
 use Rattle.journal_core.specs.declared.entries.Entry.{Entry}
 use Rattle.dcd_base.specs.Hosts.{has_host}
 use Rattle.granule_table.specs.Tables.{cell_at}
-use Rattle.granule_laws.specs.Cells.{IsCell}
-use Rattle.tag_laws.specs.Tables.{IsTable}
-use Rattle.host_lists.specs.Lists.{no_lists}
-use Rattle.host_commands.specs.Parts.{IsLogOf, lists_in}
+use Rattle.table_laws.specs.GranuleCells.{IsCell}
+use Rattle.table_laws.specs.TagTable.{IsTable}
+use Rattle.host_lists.specs.Lists.{Lists, no_lists}
 use Rattle.device_rules.specs.Adding.{present}
 use Rattle.device_rules.specs.Legal.{Legal}
 use Rattle.device_rules.specs.Logs.{log_of}
-use Rattle.device_rules.specs.Views.{View, view_of}
+use Rattle.device_rules.specs.Views.{View, generation_in, view_of}
 use Rattle.device_state.specs.declared.parts.HostPart.{HostPart}
 use Rattle.device_state.specs.declared.state.State.{State}
 
@@ -28,6 +28,21 @@ no_part = record { lists = no_lists; log = new_log 64 }
 
 abbrev pub part_of : State → HostId → HostPart
 part_of s h = slice_index_or s.hosts.items h no_part
+
+-- the lists that a view shows
+abbrev pub lists_in : View → Lists
+lists_in v = record {
+  accepted = v.accepted;
+  offers = v.offers;
+  responses = v.responses;
+  releases = v.releases;
+  generation = generation_in v;
+}
+
+-- The log is the one of this history.
+pub record IsLogOf (l : LogId) (history : Log) (log : LogState) : Type 0 where
+  pub is : log ≡ state_of (places_in l) history
+  pub told : IsHistory history
 
 -- What is kept of a host is what it sees.
 pub record IsPart (h : HostId) (v : View) (part : HostPart) : Type 0 where

@@ -1,5 +1,5 @@
 -- What a step has to put in place, beside what its effects change.
-use Rattle.std.specs.Prelude.{◌≡◌, ℕ, ◌<◌, true, false, List, ◌++◌, fold, length, Option, Some, None}
+use Rattle.std.specs.Prelude.{◌≡◌, ℕ, ◌<◌, true, false, List, ◌++◌, fold, length, Option, Some, None, ◌∷◌, []}
 use Rattle.dcd_base.specs.declared.ids.HostId.{HostId}
 use Rattle.dcd_base.specs.declared.steps.LogId.{LogId}
 use Rattle.region_config.specs.Configurations.{Configuration}
@@ -7,15 +7,14 @@ use Rattle.region_config.specs.Granules.{is_supported, region_spec}
 use Rattle.journal_core.specs.Entries.{effects}
 use Rattle.journal_core.specs.declared.entries.Entry.{Entry}
 use Rattle.journal_core.specs.declared.outcome.Effect.{Effect}
-use Rattle.host_commands.specs.Parts.{lists_in}
+use Rattle.device_state.specs.Kept.{lists_in, part_of, IsKept}
 use Rattle.host_lists.specs.Lists.{Lists}
 use Rattle.device_rules.specs.Views.{view_after, view_of}
-use Rattle.tag_laws.specs.Tables.{IsTable}
+use Rattle.table_laws.specs.TagTable.{IsTable}
 use Rattle.tag_refs.specs.Tables.{is_live}
 use Rattle.tag_refs.specs.declared.entries.TagEntry.{TagEntry}
-use Rattle.device_state.specs.Entered.{lists_by, lists_put, tags_put}
+use Rattle.device_state.specs.Entered.{lists_by, lists_put, tags_put, IsEntered}
 use Rattle.event_log.specs.LogStates.{LogState}
-use Rattle.device_state.specs.Kept.{part_of}
 use Rattle.device_state.specs.declared.state.State.{State}
 use Rattle.device_state.specs.declared.updates.NewLists.{NewLists}
 use Rattle.device_state.specs.declared.updates.TagChange.{TagChange}
@@ -67,3 +66,8 @@ IsOfDevice c e = Unit {0}
 abbrev pub log_in : State → LogId → LogState
 log_in s (LogId.Host h) = (part_of s h).log
 log_in s LogId.Manager = s.manager
+
+-- Where what is kept is what the entries say, and one more is entered with the update that its effects ask for, it is so after it.
+abbrev pub KeepsEntered : Configuration → List Entry → Entry → Type 0
+KeepsEntered c before e = (u : NewParts) → (old now : State) → IsKept c before old → IsUpdate c before e.effects u →
+    IsEntered c e.effects u old now → IsKept c (before ++ e ∷ []) now

@@ -1,18 +1,14 @@
 //! A step is entered: its effects change what the device keeps, and its update is put in place.
 
+ghost use Rattle.device_state.specs.Entered.{one_told, tags_told, IsEntered, holders_by, present_by, tags_put};
+ghost use Rattle.device_state.specs.Granules.{CellsOver};
 ghost use Rattle.device_state.specs.Changes.{IsOfLogs};
-ghost use Rattle.device_state.specs.Entered.{IsEntered, holders_by, lists_by, lists_put, log_by, oldest_in, present_by, runs_in, tags_put};
-ghost use Rattle.device_state.specs.Granules.{AreChanged};
 ghost use Rattle.device_state.specs.Kept.{part_of};
 ghost use Rattle.device_state.specs.Stages.{ListsPut, LogsOver, UnheldOver};
 ghost use Rattle.device_state.specs.Updates.{CanChange, IsOfDevice, IsOfHosts};
-ghost use Rattle.extent_list.specs.ExtentLists.{has_extent_of};
-ghost use Rattle.granule_laws.specs.Cells.{cell_over};
 ghost use Rattle.region_config.specs.Granules.{granule_total, region_spec, with_blocks};
-ghost use Rattle.std.specs.List.{list_any};
-ghost use Rattle.std.specs.Prelude.{◌≡◌, ◌++◌, ◌+◌, ◌<◌, ◌≤◌, ◌∷◌, [], All, false, fold, length, true};
-ghost use Rattle.tag_laws.specs.Tables.{told_anew};
-ghost use Rattle.tag_refs.specs.Tables.{changed, is_live, opened, set_by, still_used, with_reference};
+ghost use Rattle.std.specs.Prelude.{◌≡◌, ◌+◌, ◌<◌, ◌≤◌, All, false, fold, length, true};
+ghost use Rattle.tag_refs.specs.Tables.{changed, still_used, with_reference};
 
 use crate::state::State;
 use crate::updates::{NewLists, NewParts, TagChange, Update};
@@ -47,7 +43,7 @@ impl State {
         requires hosts { length self.old.hosts.items ≡ config.now.hosts }
         requires granules { length self.old.granules.states ≡ granule_total config.now }
         requires of_device { All (IsOfDevice config.now) effects.now }
-        ensures cells { AreChanged (λ g cell. cell_over config.now (oldest_in self.old) (runs_in self.old) g cell effects.now) self.old.granules self.new.granules }
+        ensures cells { CellsOver config.now effects.now self.old self.new.granules }
         ensures kept { self.new ≡ record self.old { granules = self.new.granules } }
     {
         for i in 0..effects.len() {
@@ -139,7 +135,7 @@ impl State {
     fn tell_anew(&mut self, host: HostId, tags: &[Tag])
         requires host { host < length self.old.hosts.items }
         requires few { host < 16 }
-        ensures tags { self.new.tags.entries ≡ told_anew host (λ t. has_extent_of t (part_of self.old host).lists.accepted) (λ t. list_any (has_extent_of t) (part_of self.old host).lists.offers) tags.now self.old.tags.entries }
+        ensures tags { self.new.tags.entries ≡ tags_told host (part_of self.old host).lists tags.now self.old.tags.entries }
         ensures spare { self.old.tags.spare ≤ self.new.tags.spare }
         ensures kept { self.new ≡ record self.old { tags = self.new.tags } }
     {
@@ -152,7 +148,7 @@ impl State {
     fn tell_one(&mut self, host: HostId, tag: &Tag)
         requires host { host < length self.old.hosts.items }
         requires few { host < 16 }
-        ensures tags { self.new.tags.entries ≡ still_used (changed tag.now (set_by host (has_extent_of tag.now (part_of self.old host).lists.accepted) (list_any (has_extent_of tag.now) (part_of self.old host).lists.offers)) self.old.tags.entries) }
+        ensures tags { self.new.tags.entries ≡ one_told host (part_of self.old host).lists tag.now self.old.tags.entries }
         ensures spare { self.old.tags.spare ≤ self.new.tags.spare }
         ensures kept { self.new ≡ record self.old { tags = self.new.tags } }
     {

@@ -1,11 +1,9 @@
 //! What an effect makes of the granules.
 
-ghost use Rattle.device_state.specs.Entered.{oldest_in, runs_in};
-ghost use Rattle.device_state.specs.Granules.{AreChanged, is_private, soiled_by_taking};
-ghost use Rattle.device_state.specs.Kept.{part_of};
+ghost use Rattle.device_state.specs.Granules.{CellsAfter, held_by_taking, AreChanged, is_private, soiled_by_taking};
+ghost use Rattle.device_state.specs.Entered.{oldest_in};
 ghost use Rattle.device_state.specs.Updates.{IsOfDevice};
-ghost use Rattle.granule_laws.specs.Cells.{cell_after, ended_run, in_run, is_sanitizing_run, is_shareable_run, left, offered_extent, offered_run, soiled_run, taken, unoffered_extent};
-ghost use Rattle.granule_table.specs.Tables.{given};
+ghost use Rattle.table_laws.specs.GranuleCells.{ended_run, in_run, is_shareable_run, left, offered_extent, offered_run, soiled_run, taken, unoffered_extent};
 ghost use Rattle.offer_core.specs.Offerings.{oldest_of};
 ghost use Rattle.region_config.specs.Granules.{granule_total, region_of, region_spec};
 ghost use Rattle.std.specs.Prelude.{◌≡◌, ◌↔◌, ◌<◌, IsTrue, Some, fold, if◌then◌else◌, length, slice_index_or};
@@ -24,7 +22,7 @@ impl State {
         requires hosts { length self.old.hosts.items ≡ config.now.hosts }
         requires granules { length self.old.granules.states ≡ granule_total config.now }
         requires of_device { IsOfDevice config.now effect.now }
-        ensures cells { AreChanged (λ g cell. cell_after config.now (oldest_in self.old) (runs_in self.old) g cell effect.now) self.old.granules self.new.granules }
+        ensures cells { CellsAfter config.now effect.now self.old self.new.granules }
         ensures kept { self.new ≡ record self.old { granules = self.new.granules } }
     {
         match effect {
@@ -178,7 +176,7 @@ fn soil_taken(granules: &mut GranuleTable, config: &Config, run: &Run)
 /// What is taken is held, unless hosts can share it.
 fn hold_taken(granules: &mut GranuleTable, config: &Config, host: HostId, run: &Run)
     requires { run.now.first < granule_total config.now }
-    ensures { AreChanged (in_run run.now (λ cell. if is_shareable_run config.now run.now then cell else given (GranuleState.Held host) cell)) granules.old granules.new }
+    ensures { AreChanged (in_run run.now (held_by_taking config.now host run.now)) granules.old granules.new }
 {
     if !region_of(config, run).shareable {
         granules.give(*run, GranuleState::Held(host));

@@ -1,7 +1,7 @@
 //! Who holds each granule.
 
-ghost use Rattle.device_state.specs.Entered.{held_in};
-ghost use Rattle.std.specs.Prelude.{◌≡◌, ◌&&◌, ◌<◌, ◌≤◌, IfOk, if◌then◌else◌, length, nat_le, nat_lt, replicate, slice_index_or, ℕ};
+ghost use Rattle.device_state.specs.Entered.{bits_set, held_in};
+ghost use Rattle.std.specs.Prelude.{◌≡◌, ◌<◌, ◌≤◌, IfOk, if◌then◌else◌, length, replicate, slice_index_or, ℕ};
 ghost use Rattle.dcd_base.specs.Hosts.{with_host, without_host};
 
 use dcd_base::{Granule, HostId, NoMemory, Run, host_bits};
@@ -59,7 +59,7 @@ impl Holders {
         requires within { end ≤ length self.old }
         requires host { host < 16 }
         ensures granules { length self.new ≡ length self.old }
-        ensures each { (g : ℕ) → slice_index_or self.new g 0 ≡ (if nat_le first g && nat_lt g end then (if held then with_host (slice_index_or self.old g 0) host else without_host (slice_index_or self.old g 0) host) else slice_index_or self.old g 0) }
+        ensures each { (g : ℕ) → slice_index_or self.new g 0 ≡ bits_set first end host held self.old g }
     {
         for granule in first..end {
             self.bits[granule] = host_bits::set(self.bits[granule], host, held);

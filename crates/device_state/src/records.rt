@@ -1,13 +1,13 @@
 //! What an effect makes of the logs, the block sizes, the held lists and the holders.
 
+ghost use Rattle.device_state.specs.Entered.{with_lists, with_log, holders_by, log_by, present_by, put_in, unheld};
 ghost use Rattle.device_rules.specs.Logs.{same_log};
 ghost use Rattle.device_state.specs.Changes.{AreLogged, AreUnheld, IsOfLogs, log_changed, log_told};
-ghost use Rattle.device_state.specs.Entered.{holders_by, log_by, present_by, put_in, unheld};
 ghost use Rattle.device_state.specs.Kept.{part_of};
 ghost use Rattle.device_state.specs.Updates.{IsOfDevice, IsOfLog};
 ghost use Rattle.region_config.specs.Blocks.{with_block};
 ghost use Rattle.region_config.specs.Granules.{is_supported, region_spec};
-ghost use Rattle.std.specs.Prelude.{◌≡◌, ◌<◌, ◌≤◌, Some, length, slice_set, true};
+ghost use Rattle.std.specs.Prelude.{◌≡◌, ◌<◌, Some, length, true};
 
 use crate::state::State;
 use dcd_base::{HostId, LogId, RegionId};
@@ -45,7 +45,7 @@ impl State {
     /// Changes the log of the host.
     fn change_log_of_host(&mut self, host: HostId, effect: &Effect)
         requires { host < length self.old.hosts.items }
-        ensures hosts { self.new.hosts.items ≡ slice_set self.old.hosts.items host (record (part_of self.old host) { log = log_changed (part_of self.old host).log effect.now }) }
+        ensures hosts { self.new.hosts.items ≡ with_log self.old host (log_changed (part_of self.old host).log effect.now) }
         ensures kept { self.new ≡ record self.old { hosts = self.new.hosts } }
     {
         change_log(&mut self.hosts[usize::from(host.0)].log, effect);
@@ -84,7 +84,7 @@ impl State {
     /// What the host holds of this kind is let go.
     fn unhold(&mut self, host: HostId, kind: HeldKind)
         requires { host < length self.old.hosts.items }
-        ensures hosts { self.new.hosts.items ≡ slice_set self.old.hosts.items host (record (part_of self.old host) { lists = unheld kind (part_of self.old host).lists }) }
+        ensures hosts { self.new.hosts.items ≡ with_lists self.old host (unheld kind (part_of self.old host).lists) }
         ensures kept { self.new ≡ record self.old { hosts = self.new.hosts } }
     {
         drop_held(&mut self.hosts[usize::from(host.0)].lists, kind);

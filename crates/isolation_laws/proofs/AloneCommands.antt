@@ -9,9 +9,10 @@ use Rattle.dcd_base.specs.declared.steps.LogId.{LogId}
 use Rattle.dcd_codes.specs.Rules.{code_of}
 use Rattle.dcd_codes.specs.declared.codes.Code.{Code}
 use Rattle.dcd_codes.specs.declared.rules.Rule.{Rule}
-use Rattle.host_commands.specs.Messages.{IsDraft}
-use Rattle.host_commands.specs.Parts.{AreAfter, IsLogOf, lists_in}
-use Rattle.host_commands.specs.declared.draft_parts.DraftParts.{DraftParts}
+use Rattle.device_commands.specs.HostMessages.{IsDraft}
+use Rattle.device_commands.specs.Drafts.{AreAfter}
+use Rattle.device_state.specs.Kept.{IsLogOf, lists_in}
+use Rattle.device_commands.specs.declared.draft.DraftParts.{DraftParts}
 use Rattle.host_lists.specs.Lists.{Lists, extent_total}
 use Rattle.journal_core.specs.declared.acts.Act.{Act}
 use Rattle.journal_core.specs.declared.acts.Reply.{Reply}
@@ -21,7 +22,7 @@ use Rattle.device_rules.specs.Answers.{dropped, host_outcome, host_result, host_
 use Rattle.device_rules.specs.Outcomes.{Outcome}
 use Rattle.device_rules.specs.ResponseOutcomes.{unhold}
 use Rattle.device_rules.specs.Views.{View, view_after}
-use Rattle.device_steps.proofs.ViewCommands.{after_refusal, view_after-dropped}
+use Rattle.step_laws.proofs.ViewCommands.{after_refusal, view_after-dropped}
 use Rattle.isolation_laws.specs.Acting.{IsChanged, without_held}
 use Rattle.isolation_laws.specs.Alone.{Does, IsAlone}
 use Rattle.isolation_laws.specs.Solo.{accepts_byte, changes_with}

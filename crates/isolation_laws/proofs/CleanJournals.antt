@@ -16,17 +16,17 @@ use Rattle.journal_core.specs.declared.outcome.Effect.{Effect}
 use Rattle.region_config.specs.Configurations.{Configuration}
 use Rattle.region_config.specs.Granules.{hosts_of, region_of, region_spec}
 use Rattle.region_config.specs.Soundness.{IsSound}
-use Rattle.device_laws.specs.Pictures.{picture_of}
-use Rattle.device_laws.specs.Standing.{Sound}
-use Rattle.device_laws.proofs.ExclusiveHolding.{legal_holdings}
-use Rattle.device_laws.proofs.LegalSound.{legal_is_sound}
-use Rattle.device_laws.proofs.ListSteps.{each-all, each-at}
+use Rattle.holding_laws.specs.Pictures.{picture_of}
+use Rattle.holding_laws.specs.Standing.{Sound}
+use Rattle.holding_laws.proofs.ExclusiveHolding.{legal_holdings}
+use Rattle.holding_laws.proofs.LegalSound.{legal_is_sound}
+use Rattle.device_rules.proofs.ListSteps.{each-all, each-at}
 use Rattle.device_rules.specs.Invariants.{Holdings}
 use Rattle.device_rules.specs.Legal.{Legal, Meets, is_zeroing, word_after, word_by, word_of}
 use Rattle.device_rules.specs.Tags.{Dirty, Free, Held, Offered, Tagged, is_free, is_held, is_offered, is_tagged, status}
-use Rattle.device_steps.specs.GranuleStates.{offered_to}
-use Rattle.device_steps.proofs.Keeping.{alone_holds}
-use Rattle.device_steps.proofs.LegalSteps.{by_steps}
+use Rattle.step_laws.specs.GranuleStates.{is_granule_offered}
+use Rattle.step_laws.proofs.HoldersApart.{alone_holds}
+use Rattle.device_rules.proofs.LegalSteps.{by_steps}
 use Rattle.isolation_laws.specs.Laws.{Clean, Writers, is_offered_status, stores_in, writers_after, writers_by, writers_of}
 use Rattle.isolation_laws.proofs.CleanCommands.{step_keeps}
 use Rattle.isolation_laws.proofs.CleanSteps.{HeldTaken, IsSwept, KeepsClean, OfferedUntaken}
@@ -175,7 +175,7 @@ legal_clean c sound journal legal = record {
     | inl free ↦ free_untaken c g past sanitize free
     | inr offered ↦ (let parts = offered_cond (region_spec c (region_of c g)).shareable (is_held c g past) (is_offered c g past) (is_tagged c g past)
         (((region_spec c (region_of c g)).sanitize && is_taken g past) || is_soiled g past) offered in
-        let found = each-at (λ h. Unit {0}) (λ h. offered_to c h g past) (hosts_of c) (each-all (λ h. Unit {0}) (λ h. tt) (hosts_of c)) parts.1 in
+        let found = each-at (λ h. Unit {0}) (λ h. is_granule_offered c h g past) (hosts_of c) (each-all (λ h. Unit {0}) (λ h. tt) (hosts_of c)) parts.1 in
         clean.offered g (record { sanitize = sanitize; private = parts.0 }) found.0 found.1)
   ];
   own = λ g h sanitize private held. clean.own g (record { sanitize = sanitize; private = private }) h held;

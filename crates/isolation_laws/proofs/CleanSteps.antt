@@ -18,28 +18,28 @@ use Rattle.offer_core.specs.Offerings.{oldest_of}
 use Rattle.region_config.specs.Configurations.{Configuration}
 use Rattle.region_config.specs.Granules.{region_of, region_spec, same_region}
 use Rattle.region_config.specs.Soundness.{IsSound}
-use Rattle.device_laws.specs.Pictures.{Picture, picture_of}
-use Rattle.device_laws.specs.Standing.{Stands}
-use Rattle.device_laws.proofs.FreeGranules.{shared_claim}
-use Rattle.device_laws.proofs.ListSteps.{any-map}
-use Rattle.device_laws.proofs.OneOffer.{any-implies}
+use Rattle.holding_laws.specs.Pictures.{Picture, picture_of}
+use Rattle.holding_laws.specs.Standing.{Stands}
+use Rattle.holding_laws.proofs.FreeGranules.{shared_claim}
+use Rattle.device_rules.proofs.ListSteps.{any-map}
+use Rattle.holding_laws.proofs.OneOffer.{any-implies}
 use Rattle.device_rules.specs.Answers.{scrubbed, zeroes}
 use Rattle.device_rules.specs.Hosts.{offers_after, offers_of}
 use Rattle.device_rules.specs.Invariants.{Holdings}
 use Rattle.device_rules.specs.Outcomes.{Outcome, effects_of}
 use Rattle.device_rules.specs.Tags.{dirty_granules, granules_of, is_dirty, is_held, is_offered, is_tagged, open_tags, status}
-use Rattle.device_steps.specs.GranuleStates.{offered_to, stands_for}
-use Rattle.device_steps.proofs.HostSearches.{any_at, or_false}
-use Rattle.device_steps.proofs.JoinedRuns.{any_taken, joined_has, passes_there}
-use Rattle.device_steps.proofs.Leaving.{after_front, holding-over, is_quiet, leaves_holders, leaves_offers, map_passes}
+use Rattle.step_laws.specs.GranuleStates.{is_granule_offered, stands_for}
+use Rattle.device_rules.proofs.HostSearches.{any_at, or_false}
+use Rattle.step_laws.proofs.JoinedRuns.{any_taken, joined_has, passes_there}
+use Rattle.device_rules.proofs.Leaving.{after_front, holding-over, is_quiet, leaves_holders, leaves_offers, map_passes}
 use Rattle.device_rules.proofs.OutcomeSteps.{after-outcome, over-outcome}
-use Rattle.device_steps.proofs.RunEffects.{in_extents, run_from, takes, zeros}
-use Rattle.device_steps.proofs.StatusAnswers.{answering, holds-answer, not_offered-answer, offers-answer, taken-answer}
-use Rattle.device_steps.proofs.StatusKept.{no_later_offer, no_other_offer}
-use Rattle.device_steps.proofs.StatusOffers.{offered_to-offer}
-use Rattle.device_steps.proofs.StatusParts.{held_status, offers_of-append, offers_of-left, status_is, tagged_status}
-use Rattle.device_steps.proofs.StatusZeros.{taken-zeros}
-use Rattle.device_steps.proofs.TagSearches.{any_of_tag}
+use Rattle.device_rules.proofs.RunEffects.{in_extents, run_from, takes, zeros}
+use Rattle.step_laws.proofs.StatusAnswers.{answering, holds-answer, not_offered-answer, offers-answer, taken-answer}
+use Rattle.step_laws.proofs.StatusKept.{no_later_offer, no_other_offer}
+use Rattle.step_laws.proofs.StatusOffers.{is_granule_offered-offer}
+use Rattle.step_laws.proofs.StatusParts.{held_status, offers_of-append, offers_of-left, status_is, tagged_status}
+use Rattle.step_laws.proofs.StatusZeros.{taken-zeros}
+use Rattle.device_rules.proofs.TagSearches.{any_of_tag}
 use Rattle.isolation_laws.specs.Laws.{Writers, writers_by}
 use Rattle.isolation_laws.proofs.CalmEffects.{calm_held, calm_offered, calm_taken, calm_writers, in_later, is_calm}
 use Rattle.isolation_laws.proofs.WritersOver.{IsOwn, nobody, nobody_over, other_takes, own_zeros}
@@ -50,7 +50,7 @@ HeldTaken g past = (h : HostId) → holds h g past ≡ true → is_taken g past 
 
 -- while it is offered it was not taken since it was zeroed
 abbrev pub OfferedUntaken : Configuration → ℕ → List Effect → Type 0
-OfferedUntaken c g past = (h : HostId) → offered_to c h g past ≡ true → is_taken g past ≡ false
+OfferedUntaken c g past = (h : HostId) → is_granule_offered c h g past ≡ true → is_taken g past ≡ false
 
 -- Its region is sanitized, and hosts cannot share it.
 pub record IsSwept (c : Configuration) (g : ℕ) : Type 0 where
@@ -100,7 +100,7 @@ keeps_outcome c g past o keeps = record {
     same_holds : (h : HostId) → holds h g (past ++ effects_of c past o) ≡ holds h g (past ++ o.changes)
     same_holds h = after-outcome (holding_after h g) (λ b t. refl) (λ b l e. refl) (λ b l. refl) c false past o ∙ sym (holds-append h g past o.changes)
 
-    same_offered : (h : HostId) → offered_to c h g (past ++ effects_of c past o) ≡ offered_to c h g (past ++ o.changes)
+    same_offered : (h : HostId) → is_granule_offered c h g (past ++ effects_of c past o) ≡ is_granule_offered c h g (past ++ o.changes)
     same_offered h = ap (list_any (λ xs. in_extents c h xs g)) (after-outcome (offers_after h) (λ b t. refl) (λ b l e. refl) (λ b l. refl) c [] past o ∙ sym (offers_of-append h past o.changes))
 
 -- ---- an offer of granules that were not taken
@@ -109,7 +109,7 @@ pub keeps_offer : (c : Configuration) (g : ℕ) (past : List Effect) (k : HostId
     KeepsClean c g past (Effect.Offer k xs ∷ [])
 keeps_offer c g past k xs fresh = record {
   held = λ held h now. is_taken-push g past (Effect.Offer k xs) ∙ held h (sym (holds-push h g past (Effect.Offer k xs)) ∙ now);
-  offered = λ swept untaken h now. is_taken-push g past (Effect.Offer k xs) ∙ elim (or_cases (offered_to c h g past) ((k == h) && in_extents c h xs g) (sym (offered_to-offer c g past k xs h) ∙ now)) [
+  offered = λ swept untaken h now. is_taken-push g past (Effect.Offer k xs) ∙ elim (or_cases (is_granule_offered c h g past) ((k == h) && in_extents c h xs g) (sym (is_granule_offered-offer c g past k xs h) ∙ now)) [
     | inl was ↦ untaken h was
     | inr new ↦ (let parts = and_parts (k == h) (in_extents c h xs g) new in
         fresh swept (subst (λ l. in_extents c l xs g ≡ true) (sym (eqb-true k h parts.0)) parts.1))
@@ -154,7 +154,7 @@ module _ (c : Configuration) (before : List Entry) (kept : Holdings c before) (g
 
   module _ (swept : IsSwept c g) (untaken : OfferedUntaken c g (effects before)) where
     -- what is taken is offered no longer, and the rest is as before
-    untaken_then : (h : HostId) → offered_to c h g (effects before ++ answering c front k ys xs) ≡ true → is_taken g (effects before ++ answering c front k ys xs) ≡ false
+    untaken_then : (h : HostId) → is_granule_offered c h g (effects before ++ answering c front k ys xs) ≡ true → is_taken g (effects before ++ answering c front k ys xs) ≡ false
     untaken_then h now = elim (cases_Bool (in_extents c k xs g)) [
       | inl here ↦ absurd (false≢true (sym (not_offered-answer c g past front quiet k ys xs
           (no_other_offer c before kept g swept.private k (inside here)) (no_later_offer c before kept g swept.private k (inside here)) h) ∙ now))
@@ -221,7 +221,7 @@ module _ (c : Configuration) (sound : IsSound c) (past : List Effect) (s : Stand
     same_holds : (h : HostId) → holds h g (past ++ zeroes c (scrubbed c past n)) ≡ holds h g past
     same_holds h = holds-append h g past (zeros runs) ∙ holding-over h g (holds h g past) (zeros runs) (map_passes leaves_holders (λ r. Effect.Zero (run_from r)) (λ r. refl) runs)
 
-    same_offered : (h : HostId) → offered_to c h g (past ++ zeroes c (scrubbed c past n)) ≡ offered_to c h g past
+    same_offered : (h : HostId) → is_granule_offered c h g (past ++ zeroes c (scrubbed c past n)) ≡ is_granule_offered c h g past
     same_offered h = ap (list_any (λ xs. in_extents c h xs g)) (offers_of-left h past (zeros runs) (map_passes leaves_offers (λ r. Effect.Zero (run_from r)) (λ r. refl) runs))
 
     -- it zeroes dirty granules alone

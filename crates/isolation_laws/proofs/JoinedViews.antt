@@ -17,11 +17,11 @@ use Rattle.device_rules.specs.Hosts.{accepted_after, block_after, held_after, mo
 use Rattle.device_rules.specs.Logs.{log_after}
 use Rattle.device_rules.specs.Outcomes.{Outcome, effects_of, ended}
 use Rattle.device_rules.specs.Views.{View, view_after}
-use Rattle.device_steps.proofs.EffectKinds.{any_log, tells, tells_any, told_passes}
-use Rattle.device_steps.proofs.Leaving.{map_passes, over-leaving}
-use Rattle.device_steps.proofs.LogHistories.{leaves_logs, log-left, told}
-use Rattle.device_steps.proofs.ViewCommands.{only_logs, view_after-logs}
-use Rattle.device_steps.proofs.ViewsLeft.{is_other_log, leaves_view, others_records, view_after-left}
+use Rattle.device_rules.proofs.EffectKinds.{any_log, tells, tells_any, told_passes}
+use Rattle.device_rules.proofs.Leaving.{map_passes, over-leaving}
+use Rattle.step_laws.proofs.LogHistories.{leaves_logs, log-left, told}
+use Rattle.step_laws.proofs.ViewCommands.{only_logs, view_after-logs}
+use Rattle.step_laws.proofs.ViewsLeft.{is_other_log, leaves_view, others_records, view_after-left}
 use Rattle.isolation_laws.specs.Solo.{with_notices}
 
 -- ---- two lists of effects

@@ -15,7 +15,7 @@ use Rattle.device_rules.specs.Legal.{Legal}
 use Rattle.device_rules.specs.Logs.{log_after, log_of, same_log}
 use Rattle.device_state.proofs.Rooms.{room_for}
 use Rattle.device_state.specs.Rooms.{HasRoom, HaveRoom, IsNext}
-use Rattle.device_steps.proofs.LegalSteps.{by_steps}
+use Rattle.device_rules.proofs.LegalSteps.{by_steps}
 
 -- it has no more records than places
 abbrev pub IsWithin : LogId → Log → Type 0

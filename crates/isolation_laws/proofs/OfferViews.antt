@@ -12,7 +12,7 @@ use Rattle.region_config.specs.Configurations.{Configuration}
 use Rattle.device_rules.specs.Logs.{log_of}
 use Rattle.device_rules.specs.Outcomes.{Outcome, effects_of, notices_of}
 use Rattle.device_rules.specs.Views.{View, view_after}
-use Rattle.device_steps.proofs.LogSteps.{IsSound}
+use Rattle.step_laws.proofs.LogSteps.{IsSound}
 use Rattle.isolation_laws.specs.Solo.{with_notices}
 use Rattle.isolation_laws.proofs.OneItem.{BringsItems}
 use Rattle.isolation_laws.proofs.OtherSteps.{BringsAlone}

@@ -14,12 +14,12 @@ use Rattle.region_config.specs.Configurations.{Configuration}
 use Rattle.region_config.specs.Granules.{region_of, region_spec}
 use Rattle.region_config.specs.Soundness.{IsSound}
 use Rattle.selection.specs.Selections.{too_few_free}
-use Rattle.device_laws.specs.Pictures.{Picture, picture_of}
-use Rattle.device_laws.specs.Standing.{Sound, Stands}
-use Rattle.device_laws.proofs.AddChoices.{contiguous_reached, free_reached, marked_runs, prescribed_reached, reach_runs}
-use Rattle.device_laws.proofs.Adding.{IsRow}
-use Rattle.device_laws.proofs.OneOffer.{reaches}
-use Rattle.device_laws.proofs.Overlaps.{neither, not_broken}
+use Rattle.holding_laws.specs.Pictures.{Picture, picture_of}
+use Rattle.holding_laws.specs.Standing.{Sound, Stands}
+use Rattle.holding_laws.proofs.AddChoices.{contiguous_reached, free_reached, marked_runs, prescribed_reached, reach_runs}
+use Rattle.holding_laws.proofs.Adding.{IsRow}
+use Rattle.holding_laws.proofs.OneOffer.{reaches}
+use Rattle.holding_laws.proofs.Overlaps.{neither, not_broken}
 use Rattle.device_rules.specs.Adding.{is_free_now, offered, present, tagged}
 use Rattle.device_rules.specs.Adding.{longest_free as blocks_together}
 use Rattle.device_rules.specs.Tags.{Dirty, Free, Held, Offered, Tagged, is_free, is_held, is_offered, is_tagged, status}

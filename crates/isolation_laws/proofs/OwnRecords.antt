@@ -13,9 +13,9 @@ use Rattle.region_config.specs.Configurations.{Configuration}
 use Rattle.device_rules.specs.Logs.{log_after, log_of}
 use Rattle.device_rules.specs.Outcomes.{Outcome, effects_of, entered_all, notices_of}
 use Rattle.device_rules.specs.Views.{View, view_after}
-use Rattle.device_steps.proofs.LogHistories.{leaves_logs, told as records_for, told_one}
-use Rattle.device_steps.proofs.LogOutcomes.{length-notices}
-use Rattle.device_steps.proofs.LogSteps.{IsSound, entered_all-room}
+use Rattle.step_laws.proofs.LogHistories.{leaves_logs, told as records_for, told_one}
+use Rattle.step_laws.proofs.LogOutcomes.{length-notices}
+use Rattle.step_laws.proofs.LogSteps.{IsSound, entered_all-room}
 use Rattle.isolation_laws.specs.Solo.{told, with_notices}
 use Rattle.isolation_laws.proofs.JoinedViews.{view_after-told}
 use Rattle.isolation_laws.proofs.RecordItems.{told_outcome, told_records}

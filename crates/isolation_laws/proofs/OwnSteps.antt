@@ -20,8 +20,8 @@ use Rattle.device_rules.specs.Legal.{right_answer}
 use Rattle.device_rules.specs.Outcomes.{Outcome}
 use Rattle.device_rules.specs.ResponseOutcomes.{respond_changes, response_notices}
 use Rattle.device_rules.specs.Views.{View, view_after, view_of}
-use Rattle.device_steps.proofs.EffectKinds.{tells}
-use Rattle.device_steps.proofs.ViewsLeft.{is_other_log}
+use Rattle.device_rules.proofs.EffectKinds.{tells}
+use Rattle.step_laws.proofs.ViewsLeft.{is_other_log}
 use Rattle.isolation_laws.specs.Solo.{changes_with, solo_after}
 use Rattle.isolation_laws.specs.declared.items.Item.{Item}
 use Rattle.isolation_laws.proofs.JoinedViews.{view_after-outcome}

@@ -20,9 +20,9 @@ use Rattle.device_rules.specs.Logs.{log_after, log_of}
 use Rattle.device_rules.specs.Outcomes.{Outcome, effects_of, notices_of}
 use Rattle.device_rules.specs.ReleaseOutcomes.{removals, soils}
 use Rattle.device_rules.specs.Views.{View, view_after}
-use Rattle.device_steps.proofs.EffectKinds.{removals_pass}
-use Rattle.device_steps.proofs.LogHistories.{leaves_logs}
-use Rattle.device_steps.proofs.LogSteps.{IsSound}
+use Rattle.device_rules.proofs.EffectKinds.{removals_pass}
+use Rattle.step_laws.proofs.LogHistories.{leaves_logs}
+use Rattle.step_laws.proofs.LogSteps.{IsSound}
 use Rattle.isolation_laws.specs.Solo.{block_item, item_of, solo_after, with_notices}
 use Rattle.isolation_laws.specs.declared.items.Item.{Item}
 use Rattle.isolation_laws.proofs.OneItem.{BringsItems, IsOneAtMost}

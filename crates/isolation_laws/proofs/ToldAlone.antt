@@ -12,7 +12,7 @@ use Rattle.device_rules.specs.Views.{View, extents_in}
 use Rattle.event_log.specs.LogStates.{LogState, with_record}
 use Rattle.event_log.specs.Logs.{logged, records_in}
 use Rattle.event_records.specs.declared.events.Event.{Event}
-use Rattle.host_commands.specs.Parts.{IsLogOf, lists_in}
+use Rattle.device_state.specs.Kept.{IsLogOf, lists_in}
 use Rattle.host_lists.specs.Lists.{extent_total}
 use Rattle.region_config.specs.Configurations.{Configuration}
 use Rattle.isolation_laws.specs.Alone.{IsAlone, Takes}

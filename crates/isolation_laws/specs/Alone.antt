@@ -12,7 +12,7 @@ use Rattle.device_rules.specs.Answers.{host_result_in, reply_with}
 use Rattle.device_rules.specs.Views.{View, extents_in}
 use Rattle.event_log.specs.Logs.{records_in}
 use Rattle.granule_mem.specs.Contents.{word_among}
-use Rattle.host_commands.specs.Parts.{IsLogOf, lists_in}
+use Rattle.device_state.specs.Kept.{IsLogOf, lists_in}
 use Rattle.host_lists.specs.Lists.{extent_total}
 use Rattle.journal_core.specs.declared.acts.Act.{Act}
 use Rattle.journal_core.specs.declared.acts.Reply.{Reply}

@@ -1,5 +1,5 @@
 -- What a device with one host alone makes of records for its host, and what it replies to an item.
-use Rattle.std.specs.Prelude.{ℕ, ◌<◌, false, List, [], ◌∷◌, length}
+use Rattle.std.specs.Prelude.{◌≡◌, ℕ, ◌<◌, false, List, [], ◌∷◌, ◌++◌, length}
 use Rattle.std.specs.declared.result.Result.{Result}
 use Rattle.std.specs.declared.result.Result.TheVariants.{Ok, Err}
 use Rattle.dcd_base.specs.declared.ids.HostId.{HostId}
@@ -30,3 +30,7 @@ resized h r v = record (notice h v EventKind.RegionUpdated false no_extent) { re
 abbrev pub replies_to : Configuration → HostId → View → (ℕ → ℕ) → Item → List SoloReply
 replies_to c h v word (Item.Own act) = reply_in c h v word act ∷ []
 replies_to c h v word item = []
+
+-- It is put behind the replies so far, whatever the host saw before.
+abbrev pub Replies : Configuration → HostId → Alone → Item → List SoloReply → List SoloReply → Type 0
+Replies c h alone item old new = (v : View) (word : ℕ → ℕ) → IsAlone c h v word alone → new ≡ old ++ replies_to c h v word item

@@ -14,8 +14,8 @@ use crate::words_alone::{clear_words, has_byte, store_word, word_at};
 use cci_codec::Request;
 use dcd_base::{AccessFault, HostId, LogId, NoMemory};
 use dcd_codes::{Code, Refusal};
+use device_commands::{Draft, DraftParts, answer, host_draft, refused};
 use device_state::change_log_named;
-use host_commands::{Draft, DraftParts, answer, draft_of, refused};
 use journal_core::{Act, Effect, Reply};
 use media_map::locate;
 use region_config::Config;
@@ -63,7 +63,7 @@ impl Alone {
         requires few { extent_total self.old.lists ≤ 64 }
         ensures { IfOk result (λ reply. Does config.now host (Act.Command request.now) self.old self.new (SoloReply.Said reply)) }
     {
-        match draft_of(
+        match host_draft(
             alloc,
             config,
             &self.present,

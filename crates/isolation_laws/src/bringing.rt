@@ -13,9 +13,9 @@ ghost use Rattle.std.specs.Prelude.{◌≡◌, ◌+◌, ◌^◌, ◌<◌, ◌≤
 use crate::alone::{Alone, Stop};
 use dcd_base::limits::EXTENTS;
 use dcd_base::{Extent, Extents, HostId, RegionId};
+use device_commands::{event_for, no_extent, notices_of};
 use event_log::EventLog;
 use event_records::{Event, EventKind};
-use host_commands::{event_for, no_extent, notices_of};
 use std::alloc::Global;
 
 impl Alone {

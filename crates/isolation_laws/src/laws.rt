@@ -10,7 +10,7 @@ ghost use Rattle.region_config.specs.Configurations.{Configuration};
 ghost use Rattle.region_config.specs.Soundness.{IsSound};
 ghost use Rattle.std.specs.Prelude.{◌<◌, List};
 
-use device_laws::law_legal_holdings;
+use holding_laws::law_promised_once;
 
 /// The hosts that hold a granule are those whose accepted extents have it. Where nothing is shared, no granule stands in two
 /// of the accepted and offered extents of all hosts; an extent of a shareable region lies in its open tag, and no two open
@@ -19,7 +19,7 @@ use device_laws::law_legal_holdings;
 pub fn law_holdings()
     ensures { (c : Configuration) → IsSound c → (journal : List Entry) → Legal c journal → Holdings c journal }
 {
-    law_legal_holdings();
+    law_promised_once();
 }
 
 /// In a sanitized region a granule that is free or offered was not taken since its last zeroing, and one that was not taken

@@ -1,10 +1,9 @@
 //! What a device with one host alone replies.
 
-ghost use Rattle.device_rules.specs.Views.{View};
 ghost use Rattle.host_lists.specs.Lists.{extent_total};
-ghost use Rattle.isolation_laws.specs.Alone.{IsAlone, IsFaultOf, Takes, solo_replies as solo_replies_of};
-ghost use Rattle.isolation_laws.specs.Telling.{replies_to};
-ghost use Rattle.std.specs.Prelude.{◌≡◌, ◌++◌, ◌<◌, ◌≤◌, ℕ, IfErr, IfOk, OnOk};
+ghost use Rattle.isolation_laws.specs.Alone.{IsFaultOf, Takes, solo_replies as solo_replies_of};
+ghost use Rattle.isolation_laws.specs.Telling.{Replies};
+ghost use Rattle.std.specs.Prelude.{◌≡◌, ◌<◌, ◌≤◌, IfErr, IfOk, OnOk};
 
 use crate::alone::{Alone, Stop};
 use crate::items::{Item, SoloReplies};
@@ -85,7 +84,7 @@ fn take_item(
     requires hosts { alone.old.present.hosts ≡ config.now.hosts }
     requires few { extent_total alone.old.lists ≤ 64 }
     ensures taken { Takes config.now host item.now alone.old alone.new result }
-    ensures replied { OnOk result ((v : View) (word : ℕ → ℕ) → IsAlone config.now host v word alone.old → replies.new ≡ replies.old ++ replies_to config.now host v word item.now) }
+    ensures replied { OnOk result (Replies config.now host alone.old item.now replies.old replies.new) }
 {
     match item {
         Item::Own(act) => {

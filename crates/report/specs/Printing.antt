@@ -21,6 +21,10 @@ pub record Prints (taken : Option (List ℕ)) (count : ℕ) (waits : Option (Lis
   pub onto : (start : Option (List ℕ)) (faults : ℕ) (text : List ℕ) → Printed start faults taken count waits text
       → Printed start faults new_taken new_count new_waits (text ++ bytes)
 
+-- The same of a sink and of what waits in the printer, before and after: what the sink took and its count of faults are read from it.
+abbrev pub Puts : {K : Type 0} → (K → Option (List ℕ)) → (K → ℕ) → K → Option (List ℕ) → K → Option (List ℕ) → List ℕ → Type 0
+Puts taken faults old waits new new_waits bytes = Prints (taken old) (faults old) waits (taken new) (faults new) new_waits bytes
+
 -- more bytes wait
 abbrev pub with_bytes : List ℕ → Option (List ℕ) → Option (List ℕ)
 with_bytes bytes None = None

@@ -81,9 +81,13 @@ record_line l event = line_of (codes "rec" ∷ log_name l ∷ encode_lower (reco
 unfoldable pub record_lines : List Effect → LogId → List ℕ
 record_lines past l = flat_map (record_line l) (records_of l past)
 
--- hosts in order, then the manager, in each log the oldest first
+-- the records of hosts in order, in each log the oldest first
+unfoldable pub host_records : Configuration → List Effect → List ℕ
+host_records c past = flat_map (λ h. record_lines past (LogId.Host h)) (hosts_of c)
+
+-- those of hosts, then those of the manager
 unfoldable pub all_records : Configuration → List Effect → List ℕ
-all_records c past = flat_map (λ h. record_lines past (LogId.Host h)) (hosts_of c) ++ record_lines past LogId.Manager
+all_records c past = host_records c past ++ record_lines past LogId.Manager
 
 -- ---- the state
 

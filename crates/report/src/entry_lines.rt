@@ -2,7 +2,7 @@
 
 ghost use Rattle.control_core.specs.Deciding.{AreShort, IsShort};
 ghost use Rattle.journal_core.specs.declared.acts.Reply.{Reply};
-ghost use Rattle.report.specs.Printing.{Prints};
+ghost use Rattle.report.specs.Printing.{Puts};
 ghost use Rattle.report.specs.Texts.{act_name, entry_line, entry_lines, fault_number, next_word, reply_words, rest_of_line};
 ghost use Rattle.std.specs.Prelude.{◌≡◌, ◌<◌, ◌^◌, ◌++◌, [], ◌∷◌, decimal, length};
 
@@ -24,7 +24,7 @@ fn fault_number(fault: AccessFault) -> u64
 
 /// Puts a space and the name of an act.
 fn put_act<K: Sink>(printer: &mut Printer, sink: &mut K, act: &Act)
-    ensures { Prints (K.taken sink.old) (K.faults sink.old) printer.old (K.taken sink.new) (K.faults sink.new) printer.new (next_word (act_name act.now)) }
+    ensures { Puts K.taken K.faults sink.old printer.old sink.new printer.new (next_word (act_name act.now)) }
 {
     match act {
         Act::Command(_) => printer.put(sink, b" cmd"),
@@ -38,7 +38,7 @@ fn put_act<K: Sink>(printer: &mut Printer, sink: &mut K, act: &Act)
 #[tactic(auto, using(crate::proofs::Parts::prints_then))]
 fn put_response<K: Sink>(printer: &mut Printer, sink: &mut K, response: &Response)
     requires { length response.now.payload < 2 ^ 21 }
-    ensures { Prints (K.taken sink.old) (K.faults sink.old) printer.old (K.taken sink.new) (K.faults sink.new) printer.new (rest_of_line (reply_words (Reply.Answer response.now))) }
+    ensures { Puts K.taken K.faults sink.old printer.old sink.new printer.new (rest_of_line (reply_words (Reply.Answer response.now))) }
 {
     let payload = response.payload.as_slice();
     let head = response_head(
@@ -56,7 +56,7 @@ fn put_response<K: Sink>(printer: &mut Printer, sink: &mut K, response: &Respons
 /// Puts the sixteen digits of a word, the most significant first.
 #[tactic(auto, using(crate::proofs::Parts::prints_then))]
 fn put_loaded<K: Sink>(printer: &mut Printer, sink: &mut K, word: u64)
-    ensures { Prints (K.taken sink.old) (K.faults sink.old) printer.old (K.taken sink.new) (K.faults sink.new) printer.new (rest_of_line (reply_words (Reply.Word word))) }
+    ensures { Puts K.taken K.faults sink.old printer.old sink.new printer.new (rest_of_line (reply_words (Reply.Word word))) }
 {
     printer.put_byte(sink, b' ');
     printer.put_hex(sink, word.to_be_bytes().as_slice());
@@ -65,7 +65,7 @@ fn put_loaded<K: Sink>(printer: &mut Printer, sink: &mut K, word: u64)
 
 /// Says that a store was done.
 fn put_stored<K: Sink>(printer: &mut Printer, sink: &mut K)
-    ensures { Prints (K.taken sink.old) (K.faults sink.old) printer.old (K.taken sink.new) (K.faults sink.new) printer.new (rest_of_line (reply_words Reply.Stored)) }
+    ensures { Puts K.taken K.faults sink.old printer.old sink.new printer.new (rest_of_line (reply_words Reply.Stored)) }
 {
     printer.put(sink, b" ok\n");
 }
@@ -73,7 +73,7 @@ fn put_stored<K: Sink>(printer: &mut Printer, sink: &mut K)
 /// Says that a load or a store was refused, and why.
 #[tactic(auto, using(crate::proofs::Parts::prints_then))]
 fn put_refused<K: Sink>(printer: &mut Printer, sink: &mut K, fault: AccessFault)
-    ensures { Prints (K.taken sink.old) (K.faults sink.old) printer.old (K.taken sink.new) (K.faults sink.new) printer.new (rest_of_line (reply_words (Reply.Refused fault))) }
+    ensures { Puts K.taken K.faults sink.old printer.old sink.new printer.new (rest_of_line (reply_words (Reply.Refused fault))) }
 {
     printer.put_counted(sink, b"refused", fault_number(fault));
     printer.end_line(sink);
@@ -82,7 +82,7 @@ fn put_refused<K: Sink>(printer: &mut Printer, sink: &mut K, fault: AccessFault)
 /// Says how many granules were zeroed.
 #[tactic(auto, using(crate::proofs::Parts::prints_then))]
 fn put_scrubbed<K: Sink>(printer: &mut Printer, sink: &mut K, count: u32)
-    ensures { Prints (K.taken sink.old) (K.faults sink.old) printer.old (K.taken sink.new) (K.faults sink.new) printer.new (rest_of_line (reply_words (Reply.Scrubbed count))) }
+    ensures { Puts K.taken K.faults sink.old printer.old sink.new printer.new (rest_of_line (reply_words (Reply.Scrubbed count))) }
 {
     printer.put_count(sink, u64::from(count));
     printer.end_line(sink);
@@ -91,7 +91,7 @@ fn put_scrubbed<K: Sink>(printer: &mut Printer, sink: &mut K, count: u32)
 /// Puts a reply and ends the line.
 fn put_reply<K: Sink>(printer: &mut Printer, sink: &mut K, reply: &Reply)
     requires { IsShort reply.now }
-    ensures { Prints (K.taken sink.old) (K.faults sink.old) printer.old (K.taken sink.new) (K.faults sink.new) printer.new (rest_of_line (reply_words reply.now)) }
+    ensures { Puts K.taken K.faults sink.old printer.old sink.new printer.new (rest_of_line (reply_words reply.now)) }
 {
     match reply {
         Reply::Answer(response) => put_response(printer, sink, response),
@@ -106,7 +106,7 @@ fn put_reply<K: Sink>(printer: &mut Printer, sink: &mut K, reply: &Reply)
 #[tactic(auto, using(crate::proofs::Parts::prints_then), unfolding(crate::specs::Texts::entry_line))]
 fn put_entry<K: Sink>(printer: &mut Printer, sink: &mut K, number: u64, entry: &Entry)
     requires { IsShort entry.now.reply }
-    ensures { Prints (K.taken sink.old) (K.faults sink.old) printer.old (K.taken sink.new) (K.faults sink.new) printer.new (entry_line (number, entry.now)) }
+    ensures { Puts K.taken K.faults sink.old printer.old sink.new printer.new (entry_line (number, entry.now)) }
 {
     printer.put_numbers(sink, number, u64::from(entry.line));
     printer.put_actor(sink, entry.actor);
@@ -118,7 +118,7 @@ fn put_entry<K: Sink>(printer: &mut Printer, sink: &mut K, number: u64, entry: &
 #[tactic(auto, using(crate::proofs::Parts::prints_nothing, crate::proofs::Parts::prints_each), unfolding(crate::specs::Texts::entry_lines))]
 pub fn put_entries<K: Sink>(printer: &mut Printer, sink: &mut K, journal: &[Entry])
     requires { AreShort journal.now }
-    ensures { Prints (K.taken sink.old) (K.faults sink.old) printer.old (K.taken sink.new) (K.faults sink.new) printer.new (entry_lines journal.now) }
+    ensures { Puts K.taken K.faults sink.old printer.old sink.new printer.new (entry_lines journal.now) }
 {
     for (i, entry) in journal.iter().enumerate() {
         put_entry(printer, sink, i as u64 + 1, entry);

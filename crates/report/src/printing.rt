@@ -1,7 +1,7 @@
 //! The printer: it gathers bytes into pieces and hands each full piece to a sink.
 
 ghost use Rattle.hex.specs.Hex.{encode_lower};
-ghost use Rattle.report.specs.Printing.{Prints, with_byte, with_bytes};
+ghost use Rattle.report.specs.Printing.{with_byte, with_bytes, Puts};
 ghost use Rattle.std.specs.Prelude.{◌≡◌, ◌+◌, ◌*◌, ◌<◌, ◌≤◌, [], ◌∷◌, ◌++◌, IfSome, None, OnErr, OnOk, Some, decimal, length};
 
 use crate::places::{write_bytes, write_hex};
@@ -50,7 +50,7 @@ impl Printer {
     #[inline(never)]
     #[tactic(auto, using(crate::proofs::Parts::prints_nothing, crate::proofs::Parts::prints_sent, crate::proofs::Parts::prints_cut))]
     fn send<K: Sink>(&mut self, sink: &mut K)
-        ensures prints { Prints (K.taken sink.old) (K.faults sink.old) self.old (K.taken sink.new) (K.faults sink.new) self.new [] }
+        ensures prints { Puts K.taken K.faults sink.old self.old sink.new self.new [] }
         ensures sent { IfSome self.new (λ waits. waits ≡ []) }
     {
         if self.failed {
@@ -66,7 +66,7 @@ impl Printer {
     /// Sees to it that one more byte can wait.
     #[tactic(auto, using(crate::proofs::Parts::prints_nothing))]
     fn make_room<K: Sink>(&mut self, sink: &mut K)
-        ensures prints { Prints (K.taken sink.old) (K.faults sink.old) self.old (K.taken sink.new) (K.faults sink.new) self.new [] }
+        ensures prints { Puts K.taken K.faults sink.old self.old sink.new self.new [] }
         ensures room { IfSome self.new (λ waits. length waits < 4096) }
     {
         if self.len == PIECE {
@@ -89,7 +89,7 @@ impl Printer {
     #[inline]
     #[tactic(auto, using(crate::proofs::Parts::prints_byte))]
     pub fn put_byte<K: Sink>(&mut self, sink: &mut K, byte: u8)
-        ensures { Prints (K.taken sink.old) (K.faults sink.old) self.old (K.taken sink.new) (K.faults sink.new) self.new (byte ∷ []) }
+        ensures { Puts K.taken K.faults sink.old self.old sink.new self.new (byte ∷ []) }
     {
         self.make_room(sink);
         self.store(byte);
@@ -109,7 +109,7 @@ impl Printer {
     /// Puts the two digits of a byte.
     #[tactic(auto, using(crate::proofs::Parts::prints_then))]
     fn put_pair<K: Sink>(&mut self, sink: &mut K, byte: u8)
-        ensures { Prints (K.taken sink.old) (K.faults sink.old) self.old (K.taken sink.new) (K.faults sink.new) self.new (encode_lower (byte ∷ [])) }
+        ensures { Puts K.taken K.faults sink.old self.old sink.new self.new (encode_lower (byte ∷ [])) }
     {
         let mut digits = [0u8; 2];
         encode_to_slice([byte], &mut digits).unwrap();
@@ -120,7 +120,7 @@ impl Printer {
     /// Puts the digits of bytes, which mostly fit into the piece.
     #[tactic(auto, using(crate::proofs::Parts::prints_waiting))]
     pub fn put_hex<K: Sink>(&mut self, sink: &mut K, bytes: &[u8])
-        ensures { Prints (K.taken sink.old) (K.faults sink.old) self.old (K.taken sink.new) (K.faults sink.new) self.new (encode_lower bytes.now) }
+        ensures { Puts K.taken K.faults sink.old self.old sink.new self.new (encode_lower bytes.now) }
     {
         if bytes.len() <= (PIECE - self.len) / 2 {
             self.store_hex(bytes);
@@ -133,7 +133,7 @@ impl Printer {
     #[cold]
     #[inline(never)]
     fn put_hex_parts<K: Sink>(&mut self, sink: &mut K, bytes: &[u8])
-        ensures { Prints (K.taken sink.old) (K.faults sink.old) self.old (K.taken sink.new) (K.faults sink.new) self.new (encode_lower bytes.now) }
+        ensures { Puts K.taken K.faults sink.old self.old sink.new self.new (encode_lower bytes.now) }
     {
         let mut at = 0;
         while at < bytes.len() {
@@ -147,7 +147,7 @@ impl Printer {
     /// Puts the digits of bytes that fit, and of one more byte.
     fn put_part<K: Sink>(&mut self, sink: &mut K, part: &[u8], byte: u8)
         requires { IfSome self.old (λ waits. length waits + 2 * length part.now ≤ 4096) }
-        ensures { Prints (K.taken sink.old) (K.faults sink.old) self.old (K.taken sink.new) (K.faults sink.new) self.new (encode_lower (part.now ++ byte ∷ [])) }
+        ensures { Puts K.taken K.faults sink.old self.old sink.new self.new (encode_lower (part.now ++ byte ∷ [])) }
     {
         self.store_hex(part);
         self.put_pair(sink, byte);
@@ -168,7 +168,7 @@ impl Printer {
     #[inline]
     #[tactic(auto, using(crate::proofs::Parts::prints_waiting))]
     pub fn put<K: Sink>(&mut self, sink: &mut K, bytes: &[u8])
-        ensures { Prints (K.taken sink.old) (K.faults sink.old) self.old (K.taken sink.new) (K.faults sink.new) self.new bytes.now }
+        ensures { Puts K.taken K.faults sink.old self.old sink.new self.new bytes.now }
     {
         if bytes.len() <= PIECE - self.len {
             self.store_all(bytes);
@@ -182,7 +182,7 @@ impl Printer {
     #[inline(never)]
     #[tactic(auto, using(crate::proofs::Parts::prints_nothing, crate::proofs::Parts::prints_more))]
     fn put_each<K: Sink>(&mut self, sink: &mut K, bytes: &[u8])
-        ensures { Prints (K.taken sink.old) (K.faults sink.old) self.old (K.taken sink.new) (K.faults sink.new) self.new bytes.now }
+        ensures { Puts K.taken K.faults sink.old self.old sink.new self.new bytes.now }
     {
         for byte in bytes {
             self.put_byte(sink, *byte);
@@ -191,7 +191,7 @@ impl Printer {
 
     /// Puts a number in decimal digits, without leading zeros.
     pub fn put_number<K: Sink>(&mut self, sink: &mut K, number: u64)
-        ensures { Prints (K.taken sink.old) (K.faults sink.old) self.old (K.taken sink.new) (K.faults sink.new) self.new (decimal number) }
+        ensures { Puts K.taken K.faults sink.old self.old sink.new self.new (decimal number) }
     {
         let mut digits = Buffer::new();
         self.put(sink, digits.format(number).as_bytes());
@@ -199,8 +199,8 @@ impl Printer {
 
     /// Hands in what still waits. It fails where this write or one before failed.
     pub fn finish<K: Sink>(mut self, sink: &mut K) -> Result<(), Failed>
-        ensures whole { OnOk result (Prints (K.taken sink.old) (K.faults sink.old) self (K.taken sink.new) (K.faults sink.new) (Some []) []) }
-        ensures failed { OnErr result (Prints (K.taken sink.old) (K.faults sink.old) self (K.taken sink.new) (K.faults sink.new) None []) }
+        ensures whole { OnOk result (Puts K.taken K.faults sink.old self sink.new (Some []) []) }
+        ensures failed { OnErr result (Puts K.taken K.faults sink.old self sink.new None []) }
     {
         self.send(sink);
         if self.failed { Err(Failed) } else { Ok(()) }

@@ -1,7 +1,7 @@
 //! The lines of scripts and words that are refused.
 
 ghost use Rattle.dcd_base.specs.Streams.{HasRisen, Passes};
-ghost use Rattle.report.specs.Printing.{Prints};
+ghost use Rattle.report.specs.Printing.{Puts};
 ghost use Rattle.report.specs.Refusals.{fault_place, refusal_line, refused_at, script_fault_number, usage_line};
 ghost use Rattle.script_codec.specs.declared.faults.ScriptFault.{ScriptFault};
 ghost use Rattle.std.specs.Prelude.{◌≡◌, ◌≢◌, ◌≤◌, [], List, OnErr, OnOk, ℕ};
@@ -52,7 +52,7 @@ fn place_of(fault: &ScriptFault) -> u64
 /// Puts the line of a refused script.
 #[tactic(auto, using(crate::proofs::Parts::prints_then), unfolding(crate::specs::Refusals::refused_at))]
 fn put_refused_at<K: Sink>(printer: &mut Printer, sink: &mut K, number: u64, place: u64)
-    ensures { Prints (K.taken sink.old) (K.faults sink.old) printer.old (K.taken sink.new) (K.faults sink.new) printer.new (refused_at number place) }
+    ensures { Puts K.taken K.faults sink.old printer.old sink.new printer.new (refused_at number place) }
 {
     printer.put(sink, b"script");
     printer.put_counted(sink, b"refused:", number);
@@ -103,7 +103,7 @@ pub fn usage<K: Sink>(sink: &mut K) -> Result<(), Failed>
 /// Puts the line of the words that the program takes.
 #[tactic(auto, unfolding(crate::specs::Refusals::usage_line))]
 fn put_usage<K: Sink>(printer: &mut Printer, sink: &mut K)
-    ensures { Prints (K.taken sink.old) (K.faults sink.old) printer.old (K.taken sink.new) (K.faults sink.new) printer.new usage_line }
+    ensures { Puts K.taken K.faults sink.old printer.old sink.new printer.new usage_line }
 {
     printer.put(sink, b"usage: dcdsim [--gen N]\n");
 }

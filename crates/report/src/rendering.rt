@@ -3,7 +3,7 @@
 ghost use Rattle.control_core.specs.Deciding.{AreShort};
 ghost use Rattle.dcd_base.specs.Streams.{HasRisen, Passes};
 ghost use Rattle.journal_core.specs.Entries.{effects};
-ghost use Rattle.report.specs.Printing.{Prints};
+ghost use Rattle.report.specs.Printing.{Puts};
 ghost use Rattle.report.specs.Texts.{first_line, summary, text};
 ghost use Rattle.std.specs.Prelude.{◌≡◌, ◌≤◌, [], List, OnErr, OnOk, ℕ};
 
@@ -17,7 +17,7 @@ use journal_core::Entry;
 /// Puts the first line, with the version of the form.
 #[tactic(auto, unfolding(crate::specs::Texts::first_line))]
 fn put_first_line<K: Sink>(printer: &mut Printer, sink: &mut K)
-    ensures { Prints (K.taken sink.old) (K.faults sink.old) printer.old (K.taken sink.new) (K.faults sink.new) printer.new first_line }
+    ensures { Puts K.taken K.faults sink.old printer.old sink.new printer.new first_line }
 {
     printer.put(sink, b"dcd 1\n");
 }
@@ -27,7 +27,7 @@ fn put_first_line<K: Sink>(printer: &mut Printer, sink: &mut K)
 fn put_text<K: Sink>(printer: &mut Printer, sink: &mut K, control: &Control, journal: &[Entry])
     requires effects { effects control.now.entries ≡ effects journal.now }
     requires short { AreShort journal.now }
-    ensures { Prints (K.taken sink.old) (K.faults sink.old) printer.old (K.taken sink.new) (K.faults sink.new) printer.new (text control.now.config journal.now) }
+    ensures { Puts K.taken K.faults sink.old printer.old sink.new printer.new (text control.now.config journal.now) }
 {
     put_first_line(printer, sink);
     put_entries(printer, sink, journal);
@@ -39,7 +39,7 @@ fn put_text<K: Sink>(printer: &mut Printer, sink: &mut K, control: &Control, jou
 #[tactic(auto, using(crate::proofs::Parts::prints_then), unfolding(crate::specs::Texts::summary))]
 fn put_summary<K: Sink>(printer: &mut Printer, sink: &mut K, control: &Control, journal: &[Entry])
     requires { effects control.now.entries ≡ effects journal.now }
-    ensures { Prints (K.taken sink.old) (K.faults sink.old) printer.old (K.taken sink.new) (K.faults sink.new) printer.new (summary control.now.config journal.now) }
+    ensures { Puts K.taken K.faults sink.old printer.old sink.new printer.new (summary control.now.config journal.now) }
 {
     put_first_line(printer, sink);
     put_state(printer, sink, control, journal);

@@ -4,8 +4,8 @@ ghost use Rattle.dcd_base.specs.declared.steps.LogId.{LogId};
 ghost use Rattle.device_state.specs.Updates.{IsOfLog};
 ghost use Rattle.journal_core.specs.Entries.{effects};
 ghost use Rattle.region_config.specs.Granules.{hosts_of};
-ghost use Rattle.report.specs.Printing.{Prints};
-ghost use Rattle.report.specs.Texts.{all_records, end_line, granules_line, host_line, host_lines, manager_line, record_line, record_lines, state_lines};
+ghost use Rattle.report.specs.Printing.{Puts};
+ghost use Rattle.report.specs.Texts.{all_records, end_line, granules_line, host_line, host_lines, host_records, manager_line, record_line, record_lines, state_lines};
 ghost use Rattle.std.specs.Prelude.{◌≡◌, ◌<◌, flat_map, length};
 
 use crate::printing::Printer;
@@ -17,7 +17,7 @@ use journal_core::Entry;
 /// Puts the line of a record: its log and its 256 digits.
 #[tactic(auto, using(crate::proofs::Parts::prints_then), unfolding(crate::specs::Texts::record_line))]
 fn put_record<K: Sink>(printer: &mut Printer, sink: &mut K, log: &LogId, event: &Event)
-    ensures { Prints (K.taken sink.old) (K.faults sink.old) printer.old (K.taken sink.new) (K.faults sink.new) printer.new (record_line log.now event.now) }
+    ensures { Puts K.taken K.faults sink.old printer.old sink.new printer.new (record_line log.now event.now) }
 {
     printer.put(sink, b"rec");
     printer.put_log(sink, log);
@@ -30,7 +30,7 @@ fn put_record<K: Sink>(printer: &mut Printer, sink: &mut K, log: &LogId, event: 
 #[tactic(auto, using(crate::proofs::Parts::prints_nothing, crate::proofs::Parts::prints_each), unfolding(crate::specs::Texts::record_lines))]
 fn put_log_records<K: Sink>(printer: &mut Printer, sink: &mut K, control: &Control, log: &LogId)
     requires { IsOfLog control.now.config.hosts log.now }
-    ensures { Prints (K.taken sink.old) (K.faults sink.old) printer.old (K.taken sink.new) (K.faults sink.new) printer.new (record_lines (effects control.now.entries) log.now) }
+    ensures { Puts K.taken K.faults sink.old printer.old sink.new printer.new (record_lines (effects control.now.entries) log.now) }
 {
     for index in 0..control.records(*log) {
         let event = control.record(*log, index);
@@ -39,9 +39,9 @@ fn put_log_records<K: Sink>(printer: &mut Printer, sink: &mut K, control: &Contr
 }
 
 /// Puts the records of the hosts' logs.
-#[tactic(auto, using(crate::proofs::Parts::prints_nothing, crate::proofs::Parts::prints_each))]
+#[tactic(auto, using(crate::proofs::Parts::prints_nothing, crate::proofs::Parts::prints_each), unfolding(crate::specs::Texts::host_records))]
 fn put_host_records<K: Sink>(printer: &mut Printer, sink: &mut K, control: &Control)
-    ensures { Prints (K.taken sink.old) (K.faults sink.old) printer.old (K.taken sink.new) (K.faults sink.new) printer.new (flat_map (λ h. record_lines (effects control.now.entries) (LogId.Host h)) (hosts_of control.now.config)) }
+    ensures { Puts K.taken K.faults sink.old printer.old sink.new printer.new (host_records control.now.config (effects control.now.entries)) }
 {
     for host in 0..control.config().hosts() {
         put_log_records(printer, sink, control, &LogId::Host(HostId(host)));
@@ -51,7 +51,7 @@ fn put_host_records<K: Sink>(printer: &mut Printer, sink: &mut K, control: &Cont
 /// Puts all records that are left: those of the hosts' logs, then those of the Fabric Manager's.
 #[tactic(auto, using(crate::proofs::Parts::prints_then), unfolding(crate::specs::Texts::all_records))]
 pub fn put_records<K: Sink>(printer: &mut Printer, sink: &mut K, control: &Control)
-    ensures { Prints (K.taken sink.old) (K.faults sink.old) printer.old (K.taken sink.new) (K.faults sink.new) printer.new (all_records control.now.config (effects control.now.entries)) }
+    ensures { Puts K.taken K.faults sink.old printer.old sink.new printer.new (all_records control.now.config (effects control.now.entries)) }
 {
     put_host_records(printer, sink, control);
     put_log_records(printer, sink, control, &LogId::Manager);
@@ -61,7 +61,7 @@ pub fn put_records<K: Sink>(printer: &mut Printer, sink: &mut K, control: &Contr
 #[tactic(auto, using(crate::proofs::Parts::prints_then), unfolding(crate::specs::Texts::host_line))]
 fn put_host_line<K: Sink>(printer: &mut Printer, sink: &mut K, control: &Control, host: HostId)
     requires { host < control.now.config.hosts }
-    ensures { Prints (K.taken sink.old) (K.faults sink.old) printer.old (K.taken sink.new) (K.faults sink.new) printer.new (host_line control.now.config (effects control.now.entries) host) }
+    ensures { Puts K.taken K.faults sink.old printer.old sink.new printer.new (host_line control.now.config (effects control.now.entries) host) }
 {
     printer.put(sink, b"host");
     printer.put_host(sink, host);
@@ -74,7 +74,7 @@ fn put_host_line<K: Sink>(printer: &mut Printer, sink: &mut K, control: &Control
 /// Puts a line for each host.
 #[tactic(auto, using(crate::proofs::Parts::prints_nothing, crate::proofs::Parts::prints_each), unfolding(crate::specs::Texts::host_lines))]
 fn put_host_lines<K: Sink>(printer: &mut Printer, sink: &mut K, control: &Control)
-    ensures { Prints (K.taken sink.old) (K.faults sink.old) printer.old (K.taken sink.new) (K.faults sink.new) printer.new (host_lines control.now.config (effects control.now.entries)) }
+    ensures { Puts K.taken K.faults sink.old printer.old sink.new printer.new (host_lines control.now.config (effects control.now.entries)) }
 {
     for host in 0..control.config().hosts() {
         put_host_line(printer, sink, control, HostId(host));
@@ -84,7 +84,7 @@ fn put_host_lines<K: Sink>(printer: &mut Printer, sink: &mut K, control: &Contro
 /// Puts the line of the Fabric Manager's log.
 #[tactic(auto, using(crate::proofs::Parts::prints_then), unfolding(crate::specs::Texts::manager_line))]
 fn put_manager_line<K: Sink>(printer: &mut Printer, sink: &mut K, control: &Control)
-    ensures { Prints (K.taken sink.old) (K.faults sink.old) printer.old (K.taken sink.new) (K.faults sink.new) printer.new (manager_line (effects control.now.entries)) }
+    ensures { Puts K.taken K.faults sink.old printer.old sink.new printer.new (manager_line (effects control.now.entries)) }
 {
     printer.put(sink, b"fm");
     printer.put_counted(sink, b"log", u64::from(control.records(LogId::Manager)));
@@ -95,7 +95,7 @@ fn put_manager_line<K: Sink>(printer: &mut Printer, sink: &mut K, control: &Cont
 /// Puts the line of the free and the dirty granules.
 #[tactic(auto, using(crate::proofs::Parts::prints_then), unfolding(crate::specs::Texts::granules_line))]
 fn put_granules_line<K: Sink>(printer: &mut Printer, sink: &mut K, control: &Control)
-    ensures { Prints (K.taken sink.old) (K.faults sink.old) printer.old (K.taken sink.new) (K.faults sink.new) printer.new (granules_line control.now.config (effects control.now.entries)) }
+    ensures { Puts K.taken K.faults sink.old printer.old sink.new printer.new (granules_line control.now.config (effects control.now.entries)) }
 {
     printer.put(sink, b"granules");
     printer.put_counted(sink, b"free", u64::from(control.free()));
@@ -106,7 +106,7 @@ fn put_granules_line<K: Sink>(printer: &mut Printer, sink: &mut K, control: &Con
 /// Puts the last line, with the number of entries.
 #[tactic(auto, using(crate::proofs::Parts::prints_then), unfolding(crate::specs::Texts::end_line))]
 fn put_end_line<K: Sink>(printer: &mut Printer, sink: &mut K, count: u64)
-    ensures { Prints (K.taken sink.old) (K.faults sink.old) printer.old (K.taken sink.new) (K.faults sink.new) printer.new (end_line count) }
+    ensures { Puts K.taken K.faults sink.old printer.old sink.new printer.new (end_line count) }
 {
     printer.put(sink, b"end");
     printer.put_count(sink, count);
@@ -117,7 +117,7 @@ fn put_end_line<K: Sink>(printer: &mut Printer, sink: &mut K, count: u64)
 #[tactic(auto, using(crate::proofs::Parts::prints_then), unfolding(crate::specs::Texts::state_lines))]
 pub fn put_state<K: Sink>(printer: &mut Printer, sink: &mut K, control: &Control, journal: &[Entry])
     requires { effects control.now.entries ≡ effects journal.now }
-    ensures { Prints (K.taken sink.old) (K.faults sink.old) printer.old (K.taken sink.new) (K.faults sink.new) printer.new (state_lines control.now.config journal.now) }
+    ensures { Puts K.taken K.faults sink.old printer.old sink.new printer.new (state_lines control.now.config journal.now) }
 {
     put_host_lines(printer, sink, control);
     put_manager_line(printer, sink, control);

@@ -1,6 +1,6 @@
 //! Words of a line: names and numbers.
 
-ghost use Rattle.report.specs.Printing.{Prints};
+ghost use Rattle.report.specs.Printing.{Puts};
 ghost use Rattle.report.specs.Texts.{actor_name, host_name, log_name, next_word};
 ghost use Rattle.std.specs.Prelude.{◌<◌, ◌≤◌, ◌++◌, [], ◌∷◌, decimal};
 
@@ -12,7 +12,7 @@ impl Printer {
     /// Puts a space and a word.
     #[tactic(auto, using(crate::proofs::Parts::prints_then))]
     pub fn put_word<K: Sink>(&mut self, sink: &mut K, word: &[u8])
-        ensures { Prints (K.taken sink.old) (K.faults sink.old) self.old (K.taken sink.new) (K.faults sink.new) self.new (next_word word.now) }
+        ensures { Puts K.taken K.faults sink.old self.old sink.new self.new (next_word word.now) }
     {
         self.put_byte(sink, b' ');
         self.put(sink, word);
@@ -21,7 +21,7 @@ impl Printer {
     /// Puts a space and a number.
     #[tactic(auto, using(crate::proofs::Parts::prints_then))]
     pub fn put_count<K: Sink>(&mut self, sink: &mut K, count: u64)
-        ensures { Prints (K.taken sink.old) (K.faults sink.old) self.old (K.taken sink.new) (K.faults sink.new) self.new (next_word (decimal count)) }
+        ensures { Puts K.taken K.faults sink.old self.old sink.new self.new (next_word (decimal count)) }
     {
         self.put_byte(sink, b' ');
         self.put_number(sink, count);
@@ -30,7 +30,7 @@ impl Printer {
     /// Puts two numbers with a space between. The digits of two that are equal are made once.
     #[tactic(auto, using(crate::proofs::Parts::prints_then))]
     pub fn put_numbers<K: Sink>(&mut self, sink: &mut K, first: u64, second: u64)
-        ensures { Prints (K.taken sink.old) (K.faults sink.old) self.old (K.taken sink.new) (K.faults sink.new) self.new (decimal first ++ next_word (decimal second)) }
+        ensures { Puts K.taken K.faults sink.old self.old sink.new self.new (decimal first ++ next_word (decimal second)) }
     {
         if first == second {
             self.put_twice(sink, first);
@@ -43,7 +43,7 @@ impl Printer {
     /// Puts a number twice, with a space between.
     #[tactic(auto, using(crate::proofs::Parts::prints_then))]
     fn put_twice<K: Sink>(&mut self, sink: &mut K, number: u64)
-        ensures { Prints (K.taken sink.old) (K.faults sink.old) self.old (K.taken sink.new) (K.faults sink.new) self.new (decimal number ++ next_word (decimal number)) }
+        ensures { Puts K.taken K.faults sink.old self.old sink.new self.new (decimal number ++ next_word (decimal number)) }
     {
         let mut buffer = Buffer::new();
         let digits = buffer.format(number).as_bytes();
@@ -54,7 +54,7 @@ impl Printer {
     /// Puts what is counted and the count, each behind a space.
     #[tactic(auto, using(crate::proofs::Parts::prints_then))]
     pub fn put_counted<K: Sink>(&mut self, sink: &mut K, what: &[u8], count: u64)
-        ensures { Prints (K.taken sink.old) (K.faults sink.old) self.old (K.taken sink.new) (K.faults sink.new) self.new (next_word what.now ++ next_word (decimal count)) }
+        ensures { Puts K.taken K.faults sink.old self.old sink.new self.new (next_word what.now ++ next_word (decimal count)) }
     {
         self.put_word(sink, what);
         self.put_count(sink, count);
@@ -62,7 +62,7 @@ impl Printer {
 
     /// Puts a space and the name of a host. Those that a device can have are put at once.
     pub fn put_host<K: Sink>(&mut self, sink: &mut K, host: HostId)
-        ensures { Prints (K.taken sink.old) (K.faults sink.old) self.old (K.taken sink.new) (K.faults sink.new) self.new (next_word (host_name host)) }
+        ensures { Puts K.taken K.faults sink.old self.old sink.new self.new (next_word (host_name host)) }
     {
         match host.0 {
             0..10 => self.put_short_host(sink, host.0),
@@ -74,7 +74,7 @@ impl Printer {
     /// Puts a space and the name of a host whose number has one digit.
     fn put_short_host<K: Sink>(&mut self, sink: &mut K, host: u8)
         requires { host < 10 }
-        ensures { Prints (K.taken sink.old) (K.faults sink.old) self.old (K.taken sink.new) (K.faults sink.new) self.new (next_word (host_name host)) }
+        ensures { Puts K.taken K.faults sink.old self.old sink.new self.new (next_word (host_name host)) }
     {
         self.put(sink, &[b' ', b'h', b'0' + host]);
     }
@@ -83,7 +83,7 @@ impl Printer {
     fn put_long_host<K: Sink>(&mut self, sink: &mut K, host: u8)
         requires least { 10 ≤ host }
         requires most { host < 100 }
-        ensures { Prints (K.taken sink.old) (K.faults sink.old) self.old (K.taken sink.new) (K.faults sink.new) self.new (next_word (host_name host)) }
+        ensures { Puts K.taken K.faults sink.old self.old sink.new self.new (next_word (host_name host)) }
     {
         self.put(sink, &[b' ', b'h', b'0' + host / 10, b'0' + host % 10]);
     }
@@ -93,7 +93,7 @@ impl Printer {
     #[inline(never)]
     #[tactic(auto, using(crate::proofs::Parts::prints_then))]
     fn put_any_host<K: Sink>(&mut self, sink: &mut K, host: u8)
-        ensures { Prints (K.taken sink.old) (K.faults sink.old) self.old (K.taken sink.new) (K.faults sink.new) self.new (next_word (host_name host)) }
+        ensures { Puts K.taken K.faults sink.old self.old sink.new self.new (next_word (host_name host)) }
     {
         self.put_word(sink, b"h");
         self.put_number(sink, u64::from(host));
@@ -101,7 +101,7 @@ impl Printer {
 
     /// Puts a space and the name of an actor.
     pub fn put_actor<K: Sink>(&mut self, sink: &mut K, actor: Actor)
-        ensures { Prints (K.taken sink.old) (K.faults sink.old) self.old (K.taken sink.new) (K.faults sink.new) self.new (next_word (actor_name actor)) }
+        ensures { Puts K.taken K.faults sink.old self.old sink.new self.new (next_word (actor_name actor)) }
     {
         match actor {
             Actor::Host(host) => self.put_host(sink, host),
@@ -112,7 +112,7 @@ impl Printer {
 
     /// Puts a space and the name of a log.
     pub fn put_log<K: Sink>(&mut self, sink: &mut K, log: &LogId)
-        ensures { Prints (K.taken sink.old) (K.faults sink.old) self.old (K.taken sink.new) (K.faults sink.new) self.new (next_word (log_name log.now)) }
+        ensures { Puts K.taken K.faults sink.old self.old sink.new self.new (next_word (log_name log.now)) }
     {
         match log {
             LogId::Host(host) => self.put_host(sink, *host),
@@ -122,7 +122,7 @@ impl Printer {
 
     /// Ends the line.
     pub fn end_line<K: Sink>(&mut self, sink: &mut K)
-        ensures { Prints (K.taken sink.old) (K.faults sink.old) self.old (K.taken sink.new) (K.faults sink.new) self.new (10 ∷ []) }
+        ensures { Puts K.taken K.faults sink.old self.old sink.new self.new (10 ∷ []) }
     {
         self.put_byte(sink, b'\n');
     }

@@ -5,9 +5,9 @@ use lib.ListN.{get_elem?}
 use Rattle.atomic_table.proofs.Lists.{at_map}
 use Rattle.journal_core.specs.declared.entries.Entry.{Entry}
 use Rattle.ruled_cells.specs.declared.about.About.{About}
-use Rattle.ruled_cells.specs.declared.about.View.{View}
-use Rattle.ruled_cells.specs.declared.kept.Kept.{Kept}
-use Rattle.ruled_cells.specs.declared.kept.Kept.TheVariants.{First, Rest}
+use Rattle.ruled_cells.specs.declared.about.SeatView.{SeatView}
+use Rattle.ruled_cells.specs.declared.cell_value.CellValue.{CellValue}
+use Rattle.ruled_cells.specs.declared.cell_value.CellValue.TheVariants.{First, Rest}
 use Rattle.ruled_cells.specs.Stamps.{IsControlLog, after, pending}
 use Rattle.ruled_cells.specs.Ruling.{Names, Ruled}
 use Rattle.ruled_cells.specs.Booking.{Fits, Whole}
@@ -15,12 +15,12 @@ use Rattle.ruled_cells.specs.Telling.{values}
 use Rattle.ruled_cells.specs.Resting.{IsAtRest, Accounts}
 use Rattle.ruled_cells.proofs.Places.{at_same}
 
-module _ {F S : Type 0} (w : Names F S) (about : About) (first : F) (row : List S) (words : List ℕ) (views : List View) (h : Whole w about words (values first row) views) (free : get_or words 0 0 ≡ 0) where
+module _ {F S : Type 0} (w : Names F S) (about : About) (first : F) (row : List S) (words : List ℕ) (views : List SeatView) (h : Whole w about words (values first row) views) (free : get_or words 0 0 ≡ 0) where
   r : Ruled w about h.log words (values first row) views
   r = h.ruled
 
   same : r.first ≡ first
-  same = let e : ◌≡◌ {A = Kept F S} (First r.first) (First first) = at_same (values first row) 0 (First r.first) (First first) r.chief refl in cc
+  same = let e : ◌≡◌ {A = CellValue F S} (First r.first) (First first) = at_same (values first row) 0 (First r.first) (First first) r.chief refl in cc
 
   log_is : h.log ≡ w.journal first
   log_is = r.log_is ∙ (ap (after (w.journal r.first)) (r.at_rest free) ∙ ap w.journal same)
@@ -31,7 +31,7 @@ module _ {F S : Type 0} (w : Names F S) (about : About) (first : F) (row : List 
     sound = subst w.sound same r.sound;
     control = subst IsControlLog log_is r.control;
     actors = subst (λ (l : List Entry). (k : ℕ) (e : Entry) → get_elem? l k ≡ some e → get_elem? about.actors e.pass ≡ some e.actor) log_is r.actors;
-    shard = λ i x e. let o = r.shard (suc i) x (at_map {B = Kept F S} (λ (y : S). Rest y) row i x e) in record {
+    shard = λ i x e. let o = r.shard (suc i) x (at_map {B = CellValue F S} (λ (y : S). Rest y) row i x e) in record {
       config_is = o.config_is;
       own = o.own;
       rise = o.rise;
@@ -44,10 +44,10 @@ module _ {F S : Type 0} (w : Names F S) (about : About) (first : F) (row : List 
   fits_is : (j : ℕ) (calls : List Entry) → Fits w h.log (values first row) j calls → Fits w (w.journal first) (values first row) j calls
   fits_is j calls f = subst (λ (l : List Entry). Fits w l (values first row) j calls) log_is f
 
-  pub accounts_own : (id : ℕ) (v : View) → get_elem? views id ≡ some v → v.spent ≡ false → Accounts w first row id v.calls
+  pub accounts_own : (id : ℕ) (v : SeatView) → get_elem? views id ≡ some v → v.spent ≡ false → Accounts w first row id v.calls
   accounts_own id v at used = let b = h.books.each id v at used in record { fits = fits_is id v.calls b.fits; rising = (v.seen, b.rising) }
 
-  pub accounts_kept : (id : ℕ) (v : View) → get_elem? views id ≡ some v → v.spent ≡ false → (k i : ℕ) (calls : List Entry) → get_elem? v.kept k ≡ some (i, calls) → Accounts w first row i calls
+  pub accounts_kept : (id : ℕ) (v : SeatView) → get_elem? views id ≡ some v → v.spent ≡ false → (k i : ℕ) (calls : List Entry) → get_elem? v.kept k ≡ some (i, calls) → Accounts w first row i calls
   accounts_kept id v at used k i calls e = let b = (h.books.each id v at used).kept k i calls e in record { fits = fits_is i calls b.fits; rising = b.rising }
 
   pub no_others : (seats : ℕ) → length views ≤ seats → (j : ℕ) → seats ≤ j → Fits w (w.journal first) (values first row) j []

@@ -7,8 +7,8 @@ use native.Mathlib.Decide.{ℕ_discrete}
 use lib.ListN.{get_elem?}
 use Rattle.dcd_base.specs.declared.steps.Stamp.{Stamp}
 use Rattle.journal_core.specs.declared.entries.Entry.{Entry}
-use Rattle.ruled_cells.specs.declared.about.View.{View}
-use Rattle.ruled_cells.specs.declared.kept.Kept.{Kept}
+use Rattle.ruled_cells.specs.declared.about.SeatView.{SeatView}
+use Rattle.ruled_cells.specs.declared.cell_value.CellValue.{CellValue}
 use Rattle.ruled_cells.specs.Stamps.{Below}
 use Rattle.ruled_cells.specs.Ruling.{Names}
 use Rattle.ruled_cells.specs.Booking.{own, one, total, Fits, Rising, IsKept, IsBooked, Books}
@@ -40,7 +40,7 @@ rising_none seen = record { rise = λ i k e f lt p q. absurd (let b = at_below [
 
 module _ {F S : Type 0} (w : Names F S) where
   abbrev Vals : Type 0
-  Vals = List (Kept F S)
+  Vals = List (CellValue F S)
 
   fits_keeps : (log log' : List Entry) (vals vals' : Vals) (j : ℕ) (calls : List Entry) → Keeps w log vals log' vals' → Fits w log vals j calls → Fits w log' vals' j calls
   fits_keeps log log' vals vals' j calls k f h = f h ∙ sym (k (own j h))
@@ -51,9 +51,9 @@ module _ {F S : Type 0} (w : Names F S) where
   fits_gains : (log log' : List Entry) (vals vals' : Vals) (j : ℕ) (calls : List Entry) (e : Entry) → Gains w e log vals log' vals' → e.pass ≡ j → Fits w log vals j calls → Fits w log' vals' j (calls ++ e ∷ [])
   fits_gains log log' vals vals' j calls e g is f h = let a = f h in let b = g (own j h) in let c = own-same j h e is in let d = weigh-push h calls e in omega (arith, a, b, c, d)
 
-  module _ (log : List Entry) (vals : Vals) (views : List View) (b : Books w log vals views) where
+  module _ (log : List Entry) (vals : Vals) (views : List SeatView) (b : Books w log vals views) where
     -- no entry is added, and a seat's view changes in nothing that the books name
-    pub books_keep : (log' : List Entry) (vals' : Vals) → Keeps w log vals log' vals' → (id : ℕ) (v v' : View) → get_elem? views id ≡ some v → v.spent ≡ false → v'.calls ≡ v.calls → v'.seen ≡ v.seen → v'.kept ≡ v.kept → v'.spent ≡ v.spent → Books w log' vals' (set views id v')
+    pub books_keep : (log' : List Entry) (vals' : Vals) → Keeps w log vals log' vals' → (id : ℕ) (v v' : SeatView) → get_elem? views id ≡ some v → v.spent ≡ false → v'.calls ≡ v.calls → v'.seen ≡ v.seen → v'.kept ≡ v.kept → v'.spent ≡ v.spent → Books w log' vals' (set views id v')
     books_keep log' vals' k id v v' at used calls seen kept spent =
         let long : length (set views id v') ≡ length views = length-set views id v' in
         let moved : (i : ℕ) (cs : List Entry) → IsKept w log vals views i cs → IsKept w log' vals' (set views id v') i cs = λ i cs o. record {
@@ -62,7 +62,7 @@ module _ {F S : Type 0} (w : Names F S) where
           gone = λ u h. each_set (λ j y. j ≡ i → y.spent ≡ true) views id v' (λ q. spent ∙ o.gone v (ap (get_elem? views) (sym q) ∙ at)) (λ j y ne f q. o.gone y (ap (get_elem? views) (sym q) ∙ f)) i u h refl;
           below = let c = o.below in omega (arith, long, c);
         } in
-        let as_before : (j : ℕ) (y : View) → IsBooked w log vals views j y → IsBooked w log' vals' (set views id v') j y = λ j y o. record {
+        let as_before : (j : ℕ) (y : SeatView) → IsBooked w log vals views j y → IsBooked w log' vals' (set views id v') j y = λ j y o. record {
           fits = fits_keeps log log' vals vals' j y.calls k o.fits;
           rising = o.rising;
           kept = λ c i cs h. moved i cs (o.kept c i cs h);
@@ -79,7 +79,7 @@ module _ {F S : Type 0} (w : Names F S) where
         }
 
     -- an entry of the seat id is added
-    pub books_gain : (log' : List Entry) (vals' : Vals) (e : Entry) → Gains w e log vals log' vals' → (id : ℕ) (v v' : View) → get_elem? views id ≡ some v → v.spent ≡ false → e.pass ≡ id → Below v.seen e.stamp → length v.calls < 2 ^ 32
+    pub books_gain : (log' : List Entry) (vals' : Vals) (e : Entry) → Gains w e log vals log' vals' → (id : ℕ) (v v' : SeatView) → get_elem? views id ≡ some v → v.spent ≡ false → e.pass ≡ id → Below v.seen e.stamp → length v.calls < 2 ^ 32
         → v'.calls ≡ v.calls ++ e ∷ [] → v'.seen ≡ e.stamp → v'.kept ≡ v.kept → v'.spent ≡ false → Books w log' vals' (set views id v')
     books_gain log' vals' e g id v v' at used pass above room calls seen kept spent =
         let long : length (set views id v') ≡ length views = length-set views id v' in
@@ -107,9 +107,9 @@ module _ {F S : Type 0} (w : Names F S) where
         }
 
     -- a seat is made
-    pub books_admit : (v : View) → Books w log vals (views ++ next_view (length views) v ∷ [])
+    pub books_admit : (v : SeatView) → Books w log vals (views ++ next_view (length views) v ∷ [])
     books_admit v =
-        let u : View = next_view (length views) v in
+        let u : SeatView = next_view (length views) v in
         let long : length (views ++ u ∷ []) ≡ length views + 1 = length_push views u in
         let moved : (i : ℕ) (cs : List Entry) → IsKept w log vals views i cs → IsKept w log vals (views ++ u ∷ []) i cs = λ i cs o. record {
           fits = o.fits;
@@ -118,7 +118,7 @@ module _ {F S : Type 0} (w : Names F S) where
           below = let c = o.below in omega (arith, long, c);
         } in record {
           each = λ j y h q. ⊎_elim (λ (p : get_elem? views j ≡ some y). let o = b.each j y p q in record { fits = o.fits; rising = o.rising; kept = λ c i cs f. moved i cs (o.kept c i cs f) })
-              (λ (p : (u ≡ y) × (j ≡ length views)). subst (λ (z : ℕ × View). IsBooked w log vals (views ++ u ∷ []) z.0 z.1) (λ i. (sym p.1 i, p.0 i))
+              (λ (p : (u ≡ y) × (j ≡ length views)). subst (λ (z : ℕ × SeatView). IsBooked w log vals (views ++ u ∷ []) z.0 z.1) (λ i. (sym p.1 i, p.0 i))
               record { fits = b.later (length views) (omega arith); rising = rising_none u.seen; kept = λ c i cs f. absurd (let z = at_below [] c (i, cs) f in omega (arith, z)) })
               (at_push views u y j h);
           later = λ j le. b.later j (omega (arith, long, le));
@@ -126,15 +126,15 @@ module _ {F S : Type 0} (w : Names F S) where
         }
 
     -- a seat is taken in
-    pub books_merge : (id other : ℕ) (v u : View) → get_elem? views id ≡ some v → other ≢ id → get_elem? views other ≡ some u → v.spent ≡ false → u.spent ≡ false → u.number ≡ other → Books w log vals (set (set views id (joint_view v u)) other spent_view)
+    pub books_merge : (id other : ℕ) (v u : SeatView) → get_elem? views id ≡ some v → other ≢ id → get_elem? views other ≡ some u → v.spent ≡ false → u.spent ≡ false → u.number ≡ other → Books w log vals (set (set views id (joint_view v u)) other spent_view)
     books_merge id other v u at ne at' used used' named =
-        let both : View = joint_view v u in
-        let fewer : List View = set (set views id both) other spent_view in
+        let both : SeatView = joint_view v u in
+        let fewer : List SeatView = set (set views id both) other spent_view in
         let long : length fewer ≡ length views = length-set (set views id both) other spent_view ∙ length-set views id both in
         let moved : (i : ℕ) (cs : List Entry) → IsKept w log vals views i cs → IsKept w log vals fewer i cs = λ i cs o. record {
           fits = o.fits;
           rising = o.rising;
-          gone = λ y h. let P : ℕ → View → Type 0 = λ j z. j ≡ i → z.spent ≡ true in
+          gone = λ y h. let P : ℕ → SeatView → Type 0 = λ j z. j ≡ i → z.spent ≡ true in
               each_set P (set views id both) other spent_view (λ _. refl) (λ j z _ f. each_set P views id both (λ q. o.gone v (ap (get_elem? views) (sym q) ∙ at)) (λ j z _ f q. o.gone z (ap (get_elem? views) (sym q) ∙ f)) j z f) i y h refl;
           below = let c = o.below in omega (arith, long, c);
         } in
@@ -146,8 +146,8 @@ module _ {F S : Type 0} (w : Names F S) where
           gone = λ y h. each_set (λ j z. j ≡ other → z.spent ≡ true) (set views id both) other spent_view (λ _. refl) (λ j z away f q. absurd (away q)) u.number y h named;
           below = let c = at_below views other u at' in omega (arith, long, c, named);
         } in
-        let P : ℕ → View → Type 0 = λ j y. y.spent ≡ false → IsBooked w log vals fewer j y in
-        let as_before : (j : ℕ) (y : View) → get_elem? views j ≡ some y → P j y = λ j y f q. let o = b.each j y f q in record { fits = o.fits; rising = o.rising; kept = λ c i cs h. moved i cs (o.kept c i cs h) } in record {
+        let P : ℕ → SeatView → Type 0 = λ j y. y.spent ≡ false → IsBooked w log vals fewer j y in
+        let as_before : (j : ℕ) (y : SeatView) → get_elem? views j ≡ some y → P j y = λ j y f q. let o = b.each j y f q in record { fits = o.fits; rising = o.rising; kept = λ c i cs h. moved i cs (o.kept c i cs h) } in record {
           each = each_set P (set views id both) other spent_view (λ q. absurd (let z : true ≡ false = q in (cc)))
               (λ j y _ f. each_set P views id both
               (λ _. record {

@@ -8,12 +8,12 @@ use lib.ListN.{get_elem?, length-map}
 use Rattle.atomic_table.proofs.Lists.{at_longer, at_last}
 use Rattle.journal_core.specs.declared.entries.Entry.{Entry}
 use Rattle.ruled_cells.specs.declared.about.About.{About}
-use Rattle.ruled_cells.specs.declared.about.View.{View}
-use Rattle.ruled_cells.specs.declared.kept.Kept.{Kept}
-use Rattle.ruled_cells.specs.declared.kept.Kept.TheVariants.{First, Rest}
+use Rattle.ruled_cells.specs.declared.about.SeatView.{SeatView}
+use Rattle.ruled_cells.specs.declared.cell_value.CellValue.{CellValue}
+use Rattle.ruled_cells.specs.declared.cell_value.CellValue.TheVariants.{First, Rest}
 use Rattle.ruled_cells.specs.declared.seat.Seat.{Seat}
 use Rattle.ruled_cells.specs.declared.cells.Cells.{Cells}
-use Rattle.ruled_cells.specs.Turning.{NoTurn, Sat, IsIn, Settled, joint}
+use Rattle.ruled_cells.specs.Turning.{NoTurn, Seated, IsIn, Settled, joint}
 use Rattle.ruled_cells.specs.Ruling.{Names}
 use Rattle.ruled_cells.specs.Booking.{Fits, Whole}
 use Rattle.ruled_cells.specs.Telling.{joint_view, values}
@@ -41,11 +41,11 @@ pub left_next : (filled : List Bool) (i len : ℕ) → ((k : ℕ) → i < k → 
 left_next filled i len left k lt up = get_or-set_other filled (i + 1) k false false (λ q. omega (arith, q, lt)) ∙ left k (omega (arith, lt)) up
 
 -- all but the first are of the row
-row_of_list : {F S : Type 0} (vals : List (Kept F S)) → ((k : ℕ) (x : Kept F S) → get_elem? vals k ≡ some x → (s : S) × (x ≡ Rest s)) → (row : List S) × (vals ≡ map (λ y. Rest y) row)
+row_of_list : {F S : Type 0} (vals : List (CellValue F S)) → ((k : ℕ) (x : CellValue F S) → get_elem? vals k ≡ some x → (s : S) × (x ≡ Rest s)) → (row : List S) × (vals ≡ map (λ y. Rest y) row)
 row_of_list [] all = ([], refl)
 row_of_list (x ∷ xs) all = let o = all 0 x refl in let r = row_of_list xs (λ k y e. all (suc k) y e) in (o.0 ∷ r.0, λ i. o.1 i ∷ r.1 i)
 
-row_of_vals : {F S : Type 0} (vals : List (Kept F S)) (first : F) → get_elem? vals 0 ≡ some (First first) → ((k : ℕ) (x : Kept F S) → 0 < k → get_elem? vals k ≡ some x → (s : S) × (x ≡ Rest s)) → (row : List S) × (vals ≡ values first row)
+row_of_vals : {F S : Type 0} (vals : List (CellValue F S)) (first : F) → get_elem? vals 0 ≡ some (First first) → ((k : ℕ) (x : CellValue F S) → 0 < k → get_elem? vals k ≡ some x → (s : S) × (x ≡ Rest s)) → (row : List S) × (vals ≡ values first row)
 row_of_vals [] first chief rest = absurd (some-ne-none (First first) (sym chief))
 row_of_vals (x ∷ xs) first chief rest = let r = row_of_list xs (λ k y e. rest (suc k) y (omega arith) e) in (r.0, λ i. some-injective x (First first) chief i ∷ r.1 i)
 
@@ -67,20 +67,20 @@ module _ {F S : Type 0} where
   pub gathered_itself : (m s : Seat F S) → m ≡ s → IsGathered m.token.me (number_of s) (view_of s)
   gathered_itself m s e = subst (λ (z : Seat F S). IsGathered m.token.me (number_of z) (view_of z)) e (inl (m.resting.0, refl, refl))
 
-  pub gathered_more : (m e n : Sat (Kept F S) View) (number : ℕ) (v : View) → n ≡ (joint joint_view m.0 e.0, m.1) → IsGathered m number v → IsGathered n number v
-  gathered_more m e n number v is g = subst (λ (z : Sat (Kept F S) View). IsGathered z number v) (sym is) (⊎_elim (λ (p : (m.0.number ≡ number) × (m.0.client.number ≡ v.number) × (m.0.client.calls ≡ v.calls)). inl p)
+  pub gathered_more : (m e n : Seated (CellValue F S) SeatView) (number : ℕ) (v : SeatView) → n ≡ (joint joint_view m.0 e.0, m.1) → IsGathered m number v → IsGathered n number v
+  gathered_more m e n number v is g = subst (λ (z : Seated (CellValue F S) SeatView). IsGathered z number v) (sym is) (⊎_elim (λ (p : (m.0.number ≡ number) × (m.0.client.number ≡ v.number) × (m.0.client.calls ≡ v.calls)). inl p)
       (λ (p : IsIn number m.0.joined × ((k : ℕ) × (get_elem? m.0.client.kept k ≡ some (v.number, v.calls)))). inr ((suc p.0.0, p.0.1), (suc p.1.0, at_longer m.0.client.kept e.0.client.kept p.1.0 (v.number, v.calls) p.1.1))) g)
 
-  pub gathered_other : (m n : Sat (Kept F S) View) (s : Seat F S) → n ≡ (joint joint_view m.0 s.token.me.0, m.1) → IsGathered n (number_of s) (view_of s)
-  gathered_other m n s is = subst (λ (z : Sat (Kept F S) View). IsGathered z (number_of s) (view_of s)) (sym is) (inr ((0, ap (λ (k : ℕ). some k) s.resting.0), (0, refl)))
+  pub gathered_other : (m n : Seated (CellValue F S) SeatView) (s : Seat F S) → n ≡ (joint joint_view m.0 s.token.me.0, m.1) → IsGathered n (number_of s) (view_of s)
+  gathered_other m n s is = subst (λ (z : Seated (CellValue F S) SeatView). IsGathered z (number_of s) (view_of s)) (sym is) (inr ((0, ap (λ (k : ℕ). some k) s.resting.0), (0, refl)))
 
   pub still_of : (cells : Cells F S) (s t : Seat F S) → IsSameSeat s t → IsOf cells s → IsOf cells t
   still_of cells s t same of = record { place = same.place ∙ of.place; among = same.among ∙ of.among }
 
-  pub still_none : (m e n : Sat (Kept F S) View) → n ≡ (joint joint_view m.0 e.0, m.1) → ((k : ℕ) → NoTurn m.0.taken k) → (k : ℕ) → NoTurn n.0.taken k
-  still_none m e n is bare = subst (λ (z : Sat (Kept F S) View). (k : ℕ) → NoTurn z.0.taken k) (sym is) bare
+  pub still_none : (m e n : Seated (CellValue F S) SeatView) → n ≡ (joint joint_view m.0 e.0, m.1) → ((k : ℕ) → NoTurn m.0.taken k) → (k : ℕ) → NoTurn n.0.taken k
+  still_none m e n is bare = subst (λ (z : Seated (CellValue F S) SeatView). (k : ℕ) → NoTurn z.0.taken k) (sym is) bare
 
-  pub each_gathered : (all seats front : List (Seat F S)) (other : Seat F S) (m n : Sat (Kept F S) View) → seats ≡ front ++ other ∷ [] → ((k : ℕ) (s : Seat F S) → get_elem? seats k ≡ some s → get_elem? all k ≡ some s)
+  pub each_gathered : (all seats front : List (Seat F S)) (other : Seat F S) (m n : Seated (CellValue F S) SeatView) → seats ≡ front ++ other ∷ [] → ((k : ℕ) (s : Seat F S) → get_elem? seats k ≡ some s → get_elem? all k ≡ some s)
       → ((k : ℕ) (s : Seat F S) → get_elem? all k ≡ some s → (k < length seats) ⊎ IsGathered m (number_of s) (view_of s)) → n ≡ (joint joint_view m.0 other.token.me.0, m.1)
       → (k : ℕ) (s : Seat F S) → get_elem? all k ≡ some s → (k < length front) ⊎ IsGathered n (number_of s) (view_of s)
   each_gathered all seats front other m n is prefix each joins k s at = ⊎_elim
@@ -98,50 +98,50 @@ module _ {F S : Type 0} where
 
   -- ---- slots
 
-  pub no_empty : (slots : List (Option (Kept F S))) (vals : List (Kept F S)) (k : ℕ) → slots ≡ map (λ x. Some x) vals → get_elem? slots k ≡ some None → ⊥
-  no_empty slots vals k is e = let o = map_at (λ (x : Kept F S). Some x) vals k None (ap (λ (l : List (Option (Kept F S))). get_elem? l k) (sym is) ∙ e) in let r = o.2 in (let q : ⊥ = cc in q)
+  pub no_empty : (slots : List (Option (CellValue F S))) (vals : List (CellValue F S)) (k : ℕ) → slots ≡ map (λ x. Some x) vals → get_elem? slots k ≡ some None → ⊥
+  no_empty slots vals k is e = let o = map_at (λ (x : CellValue F S). Some x) vals k None (ap (λ (l : List (Option (CellValue F S))). get_elem? l k) (sym is) ∙ e) in let r = o.2 in (let q : ⊥ = cc in q)
 
-  val_at : (slots : List (Option (Kept F S))) (vals : List (Kept F S)) (k : ℕ) (x : Kept F S) → slots ≡ map (λ x. Some x) vals → get_elem? slots k ≡ some (Some x) → get_elem? vals k ≡ some x
-  val_at slots vals k x is e = let o = map_at (λ (x : Kept F S). Some x) vals k (Some x) (ap (λ (l : List (Option (Kept F S))). get_elem? l k) (sym is) ∙ e) in let q : o.0 ≡ x = (let r = o.2 in cc) in o.1 ∙ ap some q
+  val_at : (slots : List (Option (CellValue F S))) (vals : List (CellValue F S)) (k : ℕ) (x : CellValue F S) → slots ≡ map (λ x. Some x) vals → get_elem? slots k ≡ some (Some x) → get_elem? vals k ≡ some x
+  val_at slots vals k x is e = let o = map_at (λ (x : CellValue F S). Some x) vals k (Some x) (ap (λ (l : List (Option (CellValue F S))). get_elem? l k) (sym is) ∙ e) in let q : o.0 ≡ x = (let r = o.2 in cc) in o.1 ∙ ap some q
 
   row_is_rest : (first : F) (rest : List S) (k : ℕ) (f : F) → 0 < k → get_elem? (values first rest) k ≡ some (First f) → ⊥
   row_is_rest first rest zero f lt e = absurd (omega (arith, lt))
-  row_is_rest first rest (suc k) f lt e = let o = map_at {B = Kept F S} (λ (y : S). Rest y) rest k (First f) e in let r = o.2 in (let q : ⊥ = cc in q)
+  row_is_rest first rest (suc k) f lt e = let o = map_at {B = CellValue F S} (λ (y : S). Rest y) rest k (First f) e in let r = o.2 in (let q : ⊥ = cc in q)
 
-  pub no_first_there : (slots : List (Option (Kept F S))) (first : F) (rest : List S) (k : ℕ) (x : Kept F S) (f : F) → slots ≡ map (λ x. Some x) (values first rest) → get_elem? slots (k + 1) ≡ some (Some x) → x ≡ First f → ⊥
+  pub no_first_there : (slots : List (Option (CellValue F S))) (first : F) (rest : List S) (k : ℕ) (x : CellValue F S) (f : F) → slots ≡ map (λ x. Some x) (values first rest) → get_elem? slots (k + 1) ≡ some (Some x) → x ≡ First f → ⊥
   no_first_there slots first rest k x f is e q = row_is_rest first rest (k + 1) f (omega arith) (val_at slots (values first rest) (k + 1) x is e ∙ ap some q)
 
-  there : (slots : List (Option (Kept F S))) (first : F) (row : List S) → get_elem? slots 0 ≡ some (Some (First first)) → ((k : ℕ) (x : S) → get_elem? row k ≡ some x → get_elem? slots (suc k) ≡ some (Some (Rest x))) → (k : ℕ) (x : Kept F S) → get_elem? (values first row) k ≡ some x → get_elem? slots k ≡ some (Some x)
-  there slots first row zeroth each zero x e = zeroth ∙ ap (λ (y : Kept F S). some (Some y)) (some-injective (First first) x e)
-  there slots first row zeroth each (suc k) x e = let o = map_at {B = Kept F S} (λ (y : S). Rest y) row k x e in each k o.0 o.1 ∙ ap (λ (y : Kept F S). some (Some y)) o.2
+  there : (slots : List (Option (CellValue F S))) (first : F) (row : List S) → get_elem? slots 0 ≡ some (Some (First first)) → ((k : ℕ) (x : S) → get_elem? row k ≡ some x → get_elem? slots (suc k) ≡ some (Some (Rest x))) → (k : ℕ) (x : CellValue F S) → get_elem? (values first row) k ≡ some x → get_elem? slots k ≡ some (Some x)
+  there slots first row zeroth each zero x e = zeroth ∙ ap (λ (y : CellValue F S). some (Some y)) (some-injective (First first) x e)
+  there slots first row zeroth each (suc k) x e = let o = map_at {B = CellValue F S} (λ (y : S). Rest y) row k x e in each k o.0 o.1 ∙ ap (λ (y : CellValue F S). some (Some y)) o.2
 
-  pub unpacked : (slots : List (Option (Kept F S))) (first : F) (row : List S) → length slots ≡ length row + 1 → get_elem? slots 0 ≡ some (Some (First first)) → ((k : ℕ) (x : S) → get_elem? row k ≡ some x → get_elem? slots (suc k) ≡ some (Some (Rest x))) → slots ≡ map (λ x. Some x) (values first row)
+  pub unpacked : (slots : List (Option (CellValue F S))) (first : F) (row : List S) → length slots ≡ length row + 1 → get_elem? slots 0 ≡ some (Some (First first)) → ((k : ℕ) (x : S) → get_elem? row k ≡ some x → get_elem? slots (suc k) ≡ some (Some (Rest x))) → slots ≡ map (λ x. Some x) (values first row)
   unpacked slots first row long zeroth each =
-      let l : length (map {B = Kept F S} (λ (y : S). Rest y) row) ≡ length row = length-map row (λ (y : S). Rest y) in
+      let l : length (map {B = CellValue F S} (λ (y : S). Rest y) row) ≡ length row = length-map row (λ (y : S). Rest y) in
       same_somes slots (values first row) (omega (arith, long, l)) (there slots first row zeroth each)
 
-  pub each_next : (slots : List (Option (Kept F S))) (row : List S) (x : S) (i : ℕ) → length row ≡ i → ((k : ℕ) (y : S) → get_elem? row k ≡ some y → get_elem? slots (suc k) ≡ some (Some (Rest y))) → get_elem? slots (i + 1) ≡ some (Some (Rest x))
+  pub each_next : (slots : List (Option (CellValue F S))) (row : List S) (x : S) (i : ℕ) → length row ≡ i → ((k : ℕ) (y : S) → get_elem? row k ≡ some y → get_elem? slots (suc k) ≡ some (Some (Rest y))) → get_elem? slots (i + 1) ≡ some (Some (Rest x))
       → (k : ℕ) (y : S) → get_elem? (row ++ x ∷ []) k ≡ some y → get_elem? slots (suc k) ≡ some (Some (Rest y))
   each_next slots row x i long each here k y e = ⊎_elim (λ (p : get_elem? row k ≡ some y). each k y p)
       (λ (p : (x ≡ y) × (k ≡ length row)). let q : suc k ≡ i + 1 = (let a = p.1 in omega (arith, a, long)) in ap (get_elem? slots) q ∙ (here ∙ ap (λ (z : S). some (Some (Rest z))) p.0)) (at_push row x y k e)
 
   -- ---- the end
 
-  same_vals : (vals vals' : List (Kept F S)) → map (λ (x : Kept F S). Some x) vals ≡ map (λ (x : Kept F S). Some x) vals' → vals ≡ vals'
+  same_vals : (vals vals' : List (CellValue F S)) → map (λ (x : CellValue F S). Some x) vals ≡ map (λ (x : CellValue F S). Some x) vals' → vals ≡ vals'
   same_vals [] [] e = refl
   same_vals [] (y ∷ ys) e = absurd (let q = ap length e in omega (arith, q))
   same_vals (x ∷ xs) [] e = absurd (let q = ap length e in omega (arith, q))
   same_vals (x ∷ xs) (y ∷ ys) e = let p : Some x ≡ Some y = some-injective (Some x) (Some y) (ap (λ l. get_elem? l 0) e) in let q : x ≡ y = cc in
       (λ i. q i ∷ same_vals xs ys (ap tail_of e) i)
 
-module _ {F S : Type 0} (w : Names F S) (about : About) (n among id : ℕ) (v : View) (words : List ℕ) (slots : List (Option (Kept F S))) (st : Settled (Whole w about) n among id v words slots) where
+module _ {F S : Type 0} (w : Names F S) (about : About) (n among id : ℕ) (v : SeatView) (words : List ℕ) (slots : List (Option (CellValue F S))) (st : Settled (Whole w about) n among id v words slots) where
   -- the values are those of a first cell and a row
   pub values_are : (first : F) × (row : List S) × (slots ≡ map (λ x. Some x) (values first row))
-  values_are = let o = row_of_vals st.vals st.rule.ruled.first st.rule.ruled.chief st.rule.ruled.rest in (st.rule.ruled.first, o.0, st.slots_are ∙ ap (map (λ (x : Kept F S). Some x)) o.1)
+  values_are = let o = row_of_vals st.vals st.rule.ruled.first st.rule.ruled.chief st.rule.ruled.rest in (st.rule.ruled.first, o.0, st.slots_are ∙ ap (map (λ (x : CellValue F S). Some x)) o.1)
 
   module _ (first : F) (row : List S) (is : slots ≡ map (λ x. Some x) (values first row)) where
     rule : Whole w about words (values first row) st.views
-    rule = subst (λ (vs : List (Kept F S)). Whole w about words vs st.views) (same_vals st.vals (values first row) (sym st.slots_are ∙ is)) st.rule
+    rule = subst (λ (vs : List (CellValue F S)). Whole w about words vs st.views) (same_vals st.vals (values first row) (sym st.slots_are ∙ is)) st.rule
 
     free : get_or words 0 0 ≡ 0
     free = let f = st.full in let b = at_below st.vals 0 (First st.rule.ruled.first) st.rule.ruled.chief in st.free 0 (omega (arith, f, b))
@@ -149,13 +149,13 @@ module _ {F S : Type 0} (w : Names F S) (about : About) (n among id : ℕ) (v : 
     pub closed_rests : IsAtRest w about first row
     closed_rests = rests w about first row words st.views rule free
 
-    pub closed_accounts : v.spent ≡ false → (m : Sat (Kept F S) View) → m.0.client ≡ v → (number : ℕ) (u : View) → IsGathered m number u → Accounts w first row u.number u.calls
+    pub closed_accounts : v.spent ≡ false → (m : Seated (CellValue F S) SeatView) → m.0.client ≡ v → (number : ℕ) (u : SeatView) → IsGathered m number u → Accounts w first row u.number u.calls
     closed_accounts used m is number u g = ⊎_elim
         (λ (p : (m.0.number ≡ number) × (m.0.client.number ≡ u.number) × (m.0.client.calls ≡ u.calls)).
-        let named : id ≡ u.number = sym (rule.ruled.informed id v st.view used).2 ∙ (ap (λ (z : View). z.number) (sym is) ∙ p.1) in
-        subst (λ (z : ℕ × List Entry). Accounts w first row z.0 z.1) (λ i. (named i, (ap (λ (z : View). z.calls) (sym is) ∙ p.2) i)) (accounts_own w about first row words st.views rule free id v st.view used))
+        let named : id ≡ u.number = sym (rule.ruled.informed id v st.view used).2 ∙ (ap (λ (z : SeatView). z.number) (sym is) ∙ p.1) in
+        subst (λ (z : ℕ × List Entry). Accounts w first row z.0 z.1) (λ i. (named i, (ap (λ (z : SeatView). z.calls) (sym is) ∙ p.2) i)) (accounts_own w about first row words st.views rule free id v st.view used))
         (λ (p : IsIn number m.0.joined × ((k : ℕ) × (get_elem? m.0.client.kept k ≡ some (u.number, u.calls)))).
-        accounts_kept w about first row words st.views rule free id v st.view used p.1.0 u.number u.calls (ap (λ (z : View). get_elem? z.kept p.1.0) (sym is) ∙ p.1.1)) g
+        accounts_kept w about first row words st.views rule free id v st.view used p.1.0 u.number u.calls (ap (λ (z : SeatView). get_elem? z.kept p.1.0) (sym is) ∙ p.1.1)) g
 
     pub closed_no_others : (seats : ℕ) → among ≡ seats → (j : ℕ) → seats ≤ j → Fits w (w.journal first) (values first row) j []
     closed_no_others seats is = no_others w about first row words st.views rule free seats (subst (λ (z : ℕ). length st.views ≤ z) is st.few)

@@ -6,9 +6,9 @@ use mathlib.Core.Option.{some}
 use native.Mathlib.Decide.{dec_lt}
 use lib.ListN.{get_elem?}
 use Rattle.journal_core.specs.declared.entries.Entry.{Entry}
-use Rattle.ruled_cells.specs.declared.about.View.{View}
-use Rattle.ruled_cells.specs.declared.kept.Kept.{Kept}
-use Rattle.ruled_cells.specs.declared.kept.Kept.TheVariants.{Rest}
+use Rattle.ruled_cells.specs.declared.about.SeatView.{SeatView}
+use Rattle.ruled_cells.specs.declared.cell_value.CellValue.{CellValue}
+use Rattle.ruled_cells.specs.declared.cell_value.CellValue.TheVariants.{Rest}
 use Rattle.ruled_cells.specs.Ruling.{Names}
 use Rattle.ruled_cells.specs.Booking.{weigh, own, one, weigh_all, entries_in, total, Books, Counted}
 use Rattle.ruled_cells.specs.Telling.{next_view, joint_view, spent_view}
@@ -41,7 +41,7 @@ none_from m (e ∷ es) none =
 
 module _ {F S : Type 0} (w : Names F S) where
   abbrev Vals : Type 0
-  Vals = List (Kept F S)
+  Vals = List (CellValue F S)
 
   zero_all : (h : Entry → ℕ) → ((e : Entry) → h e ≡ 0) → (vals : Vals) → weigh_all w h vals ≡ 0
   zero_all h z [] = refl
@@ -58,7 +58,7 @@ module _ {F S : Type 0} (w : Names F S) where
   few_below log vals few (suc m) = let a = total-add w (below m) (own m one) (below (suc m)) (split_more m) log vals in let b = few_below log vals few m in let c = few m in omega (arith, a, b, c)
 
   -- there are at most 2^32 entries for each seat
-  pub few_in_all : (log : List Entry) (vals : Vals) (views : List View) → Books w log vals views → length views < 2 ^ 32 → total w one log vals + 1 < 2 ^ 64
+  pub few_in_all : (log : List Entry) (vals : Vals) (views : List SeatView) → Books w log vals views → length views < 2 ^ 32 → total w one log vals + 1 < 2 ^ 64
   few_in_all log vals views b crowd =
       let m : ℕ = length views in
       let a = total-add w (below m) (from m) one (split_at m) log vals in
@@ -68,35 +68,35 @@ module _ {F S : Type 0} (w : Names F S) where
       let e = none_all m vals (λ j le. let q = none j le in omega (arith, q)) in
       omega (arith, a, c, d, e, crowd)
 
-  module _ (log : List Entry) (vals : Vals) (views : List View) (c : Counted w log vals views) where
+  module _ (log : List Entry) (vals : Vals) (views : List SeatView) (c : Counted w log vals views) where
     -- what a new view has seen is low
-    abbrev Low : List Entry → Vals → ℕ → View → Type 0
+    abbrev Low : List Entry → Vals → ℕ → SeatView → Type 0
     Low log' vals' j u = u.spent ≡ false → u.seen.count ≤ total w one log' vals'
 
-    seens_set : (log' : List Entry) (vals' : Vals) → total w one log vals ≤ total w one log' vals' → (id : ℕ) (v' : View) → Low log' vals' id v' → (j : ℕ) (u : View) → get_elem? (set views id v') j ≡ some u → Low log' vals' j u
+    seens_set : (log' : List Entry) (vals' : Vals) → total w one log vals ≤ total w one log' vals' → (id : ℕ) (v' : SeatView) → Low log' vals' id v' → (j : ℕ) (u : SeatView) → get_elem? (set views id v') j ≡ some u → Low log' vals' j u
     seens_set log' vals' more id v' low = each_set (Low log' vals') views id v' low (λ j u _ e q. let a = c.seens j u e q in omega (arith, a, more))
 
     -- the values stay
-    pub counted_views : (log' : List Entry) → total w one log vals ≤ total w one log' vals → (id : ℕ) (v' : View) → (v'.spent ≡ false → v'.seen.count ≤ total w one log' vals) → Counted w log' vals (set views id v')
+    pub counted_views : (log' : List Entry) → total w one log vals ≤ total w one log' vals → (id : ℕ) (v' : SeatView) → (v'.spent ≡ false → v'.seen.count ≤ total w one log' vals) → Counted w log' vals (set views id v')
     counted_views log' more id v' low = record { clocks = λ k s e. let a = c.clocks k s e in omega (arith, a, more); seens = seens_set log' vals more id v' low }
 
     -- one value changes
-    pub counted_put : (k id : ℕ) (y : Kept F S) (v' : View) → total w one log vals ≤ total w one log (set vals k y) → ((s : S) → y ≡ Rest s → (w.clock s).count ≤ total w one log (set vals k y)) → (v'.spent ≡ false → v'.seen.count ≤ total w one log (set vals k y))
+    pub counted_put : (k id : ℕ) (y : CellValue F S) (v' : SeatView) → total w one log vals ≤ total w one log (set vals k y) → ((s : S) → y ≡ Rest s → (w.clock s).count ≤ total w one log (set vals k y)) → (v'.spent ≡ false → v'.seen.count ≤ total w one log (set vals k y))
         → Counted w log (set vals k y) (set views id v')
     counted_put k id y v' more clock low = record {
-      clocks = λ j s e. each_set (λ (i : ℕ) (x : Kept F S). (s : S) → x ≡ Rest s → (w.clock s).count ≤ total w one log (set vals k y)) vals k y clock
+      clocks = λ j s e. each_set (λ (i : ℕ) (x : CellValue F S). (s : S) → x ≡ Rest s → (w.clock s).count ≤ total w one log (set vals k y)) vals k y clock
           (λ i x _ f s q. let a = c.clocks i s (f ∙ ap some q) in omega (arith, a, more)) j (Rest s) e s refl;
       seens = seens_set log (set vals k y) more id v' low;
     }
 
-    pub counted_admit : (v : View) → Counted w log vals (views ++ next_view (length views) v ∷ [])
+    pub counted_admit : (v : SeatView) → Counted w log vals (views ++ next_view (length views) v ∷ [])
     counted_admit v = record {
       clocks = c.clocks;
       seens = λ j u e q. ⊎_elim (λ (p : get_elem? views j ≡ some u). c.seens j u p q)
-          (λ (p : (next_view (length views) v ≡ u) × (j ≡ length views)). subst (λ (z : View). z.seen.count ≤ total w one log vals) p.0 (omega arith)) (at_push views (next_view (length views) v) u j e);
+          (λ (p : (next_view (length views) v ≡ u) × (j ≡ length views)). subst (λ (z : SeatView). z.seen.count ≤ total w one log vals) p.0 (omega arith)) (at_push views (next_view (length views) v) u j e);
     }
 
-    pub counted_merge : (id other : ℕ) (v u : View) → get_elem? views id ≡ some v → Counted w log vals (set (set views id (joint_view v u)) other spent_view)
+    pub counted_merge : (id other : ℕ) (v u : SeatView) → get_elem? views id ≡ some v → Counted w log vals (set (set views id (joint_view v u)) other spent_view)
     counted_merge id other v u at = record {
       clocks = c.clocks;
       seens = each_set (Low log vals) (set views id (joint_view v u)) other spent_view (λ _. omega arith)

@@ -7,12 +7,12 @@ use native.Mathlib.Decide.{ℕ_discrete}
 use lib.ListN.{get_elem?, length-map}
 use Rattle.atomic_table.proofs.Lists.{at_set, set_else, at_map, at_longer, at_last}
 use Rattle.ruled_cells.specs.declared.about.About.{About}
-use Rattle.ruled_cells.specs.declared.about.View.{View}
-use Rattle.ruled_cells.specs.declared.kept.Kept.{Kept}
-use Rattle.ruled_cells.specs.declared.kept.Kept.TheVariants.{Rest}
-use Rattle.ruled_cells.specs.declared.turns.doing.Doing.{Doing}
-use Rattle.ruled_cells.specs.Turning.{HasTurn, NoTurn, Sat, IsGiven, IsResting, enrolled, newcomer, opener}
-use Rattle.ruled_cells.specs.Telling.{first_view, next_view, values}
+use Rattle.ruled_cells.specs.declared.about.SeatView.{SeatView}
+use Rattle.ruled_cells.specs.declared.cell_value.CellValue.{CellValue}
+use Rattle.ruled_cells.specs.declared.cell_value.CellValue.TheVariants.{Rest}
+use Rattle.ruled_cells.specs.declared.turns.seat_state.SeatState.{SeatState}
+use Rattle.ruled_cells.specs.Turning.{HasTurn, NoTurn, Seated, IsGiven, IsResting, enrolled, newcomer, opener}
+use Rattle.ruled_cells.specs.Telling.{fresh_seat, next_view, values}
 use Rattle.ruled_cells.specs.Making.{IsMaker, IsFilling, fills}
 use Rattle.ruled_cells.specs.declared.seat.Seat.{Seat}
 use Rattle.ruled_cells.specs.declared.cells.Cells.{Cells}
@@ -38,14 +38,14 @@ each_front P a l here others (suc k) b e = others k b e
 
 module _ {F S : Type 0} where
   -- seat 0 between two steps
-  pub maker_rests : (among made : ℕ) (about : About) (m : Sat (Kept F S) View) → IsMaker among made about m → IsResting 0 m
+  pub maker_rests : (among made : ℕ) (about : About) (m : Seated (CellValue F S) SeatView) → IsMaker among made about m → IsResting 0 m
   maker_rests among made about m h = record { number = h.number; live = h.live; still = h.still; bare = h.bare }
 
-  pub maker_gave : (among made k : ℕ) (about : About) (x : Kept F S) (m n : Sat (Kept F S) View) → IsMaker among made about m → IsGiven fills k m x n → IsMaker among made about n
+  pub maker_gave : (among made k : ℕ) (about : About) (x : CellValue F S) (m n : Seated (CellValue F S) SeatView) → IsMaker among made about m → IsGiven fills k m x n → IsMaker among made about n
   maker_gave among made k about x m n h g = subst (IsMaker among made about) (sym g.3) record { number = h.number; among_is = h.among_is; live = h.live; still = refl; makes = h.makes; made_is = h.made_is; client = g.4 ∙ h.client; bare = refl }
 
-  pub filling_first : (rest : List S) (x : Kept F S) (m n : Sat (Kept F S) View) → IsFilling rest m → IsGiven fills 0 m x n → IsFilling rest n × NoTurn n.0.taken 0
-  filling_first rest x m n h g = subst (λ (z : Sat (Kept F S) View). IsFilling rest z × NoTurn z.0.taken 0) (sym g.3) (
+  pub filling_first : (rest : List S) (x : CellValue F S) (m n : Seated (CellValue F S) SeatView) → IsFilling rest m → IsGiven fills 0 m x n → IsFilling rest n × NoTurn n.0.taken 0
+  filling_first rest x m n h g = subst (λ (z : Seated (CellValue F S) SeatView). IsFilling rest z × NoTurn z.0.taken 0) (sym g.3) (
     record {
       turn = λ k y e. set_else m.0.taken 0 (suc k) None (λ q. omega (arith, q)) ∙ h.turn k y e;
       no_turn = λ k lt. given_other m.0.taken 0 k (h.no_turn k lt);
@@ -54,10 +54,10 @@ module _ {F S : Type 0} where
   )
 
   -- the last of the row is given back
-  filling_less : (rest more : List S) (y : S) (x : Kept F S) (m n : Sat (Kept F S) View) → more ≡ rest ++ y ∷ [] → IsFilling more m → NoTurn m.0.taken 0 → IsGiven fills (suc (length rest)) m x n → IsFilling rest n × NoTurn n.0.taken 0
+  filling_less : (rest more : List S) (y : S) (x : CellValue F S) (m n : Seated (CellValue F S) SeatView) → more ≡ rest ++ y ∷ [] → IsFilling more m → NoTurn m.0.taken 0 → IsGiven fills (suc (length rest)) m x n → IsFilling rest n × NoTurn n.0.taken 0
   filling_less rest more y x m n is h free g =
       let k : ℕ = suc (length rest) in
-      let long : length more ≡ length rest + 1 = ap length is ∙ length_push rest y in subst (λ (z : Sat (Kept F S) View). IsFilling rest z × NoTurn z.0.taken 0) (sym g.3) (
+      let long : length more ≡ length rest + 1 = ap length is ∙ length_push rest y in subst (λ (z : Seated (CellValue F S) SeatView). IsFilling rest z × NoTurn z.0.taken 0) (sym g.3) (
         record {
           turn = λ j z e. let b : j < length rest = at_below rest j z e in set_else m.0.taken k (suc j) None (λ q. omega (arith, q, b)) ∙ h.turn j z (ap (λ (l : List S). get_elem? l j) is ∙ at_longer rest (y ∷ []) j z e);
           no_turn = λ j lt. dite (ℕ_discrete j k) (λ (q : j ≡ k). subst (NoTurn (set m.0.taken k None)) (sym q) (given_none m.0.taken k)) (λ ne. given_other m.0.taken k j (h.no_turn j (omega (arith, long, lt, ne))));
@@ -65,41 +65,41 @@ module _ {F S : Type 0} where
         given_other m.0.taken k 0 free,
       )
 
-  pub filling_next : (rest more : List S) (y : S) (x : Kept F S) (m n : Sat (Kept F S) View) → more ≡ rest ++ y ∷ [] → IsFilling more m → NoTurn m.0.taken 0 → IsGiven fills (length rest + 1) m x n → IsFilling rest n × NoTurn n.0.taken 0
+  pub filling_next : (rest more : List S) (y : S) (x : CellValue F S) (m n : Seated (CellValue F S) SeatView) → more ≡ rest ++ y ∷ [] → IsFilling more m → NoTurn m.0.taken 0 → IsGiven fills (length rest + 1) m x n → IsFilling rest n × NoTurn n.0.taken 0
   filling_next rest more y x m n is h free g = filling_less rest more y x m n is h free (subst (λ (k : ℕ). IsGiven fills k m x n) (let e : length rest + 1 ≡ suc (length rest) = omega arith in e) g)
 
-  pub filling_turn : (rest more : List S) (y : S) (m : Sat (Kept F S) View) → more ≡ rest ++ y ∷ [] → IsFilling more m → HasTurn m.0.taken (suc (length rest)) (Rest y)
+  pub filling_turn : (rest more : List S) (y : S) (m : Seated (CellValue F S) SeatView) → more ≡ rest ++ y ∷ [] → IsFilling more m → HasTurn m.0.taken (suc (length rest)) (Rest y)
   filling_turn rest more y m is h = h.turn (length rest) y (ap (λ (l : List S). get_elem? l (length rest)) is ∙ at_last rest y (length rest) refl)
 
-  pub filled : (rest : List S) (m : Sat (Kept F S) View) → rest ≡ [] → IsFilling rest m → NoTurn m.0.taken 0 → (k : ℕ) → NoTurn m.0.taken k
+  pub filled : (rest : List S) (m : Seated (CellValue F S) SeatView) → rest ≡ [] → IsFilling rest m → NoTurn m.0.taken 0 → (k : ℕ) → NoTurn m.0.taken k
   filled rest m is h free zero = free
   filled rest m is h free (suc k) = let l : length rest ≡ 0 = ap length is in h.no_turn (suc k) (omega (arith, l))
 
   -- at first seat 0 has all turns
-  pub opener_makes : (among : ℕ) (about : About) (first : F) (rest : List S) (m : Sat (Kept F S) View) → m ≡ (opener among (values first rest) (first_view 0 about), []) → IsMaker among 1 about m
+  pub opener_makes : (among : ℕ) (about : About) (first : F) (rest : List S) (m : Seated (CellValue F S) SeatView) → m ≡ (opener among (values first rest) (fresh_seat 0 about), []) → IsMaker among 1 about m
   opener_makes among about first rest m e = subst (IsMaker among 1 about) (sym e) record { number = refl; among_is = refl; live = refl; still = refl; makes = refl; made_is = refl; client = refl; bare = refl }
 
   -- a seat is made
-  pub maker_enrolled : (among made : ℕ) (about : About) (m n : Sat (Kept F S) View) → IsMaker among made about m → n ≡ (enrolled m.0, m.1) → IsMaker among (made + 1) about n × (n.0.taken ≡ m.0.taken)
+  pub maker_enrolled : (among made : ℕ) (about : About) (m n : Seated (CellValue F S) SeatView) → IsMaker among made about m → n ≡ (enrolled m.0, m.1) → IsMaker among (made + 1) about n × (n.0.taken ≡ m.0.taken)
   maker_enrolled among made about m n h e =
-      (subst (IsMaker among (made + 1) about) (sym e) record { number = h.number; among_is = h.among_is; live = h.live; still = h.still; makes = h.makes; made_is = ap (λ (z : ℕ). z + 1) h.made_is; client = h.client; bare = h.bare }, ap (λ (z : Sat (Kept F S) View). z.0.taken) e)
+      (subst (IsMaker among (made + 1) about) (sym e) record { number = h.number; among_is = h.among_is; live = h.live; still = h.still; makes = h.makes; made_is = ap (λ (z : ℕ). z + 1) h.made_is; client = h.client; bare = h.bare }, ap (λ (z : Seated (CellValue F S) SeatView). z.0.taken) e)
 
-  pub newcomer_turns : (d : Doing (Kept F S) View) → (k : ℕ) → NoTurn (newcomer next_view d).taken k
+  pub newcomer_turns : (d : SeatState (CellValue F S) SeatView) → (k : ℕ) → NoTurn (newcomer next_view d).taken k
   newcomer_turns d k x h = let e : None ≡ Some x = at_replicate (length d.taken) k None (Some x) h in (let q : ⊥ = cc in q)
 
-  pub new_seat : (cells : Cells F S) (about : About) (made k : ℕ) (m : Sat (Kept F S) View) (s : Seat F S) → IsMaker (seats_of cells) made about m → k ≡ made → place_of s ≡ cells.table.shared.table_id → number_of s ≡ made → s.token.me ≡ (newcomer next_view m.0, []) → IsNew cells about k s
+  pub new_seat : (cells : Cells F S) (about : About) (made k : ℕ) (m : Seated (CellValue F S) SeatView) (s : Seat F S) → IsMaker (seats_of cells) made about m → k ≡ made → place_of s ≡ cells.table.shared.table_id → number_of s ≡ made → s.token.me ≡ (newcomer next_view m.0, []) → IsNew cells about k s
   new_seat cells about made k m s h is place number e = record {
-    of = record { place = place; among = ap (λ (z : Sat (Kept F S) View). z.0.among) e ∙ h.among_is };
+    of = record { place = place; among = ap (λ (z : Seated (CellValue F S) SeatView). z.0.among) e ∙ h.among_is };
     number = number ∙ sym is;
-    view = ap (λ (z : Sat (Kept F S) View). z.0.client) e ∙ (λ i. next_view ((h.made_is ∙ sym is) i) (h.client i));
-    no_turns = subst (λ (z : Sat (Kept F S) View). (j : ℕ) → NoTurn z.0.taken j) (sym e) (newcomer_turns m.0);
+    view = ap (λ (z : Seated (CellValue F S) SeatView). z.0.client) e ∙ (λ i. next_view ((h.made_is ∙ sym is) i) (h.client i));
+    no_turns = subst (λ (z : Seated (CellValue F S) SeatView). (j : ℕ) → NoTurn z.0.taken j) (sym e) (newcomer_turns m.0);
   }
 
-  pub opener_fills : (among : ℕ) (about : About) (first : F) (rest : List S) (m : Sat (Kept F S) View) → m ≡ (opener among (values first rest) (first_view 0 about), []) → IsFilling rest m
+  pub opener_fills : (among : ℕ) (about : About) (first : F) (rest : List S) (m : Seated (CellValue F S) SeatView) → m ≡ (opener among (values first rest) (fresh_seat 0 about), []) → IsFilling rest m
   opener_fills among about first rest m e = subst (IsFilling rest) (sym e) record {
-    turn = λ k x h. at_map (λ (y : Kept F S). Some y) (values first rest) (suc k) (Rest x) (at_map {B = Kept F S} (λ (y : S). Rest y) rest k x h);
-    no_turn = λ k lt x h. let o = map_at (λ (y : Kept F S). Some y) (values first rest) k (Some x) h in let b : k < length (values first rest) = at_below (values first rest) k o.0 o.1 in
-        let l : length (map {B = Kept F S} (λ (y : S). Rest y) rest) ≡ length rest = length-map rest (λ (y : S). Rest y) in omega (arith, b, l, lt);
+    turn = λ k x h. at_map (λ (y : CellValue F S). Some y) (values first rest) (suc k) (Rest x) (at_map {B = CellValue F S} (λ (y : S). Rest y) rest k x h);
+    no_turn = λ k lt x h. let o = map_at (λ (y : CellValue F S). Some y) (values first rest) k (Some x) h in let b : k < length (values first rest) = at_below (values first rest) k o.0 o.1 in
+        let l : length (map {B = CellValue F S} (λ (y : S). Rest y) rest) ≡ length rest = length-map rest (λ (y : S). Rest y) in omega (arith, b, l, lt);
   }
 
   pub first_seat : (cells : Cells F S) (about : About) (made : ℕ) (s : Seat F S) → IsMaker (seats_of cells) made about s.token.me → place_of s ≡ cells.table.shared.table_id → number_of s ≡ 0 → ((k : ℕ) → NoTurn s.token.me.0.taken k) → IsNew cells about 0 s

@@ -6,14 +6,14 @@ use Rattle.dcd_base.specs.declared.steps.Stamp.{Stamp}
 use Rattle.dcd_base.specs.declared.steps.Actor.{Actor}
 use Rattle.journal_core.specs.declared.entries.Entry.{Entry}
 use Rattle.ruled_cells.specs.declared.about.About.{About}
-use Rattle.ruled_cells.specs.declared.about.View.{View}
-use Rattle.ruled_cells.specs.declared.kept.Kept.{Kept}
-use Rattle.ruled_cells.specs.declared.kept.Kept.TheVariants.{First, Rest}
+use Rattle.ruled_cells.specs.declared.about.SeatView.{SeatView}
+use Rattle.ruled_cells.specs.declared.cell_value.CellValue.{CellValue}
+use Rattle.ruled_cells.specs.declared.cell_value.CellValue.TheVariants.{First, Rest}
 use Rattle.ruled_cells.specs.Turning.{HasTurn, Gives}
 use Rattle.ruled_cells.specs.Stamps.{stamp, pending}
 use Rattle.ruled_cells.specs.Ruling.{Names, IsShard}
 use Rattle.ruled_cells.specs.Booking.{weigh, own, one, weigh_all, total, IsBooked, Whole}
-use Rattle.ruled_cells.specs.Telling.{first_view, values, MayOpen}
+use Rattle.ruled_cells.specs.Telling.{fresh_seat, values, MayOpen}
 use Rattle.ruled_cells.specs.Making.{fills}
 use Rattle.ruled_cells.proofs.Places.{at_below, map_at}
 use Rattle.ruled_cells.proofs.Order.{never}
@@ -29,14 +29,14 @@ single P a p (suc j) b e = absurd (some-ne-none b (sym e))
 module _ {F S : Type 0} (w : Names F S) where
   -- what stands in the row of cells
   values_at : (first : F) (rest : List S) (k : ℕ) (x : S) → get_elem? (values first rest) k ≡ some (Rest x) → (i : ℕ) × (k ≡ suc i) × (get_elem? rest i ≡ some x)
-  values_at first rest zero x e = absurd (let q : ◌≡◌ {A = Kept F S} (First first) (Rest x) = some-injective (First first) (Rest x) e in (cc))
-  values_at first rest (suc i) x e = let o = map_at {B = Kept F S} (λ (y : S). Rest y) rest i (Rest x) e in let q : o.0 ≡ x = (let r = o.2 in cc) in (i, refl, o.1 ∙ ap some q)
+  values_at first rest zero x e = absurd (let q : ◌≡◌ {A = CellValue F S} (First first) (Rest x) = some-injective (First first) (Rest x) e in (cc))
+  values_at first rest (suc i) x e = let o = map_at {B = CellValue F S} (λ (y : S). Rest y) rest i (Rest x) e in let q : o.0 ≡ x = (let r = o.2 in cc) in (i, refl, o.1 ∙ ap some q)
 
-  values_row : (first : F) (rest : List S) (k : ℕ) (x : Kept F S) → 0 < k → get_elem? (values first rest) k ≡ some x → (s : S) × (x ≡ Rest s)
+  values_row : (first : F) (rest : List S) (k : ℕ) (x : CellValue F S) → 0 < k → get_elem? (values first rest) k ≡ some x → (s : S) × (x ≡ Rest s)
   values_row first rest zero x lt e = absurd (omega (arith, lt))
-  values_row first rest (suc i) x lt e = let o = map_at {B = Kept F S} (λ (y : S). Rest y) rest i x e in (o.0, sym o.2)
+  values_row first rest (suc i) x lt e = let o = map_at {B = CellValue F S} (λ (y : S). Rest y) rest i x e in (o.0, sym o.2)
 
-  bare_weight : (h : Entry → ℕ) (rest : List S) → ((k : ℕ) (x : S) → get_elem? rest k ≡ some x → w.entries x ≡ []) → weigh_all w h (map {B = Kept F S} (λ (x : S). Rest x) rest) ≡ 0
+  bare_weight : (h : Entry → ℕ) (rest : List S) → ((k : ℕ) (x : S) → get_elem? rest k ≡ some x → w.entries x ≡ []) → weigh_all w h (map {B = CellValue F S} (λ (x : S). Rest x) rest) ≡ 0
   bare_weight h [] bare = refl
   bare_weight h (x ∷ rest) bare = let a = ap (weigh h) (bare 0 x refl) in let b = bare_weight h rest (λ k y e. bare (suc k) y e) in omega (arith, a, b)
 
@@ -45,8 +45,8 @@ module _ {F S : Type 0} (w : Names F S) where
     abbrev about : About
     about = w.about first
 
-    abbrev views : List View
-    views = first_view 0 about ∷ []
+    abbrev views : List SeatView
+    views = fresh_seat 0 about ∷ []
 
     nothing : (h : Entry → ℕ) → total w h [] (values first rest) ≡ 0
     nothing h = let a = bare_weight h rest (λ k x e. (may.bare k x e).0) in omega (arith, a)
@@ -84,48 +84,48 @@ module _ {F S : Type 0} (w : Names F S) where
         actors = λ k e h. absurd (let l = at_below [] k e h in omega (arith, l));
         count = count;
         at_rest = λ _. refl;
-        at_work = single (λ j v. get_or words 0 0 ≡ j + 1 → (v.entry ≡ None) × (v.changed ≡ [])) (first_view 0 about) (λ _. (refl, refl));
-        quiet = single (λ j v. get_or words 0 0 ≢ j + 1 → v.entry ≡ None) (first_view 0 about) (λ _. refl);
+        at_work = single (λ j v. get_or words 0 0 ≡ j + 1 → (v.entry ≡ None) × (v.changed ≡ [])) (fresh_seat 0 about) (λ _. (refl, refl));
+        quiet = single (λ j v. get_or words 0 0 ≢ j + 1 → v.entry ≡ None) (fresh_seat 0 about) (λ _. refl);
         shard = λ k x e. let o = values_at first rest k x e in subst (λ (z : ℕ). IsShard w about words (w.journal first) [] None [] z x) (sym o.1) (bare_shard o.0 x o.2);
-        informed = single (λ j v. v.spent ≡ false → (v.about ≡ about) × (v.seen.number ≤ 0) × (v.number ≡ j)) (first_view 0 about) (λ _. (refl, omega arith, refl));
+        informed = single (λ j v. v.spent ≡ false → (v.about ≡ about) × (v.seen.number ≤ 0) × (v.number ≡ j)) (fresh_seat 0 about) (λ _. (refl, omega arith, refl));
       };
       books = record {
-        each = single (λ j v. v.spent ≡ false → IsBooked w [] (values first rest) views j v) (first_view 0 about)
+        each = single (λ j v. v.spent ≡ false → IsBooked w [] (values first rest) views j v) (fresh_seat 0 about)
             (λ _. record { fits = λ h. sym (nothing (own 0 h)); rising = rising_none (stamp 0 0); kept = λ k i cs e. absurd (let l = at_below [] k (i, cs) e in omega (arith, l)) });
         later = λ j _ h. sym (nothing (own j h));
         few = λ j. let n = nothing (own j one) in omega (arith, n);
       };
       counted = record {
         clocks = λ k x e. let o = values_at first rest k x e in let n : (w.clock x).count ≡ 0 = ap (λ (z : Stamp). z.count) (may.bare o.0 x o.2).1 in omega (arith, n);
-        seens = single (λ j v. v.spent ≡ false → v.seen.count ≤ total w one [] (values first rest)) (first_view 0 about) (λ _. omega arith);
+        seens = single (λ j v. v.spent ≡ false → v.seen.count ≤ total w one [] (values first rest)) (fresh_seat 0 about) (λ _. omega arith);
       };
     }
 
   -- ---- filling the cells
 
-  pub fills_first : (about about' : About) (cells id : ℕ) (taken : List (Option (Kept F S))) (v : View) (f : F) → v ≡ first_view 0 about' → w.sound f → HasTurn taken 0 (First f)
-      → (x : Kept F S) × HasTurn taken 0 x × Gives (Whole w about) cells id taken v 0 x (First f) fills
-  fills_first about about' cells id taken v f is sound turn = subst (λ (z : View). (x : Kept F S) × HasTurn taken 0 x × Gives (Whole w about) cells id taken z 0 x (First f) fills) (sym is)
-      (First f, turn, gives_first w about cells id taken (first_view 0 about') f f refl turn record { about_is = refl; sound = sound; journal_is = refl; none_left = λ k pos lt. refl })
+  pub fills_first : (about about' : About) (cells id : ℕ) (taken : List (Option (CellValue F S))) (v : SeatView) (f : F) → v ≡ fresh_seat 0 about' → w.sound f → HasTurn taken 0 (First f)
+      → (x : CellValue F S) × HasTurn taken 0 x × Gives (Whole w about) cells id taken v 0 x (First f) fills
+  fills_first about about' cells id taken v f is sound turn = subst (λ (z : SeatView). (x : CellValue F S) × HasTurn taken 0 x × Gives (Whole w about) cells id taken z 0 x (First f) fills) (sym is)
+      (First f, turn, gives_first w about cells id taken (fresh_seat 0 about') f f refl turn record { about_is = refl; sound = sound; journal_is = refl; none_left = λ k pos lt. refl })
 
   module _ (access : ℕ → ℕ → Actor → S → S → Type 0) (change : Entry → S → S → Type 0) (laws : Laws w access change) where
-    fill_cell : (about about' : About) (cells id k : ℕ) (taken : List (Option (Kept F S))) (x : S) → HasTurn taken k (Rest x) → Gives (Whole w about) cells id taken (first_view 0 about') k (Rest x) (Rest x) fills
+    fill_cell : (about about' : About) (cells id k : ℕ) (taken : List (Option (CellValue F S))) (x : S) → HasTurn taken k (Rest x) → Gives (Whole w about) cells id taken (fresh_seat 0 about') k (Rest x) (Rest x) fills
     fill_cell about about' cells id k taken x turn words vals views full crowd h has at =
-        let v : View = first_view 0 about' in
+        let v : SeatView = fresh_seat 0 about' in
         let t = has.turn k (Rest x) turn in
         let free : pending w.touches h.ruled.entry h.ruled.changed k ≡ false = same_pending w about h.log words vals views h.ruled id v k x at t.1 t.0 in
         (v, alike w about access change laws id k v x x words vals views refl h at t.1 free record { config_is = refl; entries_are = refl; clock_is = refl; right_too = λ j log r. r }, refl)
 
-    pub fills_cell : (about about' : About) (cells id i : ℕ) (taken : List (Option (Kept F S))) (v : View) (x : S) → v ≡ first_view 0 about' → HasTurn taken (suc i) (Rest x)
-        → (y : Kept F S) × HasTurn taken (i + 1) y × Gives (Whole w about) cells id taken v (i + 1) y (Rest x) fills
-    fills_cell about about' cells id i taken v x is turn = subst (λ (z : View × ℕ). (y : Kept F S) × HasTurn taken z.1 y × Gives (Whole w about) cells id taken z.0 z.1 y (Rest x) fills)
+    pub fills_cell : (about about' : About) (cells id i : ℕ) (taken : List (Option (CellValue F S))) (v : SeatView) (x : S) → v ≡ fresh_seat 0 about' → HasTurn taken (suc i) (Rest x)
+        → (y : CellValue F S) × HasTurn taken (i + 1) y × Gives (Whole w about) cells id taken v (i + 1) y (Rest x) fills
+    fills_cell about about' cells id i taken v x is turn = subst (λ (z : SeatView × ℕ). (y : CellValue F S) × HasTurn taken z.1 y × Gives (Whole w about) cells id taken z.0 z.1 y (Rest x) fills)
         (λ c. (sym is c, (let e : suc i ≡ i + 1 = omega arith in e) c)) (Rest x, turn, fill_cell about about' cells id (suc i) taken x turn)
 
   -- the same, with the number of cells as the code counts them
   pub opens_counted : (cells : ℕ) (first : F) (rest : List S) → cells ≡ length (values first rest) → MayOpen w first rest → (words : List ℕ) → length words ≡ cells + 1 → ((k : ℕ) → k < cells → get_or words k 0 ≡ 1) → get_or words cells 0 ≡ 0
-      → Whole w (w.about first) words (values first rest) (first_view 0 (w.about first) ∷ [])
-  opens_counted cells first rest is may words = subst (λ (n : ℕ). length words ≡ n + 1 → ((k : ℕ) → k < n → get_or words k 0 ≡ 1) → get_or words n 0 ≡ 0 → Whole w (w.about first) words (values first rest) (first_view 0 (w.about first) ∷ [])) (sym is)
+      → Whole w (w.about first) words (values first rest) (fresh_seat 0 (w.about first) ∷ [])
+  opens_counted cells first rest is may words = subst (λ (n : ℕ). length words ≡ n + 1 → ((k : ℕ) → k < n → get_or words k 0 ≡ 1) → get_or words n 0 ≡ 0 → Whole w (w.about first) words (values first rest) (fresh_seat 0 (w.about first) ∷ [])) (sym is)
       (opens_whole first rest may words)
 
   pub count_is : (row : ℕ) (first : F) (rest : List S) → row ≡ length rest → row + 1 ≡ length (values {F = F} first rest)
-  count_is row first rest is = let l : length (map {B = Kept F S} (λ (x : S). Rest x) rest) ≡ length rest = length-map rest (λ (x : S). Rest x) in omega (arith, l, is)
+  count_is row first rest is = let l : length (map {B = CellValue F S} (λ (x : S). Rest x) rest) ≡ length rest = length-map rest (λ (x : S). Rest x) in omega (arith, l, is)

@@ -11,9 +11,9 @@ use Rattle.dcd_base.specs.declared.steps.Actor.{Actor}
 use Rattle.journal_core.specs.declared.entries.Entry.{Entry}
 use Rattle.journal_core.specs.Entries.{is_control}
 use Rattle.ruled_cells.specs.declared.about.About.{About}
-use Rattle.ruled_cells.specs.declared.about.View.{View}
-use Rattle.ruled_cells.specs.declared.kept.Kept.{Kept}
-use Rattle.ruled_cells.specs.declared.kept.Kept.TheVariants.{First, Rest}
+use Rattle.ruled_cells.specs.declared.about.SeatView.{SeatView}
+use Rattle.ruled_cells.specs.declared.cell_value.CellValue.{CellValue}
+use Rattle.ruled_cells.specs.declared.cell_value.CellValue.TheVariants.{First, Rest}
 use Rattle.ruled_cells.specs.Stamps.{stamp, Below, Rise, IsControlLog, after, pending}
 use Rattle.ruled_cells.specs.Laws.{Enters, AccessEnters, ChangeIs, Stays, AccessKeeps, ChangeMakes}
 use Rattle.ruled_cells.specs.Ruling.{Names, IsOwn, IsShard, Ruled}
@@ -37,17 +37,17 @@ module _ {F S : Type 0} where
   first_rest : {A : Type 0} (f : F) (s : S) → First f ≡ Rest s → A
   first_rest f s e = absurd (cc)
 
-  first_same : (f g : F) → ◌≡◌ {A = Kept F S} (First f) (First g) → f ≡ g
+  pub first_same : (f g : F) → ◌≡◌ {A = CellValue F S} (First f) (First g) → f ≡ g
   first_same f g e = cc
 
-  pub rest_same : (a b : S) → ◌≡◌ {A = Kept F S} (Rest a) (Rest b) → a ≡ b
+  pub rest_same : (a b : S) → ◌≡◌ {A = CellValue F S} (Rest a) (Rest b) → a ≡ b
   rest_same a b e = cc
 
 module _ {F S : Type 0} (w : Names F S) (about : About) where
   abbrev Vals : Type 0
-  Vals = List (Kept F S)
+  Vals = List (CellValue F S)
 
-  module _ (log : List Entry) (words : List ℕ) (vals : Vals) (views : List View) (r : Ruled w about log words vals views) where
+  module _ (log : List Entry) (words : List ℕ) (vals : Vals) (views : List SeatView) (r : Ruled w about log words vals views) where
     some_cell : 0 < length vals
     some_cell = at_below vals 0 (First r.first) r.chief
 
@@ -63,7 +63,7 @@ module _ {F S : Type 0} (w : Names F S) (about : About) where
     none_pending : r.entry ≡ None → (k : ℕ) → pending w.touches r.entry r.changed k ≡ false
     none_pending e k = ap (λ o. pending w.touches o r.changed k) e
 
-    pub took_first_rule : (id : ℕ) (v : View) → get_elem? views id ≡ some v → get_or words 0 0 ≡ 0 → Ruled w about log (set words 0 (id + 1)) vals (set views id (begun v))
+    pub took_first_rule : (id : ℕ) (v : SeatView) → get_elem? views id ≡ some v → get_or words 0 0 ≡ 0 → Ruled w about log (set words 0 (id + 1)) vals (set views id (begun v))
     took_first_rule id v at z =
         let here : get_or (set words 0 (id + 1)) 0 0 ≡ id + 1 = get_or-set_same words 0 (id + 1) 0 wide_0 in record {
           first = r.first;
@@ -128,7 +128,7 @@ module _ {F S : Type 0} (w : Names F S) (about : About) where
         }
 
     -- what the seat that has the turn of a cell knows of what is pending there
-    pub same_pending : (id : ℕ) (v : View) (k : ℕ) (x : S) → get_elem? views id ≡ some v → get_elem? vals k ≡ some (Rest x) → get_or words k 0 ≡ id + 1 → pending w.touches r.entry r.changed k ≡ pending w.touches v.entry v.changed k
+    pub same_pending : (id : ℕ) (v : SeatView) (k : ℕ) (x : S) → get_elem? views id ≡ some v → get_elem? vals k ≡ some (Rest x) → get_or words k 0 ≡ id + 1 → pending w.touches r.entry r.changed k ≡ pending w.touches v.entry v.changed k
     same_pending id v k x at e h = dite (ℕ_discrete (get_or words 0 0) (id + 1))
         (λ (q : get_or words 0 0 ≡ id + 1). let a = r.at_work id v at q in (λ i. pending w.touches (sym a.0 i) (sym a.1 i) k))
         (λ away. let none : pending w.touches v.entry v.changed k ≡ false = ap (λ o. pending w.touches o v.changed k) (r.quiet id v at away) in
@@ -141,7 +141,7 @@ module _ {F S : Type 0} (w : Names F S) (about : About) where
         let longer : log ≡ before ++ e ∷ [] = r.log_is ∙ ap (after before) is in
         ap (λ (z : Stamp). z.count) (subst IsControlLog longer r.control (length before) e (at_last before e (length before) refl)).0
 
-    pub gave_first_rule : (id : ℕ) (v : View) (f g : F) → get_elem? views id ≡ some v → get_or words 0 0 ≡ id + 1 → get_elem? vals 0 ≡ some (First f) → MayGiveFirst w (length vals) v f g
+    pub gave_first_rule : (id : ℕ) (v : SeatView) (f g : F) → get_elem? views id ≡ some v → get_or words 0 0 ≡ id + 1 → get_elem? vals 0 ≡ some (First f) → MayGiveFirst w (length vals) v f g
         → Ruled w about log (set words 0 0) (set vals 0 (First g)) (set views id (begun v))
     gave_first_rule id v f g at h is may =
         let work = r.at_work id v at h in
@@ -175,7 +175,7 @@ module _ {F S : Type 0} (w : Names F S) (about : About) where
         }
 
     -- the value of the cell k of the row is b, at which nothing is pending
-    put_shard : (id k : ℕ) (v v' : View) (a b : S) → get_elem? views id ≡ some v → get_elem? vals k ≡ some (Rest a) → v'.entry ≡ v.entry → v'.changed ≡ v.changed
+    put_shard : (id k : ℕ) (v v' : SeatView) (a b : S) → get_elem? views id ≡ some v → get_elem? vals k ≡ some (Rest a) → v'.entry ≡ v.entry → v'.changed ≡ v.changed
         → (v'.spent ≡ false → (v'.about ≡ about) × (v'.seen.number ≤ length log) × (v'.number ≡ id)) → pending w.touches r.entry r.changed k ≡ false
         → IsShard w about (set words k 0) (w.journal r.first) log r.entry r.changed k b → Ruled w about log (set words k 0) (set vals k (Rest b)) (set views id v')
     put_shard id k v v' a b at is same_entry same_changed told free new =
@@ -217,7 +217,7 @@ module _ {F S : Type 0} (w : Names F S) (about : About) where
         }
 
     -- a cell that is like the one taken
-    pub gave_alike_rule : (id k : ℕ) (v : View) (a b : S) → get_elem? views id ≡ some v → get_elem? vals k ≡ some (Rest a) → pending w.touches r.entry r.changed k ≡ false → Alike w a b → Ruled w about log (set words k 0) (set vals k (Rest b)) (set views id v)
+    pub gave_alike_rule : (id k : ℕ) (v : SeatView) (a b : S) → get_elem? views id ≡ some v → get_elem? vals k ≡ some (Rest a) → pending w.touches r.entry r.changed k ≡ false → Alike w a b → Ruled w about log (set words k 0) (set vals k (Rest b)) (set views id v)
     gave_alike_rule id k v a b at is free like =
         let o = r.shard k a is in
         put_shard id k v v a b at is refl refl (r.informed id v at) free record {
@@ -231,7 +231,7 @@ module _ {F S : Type 0} (w : Names F S) (about : About) where
         }
 
     -- a cell with one more access
-    pub gave_access_rule : (access : ℕ → ℕ → Actor → S → S → Type 0) (change : Entry → S → S → Type 0) → Laws w access change → (id k : ℕ) (v : View) (a b : S) → get_elem? views id ≡ some v → v.spent ≡ false → get_elem? vals k ≡ some (Rest a)
+    pub gave_access_rule : (access : ℕ → ℕ → Actor → S → S → Type 0) (change : Entry → S → S → Type 0) → Laws w access change → (id k : ℕ) (v : SeatView) (a b : S) → get_elem? views id ≡ some v → v.spent ≡ false → get_elem? vals k ≡ some (Rest a)
         → pending w.touches r.entry r.changed k ≡ false → (m : MayEnter w access k id v a b) (n : Enters w.config_of w.entries w.clock w.belongs k id m.actor a b) → Ruled w about log (set words k 0) (set vals k (Rest b)) (set views id (entered_view n.entry v))
     gave_access_rule access change laws id k v a b at used is free m n =
         let o = r.shard k a is in
@@ -259,7 +259,7 @@ module _ {F S : Type 0} (w : Names F S) (about : About) where
         }
 
     -- a cell changed by the noted entry
-    pub gave_change_rule : (access : ℕ → ℕ → Actor → S → S → Type 0) (change : Entry → S → S → Type 0) → Laws w access change → (id k : ℕ) (v : View) (a b : S) (e : Entry) → get_elem? views id ≡ some v → get_elem? vals k ≡ some (Rest a)
+    pub gave_change_rule : (access : ℕ → ℕ → Actor → S → S → Type 0) (change : Entry → S → S → Type 0) → Laws w access change → (id k : ℕ) (v : SeatView) (a b : S) (e : Entry) → get_elem? views id ≡ some v → get_elem? vals k ≡ some (Rest a)
         → get_or words k 0 ≡ id + 1 → pending w.touches r.entry r.changed k ≡ true → v.entry ≡ Some e → change e a b → Ruled w about log (set words k 0) (set vals k (Rest b)) (set views id (changed_view k v))
     gave_change_rule access change laws id k v a b e at is turn waits noted does =
         let o = r.shard k a is in
@@ -320,7 +320,7 @@ module _ {F S : Type 0} (w : Names F S) (about : About) where
         }
 
     -- a command or a scrub is noted
-    pub noted_rule : (access : ℕ → ℕ → Actor → S → S → Type 0) (change : Entry → S → S → Type 0) → Laws w access change → (id : ℕ) (taken : List (Option (Kept F S))) (v : View) (f g : F) (e : Entry) → get_elem? views id ≡ some v → v.spent ≡ false
+    pub noted_rule : (access : ℕ → ℕ → Actor → S → S → Type 0) (change : Entry → S → S → Type 0) → Laws w access change → (id : ℕ) (taken : List (Option (CellValue F S))) (v : SeatView) (f g : F) (e : Entry) → get_elem? views id ≡ some v → v.spent ≡ false
         → get_or words 0 0 ≡ id + 1 → get_elem? vals 0 ≡ some (First f) → MayNote w (length vals) id taken v f g e → ((k : ℕ) → 0 < k → k < length vals → w.touches k e ≡ true → get_or words k 0 ≡ id + 1)
         → Ruled w about (log ++ e ∷ []) (set words (length vals) (length (w.journal g))) vals (set views id (noted_view e v))
     noted_rule access change laws id taken v f g e at used turn is may turns =
@@ -374,9 +374,9 @@ module _ {F S : Type 0} (w : Names F S) (about : About) where
         }
 
     -- a seat is made
-    pub admitted_rule : (v : View) → get_elem? views 0 ≡ some v → v.spent ≡ false → get_or words 0 0 ≢ length views + 1 → Ruled w about log words vals (views ++ next_view (length views) v ∷ [])
+    pub admitted_rule : (v : SeatView) → get_elem? views 0 ≡ some v → v.spent ≡ false → get_or words 0 0 ≢ length views + 1 → Ruled w about log words vals (views ++ next_view (length views) v ∷ [])
     admitted_rule v at used free =
-        let u : View = next_view (length views) v in record {
+        let u : SeatView = next_view (length views) v in record {
           first = r.first;
           entry = r.entry;
           changed = r.changed;
@@ -394,14 +394,14 @@ module _ {F S : Type 0} (w : Names F S) (about : About) where
           count = r.count;
           at_rest = r.at_rest;
           at_work = λ j x e h. ⊎_elim (λ (p : get_elem? views j ≡ some x). r.at_work j x p h) (λ (p : (u ≡ x) × (j ≡ length views)). absurd (free (h ∙ ap (λ (z : ℕ). z + 1) p.1))) (at_push views u x j e);
-          quiet = λ j x e h. ⊎_elim (λ (p : get_elem? views j ≡ some x). r.quiet j x p h) (λ (p : (u ≡ x) × (j ≡ length views)). ap (λ (z : View). z.entry) (sym p.0)) (at_push views u x j e);
+          quiet = λ j x e h. ⊎_elim (λ (p : get_elem? views j ≡ some x). r.quiet j x p h) (λ (p : (u ≡ x) × (j ≡ length views)). ap (λ (z : SeatView). z.entry) (sym p.0)) (at_push views u x j e);
           shard = r.shard;
           informed = λ j x e h. ⊎_elim (λ (p : get_elem? views j ≡ some x). r.informed j x p h)
-              (λ (p : (u ≡ x) × (j ≡ length views)). subst (λ (z : ℕ × View). (z.1.about ≡ about) × (z.1.seen.number ≤ length log) × (z.1.number ≡ z.0)) (λ i. (sym p.1 i, p.0 i)) ((r.informed 0 v at used).0, omega arith, refl)) (at_push views u x j e);
+              (λ (p : (u ≡ x) × (j ≡ length views)). subst (λ (z : ℕ × SeatView). (z.1.about ≡ about) × (z.1.seen.number ≤ length log) × (z.1.number ≡ z.0)) (λ i. (sym p.1 i, p.0 i)) ((r.informed 0 v at used).0, omega arith, refl)) (at_push views u x j e);
         }
 
     -- a seat is taken in
-    pub merged_rule : (id other : ℕ) (v u : View) → get_elem? views id ≡ some v → get_or words 0 0 ≢ other + 1 → Ruled w about log words vals (set (set views id (joint_view v u)) other spent_view)
+    pub merged_rule : (id other : ℕ) (v u : SeatView) → get_elem? views id ≡ some v → get_or words 0 0 ≢ other + 1 → Ruled w about log words vals (set (set views id (joint_view v u)) other spent_view)
     merged_rule id other v u at free = record {
       first = r.first;
       entry = r.entry;
@@ -419,11 +419,11 @@ module _ {F S : Type 0} (w : Names F S) (about : About) where
       actors = r.actors;
       count = r.count;
       at_rest = r.at_rest;
-      at_work = let P : ℕ → View → Type 0 = λ j x. get_or words 0 0 ≡ j + 1 → (x.entry ≡ r.entry) × (x.changed ≡ r.changed) in
+      at_work = let P : ℕ → SeatView → Type 0 = λ j x. get_or words 0 0 ≡ j + 1 → (x.entry ≡ r.entry) × (x.changed ≡ r.changed) in
           each_set P (set views id (joint_view v u)) other spent_view (λ h. absurd (free h)) (λ j x _ e. each_set P views id (joint_view v u) (r.at_work id v at) (λ j x _ e. r.at_work j x e) j x e);
-      quiet = let P : ℕ → View → Type 0 = λ j x. get_or words 0 0 ≢ j + 1 → x.entry ≡ None in
+      quiet = let P : ℕ → SeatView → Type 0 = λ j x. get_or words 0 0 ≢ j + 1 → x.entry ≡ None in
           each_set P (set views id (joint_view v u)) other spent_view (λ _. refl) (λ j x _ e. each_set P views id (joint_view v u) (r.quiet id v at) (λ j x _ e. r.quiet j x e) j x e);
       shard = r.shard;
-      informed = let P : ℕ → View → Type 0 = λ j x. x.spent ≡ false → (x.about ≡ about) × (x.seen.number ≤ length log) × (x.number ≡ j) in
+      informed = let P : ℕ → SeatView → Type 0 = λ j x. x.spent ≡ false → (x.about ≡ about) × (x.seen.number ≤ length log) × (x.number ≡ j) in
           each_set P (set views id (joint_view v u)) other spent_view (λ h. absurd (let q : true ≡ false = h in (cc))) (λ j x _ e. each_set P views id (joint_view v u) (r.informed id v at) (λ j x _ e. r.informed j x e) j x e);
     }

@@ -9,7 +9,7 @@ use lib.Seq.{set-get_or}
 use prog.Atomic.{either}
 use Rattle.atomic_table.specs.Table.{State, Me, step, Act, keeps, takes, gives, Valid, stepped, carried_after, Allows}
 use Rattle.atomic_table.proofs.Lists.{set_here, set_else, set_again, at_map, exchanged}
-use Rattle.ruled_cells.specs.declared.turns.doing.Doing.{Doing}
+use Rattle.ruled_cells.specs.declared.turns.seat_state.SeatState.{SeatState}
 use Rattle.ruled_cells.specs.Turning.{HasTurn, NoTurn, Knows, client, Tied, Takes, Gives, Marks, IsResting, IsMoving, took, missed, gave, still, moving_at, told, Got, Missed, tried, laid_back, picked_up, given_back, marked}
 use Rattle.ruled_cells.proofs.Places.{at_below, none_free, some_some, some_apart, none_apart}
 use Rattle.ruled_cells.proofs.TurnSteps.{Moves, look, steps}
@@ -20,7 +20,7 @@ slot_of (p ∷ ps) = p.1
 
 module _ {X V : Type 0} (n seats : ℕ) (holds : List ℕ → List X → List V → Type 0) where
   abbrev D : Type 0
-  D = Doing X V
+  D = SeatState X V
 
   abbrev St : Type 0
   St = State (Option X) D
@@ -73,10 +73,10 @@ module _ {X V : Type 0} (n seats : ℕ) (holds : List ℕ → List X → List V 
         )
 
     take_miss : (k : ℕ) (c : List (ℕ × Option X)) → k < n → NoTurn d.taken k → get_or s.words k 0 ≢ 0
-        → Goes s k (get_or s.words k 0) id (d, c) (Missed (d, c) (get_or s.words k 0))
+        → Goes s k (get_or s.words k 0) id (d, c) (Missed (d, c) k (get_or s.words k 0))
     take_miss k c lt nope nz =
         let w : ℕ = get_or s.words k 0 in
-        let e : D = missed d w in
+        let e : D = missed d k w in
         let o = t.owned k lt nz in
         let bound : o.0 < length s.views = at_below s.views o.0 o.1 o.4 in
         let crowd = t.crowd in let few = t.few in let among = kn.among in (
@@ -179,8 +179,8 @@ module _ {X V : Type 0} (n seats : ℕ) (holds : List ℕ → List X → List V 
       let same : number ≡ id = sym rests.number ∙ (kn s t id m.0 at rests.live).number in
       let lt' : k < n = subst (λ (q : ℕ). k < q) is lt in
       let rule' : Takes holds n id m.0.taken m.0.client k then = subst (λ (q : ℕ × ℕ). Takes holds q.0 q.1 m.0.taken m.0.client k then) (λ i. (is i, same i)) rule in
-      exchanged w 0 (number + 1) (λ f. Goes s k f id m (λ e. (w ≡ 0 → Got then k m e) × (w ≢ 0 → Missed m w e)))
-      (λ z. subst (λ (q : ℕ). Goes s k (q + 1) id m (λ e. (w ≡ 0 → Got then k m e) × (w ≢ 0 → Missed m w e))) (sym same)
+      exchanged w 0 (number + 1) (λ f. Goes s k f id m (λ e. (w ≡ 0 → Got then k m e) × (w ≢ 0 → Missed m k w e)))
+      (λ z. subst (λ (q : ℕ). Goes s k (q + 1) id m (λ e. (w ≡ 0 → Got then k m e) × (w ≢ 0 → Missed m k w e))) (sym same)
       (let g = take_hit s t id m.0 at rests.live k m.1 then rests.still lt' rule' z in (g.0, g.1, g.2, g.3, (λ _. g.4, λ nz. absurd (nz z)))))
       (λ nz. let g = take_miss s t id m.0 at rests.live k m.1 lt' nope nz in (g.0, g.1, g.2, g.3, (λ z. absurd (nz z), λ _. g.4)))
 

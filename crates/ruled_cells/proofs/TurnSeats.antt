@@ -10,7 +10,7 @@ use lib.ListN.{get_elem?, length-map, length-replicate, get_or-replicate}
 use lib.Seq.{map-set}
 use Rattle.atomic_table.specs.Table.{State, Splits, Joins, opening, Final, Seen}
 use Rattle.atomic_table.proofs.Lists.{at_set, set_here, set_else, set_again, at_map, at_longer}
-use Rattle.ruled_cells.specs.declared.turns.doing.Doing.{Doing}
+use Rattle.ruled_cells.specs.declared.turns.seat_state.SeatState.{SeatState}
 use Rattle.ruled_cells.specs.Turning.{HasTurn, NoTurn, Has, IsIn, Knows, client, Tied, Admits, Merges, Settled, opener, enrolled, newcomer, joint, gone}
 use Rattle.ruled_cells.proofs.Places.{at_below, at_there, at_same, at_replicate, replicate_at, at_front, at_push, map_at, same_somes}
 
@@ -20,7 +20,7 @@ only K a (suc j) b k e = absurd (maybe.some-ne-none b (sym e))
 
 module _ {X V : Type 0} (n seats : ℕ) (holds : List ℕ → List X → List V → Type 0) where
   abbrev D : Type 0
-  D = Doing X V
+  D = SeatState X V
 
   abbrev St : Type 0
   St = State (Option X) D

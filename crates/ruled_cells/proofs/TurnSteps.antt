@@ -8,7 +8,7 @@ use lib.ListN.{get_elem?}
 use lib.Seq.{map-set}
 use Rattle.atomic_table.specs.Table.{State}
 use Rattle.atomic_table.proofs.Lists.{at_set, set_here, set_else}
-use Rattle.ruled_cells.specs.declared.turns.doing.Doing.{Doing}
+use Rattle.ruled_cells.specs.declared.turns.seat_state.SeatState.{SeatState}
 use Rattle.ruled_cells.specs.Turning.{HasTurn, IsIn, Knows, client, Tied}
 use Rattle.ruled_cells.proofs.Places.{at_below, at_same, some_some, some_none}
 
@@ -100,11 +100,11 @@ module _ {X : Type 0} where
   empty_after id k a b x old (inl s) t nope = s.home ∙ old (sym s.turn ∙ t) (s.moves nope)
   empty_after id k a b x old (inr m) t nope = empty_now id k b x m.now t nope
 
-abbrev pub look : {X V : Type 0} → List ℕ → List X → List (maybe.Option (Option X)) → Doing X V → Look X
+abbrev pub look : {X V : Type 0} → List ℕ → List X → List (maybe.Option (Option X)) → SeatState X V → Look X
 look words vals homes d = record { words = words; vals = vals; homes = homes; taken = d.taken; moving = d.moving }
 
 -- what a step of a seat leaves
-pub record IsAlong {X V : Type 0} (d e : Doing X V) : Type 0 where
+pub record IsAlong {X V : Type 0} (d e : SeatState X V) : Type 0 where
   pub number : e.number ≡ d.number
   pub among : e.among ≡ d.among
   pub live : e.live ≡ d.live
@@ -115,7 +115,7 @@ pub record IsAlong {X V : Type 0} (d e : Doing X V) : Type 0 where
 
 module _ {X V : Type 0} (n seats : ℕ) (holds : List ℕ → List X → List V → Type 0) where
   abbrev D : Type 0
-  D = Doing X V
+  D = SeatState X V
 
   abbrev St : Type 0
   St = State (Option X) D

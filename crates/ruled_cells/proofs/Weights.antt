@@ -3,7 +3,7 @@ use Rattle.std.proofs.Common.{◌≡◌, ◌≢◌, ℕ, zero, suc, ◌+◌, con
 use mathlib.Core.Option.{some, some-injective, some-ne-none}
 use lib.ListN.{get_elem?}
 use Rattle.journal_core.specs.declared.entries.Entry.{Entry}
-use Rattle.ruled_cells.specs.declared.kept.Kept.{Kept}
+use Rattle.ruled_cells.specs.declared.cell_value.CellValue.{CellValue}
 use Rattle.ruled_cells.specs.Ruling.{Names}
 use Rattle.ruled_cells.specs.Booking.{weigh, own, one, entries_in, weigh_all, total}
 
@@ -34,11 +34,11 @@ below m e = cond (Rattle.std.specs.Prelude.nat_lt e.pass m) 1 0
 
 module _ {F S : Type 0} (w : Names F S) where
   abbrev Vals : Type 0
-  Vals = List (Kept F S)
+  Vals = List (CellValue F S)
 
-  pub weigh_all-set : (h : Entry → ℕ) (vals : Vals) (k : ℕ) (x y : Kept F S) → get_elem? vals k ≡ some x → weigh_all w h (set vals k y) + weigh h (entries_in w x) ≡ weigh_all w h vals + weigh h (entries_in w y)
+  pub weigh_all-set : (h : Entry → ℕ) (vals : Vals) (k : ℕ) (x y : CellValue F S) → get_elem? vals k ≡ some x → weigh_all w h (set vals k y) + weigh h (entries_in w x) ≡ weigh_all w h vals + weigh h (entries_in w y)
   weigh_all-set h [] k x y e = absurd (some-ne-none x (sym e))
-  weigh_all-set h (z ∷ vals) zero x y e = let q : weigh h (entries_in w z) ≡ weigh h (entries_in w x) = ap (λ (t : Kept F S). weigh h (entries_in w t)) (some-injective z x e) in omega (arith, q)
+  weigh_all-set h (z ∷ vals) zero x y e = let q : weigh h (entries_in w z) ≡ weigh h (entries_in w x) = ap (λ (t : CellValue F S). weigh h (entries_in w t)) (some-injective z x e) in omega (arith, q)
   weigh_all-set h (z ∷ vals) (suc k) x y e = let q = weigh_all-set h vals k x y e in omega (arith, q)
 
   pub weigh_all-add : (f g h : Entry → ℕ) → ((e : Entry) → h e ≡ f e + g e) → (vals : Vals) → weigh_all w h vals ≡ weigh_all w f vals + weigh_all w g vals
@@ -58,10 +58,10 @@ module _ {F S : Type 0} (w : Names F S) where
   pub keeps_same : (log : List Entry) (vals : Vals) → Keeps log vals log vals
   keeps_same log vals h = refl
 
-  pub keeps_put : (log : List Entry) (vals : Vals) (k : ℕ) (x y : Kept F S) → get_elem? vals k ≡ some x → entries_in w y ≡ entries_in w x → Keeps log vals log (set vals k y)
+  pub keeps_put : (log : List Entry) (vals : Vals) (k : ℕ) (x y : CellValue F S) → get_elem? vals k ≡ some x → entries_in w y ≡ entries_in w x → Keeps log vals log (set vals k y)
   keeps_put log vals k x y e same h = let q = weigh_all-set h vals k x y e in let p = ap (weigh h) same in omega (arith, q, p)
 
-  pub gains_put : (log : List Entry) (vals : Vals) (k : ℕ) (x y : Kept F S) (e : Entry) → get_elem? vals k ≡ some x → entries_in w y ≡ entries_in w x ++ e ∷ [] → Gains e log vals log (set vals k y)
+  pub gains_put : (log : List Entry) (vals : Vals) (k : ℕ) (x y : CellValue F S) (e : Entry) → get_elem? vals k ≡ some x → entries_in w y ≡ entries_in w x ++ e ∷ [] → Gains e log vals log (set vals k y)
   gains_put log vals k x y e at longer h = let q = weigh_all-set h vals k x y at in let p = ap (weigh h) longer ∙ weigh-push h (entries_in w x) e in omega (arith, q, p)
 
   pub gains_noted : (log : List Entry) (vals : Vals) (e : Entry) → Gains e log vals (log ++ e ∷ []) vals

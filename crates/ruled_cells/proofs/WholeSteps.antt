@@ -7,9 +7,9 @@ use Rattle.dcd_base.specs.declared.steps.Stamp.{Stamp}
 use Rattle.dcd_base.specs.declared.steps.Actor.{Actor}
 use Rattle.journal_core.specs.declared.entries.Entry.{Entry}
 use Rattle.ruled_cells.specs.declared.about.About.{About}
-use Rattle.ruled_cells.specs.declared.about.View.{View}
-use Rattle.ruled_cells.specs.declared.kept.Kept.{Kept}
-use Rattle.ruled_cells.specs.declared.kept.Kept.TheVariants.{First, Rest}
+use Rattle.ruled_cells.specs.declared.about.SeatView.{SeatView}
+use Rattle.ruled_cells.specs.declared.cell_value.CellValue.{CellValue}
+use Rattle.ruled_cells.specs.declared.cell_value.CellValue.TheVariants.{First, Rest}
 use Rattle.ruled_cells.specs.Turning.{HasTurn, Takes, Gives, Marks, Admits, Merges}
 use Rattle.ruled_cells.specs.Stamps.{stamp, Below, IsControlLog, after, pending}
 use Rattle.ruled_cells.specs.Ruling.{Names, Ruled}
@@ -18,18 +18,18 @@ use Rattle.ruled_cells.specs.Telling.{next_view, begun, noted_view, changed_view
 use Rattle.ruled_cells.proofs.Places.{at_below, at_same}
 use Rattle.ruled_cells.proofs.Order.{two, pending_some}
 use Rattle.ruled_cells.proofs.Weights.{keeps_same, keeps_put, gains_put, gains_noted}
-use Rattle.ruled_cells.proofs.RuleSteps.{Laws, took_first_rule, took_shard_rule, same_pending, gave_first_rule, gave_alike_rule, gave_access_rule, gave_change_rule, noted_count, noted_rule, admitted_rule, merged_rule}
+use Rattle.ruled_cells.proofs.RuleSteps.{Laws, first_same, took_first_rule, took_shard_rule, same_pending, gave_first_rule, gave_alike_rule, gave_access_rule, gave_change_rule, noted_count, noted_rule, admitted_rule, merged_rule}
 use Rattle.ruled_cells.proofs.BookSteps.{books_keep, books_gain, books_admit, books_merge}
 use Rattle.ruled_cells.proofs.CountSteps.{few_in_all, counted_views, counted_put, counted_admit, counted_merge}
 
 module _ {F S : Type 0} (w : Names F S) (about : About) where
-  abbrev Holds : List ℕ → List (Kept F S) → List View → Type 0
+  abbrev Holds : List ℕ → List (CellValue F S) → List SeatView → Type 0
   Holds = Whole w about
 
-  same_views : (views : List View) (id : ℕ) (v : View) → get_elem? views id ≡ some v → (words : List ℕ) (vals : List (Kept F S)) → Holds words vals views → Holds words vals (set views id v)
+  same_views : (views : List SeatView) (id : ℕ) (v : SeatView) → get_elem? views id ≡ some v → (words : List ℕ) (vals : List (CellValue F S)) → Holds words vals views → Holds words vals (set views id v)
   same_views views id v at words vals h = subst (Holds words vals) (sym (set_again views id v at)) h
 
-  pub takes_first : (cells id : ℕ) (taken : List (Option (Kept F S))) (v : View) → v.spent ≡ false → Takes Holds cells id taken v 0 (took_first w)
+  pub takes_first : (cells id : ℕ) (taken : List (Option (CellValue F S))) (v : SeatView) → v.spent ≡ false → Takes Holds cells id taken v 0 (took_first w)
   takes_first cells id taken v used words vals views x full crowd h has at z is =
       let r = h.ruled in
       let t = r.informed id v at used in
@@ -44,7 +44,7 @@ module _ {F S : Type 0} (w : Names F S) (about : About) where
         (r.first, at_same vals 0 x (First r.first) is r.chief, refl, r.sound, r.about_is ∙ sym t.0, subst IsControlLog log_first r.control, subst (λ (l : List Entry). v.seen.number ≤ length l) log_first t.1),
       )
 
-  pub takes_shard : (cells id k : ℕ) (taken : List (Option (Kept F S))) (v : View) → v.spent ≡ false → 0 < k → Takes Holds cells id taken v k (took_shard w)
+  pub takes_shard : (cells id k : ℕ) (taken : List (Option (CellValue F S))) (v : SeatView) → v.spent ≡ false → 0 < k → Takes Holds cells id taken v k (took_shard w)
   takes_shard cells id k taken v used pos words vals views x full crowd h has at z is =
       let r = h.ruled in
       let t = r.informed id v at used in
@@ -59,7 +59,7 @@ module _ {F S : Type 0} (w : Names F S) (about : About) where
         (s.0, s.1, refl, o.config_is ∙ ap (λ (a : About). a.config) (sym t.0), o.tidy, omega (arith, seen, small), omega (arith, clock, small)),
       )
 
-  pub gives_first : (cells id : ℕ) (taken : List (Option (Kept F S))) (v : View) (f g : F) → v.spent ≡ false → HasTurn taken 0 (First f) → MayGiveFirst w cells v f g → Gives Holds cells id taken v 0 (First f) (First g) (gave_first w)
+  pub gives_first : (cells id : ℕ) (taken : List (Option (CellValue F S))) (v : SeatView) (f g : F) → v.spent ≡ false → HasTurn taken 0 (First f) → MayGiveFirst w cells v f g → Gives Holds cells id taken v 0 (First f) (First g) (gave_first w)
   gives_first cells id taken v f g used turn may words vals views full crowd h has at =
       let r = h.ruled in
       let t = has.turn 0 (First f) turn in
@@ -76,7 +76,7 @@ module _ {F S : Type 0} (w : Names F S) (about : About) where
       )
 
   module _ (access : ℕ → ℕ → Actor → S → S → Type 0) (change : Entry → S → S → Type 0) (laws : Laws w access change) where
-    pub alike : (id k : ℕ) (v : View) (a b : S) (words : List ℕ) (vals : List (Kept F S)) (views : List View) → v.spent ≡ false → (h : Holds words vals views) → get_elem? views id ≡ some v → get_elem? vals k ≡ some (Rest a)
+    pub alike : (id k : ℕ) (v : SeatView) (a b : S) (words : List ℕ) (vals : List (CellValue F S)) (views : List SeatView) → v.spent ≡ false → (h : Holds words vals views) → get_elem? views id ≡ some v → get_elem? vals k ≡ some (Rest a)
         → pending w.touches h.ruled.entry h.ruled.changed k ≡ false → Alike w a b → Holds (set words k 0) (set vals k (Rest b)) (set views id v)
     alike id k v a b words vals views used h at is free like =
         let keeps = keeps_put w h.log vals k (Rest a) (Rest b) is like.entries_are in
@@ -89,7 +89,7 @@ module _ {F S : Type 0} (w : Names F S) (about : About) where
               (λ q. let c = h.counted.seens id v at used in omega (arith, c, same));
         }
 
-    enters : (id k : ℕ) (v : View) (a b : S) (words : List ℕ) (vals : List (Kept F S)) (views : List View) → v.spent ≡ false → (h : Holds words vals views) → get_elem? views id ≡ some v → get_elem? vals k ≡ some (Rest a)
+    enters : (id k : ℕ) (v : SeatView) (a b : S) (words : List ℕ) (vals : List (CellValue F S)) (views : List SeatView) → v.spent ≡ false → (h : Holds words vals views) → get_elem? views id ≡ some v → get_elem? vals k ≡ some (Rest a)
         → pending w.touches h.ruled.entry h.ruled.changed k ≡ false → (m : MayEnter w access k id v a b) → Holds (set words k 0) (set vals k (Rest b)) (set views id (entered_view (laws.enters k id m.actor a b m.is_access).entry v))
     enters id k v a b words vals views used h at is free m =
         let n = laws.enters k id m.actor a b m.is_access in
@@ -107,7 +107,7 @@ module _ {F S : Type 0} (w : Names F S) (about : About) where
               (λ q. omega (arith, low, count));
         }
 
-    changes : (id k : ℕ) (v : View) (a b : S) (e : Entry) (words : List ℕ) (vals : List (Kept F S)) (views : List View) → v.spent ≡ false → (h : Holds words vals views) → get_elem? views id ≡ some v → get_elem? vals k ≡ some (Rest a)
+    changes : (id k : ℕ) (v : SeatView) (a b : S) (e : Entry) (words : List ℕ) (vals : List (CellValue F S)) (views : List SeatView) → v.spent ≡ false → (h : Holds words vals views) → get_elem? views id ≡ some v → get_elem? vals k ≡ some (Rest a)
         → get_or words k 0 ≡ id + 1 → pending w.touches h.ruled.entry h.ruled.changed k ≡ true → v.entry ≡ Some e → change e a b → Holds (set words k 0) (set vals k (Rest b)) (set views id (changed_view k v))
     changes id k v a b e words vals views used h at is turn waits noted does =
         let c = laws.changes e a b does in
@@ -124,25 +124,26 @@ module _ {F S : Type 0} (w : Names F S) (about : About) where
               (λ q. let d = h.counted.seens id v at used in omega (arith, d, same));
         }
 
-    given_back : (id k : ℕ) (v : View) (a b : S) → v.spent ≡ false → MayGive w access change k id v a b → (words : List ℕ) (vals : List (Kept F S)) (views : List View) (h : Holds words vals views) → get_elem? views id ≡ some v → get_elem? vals k ≡ some (Rest a)
+    given_back : (id k : ℕ) (taken : List (Option (CellValue F S))) (v : SeatView) (a b : S) → v.spent ≡ false → MayGive w access change k id taken v a b → (words : List ℕ) (vals : List (CellValue F S)) (views : List SeatView) (h : Holds words vals views) → ((f : F) → HasTurn taken 0 (First f) → get_elem? vals 0 ≡ some (First f)) → get_elem? views id ≡ some v → get_elem? vals k ≡ some (Rest a)
         → get_or words k 0 ≡ id + 1 → pending w.touches h.ruled.entry h.ruled.changed k ≡ pending w.touches v.entry v.changed k → (pending w.touches v.entry v.changed k ≡ true) ⊎ (pending w.touches v.entry v.changed k ≡ false)
-        → (v' : View) × Holds (set words k 0) (set vals k (Rest b)) (set views id v') × gave_shard w k v (Rest a) (Rest b) v'
-    given_back id k v a b used may words vals views h at is turn same (inl p) =
+        → (v' : SeatView) × Holds (set words k 0) (set vals k (Rest b)) (set views id v') × gave_shard w k v (Rest a) (Rest b) v'
+    given_back id k taken v a b used may words vals views h chief at is turn same (inl p) =
         let e = pending_some w.touches v.entry v.changed k p in
-        let does = may.at_pending e.0 e.1 p in
+        let right = ((h.ruled.shard k a is).late (same ∙ p)).0 in
+        let does = may.at_pending e.0 e.1 p (λ f held. subst (λ (g : F). w.right k a (w.journal g)) (first_same h.ruled.first f (at_same vals 0 (First h.ruled.first) (First f) h.ruled.chief (chief f held))) right) in
         (changed_view k v, changes id k v a b e.0 words vals views used h at is turn (same ∙ p) e.1 does, (a, b, refl, refl, inl ((laws.changes e.0 a b does).entries_are, inr (p, refl))))
-    given_back id k v a b used may words vals views h at is turn same (inr p) = ⊎_elim
+    given_back id k taken v a b used may words vals views h chief at is turn same (inr p) = ⊎_elim
         (λ (like : Alike w a b). (v, alike id k v a b words vals views used h at is (same ∙ p) like, (a, b, refl, refl, inl (like.entries_are, inl (p, refl)))))
         (λ (m : MayEnter w access k id v a b). let n = laws.enters k id m.actor a b m.is_access in
         (entered_view n.entry v, enters id k v a b words vals views used h at is (same ∙ p) m, (a, b, refl, refl, inr (n.entry, n.entries_are, n.clock_is, refl))))
         (may.at_others p)
 
-    pub gives_shard : (cells id k : ℕ) (taken : List (Option (Kept F S))) (v : View) (a b : S) → v.spent ≡ false → HasTurn taken k (Rest a) → MayGive w access change k id v a b → Gives Holds cells id taken v k (Rest a) (Rest b) (gave_shard w)
+    pub gives_shard : (cells id k : ℕ) (taken : List (Option (CellValue F S))) (v : SeatView) (a b : S) → v.spent ≡ false → HasTurn taken k (Rest a) → MayGive w access change k id taken v a b → Gives Holds cells id taken v k (Rest a) (Rest b) (gave_shard w)
     gives_shard cells id k taken v a b used turn may words vals views full crowd h has at =
         let t = has.turn k (Rest a) turn in
-        given_back id k v a b used may words vals views h at t.1 t.0 (same_pending w about h.log words vals views h.ruled id v k a at t.1 t.0) (two (pending w.touches v.entry v.changed k))
+        given_back id k taken v a b used may words vals views h (λ f held. (has.turn 0 (First f) held).1) at t.1 t.0 (same_pending w about h.log words vals views h.ruled id v k a at t.1 t.0) (two (pending w.touches v.entry v.changed k))
 
-    pub notes : (cells id : ℕ) (taken : List (Option (Kept F S))) (v : View) (f g : F) (e : Entry) → v.spent ≡ false → MayNote w cells id taken v f g e → Marks Holds cells id taken v (length (w.journal g)) (noted_as e)
+    pub notes : (cells id : ℕ) (taken : List (Option (CellValue F S))) (v : SeatView) (f g : F) (e : Entry) → v.spent ≡ false → MayNote w cells id taken v f g e → Marks Holds cells id taken v (length (w.journal g)) (noted_as e)
     notes cells id taken v f g e used may words vals views full crowd h has at =
         let t = has.turn 0 (First f) may.turn in
         let may' : MayNote w (length vals) id taken v f g e = subst (λ (z : ℕ). MayNote w z id taken v f g e) (sym full) may in
@@ -165,7 +166,7 @@ module _ {F S : Type 0} (w : Names F S) (about : About) where
           (refl, above),
         )
 
-  pub admits : (v : View) → v.spent ≡ false → Admits Holds v next_view
+  pub admits : (v : SeatView) → v.spent ≡ false → Admits Holds v next_view
   admits v used words vals views h at free = record {
     log = h.log;
     ruled = admitted_rule w about h.log words vals views h.ruled v at used (free 0 (at_below vals 0 (First h.ruled.first) h.ruled.chief));
@@ -173,7 +174,7 @@ module _ {F S : Type 0} (w : Names F S) (about : About) where
     counted = counted_admit w h.log vals views h.counted v;
   }
 
-  pub merges : (id other : ℕ) (v u : View) → v.spent ≡ false → u.spent ≡ false → Merges Holds id v other u (joint_view v u) spent_view
+  pub merges : (id other : ℕ) (v u : SeatView) → v.spent ≡ false → u.spent ≡ false → Merges Holds id v other u (joint_view v u) spent_view
   merges id other v u used used' words vals views h at ne at' free = record {
     log = h.log;
     ruled = merged_rule w about h.log words vals views h.ruled id other v u at (free 0 (at_below vals 0 (First h.ruled.first) h.ruled.chief));

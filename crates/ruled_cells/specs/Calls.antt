@@ -1,12 +1,18 @@
 -- What the cells show, and which seats are theirs.
-use Rattle.std.specs.Prelude.{◌≡◌, ℕ, ◌<◌, List, length}
+use Rattle.std.specs.Prelude.{◌≡◌, ℕ, suc, ◌<◌, ◌≤◌, List, [], length}
 use mathlib.Core.Option.{some}
 use lib.ListN.{get_elem?}
 use Rattle.ruled_cells.specs.declared.about.About.{About}
 use Rattle.ruled_cells.specs.declared.seat.Seat.{Seat}
 use Rattle.ruled_cells.specs.declared.cells.Cells.{Cells}
-use Rattle.ruled_cells.specs.Seats.{place_of, among_of, number_of, view_of, NoTurns}
-use Rattle.ruled_cells.specs.Telling.{first_view}
+use Rattle.journal_core.specs.declared.entries.Entry.{Entry}
+use Rattle.ruled_cells.specs.declared.about.SeatView.{SeatView}
+use Rattle.ruled_cells.specs.Booking.{Fits}
+use Rattle.ruled_cells.specs.Reads.{ChiefReads, MemberReads}
+use Rattle.ruled_cells.specs.Resting.{Accounts}
+use Rattle.ruled_cells.specs.Ruling.{access_cell, names}
+use Rattle.ruled_cells.specs.Seats.{HasCell, HasFirst, NoTurns, among_of, number_of, place_of, turns_of, view_of}
+use Rattle.ruled_cells.specs.Telling.{GaveCell, MayGive, MayGiveFirst, MayNote, fresh_seat, values}
 
 module _ {F S : Type 0} where
   -- how many cells there are beside the first
@@ -30,8 +36,16 @@ module _ {F S : Type 0} where
   pub record IsNew (cells : Cells F S) (about : About) (k : ℕ) (s : Seat F S) : Type 0 where
     pub of : IsOf cells s
     pub number : number_of s ≡ k
-    pub view : view_of s ≡ first_view k about
+    pub view : view_of s ≡ fresh_seat k about
     pub no_turns : NoTurns s
+
+  -- the others than seat 0, in the order of their numbers
+  abbrev pub AreOthers : Cells F S → About → List (Seat F S) → Type 0
+  AreOthers cells about seats = (k : ℕ) (s : Seat F S) → get_elem? seats k ≡ some s → IsNew cells about (suc k) s
+
+  -- all seats, in the order of their numbers
+  abbrev pub AreNew : Cells F S → About → List (Seat F S) → Type 0
+  AreNew cells about seats = (k : ℕ) (s : Seat F S) → get_elem? seats k ≡ some s → IsNew cells about k s
 
   -- these are all seats of the cells, and none has a turn
   pub record AreAll (cells : Cells F S) (seats : List (Seat F S)) : Type 0 where
@@ -39,3 +53,29 @@ module _ {F S : Type 0} where
     pub of : (k : ℕ) (s : Seat F S) → get_elem? seats k ≡ some s → IsOf cells s
     pub no_turns : (k : ℕ) (s : Seat F S) → get_elem? seats k ≡ some s → NoTurns s
     pub each : (i : ℕ) → i < seats_of cells → (k : ℕ) × (s : Seat F S) × (get_elem? seats k ≡ some s) × (number_of s ≡ i)
+
+module _ {F S : Type 0} (chief : ChiefReads F) (member : MemberReads S) where
+  -- the seat may note the entry that the first cell gained, whose value is now `first`
+  abbrev pub MayNoteIn : Cells F S → Seat F S → F → Entry → Type 0
+  MayNoteIn cells s first e = (taken : F) × MayNote (names chief member) (suc (row_of cells)) (number_of s) (turns_of s) (view_of s) taken first e
+
+  -- the seat may give the first cell back as `first`
+  abbrev pub MayGiveFirstIn : Cells F S → Seat F S → F → Type 0
+  MayGiveFirstIn cells s first = (taken : F) × HasFirst s taken × MayGiveFirst (names chief member) (suc (row_of cells)) (view_of s) taken first
+
+  -- the seat may give the cell of an index back as `value`
+  abbrev pub MayGiveIn : Seat F S → ℕ → S → Type 0
+  MayGiveIn s index value = (taken : S) × HasCell s index taken
+      × MayGive (names chief member) (access_cell member.access) member.change (suc index) (number_of s) (turns_of s) (view_of s) taken value
+
+  -- it was told that it gave the cell of an index back as `value`
+  abbrev pub GaveIn : Seat F S → ℕ → S → SeatView → Type 0
+  GaveIn s index value view = (taken : S) × HasCell s index taken × GaveCell (names chief member) (suc index) (view_of s) taken value view
+
+  -- the calls of each seat are its entries in the values that the cells hold at the end
+  abbrev pub AccountFor : F → List S → List (Seat F S) → Type 0
+  AccountFor first row seats = (k : ℕ) (s : Seat F S) → get_elem? seats k ≡ some s → Accounts (names chief member) first row (view_of s).number (view_of s).calls
+
+  -- no entry is of a seat that was not made
+  abbrev pub NoOthers : Cells F S → F → List S → Type 0
+  NoOthers cells first row = (j : ℕ) → seats_of cells ≤ j → Fits (names chief member) (chief.journal first) (values first row) j []

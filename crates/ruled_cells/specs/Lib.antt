@@ -1,6 +1,7 @@
 pub mod Turning
 pub mod Stamps
 pub mod Laws
+pub mod Reads
 pub mod Ruling
 pub mod Booking
 pub mod Telling

@@ -9,11 +9,12 @@ use Rattle.region_config.specs.Configurations.{Configuration}
 use Rattle.journal_core.specs.declared.entries.Entry.{Entry}
 use Rattle.journal_core.specs.Entries.{is_control}
 use Rattle.ruled_cells.specs.declared.about.About.{About}
-use Rattle.ruled_cells.specs.declared.about.View.{View}
-use Rattle.ruled_cells.specs.declared.kept.Kept.{Kept}
-use Rattle.ruled_cells.specs.declared.kept.Kept.TheVariants.{First, Rest}
+use Rattle.ruled_cells.specs.declared.about.SeatView.{SeatView}
+use Rattle.ruled_cells.specs.declared.cell_value.CellValue.{CellValue}
+use Rattle.ruled_cells.specs.declared.cell_value.CellValue.TheVariants.{First, Rest}
 use Rattle.ruled_cells.specs.Stamps.{Rise, IsControlLog, after, pending}
 use Rattle.ruled_cells.specs.Laws.{Tidy}
+use Rattle.ruled_cells.specs.Reads.{ChiefReads, MemberReads, about_of}
 
 -- what the two traits name, by the number of a cell
 pub record Names (F S : Type 0) : Type 1 where
@@ -40,18 +41,17 @@ abbrev pub access_cell : {S : Type 0} → (ℕ → ℕ → Actor → S → S →
 access_cell access zero seat actor x y = ⊥
 access_cell access (suc i) seat actor x y = access i seat actor x y
 
-abbrev pub names : {F S : Type 0} → (F → List Entry) → (F → Configuration) → (F → List Actor) → (F → Type 0)
-    → (S → Configuration) → (S → List Entry) → (S → Stamp) → (ℕ → Entry → Bool) → (Configuration → ℕ → Entry → Type 0) → (ℕ → S → List Entry → Type 0) → Names F S
-names journal config actors sound config_of entries clock touches belongs right = record {
-  journal = journal;
-  about = λ f. record { config = config f; actors = actors f };
-  sound = sound;
-  config_of = config_of;
-  entries = entries;
-  clock = clock;
-  touches = touches_cell touches;
-  belongs = λ c k e. AtCell (λ i. belongs c i e) k;
-  right = λ k x log. AtCell (λ i. right i x log) k;
+abbrev pub names : {F S : Type 0} → ChiefReads F → MemberReads S → Names F S
+names chief member = record {
+  journal = chief.journal;
+  about = about_of chief;
+  sound = chief.sound;
+  config_of = member.config;
+  entries = member.entries;
+  clock = member.clock;
+  touches = touches_cell member.touches;
+  belongs = λ c k e. AtCell (λ i. member.belongs c i e) k;
+  right = λ k x log. AtCell (λ i. member.right i x log) k;
 }
 
 module _ {F S : Type 0} (w : Names F S) (about : About) where
@@ -73,14 +73,14 @@ module _ {F S : Type 0} (w : Names F S) (about : About) where
     pub late : pending w.touches entry changed k ≡ true → w.right k x before × ((w.clock x).number ≤ length before) × (slice_index words k ≡ slice_index words 0)
 
   -- log is the journal of the rule: that of the first cell at home, or the one that the seat with its turn names
-  pub record Ruled (log : List Entry) (words : List ℕ) (vals : List (Kept F S)) (views : List View) : Type 0 where
+  pub record Ruled (log : List Entry) (words : List ℕ) (vals : List (CellValue F S)) (views : List SeatView) : Type 0 where
     pub first : F
     pub entry : Option Entry
     pub changed : List ℕ
     pub log_is : log ≡ after (w.journal first) entry
     pub wide : length words ≡ length vals + 1
     pub chief : get_elem? vals 0 ≡ some (First first)
-    pub rest : (k : ℕ) (x : Kept F S) → 0 < k → get_elem? vals k ≡ some x → (s : S) × (x ≡ Rest s)
+    pub rest : (k : ℕ) (x : CellValue F S) → 0 < k → get_elem? vals k ≡ some x → (s : S) × (x ≡ Rest s)
     pub about_is : w.about first ≡ about
     pub sound : w.sound first
     -- the journal is that of a first cell that is sound, be it not yet given back
@@ -91,7 +91,7 @@ module _ {F S : Type 0} (w : Names F S) (about : About) where
     pub actors : (k : ℕ) (e : Entry) → get_elem? log k ≡ some e → get_elem? about.actors e.pass ≡ some e.actor
     pub count : slice_index words (length vals) ≡ length log
     pub at_rest : slice_index words 0 ≡ 0 → entry ≡ None
-    pub at_work : (j : ℕ) (v : View) → get_elem? views j ≡ some v → slice_index words 0 ≡ j + 1 → (v.entry ≡ entry) × (v.changed ≡ changed)
-    pub quiet : (j : ℕ) (v : View) → get_elem? views j ≡ some v → slice_index words 0 ≢ j + 1 → v.entry ≡ None
+    pub at_work : (j : ℕ) (v : SeatView) → get_elem? views j ≡ some v → slice_index words 0 ≡ j + 1 → (v.entry ≡ entry) × (v.changed ≡ changed)
+    pub quiet : (j : ℕ) (v : SeatView) → get_elem? views j ≡ some v → slice_index words 0 ≢ j + 1 → v.entry ≡ None
     pub shard : (k : ℕ) (x : S) → get_elem? vals k ≡ some (Rest x) → IsShard words (w.journal first) log entry changed k x
-    pub informed : (j : ℕ) (v : View) → get_elem? views j ≡ some v → v.spent ≡ false → (v.about ≡ about) × (v.seen.number ≤ length log) × (v.number ≡ j)
+    pub informed : (j : ℕ) (v : SeatView) → get_elem? views j ≡ some v → v.spent ≡ false → (v.about ≡ about) × (v.seen.number ≤ length log) × (v.number ≡ j)

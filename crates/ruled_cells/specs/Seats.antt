@@ -1,9 +1,9 @@
 -- What a seat shows.
 use Rattle.std.specs.Prelude.{◌≡◌, ℕ, suc, List, Option}
 use Rattle.atomic_table.specs.Seated.{TableId}
-use Rattle.ruled_cells.specs.declared.about.View.{View}
-use Rattle.ruled_cells.specs.declared.kept.Kept.{Kept}
-use Rattle.ruled_cells.specs.declared.kept.Kept.TheVariants.{First, Rest}
+use Rattle.ruled_cells.specs.declared.about.SeatView.{SeatView}
+use Rattle.ruled_cells.specs.declared.cell_value.CellValue.{CellValue}
+use Rattle.ruled_cells.specs.declared.cell_value.CellValue.TheVariants.{First, Rest}
 use Rattle.ruled_cells.specs.declared.seat.Seat.{Seat}
 use Rattle.ruled_cells.specs.Turning.{HasTurn, NoTurn}
 
@@ -19,16 +19,20 @@ module _ {F S : Type 0} where
   abbrev pub place_of : Seat F S → TableId
   place_of s = s.token.table_id
 
-  abbrev pub view_of : Seat F S → View
+  abbrev pub view_of : Seat F S → SeatView
   view_of s = s.token.me.0.client
 
   -- the turns that it has, each with the value that was taken. Cell 0 is the first one, and cell i + 1 that of index i
-  abbrev pub turns_of : Seat F S → List (Option (Kept F S))
+  abbrev pub turns_of : Seat F S → List (Option (CellValue F S))
   turns_of s = s.token.me.0.taken
 
   -- how often it tried to get a turn, and what the last try read: 0, or the number of another seat plus 1
   abbrev pub tries_of : Seat F S → ℕ
   tries_of s = s.token.me.0.tries
+
+  -- the cell whose turn the last try read
+  abbrev pub tried_at : Seat F S → ℕ
+  tried_at s = s.token.me.0.at
 
   abbrev pub saw_of : Seat F S → ℕ
   saw_of s = s.token.me.0.saw

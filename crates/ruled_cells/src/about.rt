@@ -11,7 +11,7 @@ pub struct About {
 }
 
 /// What a seat knows, beside which turns it has. No value of it is made.
-pub struct View {
+pub struct SeatView {
     pub number: u32,
     pub about: About,
     /// The entry that the seat has noted and whose cells it still changes, while it has the turn of the first cell.

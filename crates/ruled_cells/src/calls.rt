@@ -1,17 +1,17 @@
 //! Taking a cell, noting, and giving back.
 
 ghost use Rattle.std.specs.Prelude.{◌≡◌, ◌≢◌, suc, ◌+◌, ◌<◌, slice_set, IfErr, IfOk, MatchResult, None, Some};
-ghost use Rattle.ruled_cells.specs.Calls.{IsOf, row_of, seats_of};
-ghost use Rattle.ruled_cells.specs.Ruling.{access_cell, names};
-ghost use Rattle.ruled_cells.specs.Seats.{HasCell, HasFirst, IsSameSeat, NoCell, NoFirst, number_of, saw_of, tries_of, turns_of, view_of};
-ghost use Rattle.ruled_cells.specs.Telling.{GaveCell, MayGive, MayGiveFirst, MayNote, ToldCell, ToldFirst, begun, last_of, noted_as};
-ghost use Rattle.ruled_cells.specs.declared.kept.Kept.TheVariants.{First, Rest};
+ghost use Rattle.ruled_cells.specs.Calls.{GaveIn, IsOf, MayGiveFirstIn, MayGiveIn, MayNoteIn, row_of, seats_of};
+ghost use Rattle.ruled_cells.specs.Ruling.{names};
+ghost use Rattle.ruled_cells.specs.Seats.{HasCell, HasFirst, IsSameSeat, NoCell, NoFirst, number_of, saw_of, tried_at, tries_of, turns_of, view_of};
+ghost use Rattle.ruled_cells.specs.Telling.{ToldCell, ToldFirst, begun, last_of, noted_as};
+ghost use Rattle.ruled_cells.specs.declared.cell_value.CellValue.TheVariants.{First, Rest};
 
+use crate::cell_value::CellValue;
 use crate::cells::Cells;
 use crate::chief::Chief;
-use crate::kept::Kept;
 use crate::member::Member;
-use crate::ruling::{GiveCell, GiveFirst, Note, Noted, TakeCell, TakeFirst};
+use crate::ruling::{GiveCell, GiveFirst, Note, NotedEntry, TakeCell, TakeFirst};
 use crate::seat::{Busy, Seat};
 use crate::turns;
 use std::marker::Brand;
@@ -25,16 +25,16 @@ impl<F: Chief, S: Member> Cells<F, S> {
         ensures seat { IsSameSeat seat.old seat.new }
         ensures turn { (turns_of seat.new ≡ slice_set (turns_of seat.old) 0 (Some (First result))) × HasFirst seat.new result }
         ensures view { view_of seat.new ≡ begun (view_of seat.old) }
-        ensures told { ToldFirst (names F.journal F.config F.actors F.sound S.config S.entries S.clock S.touches S.belongs S.right) (view_of seat.old) result }
+        ensures told { ToldFirst (names F.reads S.reads) (view_of seat.old) result }
     {
-        let kept = turns::take::<Kept<F, S>, _, _, _, TakeFirst<F, S>, R>(
+        let kept = turns::take::<CellValue<F, S>, _, _, _, TakeFirst<F, S>, R>(
             rt,
             &self.table.shared,
             &mut seat.token,
             seat.number,
             0,
         );
-        let Kept::First(first) = kept else {
+        let CellValue::First(first) = kept else {
             unreachable!()
         };
         first
@@ -48,16 +48,16 @@ impl<F: Chief, S: Member> Cells<F, S> {
         ensures seat { IsSameSeat seat.old seat.new }
         ensures turn { (turns_of seat.new ≡ slice_set (turns_of seat.old) (suc index) (Some (Rest result))) × HasCell seat.new index result }
         ensures view { view_of seat.new ≡ view_of seat.old }
-        ensures told { ToldCell (names F.journal F.config F.actors F.sound S.config S.entries S.clock S.touches S.belongs S.right) (view_of seat.old) result }
+        ensures told { ToldCell (names F.reads S.reads) (view_of seat.old) result }
     {
-        let kept = turns::take::<Kept<F, S>, _, _, _, TakeCell<F, S>, R>(
+        let kept = turns::take::<CellValue<F, S>, _, _, _, TakeCell<F, S>, R>(
             rt,
             &self.table.shared,
             &mut seat.token,
             seat.number,
             index as usize + 1,
         );
-        let Kept::Rest(value) = kept else {
+        let CellValue::Rest(value) = kept else {
             unreachable!()
         };
         value
@@ -71,13 +71,14 @@ impl<F: Chief, S: Member> Cells<F, S> {
         requires no_turn { NoCell seat.old index }
         ensures seat { IsSameSeat seat.old seat.new }
         ensures once { tries_of seat.new ≡ tries_of seat.old + 1 }
+        ensures at { tried_at seat.new ≡ suc index }
         ensures saw { MatchResult result (λ _. saw_of seat.new ≡ 0) (λ busy. saw_of seat.new ≡ busy.seat_seen + 1) }
         ensures view { view_of seat.new ≡ view_of seat.old }
         ensures turn { IfOk result (λ value. (turns_of seat.new ≡ slice_set (turns_of seat.old) (suc index) (Some (Rest value))) × HasCell seat.new index value) }
-        ensures told { IfOk result (λ value. ToldCell (names F.journal F.config F.actors F.sound S.config S.entries S.clock S.touches S.belongs S.right) (view_of seat.old) value) }
+        ensures told { IfOk result (λ value. ToldCell (names F.reads S.reads) (view_of seat.old) value) }
         ensures busy { IfErr result (λ busy. (turns_of seat.new ≡ turns_of seat.old) × (busy.seat_seen < seats_of self.now) × (busy.seat_seen ≢ number_of seat.old)) }
     {
-        let tried = turns::try_take::<Kept<F, S>, _, _, _, TakeCell<F, S>>(
+        let tried = turns::try_take::<CellValue<F, S>, _, _, _, TakeCell<F, S>>(
             &self.table.shared,
             &mut seat.token,
             seat.number,
@@ -85,7 +86,7 @@ impl<F: Chief, S: Member> Cells<F, S> {
         );
         match tried {
             Ok(kept) => {
-                let Kept::Rest(value) = kept else {
+                let CellValue::Rest(value) = kept else {
                     unreachable!()
                 };
                 Ok(value)
@@ -99,10 +100,10 @@ impl<F: Chief, S: Member> Cells<F, S> {
     /// `first` is the value taken with that entry, which is not given back yet.
     pub fn note(&self, seat: &mut Seat<F, S>, first: &F)
         requires cells { IsOf self.now seat.old }
-        requires may { (taken : F) × MayNote (names F.journal F.config F.actors F.sound S.config S.entries S.clock S.touches S.belongs S.right) (suc (row_of self.now)) (number_of seat.old) (turns_of seat.old) (view_of seat.old) taken first.now (last_of (F.journal first.now)) }
+        requires may { MayNoteIn F.reads S.reads self.now seat.old first.now (last_of (F.reads.journal first.now)) }
         ensures seat { IsSameSeat seat.old seat.new }
         ensures turns { turns_of seat.new ≡ turns_of seat.old }
-        ensures view { noted_as (last_of (F.journal first.now)) (view_of seat.old) (view_of seat.new) }
+        ensures view { noted_as (last_of (F.reads.journal first.now)) (view_of seat.old) (view_of seat.new) }
     {
         write::<Brand, F, S>(self, seat, first);
     }
@@ -110,17 +111,17 @@ impl<F: Chief, S: Member> Cells<F, S> {
     /// Gives the first cell back.
     pub fn give_first(&self, seat: &mut Seat<F, S>, value: F)
         requires cells { IsOf self.now seat.old }
-        requires may { (taken : F) × HasFirst seat.old taken × MayGiveFirst (names F.journal F.config F.actors F.sound S.config S.entries S.clock S.touches S.belongs S.right) (suc (row_of self.now)) (view_of seat.old) taken value }
+        requires may { MayGiveFirstIn F.reads S.reads self.now seat.old value }
         ensures seat { IsSameSeat seat.old seat.new }
         ensures turn { turns_of seat.new ≡ slice_set (turns_of seat.old) 0 None }
         ensures view { view_of seat.new ≡ begun (view_of seat.old) }
     {
-        turns::give::<Kept<F, S>, _, _, _, GiveFirst<F, S>>(
+        turns::give::<CellValue<F, S>, _, _, _, GiveFirst<F, S>>(
             &self.table.shared,
             &mut seat.token,
             seat.number,
             0,
-            Kept::First(value),
+            CellValue::First(value),
         );
     }
 
@@ -128,30 +129,30 @@ impl<F: Chief, S: Member> Cells<F, S> {
     pub fn give(&self, seat: &mut Seat<F, S>, index: u32, value: S)
         requires cells { IsOf self.now seat.old }
         requires index { index < row_of self.now }
-        requires may { (taken : S) × HasCell seat.old index taken × MayGive (names F.journal F.config F.actors F.sound S.config S.entries S.clock S.touches S.belongs S.right) (access_cell S.access) S.change (suc index) (number_of seat.old) (view_of seat.old) taken value }
+        requires may { MayGiveIn F.reads S.reads seat.old index value }
         ensures seat { IsSameSeat seat.old seat.new }
         ensures turn { turns_of seat.new ≡ slice_set (turns_of seat.old) (suc index) None }
-        ensures told { (taken : S) × HasCell seat.old index taken × GaveCell (names F.journal F.config F.actors F.sound S.config S.entries S.clock S.touches S.belongs S.right) (suc index) (view_of seat.old) taken value (view_of seat.new) }
+        ensures told { GaveIn F.reads S.reads seat.old index value (view_of seat.new) }
     {
-        turns::give::<Kept<F, S>, _, _, _, GiveCell<F, S>>(
+        turns::give::<CellValue<F, S>, _, _, _, GiveCell<F, S>>(
             &self.table.shared,
             &mut seat.token,
             seat.number,
             index as usize + 1,
-            Kept::Rest(value),
+            CellValue::Rest(value),
         );
     }
 }
 
 /// Sets the count word, at a noted entry that the caller picks.
-fn write<N: Noted, F: Chief, S: Member>(cells: &Cells<F, S>, seat: &mut Seat<F, S>, first: &F)
+fn write<N: NotedEntry, F: Chief, S: Member>(cells: &Cells<F, S>, seat: &mut Seat<F, S>, first: &F)
     requires cells { IsOf cells.now seat.old }
-    requires may { (taken : F) × MayNote (names F.journal F.config F.actors F.sound S.config S.entries S.clock S.touches S.belongs S.right) (suc (row_of cells.now)) (number_of seat.old) (turns_of seat.old) (view_of seat.old) taken first.now N.entry }
+    requires may { MayNoteIn F.reads S.reads cells.now seat.old first.now N.entry }
     ensures seat { IsSameSeat seat.old seat.new }
     ensures turns { turns_of seat.new ≡ turns_of seat.old }
     ensures view { noted_as N.entry (view_of seat.old) (view_of seat.new) }
 {
-    turns::mark::<Kept<F, S>, _, _, _, Note<N>>(
+    turns::mark::<CellValue<F, S>, _, _, _, Note<N>>(
         &cells.table.shared,
         &mut seat.token,
         seat.number,

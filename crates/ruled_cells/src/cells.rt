@@ -2,9 +2,9 @@
 
 ghost use Rattle.std.specs.Prelude.{◌≡◌, ◌+◌};
 
-use crate::about::View;
+use crate::about::SeatView;
+use crate::cell_value::{CellValue, OpeningValues};
 use crate::chief::Chief;
-use crate::kept::{Contents, Kept};
 use crate::member::Member;
 use crate::ruling::Ruling;
 use crate::turns::Store;
@@ -12,7 +12,7 @@ use crate::turns::Store;
 /// One first cell and a row of cells, each with a turn word, and a count word.
 #[derive(Drop)]
 pub struct Cells<F: Chief, S: Member> {
-    pub(crate) table: Store<Kept<F, S>, View, Contents<F, S>, Ruling<F, S>>,
+    pub(crate) table: Store<CellValue<F, S>, SeatView, OpeningValues<F, S>, Ruling<F, S>>,
     pub(crate) row: u32,
     ghost sized: { (table.shared.table_id.words ≡ table.shared.table_id.slots + 1) × (table.shared.table_id.slots ≡ row + 1) },
 }

@@ -3,17 +3,17 @@
 
 mod about;
 mod calls;
+mod cell_value;
 mod cells;
 mod chief;
 mod closing;
-mod kept;
 mod making;
 mod member;
 mod ruling;
 mod seat;
 mod turns;
 
-pub use about::{About, View};
+pub use about::{About, SeatView};
 pub use cells::Cells;
 pub use chief::Chief;
 pub use member::Member;

@@ -2,11 +2,12 @@
 ghost use Rattle.journal_core.specs.declared.entries.Entry.{Entry};
 ghost use Rattle.ruled_cells.specs.Making.{fills};
 ghost use Rattle.ruled_cells.specs.Ruling.{names};
-ghost use Rattle.ruled_cells.specs.Telling.{first_view, gave_first, gave_shard, joint_view, next_view, no_entry, noted_as, spent_view, took_first, took_shard, values};
+ghost use Rattle.ruled_cells.specs.Telling.{fresh_seat, gave_first, gave_shard, joint_view, next_view, no_entry, noted_as, spent_view, took_first, took_shard, values};
+ghost use Rattle.ruled_cells.specs.Reads.{about_of};
 
-use crate::about::View;
+use crate::about::SeatView;
+use crate::cell_value::{CellValue, OpeningValues};
 use crate::chief::Chief;
-use crate::kept::{Contents, Kept};
 use crate::member::Member;
 use crate::turns::{Admission, Marking, Merging, Outcome, Protocol};
 use std::marker::{Brand, PhantomData};
@@ -16,16 +17,17 @@ pub struct Ruling<F, S> {
     of: PhantomData<(F, S)>,
 }
 
-impl<F: Chief, S: Member> Protocol<Kept<F, S>, View, Contents<F, S>> for Ruling<F, S> {
+impl<F: Chief, S: Member> Protocol<CellValue<F, S>, SeatView, OpeningValues<F, S>>
+    for Ruling<F, S> {
     ghost use Rattle.ruled_cells.specs.Booking.{Whole};
 
-    ghost holds = { λ key. Whole (names F.journal F.config F.actors F.sound S.config S.entries S.clock S.touches S.belongs S.right) (record { config = F.config key.first; actors = F.actors key.first }) };
+    ghost holds = { λ key. Whole (names F.reads S.reads) (about_of F.reads key.first) };
 
     ghost given = { λ key. values key.first key.rest.items };
 
     ghost seats = { λ key. key.seats };
 
-    ghost first = { λ key. first_view 0 (record { config = F.config key.first; actors = F.actors key.first }) };
+    ghost first = { λ key. fresh_seat 0 (about_of F.reads key.first) };
 }
 
 /// The first cell is taken.
@@ -33,8 +35,8 @@ pub struct TakeFirst<F, S> {
     of: PhantomData<(F, S)>,
 }
 
-impl<F: Chief, S: Member> Outcome<Kept<F, S>, View> for TakeFirst<F, S> {
-    ghost then = { took_first (names F.journal F.config F.actors F.sound S.config S.entries S.clock S.touches S.belongs S.right) };
+impl<F: Chief, S: Member> Outcome<CellValue<F, S>, SeatView> for TakeFirst<F, S> {
+    ghost then = { took_first (names F.reads S.reads) };
 }
 
 /// A cell of the row is taken.
@@ -42,8 +44,8 @@ pub struct TakeCell<F, S> {
     of: PhantomData<(F, S)>,
 }
 
-impl<F: Chief, S: Member> Outcome<Kept<F, S>, View> for TakeCell<F, S> {
-    ghost then = { took_shard (names F.journal F.config F.actors F.sound S.config S.entries S.clock S.touches S.belongs S.right) };
+impl<F: Chief, S: Member> Outcome<CellValue<F, S>, SeatView> for TakeCell<F, S> {
+    ghost then = { took_shard (names F.reads S.reads) };
 }
 
 /// The first cell is given back.
@@ -51,8 +53,8 @@ pub struct GiveFirst<F, S> {
     of: PhantomData<(F, S)>,
 }
 
-impl<F: Chief, S: Member> Outcome<Kept<F, S>, View> for GiveFirst<F, S> {
-    ghost then = { gave_first (names F.journal F.config F.actors F.sound S.config S.entries S.clock S.touches S.belongs S.right) };
+impl<F: Chief, S: Member> Outcome<CellValue<F, S>, SeatView> for GiveFirst<F, S> {
+    ghost then = { gave_first (names F.reads S.reads) };
 }
 
 /// A cell of the row is given back.
@@ -60,8 +62,8 @@ pub struct GiveCell<F, S> {
     of: PhantomData<(F, S)>,
 }
 
-impl<F: Chief, S: Member> Outcome<Kept<F, S>, View> for GiveCell<F, S> {
-    ghost then = { gave_shard (names F.journal F.config F.actors F.sound S.config S.entries S.clock S.touches S.belongs S.right) };
+impl<F: Chief, S: Member> Outcome<CellValue<F, S>, SeatView> for GiveCell<F, S> {
+    ghost then = { gave_shard (names F.reads S.reads) };
 }
 
 /// A cell is given back as it was taken, when the cells are made.
@@ -69,16 +71,16 @@ pub struct Fill<F, S> {
     of: PhantomData<(F, S)>,
 }
 
-impl<F, S> Outcome<Kept<F, S>, View> for Fill<F, S> {
+impl<F, S> Outcome<CellValue<F, S>, SeatView> for Fill<F, S> {
     ghost then = { fills };
 }
 
 /// Which entry is noted.
-pub trait Noted {
+pub trait NotedEntry {
     ghost entry: { Entry };
 }
 
-impl Noted for Brand {
+impl NotedEntry for Brand {
     ghost entry = { no_entry };
 }
 
@@ -87,21 +89,21 @@ pub struct Note<N> {
     of: PhantomData<N>,
 }
 
-impl<N: Noted> Marking<View> for Note<N> {
+impl<N: NotedEntry> Marking<SeatView> for Note<N> {
     ghost then = { noted_as N.entry };
 }
 
 /// A seat is made.
 pub struct Enter;
 
-impl Admission<View> for Enter {
+impl Admission<SeatView> for Enter {
     ghost new = { next_view };
 }
 
 /// A seat is taken in.
 pub struct Leave;
 
-impl Merging<View> for Leave {
+impl Merging<SeatView> for Leave {
     ghost both = { joint_view };
 
     ghost spent = { spent_view };

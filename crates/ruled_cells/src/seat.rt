@@ -2,8 +2,8 @@
 
 ghost use Rattle.std.specs.Prelude.{◌≡◌, None, false, length, true};
 
-use crate::about::View;
-use crate::kept::Kept;
+use crate::about::SeatView;
+use crate::cell_value::CellValue;
 use crate::turns::Token;
 use std::error::Error;
 use std::fmt::{self, Display};
@@ -11,7 +11,7 @@ use std::fmt::{self, Display};
 /// A token that takes turns. Its view says what its user knows of the cells and has done with them.
 pub struct Seat<F, S> {
     pub(crate) number: u32,
-    pub(crate) token: Token<Kept<F, S>, View>,
+    pub(crate) token: Token<CellValue<F, S>, SeatView>,
     ghost resting: { (token.me.0.number ≡ number) × (token.me.0.live ≡ true) × (token.me.0.moving ≡ None) × (length token.me.1 ≡ 0) },
     ghost used: { token.me.0.client.spent ≡ false },
 }
@@ -24,7 +24,7 @@ impl<F, S> Seat<F, S> {
         self.number
     }
 
-    pub(crate) fn into_token(self) -> Token<Kept<F, S>, View>
+    pub(crate) fn into_token(self) -> Token<CellValue<F, S>, SeatView>
         ensures { result ≡ self.token }
     {
         let Self { number: _, token } = self;

@@ -2,13 +2,13 @@
 //!
 //! Word k of the table is the turn of cell k: 0, or the number of the seat that has it plus 1. One more word is
 //! the user's. A value is at home in its slot, or it was taken by the seat that has the turn.
-mod doing;
 mod plays;
 mod protocol;
+mod seat_state;
 mod seats;
 mod steps;
 
-pub(crate) use doing::Doing;
 pub(crate) use protocol::{Admission, Board, Marking, Merging, Outcome, Protocol, Token, Turns};
+pub(crate) use seat_state::SeatState;
 pub(crate) use seats::{Store, absorb, close, enroll, open};
 pub(crate) use steps::{give, mark, take, try_take};

@@ -66,3 +66,7 @@ abbrev pub IsSoundBy : List (List ℕ) → Option (List ℕ) → ℕ × ℕ → 
 IsSoundBy words left reads writes =
     (Accepts words None × IsSound true left reads writes)
     ⊎ ((seed : ℕ) × Accepts words (Some seed) × (HasRisen writes.0 writes.1 → ⊥))
+
+-- The same of a source and a sink, before and after: what the source has left, and their counts of faults.
+abbrev pub IsSoundRun : {S K : Type 0} → List (List ℕ) → (S → Option (List ℕ)) → (S → ℕ) → (K → ℕ) → S → S → K → K → Type 0
+IsSoundRun words left reads writes source source' sink sink' = IsSoundBy words (left source) (reads source, reads source') (writes sink, writes sink')

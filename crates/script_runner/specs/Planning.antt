@@ -108,3 +108,7 @@ pub record IsSound (accepted : Bool) (left : Option (List ℕ)) (reads writes : 
   pub told : left ≡ Some input
   pub sound : IsSoundInput (take most_read input) writes
   pub no_read_fault : HasRisen reads.0 reads.1 → ⊥
+
+-- The same without words of a source and a sink, before and after: what the source has left, and their counts of faults.
+abbrev pub IsSoundFrom : {S K : Type 0} → (S → Option (List ℕ)) → (S → ℕ) → (K → ℕ) → S → S → K → K → Type 0
+IsSoundFrom left reads writes source source' sink sink' = IsSound true (left source) (reads source, reads source') (writes sink, writes sink')

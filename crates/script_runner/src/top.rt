@@ -1,7 +1,7 @@
 //! The top call.
 
 ghost use Rattle.dcd_base.specs.Streams.{HasRisen, IsAtEnd};
-ghost use Rattle.script_runner.specs.Choosing.{IsBegunBy, IsSoundBy, IsWrittenBy};
+ghost use Rattle.script_runner.specs.Choosing.{IsBegunBy, IsSoundRun, IsWrittenBy};
 ghost use Rattle.script_runner.specs.Planning.{IsTaken, IsTakenWhole};
 ghost use Rattle.script_runner.specs.Statuses.{IfWhole, OnDone, OnNothing, OnRead, OnReadFault, OnWriteFault, UnlessFinished};
 ghost use Rattle.script_runner.specs.Words.{Accepts, words_of};
@@ -43,7 +43,7 @@ pub fn run<R, S: Source, K: Sink, G: Gate>(
     ensures untouched { (Accepts (words_of words.now) None → ⊥) → source.new ≡ source.old }
     ensures read_fault { OnReadFault result (HasRisen (S.faults source.old) (S.faults source.new)) }
     ensures write_fault { OnWriteFault result (HasRisen (K.faults sink.old) (K.faults sink.new)) }
-    ensures complete { UnlessFinished result (¬ IsSoundBy (words_of words.now) (S.left source.old) (S.faults source.old, S.faults source.new) (K.faults sink.old, K.faults sink.new)) }
+    ensures complete { UnlessFinished result (¬ IsSoundRun (words_of words.now) S.left S.faults K.faults source.old source.new sink.old sink.new) }
 {
     run_by(alloc, words, source, sink, false)
 }
@@ -67,7 +67,7 @@ pub fn run_and_leave<R, S: Source, K: Sink, G: Gate>(
     ensures untouched { (Accepts (words_of words.now) None → ⊥) → source.new ≡ source.old }
     ensures read_fault { OnReadFault result (HasRisen (S.faults source.old) (S.faults source.new)) }
     ensures write_fault { OnWriteFault result (HasRisen (K.faults sink.old) (K.faults sink.new)) }
-    ensures complete { UnlessFinished result (¬ IsSoundBy (words_of words.now) (S.left source.old) (S.faults source.old, S.faults source.new) (K.faults sink.old, K.faults sink.new)) }
+    ensures complete { UnlessFinished result (¬ IsSoundRun (words_of words.now) S.left S.faults K.faults source.old source.new sink.old sink.new) }
 {
     run_by(alloc, words, source, sink, true)
 }
@@ -90,7 +90,7 @@ fn run_by<S: Source, K: Sink>(
     ensures untouched { (Accepts (words_of words.now) None → ⊥) → source.new ≡ source.old }
     ensures read_fault { OnReadFault result (HasRisen (S.faults source.old) (S.faults source.new)) }
     ensures write_fault { OnWriteFault result (HasRisen (K.faults sink.old) (K.faults sink.new)) }
-    ensures complete { UnlessFinished result (¬ IsSoundBy (words_of words.now) (S.left source.old) (S.faults source.old, S.faults source.new) (K.faults sink.old, K.faults sink.new)) }
+    ensures complete { UnlessFinished result (¬ IsSoundRun (words_of words.now) S.left S.faults K.faults source.old source.new sink.old sink.new) }
 {
     match chosen(words) {
         Some(Choice::Source) => run_source(alloc, source, sink, leaves),

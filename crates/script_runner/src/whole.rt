@@ -4,7 +4,7 @@ ghost use Rattle.dcd_base.specs.Streams.{HasRisen, IsAtEnd};
 ghost use Rattle.isolation_laws.specs.Solo.{Isolated};
 ghost use Rattle.script_codec.specs.Reading.{first_fault};
 ghost use Rattle.script_runner.specs.Fronts.{RanScript};
-ghost use Rattle.script_runner.specs.Planning.{EndsFor, IsBegun, IsSound, IsTaken, IsTakenWhole, IsWritten};
+ghost use Rattle.script_runner.specs.Planning.{EndsFor, IsBegun, IsSoundFrom, IsTaken, IsTakenWhole, IsWritten};
 ghost use Rattle.script_runner.specs.Statuses.{IfWhole, OnDone, OnNothing, OnRead, OnReadFault, OnUsage, OnWriteFault, UnlessFinished};
 ghost use Rattle.std.specs.Prelude.{◌≡◌, ◌≢◌, IfErr, IfOk, Some, true};
 
@@ -36,7 +36,7 @@ pub(crate) fn run_source<S: Source, K: Sink>(
     ensures no_usage { OnUsage result ⊥ }
     ensures read_fault { OnReadFault result (HasRisen (S.faults source.old) (S.faults source.new)) }
     ensures write_fault { OnWriteFault result (HasRisen (K.faults sink.old) (K.faults sink.new)) }
-    ensures complete { UnlessFinished result (¬ IsSound true (S.left source.old) (S.faults source.old, S.faults source.new) (K.faults sink.old, K.faults sink.new)) }
+    ensures complete { UnlessFinished result (¬ IsSoundFrom S.left S.faults K.faults source.old source.new sink.old sink.new) }
 {
     let mut input = Bytes::new(alloc);
     match fill(source, &mut input) {

@@ -1,8 +1,8 @@
 //! The steps on the table, each with what it tells.
 ghost use Rattle.ruled_cells.specs.Turning.{enrolled, given_back, gone, joint, laid_back, marked, newcomer, picked_up, tried};
 
-use crate::turns::doing::Doing;
 use crate::turns::protocol::{Admission, Marking, Merging, Outcome};
+use crate::turns::seat_state::SeatState;
 use atomic_table::{Join, Play, Split};
 use std::marker::PhantomData;
 
@@ -11,21 +11,21 @@ pub struct Try<M> {
     outcome: PhantomData<M>,
 }
 
-impl<X, V, M: Outcome<X, V>> Play<Option<X>, Doing<X, V>> for Try<M> {
+impl<X, V, M: Outcome<X, V>> Play<Option<X>, SeatState<X, V>> for Try<M> {
     ghost then = { tried M.then };
 }
 
 /// Lays an emptied slot back.
 pub struct Lay;
 
-impl<X, V> Play<Option<X>, Doing<X, V>> for Lay {
+impl<X, V> Play<Option<X>, SeatState<X, V>> for Lay {
     ghost then = { laid_back };
 }
 
 /// Picks an empty slot up.
 pub struct Pick;
 
-impl<X, V> Play<Option<X>, Doing<X, V>> for Pick {
+impl<X, V> Play<Option<X>, SeatState<X, V>> for Pick {
     ghost then = { picked_up };
 }
 
@@ -34,7 +34,7 @@ pub struct Give<M> {
     outcome: PhantomData<M>,
 }
 
-impl<X, V, M: Outcome<X, V>> Play<Option<X>, Doing<X, V>> for Give<M> {
+impl<X, V, M: Outcome<X, V>> Play<Option<X>, SeatState<X, V>> for Give<M> {
     ghost then = { given_back M.then };
 }
 
@@ -43,7 +43,7 @@ pub struct Mark<M> {
     marking: PhantomData<M>,
 }
 
-impl<X, V, M: Marking<V>> Play<Option<X>, Doing<X, V>> for Mark<M> {
+impl<X, V, M: Marking<V>> Play<Option<X>, SeatState<X, V>> for Mark<M> {
     ghost then = { marked M.then };
 }
 
@@ -52,7 +52,7 @@ pub struct Enroll<M> {
     admission: PhantomData<M>,
 }
 
-impl<X, V, M: Admission<V>> Split<Doing<X, V>> for Enroll<M> {
+impl<X, V, M: Admission<V>> Split<SeatState<X, V>> for Enroll<M> {
     ghost left = { enrolled };
 
     ghost right = { newcomer M.new };
@@ -63,7 +63,7 @@ pub struct Absorb<M> {
     merging: PhantomData<M>,
 }
 
-impl<X, V, M: Merging<V>> Join<Doing<X, V>> for Absorb<M> {
+impl<X, V, M: Merging<V>> Join<SeatState<X, V>> for Absorb<M> {
     ghost both = { joint M.both };
 
     ghost spent = { gone M.spent };

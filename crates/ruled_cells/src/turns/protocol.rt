@@ -1,5 +1,5 @@
 //! The rule of the cells' user, and what it says of each kind of step.
-use crate::turns::doing::Doing;
+use crate::turns::seat_state::SeatState;
 use atomic_table::{Seat, Shared, TableRule};
 use std::marker::PhantomData;
 
@@ -50,7 +50,7 @@ pub struct Turns<P> {
     protocol: PhantomData<P>,
 }
 
-impl<X, V, K, P: Protocol<X, V, K>> TableRule<Option<X>, Doing<X, V>, K> for Turns<P> {
+impl<X, V, K, P: Protocol<X, V, K>> TableRule<Option<X>, SeatState<X, V>, K> for Turns<P> {
     ghost use Rattle.std.specs.Prelude.{length};
     ghost use Rattle.ruled_cells.specs.Turning.{Tied, opener};
 
@@ -59,6 +59,6 @@ impl<X, V, K, P: Protocol<X, V, K>> TableRule<Option<X>, Doing<X, V>, K> for Tur
     ghost first = { λ key. opener (P.seats key) (P.given key) (P.first key) };
 }
 
-pub type Board<X, V, K, P> = Shared<Option<X>, Doing<X, V>, K, Turns<P>>;
+pub type Board<X, V, K, P> = Shared<Option<X>, SeatState<X, V>, K, Turns<P>>;
 
-pub type Token<X, V> = Seat<Option<X>, Doing<X, V>>;
+pub type Token<X, V> = Seat<Option<X>, SeatState<X, V>>;

@@ -1,16 +1,16 @@
 //! Making the cells, their seats, and taking all of it apart again.
-ghost use Rattle.std.specs.Prelude.{◌≡◌, ◌≢◌, ℕ, ◌+◌, ◌^◌, ◌<◌, List, [], ◌∷◌, true, length, replicate, slice_index, slice_set, IfOk};
+ghost use Rattle.std.specs.Prelude.{◌≡◌, ◌≢◌, ℕ, ◌+◌, ◌^◌, ◌<◌, [], ◌∷◌, true, length, replicate, slice_set, IfOk};
 ghost use Rattle.core.specs.Mem.Slots.{slots_items, slots_len, IsFull};
-ghost use Rattle.ruled_cells.specs.Turning.{Admits, IsIn, Merges, NoTurn, Settled, enrolled, joint, newcomer, opener};
+ghost use Rattle.ruled_cells.specs.Turning.{Admits, HoldsAtFirst, IsIn, MergesSeats, NoTurn, SettledBy, enrolled, joint, newcomer, opener};
 
-use crate::turns::doing::Doing;
 use crate::turns::plays::{Absorb, Enroll};
 use crate::turns::protocol::{Admission, Board, Merging, Protocol, Token, Turns};
+use crate::turns::seat_state::SeatState;
 use atomic_table::{Closed, Table};
 use dcd_base::NoMemory;
 use std::alloc::Global;
 
-pub type Store<X, V, K, P> = Table<Option<X>, Doing<X, V>, K, Turns<P>, Global>;
+pub type Store<X, V, K, P> = Table<Option<X>, SeatState<X, V>, K, Turns<P>, Global>;
 
 /// The words at first: all turns are seat 0's, and the user's word is 0.
 fn first_words(alloc: Global, cells: usize) -> Result<Vec<u64>, NoMemory>
@@ -30,7 +30,7 @@ pub fn open<X, V, K, P: Protocol<X, V, K>>(
 ) -> Result<(Store<X, V, K, P>, Token<X, V>), NoMemory>
     requires cells { (cells ≡ length (P.given about.now)) × (cells < 2 ^ 62) }
     requires seats { (0 < P.seats about.now) × (P.seats about.now < 2 ^ 32) }
-    requires rule { (words : List ℕ) → length words ≡ cells + 1 → ((k : ℕ) → k < cells → slice_index words k ≡ 1) → slice_index words cells ≡ 0 → P.holds about.now words (P.given about.now) (P.first about.now ∷ []) }
+    requires rule { HoldsAtFirst (P.holds about.now) cells (P.given about.now) (P.first about.now) }
     ensures { IfOk result (λ made. (made.0.shared.table_id.words ≡ cells + 1) × (made.0.shared.table_id.slots ≡ cells) × (made.1.table_id ≡ made.0.shared.table_id)
         × (made.1.me ≡ (opener (P.seats about.now) (P.given about.now) (P.first about.now), [])) × (made.0.shared.key ≡ about.now)) }
 {
@@ -61,7 +61,7 @@ pub fn absorb<X, V, K, P: Protocol<X, V, K>, M: Merging<V>>(
     requires board { (seat.old.table_id ≡ board.now.table_id) × (other.table_id ≡ board.now.table_id) × (board.now.table_id.words ≡ board.now.table_id.slots + 1) }
     requires live { (seat.old.me.0.live ≡ true) × (other.me.0.live ≡ true) × (other.me.1 ≡ []) }
     requires no_turn { (k : ℕ) → NoTurn other.me.0.taken k }
-    requires rule { Merges (P.holds board.now.key) seat.old.me.0.number seat.old.me.0.client other.me.0.number other.me.0.client (M.both seat.old.me.0.client other.me.0.client) M.spent }
+    requires rule { MergesSeats (P.holds board.now.key) seat.old.me.0 other.me.0 M.both M.spent }
     ensures { (seat.new.table_id ≡ seat.old.table_id) × (seat.new.id ≡ seat.old.id) × (seat.new.me ≡ (joint M.both seat.old.me.0 other.me.0, seat.old.me.1)) }
 {
     board.join_seat::<Absorb<M>>(seat, other);
@@ -78,7 +78,7 @@ pub fn close<X, V, K, P: Protocol<X, V, K>>(
     requires alone { (i : ℕ) → i < seat.me.0.among → i ≢ seat.me.0.number → IsIn i seat.me.0.joined }
     ensures counts { slots_len result.slots ≡ store.shared.table_id.slots }
     ensures full { IsFull result.words × IsFull result.slots }
-    ensures settled { Settled (P.holds store.shared.key) store.shared.table_id.slots seat.me.0.among seat.me.0.number seat.me.0.client (slots_items result.words) (slots_items result.slots) }
+    ensures settled { SettledBy (P.holds store.shared.key) store.shared.table_id.slots seat.me.0 (slots_items result.words) (slots_items result.slots) }
 {
     store.close_with(seat)
 }

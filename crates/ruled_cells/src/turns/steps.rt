@@ -1,6 +1,6 @@
 //! Taking a turn, giving it back, and setting the user's word.
 ghost use Rattle.std.specs.Prelude.{◌≡◌, ◌+◌, ◌<◌, [], ◌∷◌, IfErr, IfOk, None, Some};
-ghost use Rattle.ruled_cells.specs.Turning.{Gives, HasTurn, IsGiven, IsMissed, IsMoving, IsResting, IsTaken, IsTakenInTheEnd, Marks, NoTurn, Takes, marked, moving_at, still, tried};
+ghost use Rattle.ruled_cells.specs.Turning.{Gives, GivesFrom, HasTurn, IsGiven, IsMissed, IsMoving, IsResting, IsTaken, IsTakenInTheEnd, Marks, NoTurn, Takes, marked, moving_at, still, tried};
 ghost use Rattle.atomic_table.specs.Table.{step};
 ghost use mathlib.Core.Option.{none};
 
@@ -57,7 +57,7 @@ pub fn try_take<X, V, K, P: Protocol<X, V, K>, M: Outcome<X, V>>(
     requires rule { Takes (P.holds board.now.key) board.now.table_id.slots number seat.old.me.0.taken seat.old.me.0.client cell M.then }
     ensures board { (seat.new.table_id ≡ seat.old.table_id) × (seat.new.id ≡ seat.old.id) }
     ensures ok { IfOk result (λ value. IsTaken M.then cell seat.old.me value seat.new.me) }
-    ensures err { IfErr result (λ other. IsMissed seat.old.me other seat.new.me) }
+    ensures err { IfErr result (λ other. IsMissed seat.old.me cell other seat.new.me) }
 {
     let found = attempt::<X, V, K, P, M>(board, seat, number, cell);
     if found == 0 {
@@ -120,7 +120,7 @@ pub fn give<X, V, K, P: Protocol<X, V, K>, M: Outcome<X, V>>(
 )
     requires board { (seat.old.table_id ≡ board.now.table_id) × (cell < board.now.table_id.slots) × (board.now.table_id.words ≡ board.now.table_id.slots + 1) }
     requires resting { IsResting number seat.old.me }
-    requires rule { (x : X) × HasTurn seat.old.me.0.taken cell x × Gives (P.holds board.now.key) board.now.table_id.slots number seat.old.me.0.taken seat.old.me.0.client cell x value M.then }
+    requires rule { GivesFrom (P.holds board.now.key) board.now.table_id.slots number seat.old.me.0 cell value M.then }
     ensures board { (seat.new.table_id ≡ seat.old.table_id) × (seat.new.id ≡ seat.old.id) }
     ensures given { IsGiven M.then cell seat.old.me value seat.new.me }
 {

@@ -8,5 +8,5 @@ give_first-requires-clause-may c =
     let back = c.put_back.ensures in (
       c.args.ledger,
       still_there (turns_of c.args.seat.now) (turns_of c.put_back.new.seat) 1 0 None _ back.turn (λ e. omega (arith, e)) c.requires.turns.0,
-      rw c.requires.of.1 (may_return _ _ _ _ (view_of c.put_back.new.seat) c.args.ledger tt (ap (λ v. v.entry) back.view ∙ c.requires.idle)),
+      rw c.requires.of.1 (may_return _ (view_of c.put_back.new.seat) c.args.ledger tt (ap (λ v. v.entry) back.view ∙ c.requires.idle)),
     )

@@ -3,7 +3,7 @@ use Rattle.dcd_base.specs.declared.steps.Actor.{Actor}
 use Rattle.host_lists.specs.Lists.{Lists}
 use Rattle.journal_core.specs.declared.acts.Act.{Act}
 use Rattle.control_core.specs.Deciding.{IsDecidedBy}
-use Rattle.host_commands.specs.Messages.{dropped_by}
+use Rattle.device_commands.specs.HeldLists.{dropped_by}
 use Rattle.device_state.specs.declared.parts.HostPart.{HostPart}
 use Rattle.device_state.specs.declared.updates.NewParts.{NewParts}
 use Rattle.control_core.proofs.Decisions.{refused_host}

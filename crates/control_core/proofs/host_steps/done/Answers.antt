@@ -1,10 +1,10 @@
 use Rattle.std.proofs.Common.{◌∙◌, All, IfOk, length, ap, subst, sym}
 use Rattle.device_rules.specs.Views.{view_of}
 use Rattle.device_state.specs.Updates.{IsOfLog}
-use Rattle.host_commands.specs.Contents.{parts_in}
-use Rattle.host_commands.specs.Parts.{Drafts}
-use Rattle.host_commands.specs.declared.draft_parts.DraftParts.{DraftParts}
-use Rattle.host_commands.specs.declared.notices.Notice.{Notice}
+use Rattle.device_commands.specs.DraftContents.{parts_in}
+use Rattle.device_commands.specs.Drafts.{Drafts}
+use Rattle.device_commands.specs.declared.draft.DraftParts.{DraftParts}
+use Rattle.device_commands.specs.declared.log_records.Notice.{Notice}
 use Rattle.control_core.specs.Doing.{Does, IsDone}
 use Rattle.control_core.specs.declared.decided.Decided.{Decided}
 use Rattle.control_core.proofs.Doing.{replied_done}

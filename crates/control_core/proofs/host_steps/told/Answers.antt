@@ -4,7 +4,7 @@ use Rattle.dcd_base.specs.declared.capacity.Tag.{Tag}
 use Rattle.extent_list.specs.ExtentLists.{has_extent_of}
 use Rattle.journal_core.specs.Entries.{effects}
 use Rattle.journal_core.specs.declared.outcome.Effect.{Effect}
-use Rattle.tag_laws.specs.Tables.{ending}
+use Rattle.table_laws.specs.TagTable.{ending}
 use Rattle.control_core.specs.Recording.{told}
 use Rattle.control_core.proofs.host_steps.told.Goals as goal
 

@@ -1,8 +1,8 @@
-use Rattle.host_commands.specs.Parts.{IsOutcome}
+use Rattle.device_commands.specs.Drafts.{IsOutcome}
 use Rattle.journal_core.specs.Entries.{effects}
 use Rattle.device_rules.specs.Answers.{manager_outcome}
 use Rattle.device_rules.specs.Views.{view_of}
-use Rattle.control_core.proofs.Managed.{decided_manager, manages_err, quiet_notices, quiet_of}
+use Rattle.control_core.proofs.Managed.{decided_manager, manages_err, quiet_drafts, quiet_notices, quiet_of}
 use Rattle.control_core.proofs.Shortness.{short_manager}
 use Rattle.control_core.proofs.manager_steps.step_read.Goals as goal
 
@@ -10,7 +10,9 @@ pub read-requires : goal.read-requires
 read-requires c = record {
   known =
       let reached = c.requires.reached in
-      quiet_notices c.args.config.now reached.journal c.args.state.now reached.kept c.args.asked.now c.requires.quiet c.in-Ok.draft (c.in-Ok.ensures reached.journal reached.legal reached.kept).1;
+      quiet_notices c.args.config.now reached.journal c.args.state.now reached.kept c.args.asked.now c.requires.quiet c.in-Ok.draft
+      (quiet_drafts c.args.config.now reached.journal c.args.asked.now c.requires.quiet (manager_outcome c.args.config.now (effects reached.journal) (λ h. view_of c.args.config.now h reached.journal) c.args.asked.now)
+      c.in-Ok.draft (c.in-Ok.ensures reached.journal reached.legal reached.kept).1);
 }
 
 pub returns-in-Err : goal.returns-in-Err
@@ -25,5 +27,6 @@ returns-in_ok-read-in-Ok c = λ before legal kept.
     let q = c.args.asked.now in
     let it = c.in-Ok.ensures before legal kept in
     decided_manager cfg before c.args.request.now q c.requires.asked it.0 c.in_ok-read-in-Ok.field-0
-    (c.in_ok-read-in-Ok.ensures cfg before (manager_outcome cfg (effects before) (λ h. view_of cfg h before) q) kept (quiet_of cfg before q c.requires.quiet) it.1)
+    (c.in_ok-read-in-Ok.ensures cfg before (manager_outcome cfg (effects before) (λ h. view_of cfg h before) q) kept (quiet_of cfg before q c.requires.quiet)
+    (quiet_drafts cfg before q c.requires.quiet (manager_outcome cfg (effects before) (λ h. view_of cfg h before) q) c.in-Ok.draft it.1))
     (short_manager cfg before c.args.state.now kept c.requires.reached.sound.regions q c.request_fits.ensures it.0)

@@ -1,6 +1,6 @@
 use Rattle.std.proofs.Common.{◌++◌, ◌-◌, ◌∙◌, ap, length, subst, sym}
 use Rattle.std.proofs.lemmas.Result.{on_ok_weaker}
-use Rattle.host_commands.specs.Parts.{IsLogOf}
+use Rattle.device_state.specs.Kept.{IsLogOf}
 use Rattle.journal_core.specs.Entries.{effects}
 use Rattle.device_rules.specs.Logs.{log_of}
 use Rattle.control_core.specs.Recording.{records_by}

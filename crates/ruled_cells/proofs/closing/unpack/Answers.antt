@@ -1,4 +1,4 @@
-use Rattle.ruled_cells.specs.declared.kept.Kept.TheVariants.{Rest}
+use Rattle.ruled_cells.specs.declared.cell_value.CellValue.TheVariants.{Rest}
 use Rattle.std.proofs.Common.{◌≡◌, get_or, false, ◌+◌, length, sym, ap, ◌∙◌, arith, subst, ◌<◌, Some}
 use Rattle.std.proofs.lemmas.List.{length_push}
 use mathlib.Core.Option.{some}

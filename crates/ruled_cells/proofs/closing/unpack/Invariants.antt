@@ -3,7 +3,7 @@ use Rattle.std.specs.Prelude.{slice_index_or}
 use mathlib.Core.Option.{some}
 use lib.ListN.{get_elem?}
 use Rattle.core.specs.Mem.Slots.{slots_items, slots_len, slots_filled}
-use Rattle.ruled_cells.specs.declared.kept.Kept.TheVariants.{Rest}
+use Rattle.ruled_cells.specs.declared.cell_value.CellValue.TheVariants.{Rest}
 use Rattle.ruled_cells.proofs.closing.unpack.Given as goal
 
 abbrev pub invariant-loop-i : goal.invariant-loop-i

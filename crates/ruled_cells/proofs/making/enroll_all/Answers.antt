@@ -2,6 +2,7 @@ use Rattle.std.proofs.Common.{◌≡◌, ℕ, suc, ◌+◌, length, refl, sym, a
 use Rattle.std.proofs.lemmas.List.{length_push}
 use mathlib.Core.Option.{some}
 use lib.ListN.{get_elem?}
+use Rattle.ruled_cells.specs.Reads.{about_of}
 use Rattle.ruled_cells.specs.declared.seat.Seat.{Seat}
 use Rattle.ruled_cells.specs.declared.about.About.{About}
 use Rattle.ruled_cells.specs.Calls.{IsNew}
@@ -21,7 +22,7 @@ loop-made-preserved g c =
     let test = c.loop-made-test.true in
     let old = c.loop-made.others.items in
     let low = i.low in
-    let about : About = record { config = g.F.Chief.config c.args.cells.now.table.shared.key.first; actors = g.F.Chief.actors c.args.cells.now.table.shared.key.first } in
+    let about : About = about_of g.F.Chief.reads c.args.cells.now.table.shared.key.first in
     let made = maker_enrolled _ c.loop-made.made _ c.loop-made.token.me c.enroll-other.new.seat.me i.maker kept.2 in record {
       board = (kept.0 ∙ i.board.0, kept.1 ∙ i.board.1);
       low = (omega (arith, low), omega (arith, test));

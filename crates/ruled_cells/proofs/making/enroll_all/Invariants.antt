@@ -1,6 +1,7 @@
 use Rattle.std.proofs.Common.{◌≡◌, ◌≤◌, ◌-◌, ◌+◌, ◌<◌, ℕ, suc, length, vec_capacity}
 use mathlib.Core.Option.{some}
 use lib.ListN.{get_elem?}
+use Rattle.ruled_cells.specs.Reads.{about_of}
 use Rattle.ruled_cells.specs.declared.seat.Seat.{Seat}
 use Rattle.ruled_cells.specs.Calls.{IsNew, seats_of}
 use Rattle.ruled_cells.specs.Making.{IsMaker}
@@ -10,11 +11,11 @@ abbrev pub invariant-loop-made : goal.invariant-loop-made
 invariant-loop-made g l = record {
   board : (l.token.table_id ≡ l.fn.token.table_id) × (l.token.id ≡ l.fn.token.id);
   low : (0 < l.made) × (l.made ≤ l.seats);
-  maker : IsMaker (seats_of l.cells) l.made (record { config = g.F.Chief.config l.cells.table.shared.key.first; actors = g.F.Chief.actors l.cells.table.shared.key.first }) l.token.me;
+  maker : IsMaker (seats_of l.cells) l.made (about_of g.F.Chief.reads l.cells.table.shared.key.first) l.token.me;
   taken : l.token.me.0.taken ≡ l.fn.token.me.0.taken;
   count : length l.others.items + 1 ≡ l.made;
   room : vec_capacity l.others ≡ vec_capacity l.fn.others;
-  each : (k : ℕ) (s : Seat g.row.F.Denot g.row.S.Denot) → get_elem? l.others.items k ≡ some s → IsNew l.cells (record { config = g.F.Chief.config l.cells.table.shared.key.first; actors = g.F.Chief.actors l.cells.table.shared.key.first }) (suc k) s;
+  each : (k : ℕ) (s : Seat g.row.F.Denot g.row.S.Denot) → get_elem? l.others.items k ≡ some s → IsNew l.cells (about_of g.F.Chief.reads l.cells.table.shared.key.first) (suc k) s;
 }
 
 abbrev pub decreases-loop-made : goal.decreases-loop-made

@@ -1,6 +1,6 @@
 use Rattle.std.proofs.Common.{◌≡◌, ◌+◌, length, ap, subst, ◌∙◌, arith}
 use Rattle.std.proofs.lemmas.List.{length_push}
-use Rattle.ruled_cells.specs.declared.kept.Kept.TheVariants.{First, Rest}
+use Rattle.ruled_cells.specs.declared.cell_value.CellValue.TheVariants.{First, Rest}
 use Rattle.ruled_cells.specs.Turning.{IsGiven}
 use Rattle.ruled_cells.specs.Making.{fills}
 use Rattle.ruled_cells.proofs.CallSteps.{laws_of}
@@ -29,7 +29,7 @@ give-requires-in-Some-clause-rule g c =
     let ok = c.pop.new.self.ok.0 in
     let is = c.len.ensures in
     let len : c.len.result ≡ length rest = omega (arith, ok, is) in
-    let laws = (laws_of g.F.Chief.journal g.F.Chief.config g.F.Chief.actors g.F.Chief.sound g.S.Member.config g.S.Member.entries g.S.Member.clock g.S.Member.touches g.S.Member.belongs g.S.Member.right g.S.Member.access g.S.Member.change g.S.Member.enters g.S.Member.changes g.S.Member.stays g.S.Member.keeps g.S.Member.makes) in
+    let laws = (laws_of g.F.Chief.reads g.S.Member.reads g.S.Member.enters g.S.Member.changes g.S.Member.stays g.S.Member.keeps g.S.Member.makes) in
     rw len (fills_cell _ _ _ laws _ _ _ _ (length rest) c.loop-value.token.me.0.taken c.loop-value.token.me.0.client c.in-Some.value i.maker.client
     (filling_turn rest c.loop-value.rest.items c.in-Some.value c.loop-value.token.me c.in-Some.ensures.items i.filling))
 

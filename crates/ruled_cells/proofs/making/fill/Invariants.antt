@@ -1,4 +1,5 @@
 use Rattle.std.proofs.Common.{◌≡◌, ◌≤◌, length}
+use Rattle.ruled_cells.specs.Reads.{about_of}
 use Rattle.ruled_cells.specs.Turning.{NoTurn}
 use Rattle.ruled_cells.specs.Making.{IsMaker, IsFilling}
 use Rattle.ruled_cells.proofs.making.fill.Given as goal
@@ -6,7 +7,7 @@ use Rattle.ruled_cells.proofs.making.fill.Given as goal
 abbrev pub invariant-loop-value : goal.invariant-loop-value
 invariant-loop-value g l = record {
   board : (l.token.table_id ≡ l.fn.token.table_id) × (l.token.id ≡ l.fn.token.id);
-  maker : IsMaker l.shelf.key.seats 1 (record { config = g.F.Chief.config l.shelf.key.first; actors = g.F.Chief.actors l.shelf.key.first }) l.token.me;
+  maker : IsMaker l.shelf.key.seats 1 (about_of g.F.Chief.reads l.shelf.key.first) l.token.me;
   filling : IsFilling l.rest.items l.token.me;
   free : NoTurn l.token.me.0.taken 0;
   short : length l.rest.items ≤ length l.fn.rest.items;

@@ -1,7 +1,7 @@
 use Rattle.std.proofs.Common.{◌≡◌, ap, subst, ◌∙◌}
 use Rattle.std.specs.Prelude.{map}
 use Rattle.device_rules.specs.Tags.{granules_of, status}
-use Rattle.granule_laws.specs.Cells.{status_of}
+use Rattle.table_laws.specs.GranuleCells.{status_of}
 use Rattle.journal_core.specs.Entries.{effects}
 use Rattle.control_core.specs.Steps.{Controlled}
 use Rattle.control_core.proofs.Reading.{states_told}

@@ -11,7 +11,7 @@ use Rattle.control_core.specs.Steps.{Controlled}
 use Rattle.device_state.specs.Updates.{IsOfDevice, IsUpdate}
 use Rattle.control_core.proofs.NextEntry.{holds_entered, is_next_meets}
 use Rattle.device_state.proofs.EnteredSteps.{of_device}
-use Rattle.control_core.proofs.Present.{own_blocks}
+use Rattle.device_commands.proofs.Present.{own_blocks}
 use Rattle.control_core.proofs.control.Control.take.Goals as goal
 
 pub enter-requires-clause-present : goal.enter-requires-clause-present

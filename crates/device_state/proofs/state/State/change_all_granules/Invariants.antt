@@ -1,5 +1,5 @@
 use Rattle.std.proofs.Common.{◌≡◌, take}
-use Rattle.granule_laws.specs.Cells.{cell_over}
+use Rattle.table_laws.specs.GranuleCells.{cell_over}
 use Rattle.device_state.specs.Entered.{oldest_in, runs_in}
 use Rattle.device_state.specs.Granules.{AreChanged}
 use Rattle.device_state.proofs.state.State.change_all_granules.Given as goal

@@ -7,7 +7,7 @@ use Rattle.isolation_laws.specs.Alone.{Does}
 use Rattle.isolation_laws.specs.declared.items.SoloReply.{SoloReply}
 use Rattle.journal_core.specs.declared.acts.Act.{Act}
 use Rattle.journal_core.specs.declared.acts.Reply.{Reply}
-use Rattle.host_commands.specs.Messages.{IsDrafted}
+use Rattle.device_commands.specs.HostMessages.{IsDrafted}
 use Rattle.isolation_laws.proofs.AloneCommands.{command_done, command_refused}
 use Rattle.isolation_laws.proofs.alone.Alone.command.Goals as goal
 

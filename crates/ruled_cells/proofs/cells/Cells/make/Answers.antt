@@ -1,5 +1,6 @@
 use Rattle.std.proofs.Common.{◌≡◌, ℕ, length, refl, sym, ap, ◌∙◌, rules}
 use lib.ListN.{get_elem?}
+use Rattle.ruled_cells.specs.Reads.{about_of}
 use Rattle.ruled_cells.specs.Ruling.{names}
 use Rattle.ruled_cells.specs.declared.about.About.{About}
 use Rattle.ruled_cells.specs.Turning.{NoTurn}
@@ -10,7 +11,7 @@ use Rattle.ruled_cells.proofs.cells.Cells.make.Goals as goal
 pub open-requires-clause-rule : goal.open-requires-clause-rule
 open-requires-clause-rule g c =
     let row : c.in-Ok.row ≡ length c.args.rest.items = search rules in
-    let w = names g.F.Chief.journal g.F.Chief.config g.F.Chief.actors g.F.Chief.sound g.S.Member.config g.S.Member.entries g.S.Member.clock g.S.Member.touches g.S.Member.belongs g.S.Member.right in
+    let w = names g.F.Chief.reads g.S.Member.reads in
     opens_counted w _ c.args.first c.args.rest.items (count_is w _ c.args.first c.args.rest.items row) c.requires.contents
 
 pub fill-requires-clause-filling : goal.fill-requires-clause-filling
@@ -20,7 +21,6 @@ pub returns-clause-each : goal.returns-clause-each
 returns-clause-each g c =
     let maker = c.enroll_all.ensures.maker in
     let place = c.enroll_all.ensures.board.0 ∙ (c.fill.ensures.board.0 ∙ c.in-Ok-open.ensures.2) in
-    let bare : (k : ℕ) → NoTurn c.enroll_all.new.token.me.0.taken k = λ k x h. c.fill.ensures.no_turns k x (ap (λ t. get_elem? t k) (sym maker.1) ∙ h) in
+    let bare : (k : ℕ) → NoTurn c.enroll_all.new.token.me.0.taken k = λ k x h. c.fill.ensures.no_turns k x (ap (λ t. get_elem? t k) (sym c.enroll_all.ensures.taken) ∙ h) in
     let key = ap (λ k. k.first) c.in-Ok-open.ensures.4 in
-    let about_of : g.row.F.Denot → About = λ f. record { config = g.F.Chief.config f; actors = g.F.Chief.actors f } in
-    all_new _ _ _ _ _ _ (ap about_of key) c.put_first.ensures (first_seat _ _ _ _ maker.0 place refl bare) c.enroll_all.ensures.each
+    all_new _ _ _ _ _ _ (ap (about_of g.F.Chief.reads) key) c.put_first.ensures (first_seat _ _ _ _ maker place refl bare) c.enroll_all.ensures.each

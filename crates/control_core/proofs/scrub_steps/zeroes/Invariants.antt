@@ -1,6 +1,0 @@
-use Rattle.std.proofs.Common.{◌≡◌, map, take}
-use Rattle.journal_core.specs.declared.outcome.Effect.{Effect}
-use Rattle.control_core.proofs.scrub_steps.zeroes.Given as goal
-
-abbrev pub invariant-loop-i : goal.invariant-loop-i
-invariant-loop-i l = l.effects ≡ map Effect.Zero (take l.i l.runs)

@@ -1,9 +1,0 @@
-use Rattle.std.proofs.Common.{◌≡◌, drop, length, map, take}
-use Rattle.tag_refs.specs.Tables.{view_of}
-use Rattle.control_core.proofs.tag_commands.views_of.Given as goal
-
-abbrev pub invariant-loop-index : goal.invariant-loop-index
-invariant-loop-index l = record {
-  views : l.views ≡ map view_of (take l.index (drop l.first l.tags.entries));
-  few : length l.views ≡ l.index;
-}

@@ -1,0 +1,31 @@
+use Rattle.std.proofs.Common.{◌++◌, length, map, ap, ◌∙◌, arith}
+use Rattle.region_config.specs.Configurations.{Configuration}
+use Rattle.host_payloads.specs.HostPayloads.{configuration_payload}
+use Rattle.holding_laws.proofs.Homes.{regions_same}
+use Rattle.device_commands.specs.declared.draft.DraftParts.{DraftParts}
+use Rattle.device_commands.specs.Drafts.{told_in}
+use Rattle.device_commands.proofs.ShownRegions.{region_known, region_past}
+use Rattle.device_commands.proofs.get_dynamic_capacity_configuration.get_configuration.Goals as goal
+
+pub returns-then-first-regions-clause-drafts : goal.returns-then-first-regions-clause-drafts
+returns-then-first-regions-clause-drafts c = λ cfg v is lists.
+    let regions = ap (λ (p : Configuration). length p.regions) is ∙ regions_same cfg v.block in
+    region_past cfg c.args.first (omega (arith, regions, c.if-first-regions.true, c.regions.ensures.value))
+
+pub returns-clause-drafts : goal.returns-clause-drafts
+returns-clause-drafts c = λ cfg v is lists.
+    let regions = ap (λ (p : Configuration). length p.regions) is ∙ regions_same cfg v.block in
+    let total = c.regions-2.ensures.value ∙ regions in
+    let views = c.as_slice.ensures ∙ c.in_ok-views.ensures.seen cfg v is in
+    let counts = c.host_counts-counts.ensures v lists in (
+      region_known cfg c.args.first (omega (arith, regions, c.if-first-regions.false, c.regions.ensures.value)),
+      record {
+        payload = ap (λ (d : DraftParts). d.payload) c.only.ensures ∙ c.in_ok-write_configuration.ensures.appended
+            ∙ ap (λ front. front ++ configuration_payload c.regions-2.result c.as_slice.result.now c.host_counts-counts.result) c.new-payload.ensures
+            ∙ (λ i. configuration_payload (total i) (views i) (counts i));
+        changes = ap (λ (d : DraftParts). d.changes) c.only.ensures;
+        tags = ap (λ (d : DraftParts). d.tags) c.only.ensures;
+        notices = ap (λ (d : DraftParts). map told_in d.notices) c.only.ensures;
+        lists = ap (λ (d : DraftParts). d.lists) c.only.ensures;
+      },
+    )

@@ -1,0 +1,17 @@
+-- What is answered of the records of a log, 0100h.
+use Rattle.std.specs.Prelude.{ℕ}
+use Rattle.std.specs.declared.result.Result.{Result}
+use Rattle.dcd_base.specs.declared.steps.LogId.{LogId}
+use Rattle.dcd_codes.specs.Rules.{ByRow}
+use Rattle.dcd_codes.specs.declared.refusals.Refusal.{Refusal}
+use Rattle.event_log.specs.LogStates.{LogState}
+use Rattle.event_log.specs.Logs.{Log}
+use Rattle.device_rules.specs.EventCommands.{events_reply, log_named, no_such_log}
+use Rattle.device_rules.specs.Outcomes.{only}
+use Rattle.device_state.specs.Kept.{IsLogOf}
+use Rattle.device_commands.specs.Drafts.{IsOutcome}
+use Rattle.device_commands.specs.declared.draft.DraftParts.{DraftParts}
+
+-- By its row, for each history that the log shows.
+abbrev pub AnswersEvents : ℕ → LogState → Result DraftParts Refusal → Type 0
+AnswersEvents number log result = (l : LogId) (own : Log) → IsLogOf l own log → ByRow (no_such_log number) (IsOutcome (only (events_reply (log_named number own)))) result

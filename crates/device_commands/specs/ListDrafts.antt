@@ -1,0 +1,33 @@
+-- Drafts by which the lists of their host change.
+use Rattle.std.specs.Prelude.{◌≡◌, List, [], ◌∷◌, map, Some}
+use Rattle.dcd_base.specs.declared.capacity.Tag.{Tag}
+use Rattle.dcd_base.specs.declared.capacity.Extent.{Extent}
+use Rattle.dcd_base.specs.declared.ids.HostId.{HostId}
+use Rattle.event_records.specs.declared.events.EventKind.{EventKind}
+use Rattle.device_rules.specs.Outcomes.{notices_of}
+use Rattle.device_commands.specs.declared.log_records.Notice.{Notice}
+use Rattle.dcd_base.specs.declared.steps.LogId.{LogId}
+use Rattle.event_records.specs.declared.events.Event.{Event}
+use Rattle.journal_core.specs.declared.outcome.Effect.{Effect}
+use Rattle.host_lists.specs.Lists.{Lists}
+use Rattle.device_rules.specs.Views.{View}
+use Rattle.device_commands.specs.declared.draft.DraftParts.{DraftParts}
+use Rattle.device_state.specs.Kept.{lists_in}
+use Rattle.device_commands.specs.Drafts.{told_in}
+
+-- changes, and the lists after them
+abbrev pub changed : List Effect → Lists → DraftParts
+changed changes lists = record { payload = []; changes = changes; tags = []; notices = []; lists = Some lists }
+
+-- The draft has these changes, these tags that may end, these lists, and for the manager these events of a view with
+-- these lists.
+pub record Tells (changes : List Effect) (tags : List Tag) (events : View → List Event) (lists : Lists) (d : DraftParts) : Type 0 where
+  pub payload : d.payload ≡ []
+  pub changes_are : d.changes ≡ changes
+  pub tags_are : d.tags ≡ tags
+  pub notices : (w : View) → lists ≡ lists_in w → map told_in d.notices ≡ (LogId.Manager, events w) ∷ []
+  pub lists_are : d.lists ≡ Some lists
+
+-- The notices tell the log of a host of each extent, by a view with these lists.
+abbrev pub TellOf : HostId → EventKind → Lists → List Extent → List Notice → Type 0
+TellOf h kind lists extents ns = (v : View) → lists ≡ lists_in v → map told_in ns ≡ (LogId.Host h, notices_of h v kind extents) ∷ []

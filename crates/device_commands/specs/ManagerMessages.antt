@@ -1,0 +1,42 @@
+-- What a request of the Fabric Manager is drafted as, by what the device keeps.
+use Rattle.std.specs.Prelude.{◌≤◌, List, length, Option}
+use Rattle.std.specs.declared.result.Result.{Result}
+use Rattle.dcd_codes.specs.Rules.{ByRow}
+use Rattle.dcd_codes.specs.declared.refusals.Refusal.{Refusal}
+use Rattle.dcd_codes.specs.declared.rules.Rule.{Rule}
+use Rattle.fm_payloads.specs.declared.requests.FmRequest.{FmRequest}
+use Rattle.region_config.specs.Configurations.{Configuration}
+use Rattle.journal_core.specs.Entries.{effects}
+use Rattle.journal_core.specs.declared.entries.Entry.{Entry}
+use Rattle.device_rules.specs.Answers.{manager_outcome, manager_rule}
+use Rattle.device_rules.specs.Legal.{Legal}
+use Rattle.device_rules.specs.Outcomes.{Outcome}
+use Rattle.device_rules.specs.Views.{view_of}
+use Rattle.device_state.specs.Kept.{IsKept}
+use Rattle.device_state.specs.declared.state.State.{State}
+use Rattle.device_commands.specs.Drafts.{Drafts, IsOutcome}
+use Rattle.device_commands.specs.declared.draft.DraftParts.{DraftParts}
+
+-- the first rule that a request breaks after these entries, and what it does where it breaks none
+abbrev pub rule_after : Configuration → List Entry → FmRequest → Option Rule
+rule_after c journal q = manager_rule c (effects journal) (λ h. view_of c h journal) q
+
+abbrev pub outcome_after : Configuration → List Entry → FmRequest → Outcome
+outcome_after c journal q = manager_outcome c (effects journal) (λ h. view_of c h journal) q
+
+-- The draft is this outcome of the request: an offer and a removal have the lists of their host after it, and no other
+-- request changes lists.
+abbrev pub DraftsFor : Configuration → List Entry → FmRequest → Outcome → DraftParts → Type 0
+DraftsFor c journal (FmRequest.Add h policy r bytes tag list) o = Drafts c h (view_of c h journal) o
+DraftsFor c journal (FmRequest.Remove h flags r bytes tag list) o = Drafts c h (view_of c h journal) o
+DraftsFor c journal q o = IsOutcome o
+
+-- By every legal journal that leads to what is kept, the request is refused by its row, or drafted as its outcome.
+abbrev pub ManagerAnswers : Configuration → State → FmRequest → Result DraftParts Refusal → Type 0
+ManagerAnswers c s q result = (journal : List Entry) → Legal c journal → IsKept c journal s →
+    ByRow (rule_after c journal q) (DraftsFor c journal q (outcome_after c journal q)) result
+
+-- A request to clear records lists so many at most.
+abbrev pub FewCleared : FmRequest → Type 0
+FewCleared (FmRequest.ClearEvents log all handles) = length handles ≤ 255
+FewCleared q = Unit {0}

@@ -1,0 +1,186 @@
+//! 4802h Add Dynamic Capacity Response, of a host (CXL 3.1, 8.2.9.9.9.3).
+//! Row: `respond_rule`, offer_core/specs/Responses.antt.
+//! Outcome: `respond_outcome`, device_rules/specs/ResponseOutcomes.antt; the reply is empty.
+//! Bytes: docs/formats.md, 'Commands of a host'.
+
+ghost use Rattle.device_commands.specs.AddDynamicCapacityResponse.{IsAnswered, answer_changes, takes, told_of};
+ghost use Rattle.device_commands.specs.HostMessages.{AnswersByLists};
+ghost use Rattle.host_payloads.specs.declared.requests.HostRequest.{HostRequest};
+ghost use Rattle.device_rules.specs.Outcomes.{no_extent};
+ghost use Rattle.device_rules.specs.ResponseOutcomes.{hold, respond_outcome, unhold};
+ghost use Rattle.device_rules.specs.Views.{View};
+ghost use Rattle.extent_list.specs.ExtentLists.{tags_of};
+ghost use Rattle.dcd_base.specs.declared.steps.LogId.{LogId};
+ghost use Rattle.device_commands.specs.Drafts.{told_in};
+ghost use Rattle.device_state.specs.Kept.{lists_in};
+ghost use Rattle.device_commands.specs.ListDrafts.{changed};
+ghost use Rattle.host_lists.specs.Lists.{extent_total};
+ghost use Rattle.journal_core.specs.declared.outcome.Effect.{Effect};
+ghost use Rattle.journal_core.specs.declared.outcome.HeldKind.{HeldKind};
+ghost use Rattle.media_map.specs.Places.{is_granular};
+ghost use Rattle.offer_core.specs.Responses.{respond_rule};
+ghost use Rattle.std.specs.Prelude.{◌≡◌, ◌++◌, ◌∷◌, ◌<◌, ◌≤◌, [], All, IfOk, IfSome, IsTrue, OnOk, length, map};
+
+use crate::draft::Draft;
+use crate::held_lists::{hold, unhold};
+use crate::log_records::{Notice, event_for, no_extent, notices_of, one_notice};
+use crate::runs::run_of;
+use crate::tags::tags_of;
+use dcd_base::{Extent, Extents, HostId, LogId, NoMemory, Seq};
+use dcd_codes::Refusal;
+use event_records::{Event, EventKind};
+use host_lists::{HostLists, Responded};
+use journal_core::{Effect, Effects, HeldKind};
+use region_config::Config;
+use std::alloc::Global;
+
+/// The host's response to its oldest offer: this list behind what it holds of earlier messages, and whether more
+/// messages are to follow (CXL 3.1, 8.2.9.9.9.3).
+///
+/// The first broken rule of the row comes where one is broken. `config` is the configuration that the device was made
+/// with, `present` the one with the present blocks. They have the same granules, so that only `present` is read.
+pub fn add_response(
+    alloc: Global,
+    config: &Config,
+    present: &Config,
+    host: HostId,
+    lists: &HostLists,
+    more: bool,
+    list: &Extents,
+) -> Result<Draft, Refusal>
+    requires host { host < config.now.hosts }
+    requires hosts { present.now.hosts ≡ config.now.hosts }
+    requires few { extent_total lists.now ≤ 64 }
+    ensures drafts { AnswersByLists config.now present.now host lists.now (HostRequest.AddResponse more list.now) result }
+    ensures few { IfOk result (λ draft. IfSome draft.lists (λ new. extent_total new ≤ 64)) }
+{
+    // What is made of present blocks is made of granules, in every configuration.
+    let _regions = present.regions();
+    let mut after = lists.copy()?;
+    match after.respond(present, host, list, more)? {
+        Responded::Held => Ok(held(alloc, host, list, after)?),
+        Responded::Nothing => Ok(nothing(alloc, host, lists, after)?),
+        Responded::Done(accepted) => Ok(done(alloc, present, host, lists, after, accepted)?),
+    }
+}
+
+/// More is to come.
+fn held(alloc: Global, host: HostId, list: &Extents, after: HostLists) -> Result<Draft, NoMemory>
+    requires few { extent_total after ≤ 64 }
+    ensures drafts { IfOk result (λ draft. draft ≡ changed (hold host HeldKind.Responses list.now) after) }
+    ensures few { IfOk result (λ draft. IfSome draft.lists (λ new. extent_total new ≤ 64)) }
+{
+    let changes = hold(alloc, host, HeldKind::Responses, list)?;
+    Draft::relisting(alloc, changes, after)
+}
+
+/// There is no offer, and nothing is listed.
+fn nothing(
+    alloc: Global,
+    host: HostId,
+    lists: &HostLists,
+    after: HostLists,
+) -> Result<Draft, NoMemory>
+    requires few { extent_total after ≤ 64 }
+    ensures drafts { IfOk result (λ draft. draft ≡ changed (unhold host HeldKind.Responses lists.now.responses) after) }
+    ensures few { IfOk result (λ draft. IfSome draft.lists (λ new. extent_total new ≤ 64)) }
+{
+    let changes = unhold(alloc, host, HeldKind::Responses, lists.responses())?;
+    Draft::relisting(alloc, changes, after)
+}
+
+/// The oldest offer is answered.
+fn done(
+    alloc: Global,
+    present: &Config,
+    host: HostId,
+    lists: &HostLists,
+    after: HostLists,
+    accepted: Extents,
+) -> Result<Draft, NoMemory>
+    requires host { host < present.now.hosts }
+    requires granular { All (λ x. IsTrue (is_granular present.now host x.start x.length)) accepted }
+    requires few { extent_total after ≤ 64 }
+    ensures drafts { IfOk result (IsAnswered present.now host lists.now accepted after) }
+    ensures few { IfOk result (λ draft. IfSome draft.lists (λ new. extent_total new ≤ 64)) }
+{
+    let changes = answered(alloc, present, host, lists, &accepted)?;
+    let tags = tags_of(alloc, lists.oldest())?;
+    let notices = notices_to_manager(alloc, host, &after, accepted.as_slice())?;
+    Draft::listing(alloc, changes, tags, notices, after)
+}
+
+/// What is held goes, the offer is answered, and the host takes the extents.
+fn answered(
+    alloc: Global,
+    present: &Config,
+    host: HostId,
+    lists: &HostLists,
+    accepted: &Extents,
+) -> Result<Effects, NoMemory>
+    requires host { host < present.now.hosts }
+    requires granular { All (λ x. IsTrue (is_granular present.now host x.start x.length)) accepted.now }
+    ensures { IfOk result (λ changes. changes ≡ answer_changes present.now host lists.now accepted.now) }
+{
+    let mut changes = unhold(alloc, host, HeldKind::Responses, lists.responses())?;
+    changes.push(Effect::Answer(host, accepted.copy()?))?;
+    put_takes(present, host, accepted.as_slice(), &mut changes)?;
+    Ok(changes)
+}
+
+/// The notice of what the Fabric Manager is told.
+fn notices_to_manager(
+    alloc: Global,
+    host: HostId,
+    after: &HostLists,
+    accepted: &[Extent],
+) -> Result<Seq<Notice>, NoMemory>
+    requires { extent_total after.now ≤ 64 }
+    ensures { IfOk result (λ notices. (w : View) → after.now ≡ lists_in w → map told_in notices ≡ (LogId.Manager, told_of host w accepted.now) ∷ []) }
+{
+    let events = told(alloc, host, after, accepted)?;
+    one_notice(alloc, LogId::Manager, events)
+}
+
+/// What the Fabric Manager is told: each accepted extent, or one of zeros where none is accepted.
+fn told(
+    alloc: Global,
+    host: HostId,
+    after: &HostLists,
+    accepted: &[Extent],
+) -> Result<Seq<Event>, NoMemory>
+    requires { extent_total after.now ≤ 64 }
+    ensures { IfOk result (λ events. (w : View) → after.now ≡ lists_in w → events ≡ told_of host w accepted.now) }
+{
+    if accepted.is_empty() {
+        return told_none(alloc, host, after);
+    }
+    notices_of(alloc, host, after, EventKind::AddResponse, accepted)
+}
+
+/// What the Fabric Manager is told where no extent is accepted.
+fn told_none(alloc: Global, host: HostId, after: &HostLists) -> Result<Seq<Event>, NoMemory>
+    requires { extent_total after.now ≤ 64 }
+    ensures { IfOk result (λ events. (w : View) → after.now ≡ lists_in w → events ≡ told_of host w []) }
+{
+    let mut events = Seq::new(alloc);
+    events.push(event_for(host, after, EventKind::AddResponse, false, &no_extent()))?;
+    Ok(events)
+}
+
+/// The host takes each of the extents.
+fn put_takes(
+    present: &Config,
+    host: HostId,
+    extents: &[Extent],
+    changes: &mut Effects,
+) -> Result<(), NoMemory>
+    requires host { host < present.now.hosts }
+    requires granular { All (λ x. IsTrue (is_granular present.now host x.start x.length)) extents.now }
+    ensures { OnOk result (changes.new ≡ changes.old ++ takes present.now host extents.now) }
+{
+    for i in 0..extents.len() {
+        changes.push(Effect::Take(host, run_of(present, host, &extents[i])))?;
+    }
+    Ok(())
+}

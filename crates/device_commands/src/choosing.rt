@@ -1,0 +1,189 @@
+//! Which extents an offer has, by the policy of 5604h.
+
+ghost use Rattle.device_commands.specs.InitiateDynamicCapacityAdd.{LieInRegion, blocks_rule, chosen_blocks, extents_by_length, length_rule};
+ghost use Rattle.device_commands.specs.InitiateDynamicCapacityAdd.{length_runs, listed_offer_rule, new_offer, policy_choice, policy_rule};
+ghost use Rattle.device_state.specs.Entered.{runs_in};
+ghost use Rattle.dcd_codes.specs.Rules.{ByRow};
+ghost use Rattle.device_rules.specs.Adding.{extents_of, per_block, tagged};
+ghost use Rattle.media_map.specs.Places.{IsRun};
+ghost use Rattle.region_config.specs.Granules.{granule_total};
+ghost use Rattle.std.specs.Prelude.{◌≡◌, ◌+◌, ◌==◌, ◌^◌, ◌<◌, ◌≤◌, All, IfOk, if◌then◌else◌, length};
+
+use crate::initiate_dynamic_capacity_add::{CONTIGUOUS, PRESCRIPTIVE};
+use dcd_base::{Extent, Extents, HostId, NoMemory, RegionId, Run, Runs, Tag, no_tag};
+use dcd_codes::{Refusal, Rule};
+use device_state::State;
+use media_map::extent_of;
+use region_config::Config;
+use std::alloc::Global;
+
+/// What is asked for, where host, policy and region are there.
+#[derive(Clone, Copy, Debug)]
+pub(crate) struct Asked {
+    pub(crate) host: HostId,
+    pub(crate) policy: u8,
+    pub(crate) region: RegionId,
+    pub(crate) length: u64,
+    pub(crate) tag: Tag,
+}
+
+/// The extents of the offer, with its tag and numbered where the region is shareable.
+pub(crate) fn new_extents(
+    alloc: Global,
+    state: &State,
+    asked: &Asked,
+    list: &Extents,
+) -> Result<Extents, Refusal>
+    requires host { asked.now.host < state.now.present.hosts }
+    requires region { asked.now.region < length state.now.present.regions }
+    requires granules { length state.now.granules.states ≡ granule_total state.now.present }
+    requires runs { All (IsRun state.now.present) (runs_in state.now asked.now.tag) }
+    requires few_runs { length (runs_in state.now asked.now.tag) ≤ 4096 }
+    ensures row { ByRow (policy_rule state.now asked.now list.now) (λ new. new ≡ new_offer state.now asked.now list.now) result }
+    ensures few { IfOk result (λ new. length new < 2 ^ 16) }
+{
+    let shareable = state.present.region(asked.region).shareable;
+    match chosen(alloc, state, asked, list) {
+        Ok(chosen) => Ok(tagged(alloc, shareable, &asked.tag, chosen.as_slice())?),
+        Err(refusal) => Err(refusal),
+    }
+}
+
+/// What the policy chooses.
+fn chosen(alloc: Global, state: &State, asked: &Asked, list: &Extents) -> Result<Extents, Refusal>
+    requires host { asked.now.host < state.now.present.hosts }
+    requires region { asked.now.region < length state.now.present.regions }
+    requires granules { length state.now.granules.states ≡ granule_total state.now.present }
+    requires runs { All (IsRun state.now.present) (runs_in state.now asked.now.tag) }
+    requires few_runs { length (runs_in state.now asked.now.tag) ≤ 4096 }
+    ensures row { ByRow (policy_rule state.now asked.now list.now) (λ xs. xs ≡ policy_choice state.now asked.now list.now) result }
+    ensures few { IfOk result (λ xs. length xs ≤ 4096) }
+{
+    if asked.policy == PRESCRIPTIVE {
+        listed(alloc, state, asked, list)
+    } else if asked.policy > CONTIGUOUS {
+        Ok(shared(alloc, state, asked)?)
+    } else {
+        free_extents(alloc, state, asked)
+    }
+}
+
+/// The listed extents, where they can be offered.
+fn listed(alloc: Global, state: &State, asked: &Asked, list: &Extents) -> Result<Extents, Refusal>
+    requires host { asked.now.host < state.now.present.hosts }
+    requires granules { length state.now.granules.states ≡ granule_total state.now.present }
+    ensures row { ByRow (listed_offer_rule state.now asked.now list.now) (λ xs. xs ≡ list.now) result }
+    ensures few { IfOk result (λ xs. length xs ≤ 4096) }
+{
+    let map = state.granules.states();
+    match selection::prescriptive(alloc, map, &state.present, asked.host, asked.region, list) {
+        Ok(_runs) => Ok(list.copy()?),
+        Err(refusal) => Err(refusal),
+    }
+}
+
+/// The granules of the tag.
+fn shared(alloc: Global, state: &State, asked: &Asked) -> Result<Extents, NoMemory>
+    requires host { asked.now.host < state.now.present.hosts }
+    requires runs { All (IsRun state.now.present) (runs_in state.now asked.now.tag) }
+    ensures { IfOk result (λ xs. xs ≡ extents_of state.now.present asked.now.host (runs_in state.now asked.now.tag)) }
+{
+    match state.tags.find(&asked.tag) {
+        Some(entry) => extents_of(alloc, &state.present, asked.host, entry.runs.as_slice()),
+        None => Ok(Extents::new(alloc)),
+    }
+}
+
+/// So many bytes of free blocks, as extents of the host.
+fn free_extents(alloc: Global, state: &State, asked: &Asked) -> Result<Extents, Refusal>
+    requires host { asked.now.host < state.now.present.hosts }
+    requires region { asked.now.region < length state.now.present.regions }
+    requires granules { length state.now.granules.states ≡ granule_total state.now.present }
+    ensures row { ByRow (length_rule state.now asked.now) (λ xs. xs ≡ extents_by_length state.now asked.now) result }
+    ensures few { IfOk result (λ xs. length xs ≤ 4096) }
+{
+    // That runs are of the device rests on what every configuration keeps.
+    let _regions = state.present.regions();
+    match by_length(alloc, state, asked) {
+        Ok(runs) => Ok(extents_of(alloc, &state.present, asked.host, runs.as_slice())?),
+        Err(refusal) => Err(refusal),
+    }
+}
+
+/// So many bytes of free blocks.
+fn by_length(alloc: Global, state: &State, asked: &Asked) -> Result<Runs, Refusal>
+    requires region { asked.now.region < length state.now.present.regions }
+    requires granules { length state.now.granules.states ≡ granule_total state.now.present }
+    ensures row { ByRow (length_rule state.now asked.now) (λ runs. runs ≡ length_runs state.now asked.now) result }
+    ensures within { IfOk result (LieInRegion state.now.present asked.now.region) }
+{
+    let block = state.present.region(asked.region).block;
+    if asked.length == 0 || asked.length % block != 0 {
+        return Err(Refusal::Broken(Rule::BadLength(asked.length)));
+    }
+    blocks_of(alloc, state, asked, asked.length / block)
+}
+
+/// So many free blocks.
+fn blocks_of(alloc: Global, state: &State, asked: &Asked, blocks: u64) -> Result<Runs, Refusal>
+    requires region { asked.now.region < length state.now.present.regions }
+    requires granules { length state.now.granules.states ≡ granule_total state.now.present }
+    requires some { 0 < blocks }
+    ensures row { ByRow (blocks_rule state.now asked.now blocks) (λ runs. runs ≡ chosen_blocks state.now asked.now blocks) result }
+    ensures within { IfOk result (LieInRegion state.now.present asked.now.region) }
+{
+    let area = state.present.granules_of(asked.region);
+    let per_block = state.present.per_block(asked.region);
+    let map = state.granules.states();
+    if asked.policy == 0 {
+        selection::free(alloc, map, area, per_block, blocks)
+    } else {
+        selection::contiguous(alloc, map, area, per_block, blocks)
+    }
+}
+
+/// Runs of granules as extents of the host.
+fn extents_of(
+    alloc: Global,
+    present: &Config,
+    host: HostId,
+    runs: &[Run],
+) -> Result<Extents, NoMemory>
+    requires host { host < present.now.hosts }
+    requires runs { All (IsRun present.now) runs.now }
+    ensures { IfOk result (λ xs. xs ≡ extents_of present.now host runs.now) }
+{
+    let mut extents = Extents::new(alloc);
+    for i in 0..runs.len() {
+        extents.push(extent_of(present, host, &runs[i], no_tag(), 0))?;
+    }
+    Ok(extents)
+}
+
+/// Each extent with the tag, and numbered from 1 where hosts can share it.
+fn tagged(
+    alloc: Global,
+    shareable: bool,
+    tag: &Tag,
+    extents: &[Extent],
+) -> Result<Extents, NoMemory>
+    requires { length extents.now ≤ 4096 }
+    ensures { IfOk result (λ xs. xs ≡ tagged shareable tag.now extents.now) }
+{
+    let mut tagged = Extents::new(alloc);
+    for i in 0..extents.len() {
+        tagged.push(tagged_one(shareable, tag, i as u16 + 1, &extents[i]))?;
+    }
+    Ok(tagged)
+}
+
+/// The extent with the tag, and with its number where hosts can share it.
+fn tagged_one(shareable: bool, tag: &Tag, number: u16, extent: &Extent) -> Extent
+    ensures { result ≡ record extent.now { tag = tag.now; sequence = if shareable then number else 0 } }
+{
+    Extent {
+        tag: *tag,
+        sequence: if shareable { number } else { 0 },
+        ..*extent
+    }
+}

@@ -1,0 +1,40 @@
+//! 4801h Get Dynamic Capacity Extent List, of a host (CXL 3.1, 8.2.9.9.9.2).
+//! Row: `past_end`, device_rules/specs/Settings.antt.
+//! Outcome: `extents_reply`, device_rules/specs/Settings.antt; it changes nothing.
+//! Bytes: docs/formats.md, 'Commands of a host', 'Replies to a host'.
+
+ghost use Rattle.device_commands.specs.GetDynamicCapacityExtentList.{AnswersExtents};
+ghost use Rattle.device_rules.specs.Outcomes.{only};
+ghost use Rattle.device_rules.specs.Settings.{extents_reply, past_end};
+ghost use Rattle.host_lists.specs.Lists.{extent_total};
+ghost use Rattle.std.specs.Prelude.{◌≡◌, ◌≤◌, IfOk, None};
+
+use crate::draft::Draft;
+use crate::pages::extents_page;
+use dcd_base::Bytes;
+use dcd_codes::{Refusal, Rule};
+use host_lists::HostLists;
+use host_payloads::write_extents;
+use std::alloc::Global;
+
+/// At most `count` accepted extents from `first` on, 50 at most, with how many there are and how often the list
+/// changed (CXL 3.1, 8.2.9.9.9.2). `PastEnd` comes exactly where the first index is above their number.
+pub fn get_extents(
+    alloc: Global,
+    lists: &HostLists,
+    count: u32,
+    first: u32,
+) -> Result<Draft, Refusal>
+    requires { extent_total lists.now ≤ 64 }
+    ensures drafts { AnswersExtents lists.now count first result }
+    ensures no_lists { IfOk result (λ draft. draft.lists ≡ None) }
+{
+    let total = lists.accepted().len() as u32;
+    if first > total {
+        return Err(Refusal::Broken(Rule::PastEnd { first, total }));
+    }
+    let extents = extents_page(lists, count, first);
+    let mut payload = Bytes::new(alloc);
+    write_extents(total, lists.generation(), extents, &mut payload)?;
+    Ok(Draft::only(payload))
+}

@@ -1,0 +1,90 @@
+//! A message of a host: which command it is, and what that drafts.
+
+ghost use Rattle.device_commands.specs.HostMessages.{DraftsHost, AnswersHost, FewHandles};
+ghost use Rattle.dcd_base.specs.declared.steps.LogId.{LogId};
+ghost use Rattle.host_lists.specs.Lists.{extent_total};
+ghost use Rattle.std.specs.Prelude.{◌≡◌, ◌<◌, ◌≤◌, IfOk, IfSome};
+
+use crate::add_dynamic_capacity_response::add_response;
+use crate::clear_event_records::clear_events;
+use crate::draft::Draft;
+use crate::get_dynamic_capacity_configuration::get_configuration;
+use crate::get_dynamic_capacity_extent_list::get_extents;
+use crate::get_event_records::get_events;
+use crate::release_dynamic_capacity::give_back;
+use cci_codec::Request;
+use dcd_base::{HostId, LogId, NoMemory};
+use dcd_codes::{Refusal, Rule};
+use event_log::EventLog;
+use host_lists::HostLists;
+use host_payloads::{HostRequest, PayloadFault, decode};
+use region_config::Config;
+use std::alloc::Global;
+
+/// The draft of a message of the host, or the first rule that it breaks.
+///
+/// `config` is the configuration that the device was made with, `present` the one with the present blocks; `lists` and
+/// `log` are what the device keeps of the host. The lists that are drafted have 64 extents at most, as these have.
+pub fn host_draft(
+    alloc: Global,
+    config: &Config,
+    present: &Config,
+    host: HostId,
+    lists: &HostLists,
+    log: &EventLog,
+    request: &Request,
+) -> Result<Draft, Refusal>
+    requires host { host < config.now.hosts }
+    requires hosts { present.now.hosts ≡ config.now.hosts }
+    requires few { extent_total lists.now ≤ 64 }
+    ensures drafted { DraftsHost config.now present.now host lists.now log.now request.now result }
+    ensures few { IfOk result (λ draft. IfSome draft.lists (λ new. extent_total new ≤ 64)) }
+{
+    match decode(alloc, request.opcode, request.payload.as_slice()) {
+        Ok(asked) => draft_asked(alloc, config, present, host, lists, log, &asked),
+        Err(PayloadFault::UnknownOpcode(opcode)) => {
+            Err(Refusal::Broken(Rule::UnknownOpcode(opcode)))
+        }
+        Err(PayloadFault::WrongLength { need, have }) => {
+            Err(Refusal::Broken(Rule::WrongLength { need, have }))
+        }
+        Err(PayloadFault::NoMemory) => Err(Refusal::NoMemory),
+    }
+}
+
+/// The draft of what a host asks.
+fn draft_asked(
+    alloc: Global,
+    config: &Config,
+    present: &Config,
+    host: HostId,
+    lists: &HostLists,
+    log: &EventLog,
+    asked: &HostRequest,
+) -> Result<Draft, Refusal>
+    requires host { host < config.now.hosts }
+    requires hosts { present.now.hosts ≡ config.now.hosts }
+    requires few { extent_total lists.now ≤ 64 }
+    requires handles { FewHandles asked.now }
+    ensures drafts { AnswersHost config.now present.now host lists.now log.now asked.now result }
+    ensures few { IfOk result (λ draft. IfSome draft.lists (λ new. extent_total new ≤ 64)) }
+{
+    match asked {
+        HostRequest::GetEvents { log: number } => get_events(alloc, *number, log),
+        HostRequest::ClearEvents {
+            log: number,
+            all,
+            handles,
+        } => clear_events(alloc, LogId::Host(host), *number, log, *all, handles),
+        HostRequest::GetConfiguration { count, first } => {
+            get_configuration(alloc, present, host, lists, *count, *first)
+        }
+        HostRequest::GetExtents { count, first } => get_extents(alloc, lists, *count, *first),
+        HostRequest::AddResponse { more, extents } => {
+            add_response(alloc, config, present, host, lists, *more, extents)
+        }
+        HostRequest::GiveBack { more, extents } => {
+            give_back(alloc, config, present, host, lists, *more, extents)
+        }
+    }
+}

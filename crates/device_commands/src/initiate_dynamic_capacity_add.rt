@@ -1,0 +1,269 @@
+//! 5604h Initiate Dynamic Capacity Add, of the Fabric Manager (CXL 3.1, 7.6.7.6.5; layout: profile).
+//! Row: `add_rule`, device_rules/specs/Adding.antt.
+//! Outcome: `add_outcome`, device_rules/specs/Adding.antt; the reply is empty.
+//! Bytes: docs/formats.md, 'Commands of the Fabric Manager'.
+
+ghost use Rattle.device_commands.specs.ManagerMessages.{ManagerAnswers};
+ghost use Rattle.device_commands.specs.InitiateDynamicCapacityAdd.{AnswersOffer, IsRoomRule, add_request, offered_lists, request_rule, IsOffered};
+ghost use Rattle.device_commands.specs.InitiateDynamicCapacityAdd.{is_used_tag, is_with_hosts, lists_have, named_rule, room_rule, shared_rule};
+ghost use Rattle.device_commands.specs.InitiateDynamicCapacityAdd.{tag_rule};
+ghost use Rattle.device_commands.specs.ListDrafts.{TellOf};
+ghost use Rattle.event_records.specs.declared.events.EventKind.{EventKind};
+ghost use Rattle.journal_core.specs.declared.outcome.Effect.{Effect};
+ghost use Rattle.device_state.specs.Kept.{IsReached, part_of};
+ghost use Rattle.dcd_base.specs.declared.steps.LogId.{LogId};
+ghost use Rattle.host_lists.specs.Lists.{extent_total};
+ghost use Rattle.std.specs.Prelude.{◌≡◌, ◌+◌, ◌==◌, ◌^◌, ◌<◌, ◌≤◌, ◌∷◌, [], IfNone, IfOk, length};
+ghost use Rattle.tag_refs.specs.Tables.{passes};
+ghost use Rattle.tag_refs.specs.declared.entries.TagEntry.{TagEntry};
+
+use crate::choosing::{Asked, new_extents};
+use crate::draft::Draft;
+use crate::log_records::{Notice, log_full, notices_to};
+use dcd_base::limits::TAGS;
+use dcd_base::{Extents, HostId, LogId, NoMemory, RegionId, Seq, Tag, is_no_tag};
+use dcd_codes::{Refusal, Rule};
+use device_state::State;
+use event_records::EventKind;
+use host_lists::HostLists;
+use journal_core::{Effect, Effects};
+use list_rules::too_many_extents;
+use region_config::Config;
+use std::alloc::Global;
+
+/// The policies above 0 Free.
+pub(crate) const CONTIGUOUS: u8 = 1;
+
+pub(crate) const PRESCRIPTIVE: u8 = 2;
+
+pub(crate) const SHARED: u8 = 3;
+
+/// The fields of a request, beside its list.
+#[derive(Clone, Copy, Debug)]
+pub struct AddRequest {
+    pub host: u16,
+    pub policy: u8,
+    pub region: u8,
+    /// In bytes.
+    pub length: u64,
+    pub tag: Tag,
+}
+
+/// Offers capacity of a region to the host: so many bytes by the policies 0 Free and 1 Contiguous, the listed extents
+/// by 2 Prescriptive, and the granules of an open tag by 3 Enable Shared Access (profile).
+///
+/// The first broken rule comes, in the order of the code.
+pub fn add(
+    alloc: Global,
+    config: &Config,
+    state: &State,
+    request: &AddRequest,
+    list: &Extents,
+) -> Result<Draft, Refusal>
+    requires reached { IsReached config.now state.now }
+    ensures { ManagerAnswers config.now state.now (add_request request.now list.now) result }
+{
+    // That granules are of the device rests on what every configuration keeps.
+    let _regions = state.present.regions();
+    if let Some(rule) = named_rule(state, request) {
+        return Err(Refusal::Broken(rule));
+    }
+    let asked = Asked {
+        host: HostId(request.host as u8),
+        policy: request.policy,
+        region: RegionId(request.region),
+        length: request.length,
+        tag: request.tag,
+    };
+    if let Some(rule) = tag_rule(state, &asked) {
+        return Err(Refusal::Broken(rule));
+    }
+    match new_extents(alloc, state, &asked, list) {
+        Err(refusal) => Err(refusal),
+        Ok(extents) => offer_of(alloc, state, &asked, extents),
+    }
+}
+
+/// The extents are offered, where the host and its log have room for them.
+fn offer_of(alloc: Global, state: &State, asked: &Asked, extents: Extents) -> Result<Draft, Refusal>
+    requires part { asked.now.host < length state.now.hosts.items }
+    requires few { extent_total (part_of state.now asked.now.host).lists ≤ 64 }
+    requires listed { length extents < 2 ^ 16 }
+    ensures { AnswersOffer state.now asked.now.host extents result }
+{
+    if let Some(rule) = room_rule(state, asked.host, &extents) {
+        return Err(Refusal::Broken(rule));
+    }
+    Ok(draft_of(alloc, state, asked, extents)?)
+}
+
+/// The rule that is broken where there is no such host, policy or region.
+fn named_rule(state: &State, request: &AddRequest) -> Option<Rule>
+    ensures { result ≡ request_rule state.now request.now }
+{
+    if request.host >= u16::from(state.present.hosts()) {
+        return Some(Rule::NoSuchHost(request.host));
+    }
+    if request.policy > SHARED {
+        return Some(Rule::NoSuchPolicy(request.policy));
+    }
+    if request.region >= state.present.regions() {
+        return Some(Rule::NoSuchRegion(request.region));
+    }
+    None
+}
+
+/// The rule that is broken where the tag cannot be offered by this policy in this region to this host.
+fn tag_rule(state: &State, asked: &Asked) -> Option<Rule>
+    requires host { asked.now.host < state.now.present.hosts }
+    requires parts { length state.now.hosts.items ≡ state.now.present.hosts }
+    requires policy { asked.now.policy ≤ 3 }
+    requires region { asked.now.region < length state.now.present.regions }
+    ensures { result ≡ tag_rule state.now asked.now.host asked.now.policy asked.now.region asked.now.tag }
+{
+    let shareable = state.present.region(asked.region).shareable;
+    if asked.policy == SHARED && !shareable {
+        return Some(Rule::NotShareable(asked.region.0));
+    }
+    if is_no_tag(&asked.tag) && shareable {
+        return Some(Rule::ZeroTag);
+    }
+    if asked.policy == SHARED {
+        return shared_rule(state, asked);
+    }
+    if is_in_use(state, &asked.tag) {
+        return Some(Rule::TagInUse);
+    }
+    None
+}
+
+/// The rule that is broken where the open tag cannot be shared with this host.
+fn shared_rule(state: &State, asked: &Asked) -> Option<Rule>
+    requires host { asked.now.host < length state.now.hosts.items }
+    ensures { result ≡ shared_rule state.now asked.now.host asked.now.region asked.now.tag }
+{
+    if !is_open_in(state, asked.region, &asked.tag) {
+        return Some(Rule::NoSuchTag);
+    }
+    if has_tag(state, asked.host, &asked.tag) {
+        return Some(Rule::AlreadyShared);
+    }
+    None
+}
+
+/// Whether a host has the tag or is offered it, or the manager refers to it.
+fn is_in_use(state: &State, tag: &Tag) -> bool
+    requires parts { length state.now.hosts.items ≡ state.now.present.hosts }
+    ensures { result ≡ is_used_tag state.now tag.now }
+{
+    !is_no_tag(tag) && (is_with_a_host(state, tag) || state.tags.is_referenced(tag))
+}
+
+/// Whether a host has the tag or is offered it.
+fn is_with_a_host(state: &State, tag: &Tag) -> bool
+    requires parts { length state.now.hosts.items ≡ state.now.present.hosts }
+    ensures { result ≡ is_with_hosts state.now tag.now }
+{
+    for host in 0..state.present.hosts() {
+        if has_tag(state, HostId(host), tag) {
+            return true;
+        }
+    }
+    false
+}
+
+/// Whether the host has the tag or is offered it.
+fn has_tag(state: &State, host: HostId, tag: &Tag) -> bool
+    requires { host < length state.now.hosts.items }
+    ensures { result ≡ lists_have tag.now (part_of state.now host).lists }
+{
+    let lists = &state.part(host).lists;
+    lists.has_accepted(tag) || lists.has_offered(tag)
+}
+
+/// Whether the tag is open in the region.
+fn is_open_in(state: &State, region: RegionId, tag: &Tag) -> bool
+    ensures { result ≡ passes tag.now (λ (e : TagEntry). e.region == region) state.now.tags.entries }
+{
+    match state.tags.find(tag) {
+        Some(entry) => entry.region.0 == region.0,
+        None => false,
+    }
+}
+
+/// The rule that is broken where the host would have too many extents or tags, or its log has no room.
+fn room_rule(state: &State, host: HostId, extents: &Extents) -> Option<Rule>
+    requires part { host < length state.now.hosts.items }
+    requires few { extent_total (part_of state.now host).lists ≤ 64 }
+    requires listed { length extents.now < 2 ^ 16 }
+    ensures row { IsRoomRule state.now host extents.now result }
+    ensures within { IfNone result (extent_total (part_of state.now host).lists + length extents.now ≤ 64) }
+{
+    let lists = &state.part(host).lists;
+    let total = lists.accepted().len() + lists.offered() + extents.as_slice().len();
+    if let Some(rule) = too_many_extents(total) {
+        return Some(rule);
+    }
+    let tags = lists.tags_with(extents.as_slice());
+    if tags > TAGS {
+        return Some(Rule::TooManyTags(tags));
+    }
+    log_full(state, host, extents.len() as u32)
+}
+
+/// The offer, and a record for each extent.
+fn draft_of(
+    alloc: Global,
+    state: &State,
+    asked: &Asked,
+    extents: Extents,
+) -> Result<Draft, NoMemory>
+    requires part { asked.now.host < length state.now.hosts.items }
+    requires few { extent_total (part_of state.now asked.now.host).lists + length extents ≤ 64 }
+    ensures { IfOk result (IsOffered asked.now.host (part_of state.now asked.now.host).lists extents) }
+{
+    let lists = lists_with(state, asked, &extents)?;
+    let notices = notices_of_offer(alloc, asked.host, &lists, &extents)?;
+    let changes = offering(alloc, asked.host, extents)?;
+    let tags = Seq::new(alloc);
+    Draft::listing(alloc, changes, tags, notices, lists)
+}
+
+/// The lists of the host with the offer.
+fn lists_with(state: &State, asked: &Asked, extents: &Extents) -> Result<HostLists, NoMemory>
+    requires part { asked.now.host < length state.now.hosts.items }
+    ensures { IfOk result (λ lists. lists ≡ offered_lists (part_of state.now asked.now.host).lists extents.now) }
+{
+    let mut lists = state.part(asked.host).lists.copy()?;
+    lists.offer(asked.region, extents.copy()?)?;
+    Ok(lists)
+}
+
+/// The records for the host.
+fn notices_of_offer(
+    alloc: Global,
+    host: HostId,
+    lists: &HostLists,
+    extents: &Extents,
+) -> Result<Seq<Notice>, NoMemory>
+    requires { extent_total lists.now ≤ 64 }
+    ensures { IfOk result (TellOf host EventKind.Add lists.now extents.now) }
+{
+    notices_to(
+        alloc,
+        LogId::Host(host),
+        host,
+        lists,
+        EventKind::Add,
+        extents.as_slice(),
+    )
+}
+
+/// The change that an offer is.
+fn offering(alloc: Global, host: HostId, extents: Extents) -> Result<Effects, NoMemory>
+    ensures { IfOk result (λ changes. changes ≡ Effect.Offer host extents ∷ []) }
+{
+    let mut changes = Effects::new(alloc);
+    changes.push(Effect::Offer(host, extents))?;
+    Ok(changes)
+}

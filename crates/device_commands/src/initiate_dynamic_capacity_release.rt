@@ -1,0 +1,244 @@
+//! 5605h Initiate Dynamic Capacity Release, of the Fabric Manager (CXL 3.1, 7.6.7.6.6; layout: profile).
+//! Row: `remove_rule`, device_rules/specs/ReleaseOutcomes.antt.
+//! Outcome: `remove_outcome`, device_rules/specs/ReleaseOutcomes.antt; the reply is empty.
+//! Bytes: docs/formats.md, 'Commands of the Fabric Manager'.
+
+ghost use Rattle.device_commands.specs.ManagerMessages.{ManagerAnswers};
+ghost use Rattle.device_commands.specs.InitiateDynamicCapacityRelease.{AnswersRemoval, IsAskedFor, IsTakenByForce, listed_leaving};
+ghost use Rattle.device_commands.specs.InitiateDynamicCapacityRelease.{listed_leaving_rule, meant_of, meant_rule_of, remove_request, Departs};
+ghost use Rattle.device_commands.specs.InitiateDynamicCapacityRelease.{choice_rule, removed_lists};
+ghost use Rattle.device_commands.specs.ListDrafts.{TellOf};
+ghost use Rattle.release_core.specs.Leaving.{AllCanLeave};
+ghost use Rattle.device_state.specs.Kept.{IsReached, part_of};
+ghost use Rattle.dcd_codes.specs.Rules.{ByRow};
+ghost use Rattle.device_rules.specs.Outcomes.{log_full};
+ghost use Rattle.device_rules.specs.ReleaseOutcomes.{is_cleaning, is_forced};
+ghost use Rattle.event_records.specs.declared.events.EventKind.{EventKind};
+ghost use Rattle.host_lists.specs.Lists.{extent_total};
+ghost use Rattle.std.specs.Prelude.{◌≡◌, ◌<◌, ◌≤◌, IfOk, Option, length, true};
+
+use crate::draft::{Draft, DraftParts};
+use crate::leaves::put_leaves;
+use crate::log_records::{Notice, log_full, notices_to};
+use crate::tags::tags_of;
+use dcd_base::{Bytes, Extents, HostId, LogId, NoMemory, RegionId, Seq, Tag};
+use dcd_codes::{Refusal, Rule};
+use device_state::State;
+use event_records::EventKind;
+use host_lists::HostLists;
+use journal_core::Effects;
+use region_config::Config;
+use release_core::{by_tag, removal};
+use std::alloc::Global;
+
+/// The bits of the flags: the policy, forced, and cleaning.
+const POLICY: u8 = 15;
+
+const FORCED: u8 = 16;
+
+const CLEANING: u8 = 32;
+
+/// The fields of a request, beside its list.
+#[derive(Clone, Copy, Debug)]
+pub struct RemoveRequest {
+    pub host: u16,
+    pub flags: u8,
+    pub region: u8,
+    /// In bytes; no policy reads it.
+    pub length: u64,
+    pub tag: Tag,
+}
+
+/// Asks the host to give extents back, or takes them by force: those with the tag by the policy 0, the listed ones by
+/// 1 Prescriptive. A forced removal that cleans soils their granules at once (profile).
+///
+/// The first broken rule comes: `NoSuchHost`; `UnsupportedFlag` where it cleans without force; `NoSuchPolicy`; the
+/// rules of the policy; `LogFull` where the host's log has no room for a record of each extent.
+pub fn remove(
+    alloc: Global,
+    config: &Config,
+    state: &State,
+    request: &RemoveRequest,
+    list: &Extents,
+) -> Result<Draft, Refusal>
+    requires reached { IsReached config.now state.now }
+    ensures { ManagerAnswers config.now state.now (remove_request request.now list.now) result }
+{
+    // No policy reads the length.
+    let _length = request.length;
+    if let Some(rule) = choice_rule(state, request) {
+        return Err(Refusal::Broken(rule));
+    }
+    let host = HostId(request.host as u8);
+    match meant(alloc, state, host, request, list) {
+        Err(refusal) => Err(refusal),
+        Ok(leaving) => removal_of(alloc, config, state, host, request.flags, leaving),
+    }
+}
+
+/// The rule that is broken where there is no such host, or the flags ask for what there is not.
+fn choice_rule(state: &State, request: &RemoveRequest) -> Option<Rule>
+    ensures { result ≡ choice_rule state.now.present.hosts request.now.host request.now.flags }
+{
+    let flags = request.flags;
+    if request.host >= u16::from(state.present.hosts()) {
+        return Some(Rule::NoSuchHost(request.host));
+    }
+    if flags & CLEANING != 0 && flags & FORCED == 0 {
+        return Some(Rule::UnsupportedFlag);
+    }
+    let policy = flags & POLICY;
+    if policy > 1 {
+        return Some(Rule::NoSuchPolicy(policy));
+    }
+    None
+}
+
+/// The extents that are meant: those of the tag, or the listed ones.
+fn meant(
+    alloc: Global,
+    state: &State,
+    host: HostId,
+    request: &RemoveRequest,
+    list: &Extents,
+) -> Result<Extents, Refusal>
+    requires host { host < state.now.present.hosts }
+    requires parts { length state.now.hosts.items ≡ state.now.present.hosts }
+    requires few { extent_total (part_of state.now host).lists ≤ 64 }
+    ensures row { ByRow (meant_rule_of state.now host request.now list.now) (λ leaving. leaving ≡ meant_of state.now host request.now list.now) result }
+    ensures few { IfOk result (λ leaving. length leaving ≤ 64) }
+{
+    let flags = request.flags;
+    if flags & POLICY == 0 {
+        by_tag(alloc, state.part(host).lists.accepted(), &request.tag)
+    } else {
+        let region = RegionId(request.region);
+        listed(alloc, state, host, region, list, flags & FORCED != 0)
+    }
+}
+
+/// The listed extents.
+fn listed(
+    alloc: Global,
+    state: &State,
+    host: HostId,
+    region: RegionId,
+    list: &Extents,
+    forced: bool,
+) -> Result<Extents, Refusal>
+    requires host { host < state.now.present.hosts }
+    requires parts { length state.now.hosts.items ≡ state.now.present.hosts }
+    requires few { extent_total (part_of state.now host).lists ≤ 64 }
+    ensures row { ByRow (listed_leaving_rule state.now host region list.now forced) (λ leaving. leaving ≡ listed_leaving state.now host list.now) result }
+    ensures few { IfOk result (λ leaving. length leaving ≤ 64) }
+{
+    let lists = &state.part(host).lists;
+    let offered = lists.offered();
+    removal(
+        alloc,
+        &state.present,
+        host,
+        lists.accepted(),
+        offered,
+        region,
+        list,
+        forced,
+    )
+}
+
+/// These extents are taken from the host by force, or it is asked for them, where its log has room.
+fn removal_of(
+    alloc: Global,
+    config: &Config,
+    state: &State,
+    host: HostId,
+    flags: u8,
+    leaving: Extents,
+) -> Result<Draft, Refusal>
+    requires reached { IsReached config.now state.now }
+    requires host { host < state.now.present.hosts }
+    requires few { length leaving ≤ 64 }
+    requires departs { is_forced flags ≡ true → Departs config.now host (part_of state.now host).lists (is_cleaning flags) leaving }
+    ensures { AnswersRemoval config.now state.now host flags leaving result }
+{
+    if let Some(rule) = log_full(state, host, leaving.len() as u32) {
+        return Err(Refusal::Broken(rule));
+    }
+    if flags & FORCED == 0 {
+        Ok(asked(alloc, state, host, leaving)?)
+    } else {
+        Ok(taken(alloc, config, state, host, flags & CLEANING != 0, leaving)?)
+    }
+}
+
+/// The extents are taken from the host.
+fn taken(
+    alloc: Global,
+    config: &Config,
+    state: &State,
+    host: HostId,
+    cleaning: bool,
+    leaving: Extents,
+) -> Result<Draft, NoMemory>
+    requires host { host < config.now.hosts }
+    requires part { host < length state.now.hosts.items }
+    requires departs { Departs config.now host (part_of state.now host).lists cleaning leaving }
+    ensures { IfOk result (IsTakenByForce config.now host cleaning (part_of state.now host).lists leaving) }
+{
+    let lists = lists_without(state, host, &leaving)?;
+    let mut changes = Effects::new(alloc);
+    put_leaves(config, host, cleaning, leaving.as_slice(), &mut changes)?;
+    let tags = tags_of(alloc, leaving.as_slice())?;
+    let notices = notices_of_removal(alloc, host, &lists, EventKind::Forced, &leaving)?;
+    Draft::listing(alloc, changes, tags, notices, lists)
+}
+
+/// The lists of the host once the extents have left.
+fn lists_without(state: &State, host: HostId, leaving: &Extents) -> Result<HostLists, NoMemory>
+    requires part { host < length state.now.hosts.items }
+    requires can { AllCanLeave (part_of state.now host).lists.accepted leaving.now }
+    ensures { IfOk result (λ lists. lists ≡ removed_lists (part_of state.now host).lists leaving.now) }
+{
+    let mut lists = state.part(host).lists.copy()?;
+    lists.remove(leaving)?;
+    Ok(lists)
+}
+
+/// The records for the host.
+fn notices_of_removal(
+    alloc: Global,
+    host: HostId,
+    lists: &HostLists,
+    kind: EventKind,
+    leaving: &Extents,
+) -> Result<Seq<Notice>, NoMemory>
+    requires { extent_total lists.now ≤ 64 }
+    ensures { IfOk result (TellOf host kind lists.now leaving.now) }
+{
+    notices_to(
+        alloc,
+        LogId::Host(host),
+        host,
+        lists,
+        kind,
+        leaving.as_slice(),
+    )
+}
+
+/// The host is asked to give the extents back.
+fn asked(alloc: Global, state: &State, host: HostId, leaving: Extents) -> Result<Draft, NoMemory>
+    requires part { host < length state.now.hosts.items }
+    requires few { extent_total (part_of state.now host).lists ≤ 64 }
+    ensures { IfOk result (IsAskedFor host (part_of state.now host).lists leaving) }
+{
+    let lists = &state.part(host).lists;
+    let notices = notices_of_removal(alloc, host, lists, EventKind::Release, &leaving)?;
+    let parts = DraftParts {
+        payload: Bytes::new(alloc),
+        changes: Effects::new(alloc),
+        tags: tags_of(alloc, leaving.as_slice())?,
+        notices,
+        lists: None,
+    };
+    Draft::of(alloc, parts)
+}

@@ -1,0 +1,130 @@
+//! Records that a command adds to event logs, and whether a log has room for them.
+
+ghost use Rattle.device_rules.specs.Outcomes.{notice, notices_of, no_extent, log_full};
+ghost use Rattle.device_rules.specs.Views.{View};
+ghost use Rattle.event_records.specs.declared.events.EventKind.{EventKind};
+ghost use Rattle.device_state.specs.Kept.{lists_in, part_of, IsLogOf};
+ghost use Rattle.host_lists.specs.Lists.{extent_total};
+ghost use Rattle.std.specs.Prelude.{◌≡◌, ◌≤◌, ◌∷◌, [], IfOk, ◌<◌, length, map};
+ghost use Rattle.dcd_base.specs.declared.steps.LogId.{LogId};
+ghost use Rattle.device_commands.specs.Drafts.{told_in};
+ghost use Rattle.event_log.specs.Logs.{Log};
+
+use dcd_base::{Extent, HostId, LogId, NoMemory, Seq, no_tag};
+use dcd_codes::Rule;
+use device_state::State;
+use event_records::{Event, EventKind};
+use host_lists::HostLists;
+use std::alloc::Global;
+
+/// Records for one log, in order. The log gives each its handle.
+#[derive(Drop)]
+pub struct Notice {
+    pub log: LogId,
+    pub events: Seq<Event>,
+}
+
+/// What is told of an extent, with what the host has available by these lists. The handle is 0.
+pub fn event_for(
+    host: HostId,
+    lists: &HostLists,
+    kind: EventKind,
+    more: bool,
+    extent: &Extent,
+) -> Event
+    requires { extent_total lists.now ≤ 64 }
+    ensures { (v : View) → lists.now ≡ lists_in v → result ≡ notice host v kind more extent.now }
+{
+    Event {
+        handle: 0,
+        kind,
+        host: u16::from(host.0),
+        region: 0,
+        more,
+        extent: *extent,
+        extents_available: lists.extents_available(),
+        tags_available: lists.tags_available(),
+    }
+}
+
+/// A record for each extent, each of which says whether more come.
+pub fn notices_of(
+    alloc: Global,
+    host: HostId,
+    lists: &HostLists,
+    kind: EventKind,
+    extents: &[Extent],
+) -> Result<Seq<Event>, NoMemory>
+    requires { extent_total lists.now ≤ 64 }
+    ensures { IfOk result (λ events. (v : View) → lists.now ≡ lists_in v → events ≡ notices_of host v kind extents.now) }
+{
+    let extents_available = lists.extents_available();
+    let tags_available = lists.tags_available();
+    let mut events = Seq::new(alloc);
+    for i in 0..extents.len() {
+        events.push(Event {
+            handle: 0,
+            kind,
+            host: u16::from(host.0),
+            region: 0,
+            more: i + 1 < extents.len(),
+            extent: extents[i],
+            extents_available,
+            tags_available,
+        })?;
+    }
+    Ok(events)
+}
+
+/// A record for each extent, for one log.
+pub fn notices_to(
+    alloc: Global,
+    log: LogId,
+    host: HostId,
+    lists: &HostLists,
+    kind: EventKind,
+    extents: &[Extent],
+) -> Result<Seq<Notice>, NoMemory>
+    requires { extent_total lists.now ≤ 64 }
+    ensures { IfOk result (λ notices. (v : View) → lists.now ≡ lists_in v → map told_in notices ≡ (log, notices_of host v kind extents.now) ∷ []) }
+{
+    let events = notices_of(alloc, host, lists, kind, extents)?;
+    one_notice(alloc, log, events)
+}
+
+/// One notice alone.
+pub fn one_notice(alloc: Global, log: LogId, events: Seq<Event>) -> Result<Seq<Notice>, NoMemory>
+    ensures { IfOk result (λ notices. notices ≡ record { log = log; events = events } ∷ []) }
+{
+    let mut notices = Seq::new(alloc);
+    notices.push(Notice { log, events })?;
+    Ok(notices)
+}
+
+/// An extent of zeros.
+pub fn no_extent() -> Extent
+    ensures { result ≡ no_extent }
+{
+    Extent {
+        start: 0,
+        length: 0,
+        tag: no_tag(),
+        sequence: 0,
+    }
+}
+
+/// The rule that is broken where the host's log has fewer free places than records are due.
+pub(crate) fn log_full(state: &State, host: HostId, need: u32) -> Option<Rule>
+    requires { host < length state.now.hosts.items }
+    ensures { (log : Log) → IsLogOf (LogId.Host host) log (part_of state.now host).log → result ≡ log_full host log need }
+{
+    let have = state.part(host).log.room();
+    if have < need {
+        return Some(Rule::LogFull {
+            host: host.0,
+            need,
+            have,
+        });
+    }
+    None
+}

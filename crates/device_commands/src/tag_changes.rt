@@ -1,0 +1,87 @@
+//! What a command changes of the open tags.
+
+ghost use Rattle.device_commands.specs.TagChanges.{AreGranular, IsOfferChange, OffersGranular, told_change};
+ghost use Rattle.journal_core.specs.declared.outcome.Effect.{Effect};
+ghost use Rattle.std.specs.Prelude.{◌≡◌, ◌<◌, IfOk, List, length, map, ◌∷◌, []};
+ghost use Rattle.device_state.specs.declared.updates.TagChange.{TagChange};
+ghost use Rattle.dcd_base.specs.declared.capacity.Extent.{Extent};
+ghost use Rattle.media_map.specs.Places.{run_of};
+ghost use Rattle.std.specs.declared.result.Result.TheVariants.{Ok};
+ghost use Rattle.tag_refs.specs.Tables.{is_live};
+
+use crate::runs::run_of;
+use dcd_base::{Extents, HostId, NoMemory, RegionId, Runs, Seq, Tag};
+use device_state::{State, TagChange};
+use journal_core::{Effect, Effects};
+use region_config::Config;
+use std::alloc::Global;
+
+/// What the host has of the tags is told anew, where there are any.
+pub fn told_change(host: HostId, tags: Seq<Tag>) -> TagChange
+    ensures { result ≡ told_change host tags }
+{
+    if tags.is_empty() {
+        TagChange::Nothing
+    } else {
+        TagChange::OfHost { host, tags }
+    }
+}
+
+/// What an offer changes of the open tags: nothing outside shareable regions; else the tag is opened, or told anew.
+pub fn offer_change(
+    alloc: Global,
+    config: &Config,
+    state: &State,
+    host: HostId,
+    region: RegionId,
+    tag: &Tag,
+    changes: &Effects,
+) -> Result<TagChange, NoMemory>
+    requires host { host < config.now.hosts }
+    requires region { region < length config.now.regions }
+    requires granular { OffersGranular config.now host changes.now }
+    ensures { IfOk result (IsOfferChange config.now host region tag.now (is_live tag.now state.now.tags.entries) changes.now) }
+{
+    if !config.region(region).shareable {
+        return Ok(TagChange::Nothing);
+    }
+    if state.tags.is_live(tag) {
+        return told_again(alloc, host, tag);
+    }
+    match changes.as_slice().first() {
+        Some(Effect::Offer(_, extents)) => Ok(TagChange::Begin {
+            tag: *tag,
+            region,
+            runs: runs_of(alloc, config, host, extents)?,
+            host,
+        }),
+        _ => Ok(TagChange::Nothing),
+    }
+}
+
+/// The tag alone is told anew for the host.
+fn told_again(alloc: Global, host: HostId, tag: &Tag) -> Result<TagChange, NoMemory>
+    ensures { IfOk result (λ change. change ≡ TagChange.OfHost host (tag.now ∷ [])) }
+{
+    let mut tags = Seq::new(alloc);
+    tags.push(*tag)?;
+    Ok(TagChange::OfHost { host, tags })
+}
+
+/// The runs of the extents.
+fn runs_of(
+    alloc: Global,
+    config: &Config,
+    host: HostId,
+    extents: &Extents,
+) -> Result<Runs, NoMemory>
+    requires host { host < config.now.hosts }
+    requires granular { AreGranular config.now host extents.now }
+    ensures { IfOk result (λ runs. runs ≡ map (run_of config.now host) extents.now) }
+{
+    let mut runs = Runs::new(alloc);
+    for i in 0..extents.len() {
+        runs.push(run_of(config, host, &extents.as_slice()[i]))?;
+    }
+    Ok(runs)
+}

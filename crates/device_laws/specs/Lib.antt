@@ -1,3 +1,0 @@
-pub mod InOrderResponses
-pub mod Pictures
-pub mod Standing

@@ -1,5 +1,0 @@
-use Rattle.device_steps.proofs.StatusZeros.{status-scrub}
-use Rattle.device_steps.proofs.laws.law_scrubbed.Goals as goal
-
-pub returns : goal.returns
-returns _ = λ c past n g. status-scrub c g past n

@@ -1,2 +1,0 @@
-pub mod GranuleStates
-pub mod Kept

@@ -1,9 +1,0 @@
-pub mod Answered
-pub mod CellChanges
-pub mod Commands
-pub mod Ended
-pub mod Keeping
-pub mod OfferedNow
-pub mod Removed
-pub mod WholeRuns
-pub mod Zeroed

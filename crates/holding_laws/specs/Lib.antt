@@ -1,0 +1,5 @@
+pub mod BlockSizes
+pub mod InOrderResponses
+pub mod OpenTags
+pub mod Pictures
+pub mod Standing

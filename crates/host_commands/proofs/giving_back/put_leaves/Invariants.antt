@@ -1,7 +1,0 @@
-use Rattle.std.proofs.Common.{◌≡◌, ◌++◌, take}
-use Rattle.device_rules.specs.ReleaseOutcomes.{removals}
-use Rattle.host_commands.proofs.giving_back.put_leaves.Given as goal
-
--- The extents so far have left.
-abbrev pub invariant-loop-i : goal.invariant-loop-i
-invariant-loop-i l = l.changes ≡ l.fn.changes ++ removals l.config l.host l.clean (take l.i l.extents)

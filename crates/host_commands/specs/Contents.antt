@@ -1,9 +1,0 @@
--- What a draft has.
-use Rattle.std.specs.Prelude.{[], None}
-use Rattle.host_commands.specs.declared.draft_parts.Content.{Content}
-use Rattle.host_commands.specs.declared.draft_parts.DraftParts.{DraftParts}
-
--- the parts: of a reply the payload, and no more
-abbrev pub parts_in : Content → DraftParts
-parts_in (Content.Reply payload) = record { payload = payload; changes = []; tags = []; notices = []; lists = None }
-parts_in (Content.Parts parts) = parts

@@ -1,0 +1,3 @@
+pub mod GranuleStates
+pub mod Logs
+pub mod Steps

@@ -1,0 +1,27 @@
+//! The logs of every legal journal, and what its steps leave.
+
+ghost use Rattle.dcd_base.specs.declared.ids.HostId.{HostId};
+ghost use Rattle.step_laws.specs.Logs.{LogsKept};
+ghost use Rattle.step_laws.specs.Steps.{IsScrubbed, IsUnseen};
+ghost use Rattle.device_rules.specs.Legal.{Legal, Meets};
+ghost use Rattle.journal_core.specs.declared.entries.Entry.{Entry};
+ghost use Rattle.journal_core.specs.declared.outcome.Effect.{Effect};
+ghost use Rattle.region_config.specs.Configurations.{Configuration};
+ghost use Rattle.std.specs.Prelude.{List, ℕ};
+
+/// After every legal journal each log is one that its history tells, and no record was ever missed in a host's log:
+/// a command whose records have no room there is refused. It does nothing.
+pub fn law_logs()
+    ensures { (c : Configuration) (journal : List Entry) → Legal c journal → LogsKept journal }
+{}
+
+/// A step of one host, accepted or refused, leaves all that the answers to another host's commands depend on.
+/// It does nothing.
+pub fn law_unseen()
+    ensures { (c : Configuration) (before : List Entry) (h k : HostId) (e : Entry) → Meets c before e → IsUnseen c before e h k }
+{}
+
+/// A scrub frees the granules that it zeroes, and changes the status of no other. It does nothing.
+pub fn law_scrubbed()
+    ensures { (c : Configuration) (past : List Effect) (n g : ℕ) → IsScrubbed c past n g }
+{}

@@ -1,0 +1,6 @@
+//! What each step of a legal journal changes, and what it leaves.
+#![tactic(auto)]
+
+mod laws;
+
+pub use laws::{law_logs, law_scrubbed, law_unseen};

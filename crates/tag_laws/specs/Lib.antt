@@ -1,3 +1,0 @@
-pub mod QuietRequests
-pub mod Steps
-pub mod Tables
