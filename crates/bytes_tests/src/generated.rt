@@ -46,21 +46,31 @@ fn written(alloc: Global, seed: u64) -> Result<Bytes, Fail> {
     Ok(bytes)
 }
 
-#[test]
-fn the_script_of_seed_5_has_these_bytes_and_reads_back(rt: HostRuntime) -> Result<(), Fail> {
-    let alloc = rt.alloc();
-    let bytes = written(alloc, 5)?;
-    assert_eq!(rt; bytes.len(), 673_428);
-    assert!(rt; bytes.as_slice().starts_with(START.as_slice()));
-    assert!(rt; bytes.as_slice().ends_with(END.as_slice()));
-    assert_eq!(rt; hash_of(bytes.as_slice()), 0xBC83_CCEA_5506_556C);
-    let Ok(script) = read(alloc, bytes.as_slice()) else {
+/// The lines and the entries of the script that these bytes are, and the bytes that it is written as.
+fn read_again(alloc: Global, bytes: &[u8]) -> Result<(usize, usize, Bytes), Fail> {
+    let Ok(script) = read(alloc, bytes) else {
         return Err("these bytes are a script".into());
     };
-    assert_eq!(rt; script.lines.len(), 38_137);
-    assert_eq!(rt; entries_of(script.lines.as_slice()), 37_115);
     let mut again = Bytes::new(alloc);
     write(&script, &mut again).ok().ok_or("memory")?;
-    assert_eq!(rt; again.as_slice(), bytes.as_slice());
+    Ok((
+        script.lines.len(),
+        entries_of(script.lines.as_slice()),
+        again,
+    ))
+}
+
+#[test]
+fn the_script_of_seed_5_has_these_bytes_and_reads_back(rt: HostRuntime) -> Result<(), Fail> {
+    let written = written(rt.alloc(), 5)?;
+    let bytes = written.as_slice();
+    assert_eq!(rt;
+        (bytes.len(), hash_of(bytes)),
+        (673_428, 0xBC83_CCEA_5506_556C)
+    );
+    assert!(rt; bytes.starts_with(START.as_slice()) && bytes.ends_with(END.as_slice()));
+    let (lines, entries, again) = read_again(rt.alloc(), bytes)?;
+    assert_eq!(rt; (lines, entries), (38_137, 37_115));
+    assert_eq!(rt; again.as_slice(), bytes);
     Ok(())
 }

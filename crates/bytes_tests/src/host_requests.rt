@@ -1,6 +1,6 @@
 //! Requests of hosts, both ways.
 
-ghost use Rattle.host_payloads.specs.HostPayloads.{CountsFit};
+ghost use Rattle.host_payloads.specs.HostPayloads.{HostCountsFit, lists_untagged};
 ghost use Rattle.std.specs.Prelude.{◌↔◌, IsTrue};
 
 use dcd_base::{Bytes, Extent, Extents, Handles, no_tag};
@@ -10,7 +10,7 @@ use std::process::Abort;
 use std::test::Fail;
 
 fn counts_fit(request: &HostRequest) -> bool
-    ensures { IsTrue result ↔ CountsFit request.now }
+    ensures { IsTrue result ↔ HostCountsFit request.now }
 {
     match request {
         HostRequest::ClearEvents { handles, .. } => handles.len() <= 255,
@@ -37,13 +37,22 @@ fn listed(request: HostRequest) -> Option<(bool, Extents)> {
     }
 }
 
+/// The payload of a request.
+fn payload_of(alloc: Global, request: &HostRequest) -> Result<Bytes, Fail>
+    requires { IsTrue (lists_untagged request.now) }
+{
+    if !counts_fit(request) {
+        return Err("a count that fits no payload".into());
+    }
+    let mut out = Bytes::new(alloc);
+    encode(request, &mut out)?;
+    Ok(out)
+}
+
 /// Reads a payload as a request and sees that the request is written as this payload.
 fn again(rt: &impl Abort, alloc: Global, opcode: u16, payload: &[u8]) -> Result<HostRequest, Fail> {
     let request = decode(alloc, opcode, payload)?;
-    assert!(rt; counts_fit(&request));
-    let mut out = Bytes::new(alloc);
-    encode(&request, &mut out)?;
-    assert_eq!(rt; out.as_slice(), payload);
+    assert_eq!(rt; payload_of(alloc, &request)?.as_slice(), payload);
     Ok(request)
 }
 
@@ -142,74 +151,99 @@ fn each_payload_has_its_own_length_once_the_opcode_is_known(rt: HostRuntime) {
     }
 }
 
+/// The opcode and the payload of a short request, and the request.
+const SHORT: [(u16, &[u8], &str); 3] = [
+    (0x0100, &[4], "GetEvents { log: 4 }"),
+    (0x4800, &[8, 1], "GetConfiguration { count: 8, first: 1 }"),
+    (
+        0x4801,
+        &[10, 0, 0, 0, 1, 2, 0, 0],
+        "GetExtents { count: 10, first: 513 }",
+    ),
+];
+
 #[test]
-fn each_request_goes_both_ways(rt: HostRuntime) -> Result<(), Fail> {
-    let asked = again(&rt, rt.alloc(), 0x0100, &[4])?;
-    assert!(rt; matches!(asked, HostRequest::GetEvents { log: 4 }));
-    let asked = again(&rt, rt.alloc(), 0x4800, &[8, 1])?;
-    assert!(rt; matches!(asked, HostRequest::GetConfiguration { count: 8, first: 1 }));
-    let asked = again(&rt, rt.alloc(), 0x4801, &[10, 0, 0, 0, 1, 2, 0, 0])?;
-    assert!(rt;
-        matches!(
-            asked,
-            HostRequest::GetExtents {
-                count: 10,
-                first: 513
-            }
-        )
-    );
-    let asked = again(&rt, rt.alloc(), 0x0101, &[4, 1, 2, 0, 0, 0, 7, 0, 8, 1])?;
-    let (log, all, handles) = cleared(asked).ok_or("0101h clears records")?;
-    assert_eq!(rt; log, 4);
-    assert!(rt; all);
-    assert_eq!(rt; handles.as_slice(), [7, 264].as_slice());
+fn each_short_request_goes_both_ways(rt: HostRuntime) -> Result<(), Fail> {
+    for (opcode, payload, expected) in SHORT {
+        let asked = again(&rt, rt.alloc(), opcode, payload)?;
+        assert_eq!(rt; format!(in rt.alloc(); "{asked:?}")?.as_str(), expected);
+    }
     Ok(())
 }
 
 #[test]
-fn a_listed_extent_has_no_tag(rt: HostRuntime) -> Result<(), Fail> {
-    let payload = [
-        1, 0, 0, 0, 0, 0, 0, 0, 0, 0, 32, 0, 0, 0, 0, 0, 0, 0, 16, 0, 0, 0, 0, 0, 0, 0, 0, 0, 0, 0,
-        0, 0,
-    ];
+fn records_are_cleared_by_their_handles(rt: HostRuntime) -> Result<(), Fail> {
+    let asked = again(&rt, rt.alloc(), 0x0101, &[4, 1, 2, 0, 0, 0, 7, 0, 8, 1])?;
+    let (log, all, handles) = cleared(asked).ok_or("0101h clears records")?;
+    assert_eq!(rt; (log, all), (4, true));
+    assert_eq!(rt; handles.as_slice(), [7, 264].as_slice());
+    Ok(())
+}
+
+/// A list of 1 MiB at 2 MiB, and no more.
+const ONE_EXTENT: [u8; 32] = [
+    1, 0, 0, 0, 0, 0, 0, 0, 0, 0, 32, 0, 0, 0, 0, 0, 0, 0, 16, 0, 0, 0, 0, 0, 0, 0, 0, 0, 0, 0, 0,
+    0,
+];
+
+/// Sees that the request lists the extent without a tag.
+fn see_listed(rt: &impl Abort, alloc: Global, opcode: u16) -> Result<(), Fail> {
+    let asked = again(rt, alloc, opcode, &ONE_EXTENT)?;
+    let (more, extents) = listed(asked).ok_or("4802h and 4803h list extents")?;
     let extent = Extent {
         start: 0x20_0000,
         length: 0x10_0000,
         tag: no_tag(),
         sequence: 0,
     };
-    for opcode in [0x4802, 0x4803] {
-        let asked = again(&rt, rt.alloc(), opcode, &payload)?;
-        let (more, extents) = listed(asked).ok_or("4802h and 4803h list extents")?;
-        assert!(rt; !more);
-        assert_eq!(rt; extents.as_slice(), [extent].as_slice());
-    }
+    assert!(rt; !more);
+    assert_eq!(rt; extents.as_slice(), [extent].as_slice());
     Ok(())
 }
 
 #[test]
-fn reserved_bits_are_free(rt: HostRuntime) -> Result<(), Fail> {
-    for (byte, stands) in [(0xFE, false), (0xFF, true)] {
-        let asked = decode(rt.alloc(), 0x0101, &[4, byte, 0, 1, 2, 3])?;
-        let (_, all, _) = cleared(asked).ok_or("0101h clears records")?;
-        assert_eq!(rt; all, stands);
+fn a_listed_extent_has_no_tag(rt: HostRuntime) -> Result<(), Fail> {
+    see_listed(&rt, rt.alloc(), 0x4802)?;
+    see_listed(&rt, rt.alloc(), 0x4803)
+}
+
+/// Whether all records are cleared, by this byte of the flags.
+fn clears_all(alloc: Global, byte: u8) -> Result<Option<bool>, PayloadFault> {
+    match decode(alloc, 0x0101, &[4, byte, 0, 1, 2, 3])? {
+        HostRequest::ClearEvents { all, .. } => Ok(Some(all)),
+        _ => Ok(None),
     }
-    Ok(())
 }
 
 #[test]
-fn lists_have_none_or_all_members(rt: HostRuntime) -> Result<(), Fail> {
-    for count in [0u8, 255] {
-        let mut payload = Bytes::from_slice(rt.alloc(), &[4, 0, count, 0, 0, 0])?;
-        for i in 0..count {
-            payload.extend_from_slice(&[i, 1])?;
-        }
+fn reserved_bits_are_free(rt: HostRuntime) {
+    let found = [clears_all(rt.alloc(), 0xFE), clears_all(rt.alloc(), 0xFF)];
+    assert_eq!(rt; found, [Ok(Some(false)), Ok(Some(true))]);
+}
+
+/// The payload that clears so many records.
+fn clearing(alloc: Global, count: u8) -> Result<Bytes, Fail> {
+    let mut payload = Bytes::from_slice(alloc, &[4, 0, count, 0, 0, 0])?;
+    for i in 0..count {
+        payload.extend_from_slice(&[i, 1])?;
+    }
+    Ok(payload)
+}
+
+#[test]
+fn records_to_clear_are_none_or_255(rt: HostRuntime) -> Result<(), Fail> {
+    for count in [0, 255] {
+        let payload = clearing(rt.alloc(), count)?;
         again(&rt, rt.alloc(), 0x0101, payload.as_slice())?;
     }
-    for count in [0, 65535] {
+    Ok(())
+}
+
+#[test]
+fn extents_are_none_or_65535(rt: HostRuntime) -> Result<(), Fail> {
+    for (opcode, count) in [(0x4802, 0), (0x4802, 65535), (0x4803, 0), (0x4803, 65535)] {
         let payload = list(rt.alloc(), count)?;
-        again(&rt, rt.alloc(), 0x4802, payload.as_slice())?;
-        again(&rt, rt.alloc(), 0x4803, payload.as_slice())?;
+        again(&rt, rt.alloc(), opcode, payload.as_slice())?;
     }
     Ok(())
 }

@@ -1,36 +1,26 @@
 //! Requests of the Fabric Manager, both ways.
 
-ghost use Rattle.fm_payloads.specs.ManagerPayloads.{CountsFit};
+ghost use Rattle.fm_payloads.specs.ManagerPayloads.{ManagerCountsFit};
 ghost use Rattle.std.specs.Prelude.{◌↔◌, IsTrue};
 
-use dcd_base::{Bytes, Extent, Extents, Handles, Tag};
+use dcd_base::{Bytes, Extent, Extents, Tag};
 use fm_payloads::{FmRequest, PayloadFault, decode, encode};
 use std::alloc::Global;
 use std::process::Abort;
 use std::test::Fail;
 
-const TAG: Tag = Tag([1, 2, 3, 4, 5, 6, 7, 8, 9, 10, 11, 12, 13, 14, 15, 16]);
+const TAG_BYTES: [u8; 16] = [1, 2, 3, 4, 5, 6, 7, 8, 9, 10, 11, 12, 13, 14, 15, 16];
+
+const TAG: Tag = Tag(TAG_BYTES);
 
 fn counts_fit(request: &FmRequest) -> bool
-    ensures { IsTrue result ↔ CountsFit request.now }
+    ensures { IsTrue result ↔ ManagerCountsFit request.now }
 {
     match request {
         FmRequest::ClearEvents { handles, .. } => handles.len() <= 255,
         FmRequest::Add { extents, .. } | FmRequest::Remove { extents, .. } => extents.len()
             <= 65535,
         _ => true,
-    }
-}
-
-/// The handles of records to clear.
-fn cleared(request: FmRequest) -> Option<Handles> {
-    match request {
-        FmRequest::ClearEvents {
-            log: 4,
-            all: false,
-            handles,
-        } => Some(handles),
-        _other => None,
     }
 }
 
@@ -58,22 +48,20 @@ fn placed(request: FmRequest) -> Option<(Tag, Extents)> {
     }
 }
 
-/// The tag that a reference is added to or removed from.
-fn referred(request: FmRequest) -> Option<Tag> {
-    match request {
-        FmRequest::AddReference { tag } => Some(tag),
-        FmRequest::RemoveReference { tag } => Some(tag),
-        _other => None,
+/// The payload of a request.
+fn payload_of(alloc: Global, request: &FmRequest) -> Result<Bytes, Fail> {
+    if !counts_fit(request) {
+        return Err("a count that fits no payload".into());
     }
+    let mut out = Bytes::new(alloc);
+    encode(request, &mut out)?;
+    Ok(out)
 }
 
 /// Reads a payload as a request and sees that the request is written as this payload.
 fn again(rt: &impl Abort, alloc: Global, opcode: u16, payload: &[u8]) -> Result<FmRequest, Fail> {
     let request = decode(alloc, opcode, payload)?;
-    assert!(rt; counts_fit(&request));
-    let mut out = Bytes::new(alloc);
-    encode(&request, &mut out)?;
-    assert_eq!(rt; out.as_slice(), payload);
+    assert_eq!(rt; payload_of(alloc, &request)?.as_slice(), payload);
     Ok(request)
 }
 
@@ -190,82 +178,85 @@ fn each_payload_has_its_own_length_once_the_opcode_is_known(rt: HostRuntime) {
     }
 }
 
-#[test]
-fn each_short_request_goes_both_ways(rt: HostRuntime) -> Result<(), Fail> {
-    let asked = again(&rt, rt.alloc(), 0x0100, &[4])?;
-    assert!(rt; matches!(asked, FmRequest::GetEvents { log: 4 }));
-    let asked = again(&rt, rt.alloc(), 0x5600, &[])?;
-    assert!(rt; matches!(asked, FmRequest::GetInfo));
-    let asked = again(&rt, rt.alloc(), 0x5601, &[2, 1, 8, 3])?;
-    assert!(rt;
-        matches!(
-            asked,
-            FmRequest::GetRegions {
-                host: 258,
-                count: 8,
-                first: 3
-            }
-        )
-    );
-    let asked = again(
-        &rt,
-        rt.alloc(),
+/// The opcode and the payload of a short request, and the request.
+const SHORT: [(u16, &[u8], &str); 8] = [
+    (0x0100, &[4], "GetEvents { log: 4 }"),
+    (0x5600, &[], "GetInfo"),
+    (
+        0x5601,
+        &[2, 1, 8, 3],
+        "GetRegions { host: 258, count: 8, first: 3 }",
+    ),
+    (
         0x5602,
         &[1, 0, 0, 0, 0, 0, 32, 0, 0, 0, 0, 0, 1, 0, 0, 0],
-    )?;
-    assert!(rt;
-        matches!(
-            asked,
-            FmRequest::SetRegion {
-                region: 1,
-                sanitize: true,
-                block: 0x20_0000
-            }
-        )
-    );
-    let asked = again(
-        &rt,
-        rt.alloc(),
+        "SetRegion { region: 1, sanitize: true, block: 2097152 }",
+    ),
+    (
         0x5603,
         &[2, 1, 0, 0, 5, 0, 0, 0, 6, 0, 0, 0],
-    )?;
-    assert!(rt;
-        matches!(
-            asked,
-            FmRequest::GetExtentLists {
-                host: 258,
-                count: 5,
-                first: 6
-            }
-        )
-    );
-    let asked = again(&rt, rt.alloc(), 0x5606, &TAG.0)?;
-    assert_eq!(rt; referred(asked), Some(TAG));
-    let asked = again(&rt, rt.alloc(), 0x5607, &TAG.0)?;
-    assert_eq!(rt; referred(asked), Some(TAG));
-    let asked = again(&rt, rt.alloc(), 0x5608, &[1, 0, 0, 0, 5, 0, 0, 0])?;
-    assert!(rt; matches!(asked, FmRequest::ListTags { first: 1, count: 5 }));
+        "GetExtentLists { host: 258, count: 5, first: 6 }",
+    ),
+    (
+        0x5606,
+        &TAG_BYTES,
+        "AddReference { tag: Tag([1, 2, 3, 4, 5, 6, 7, 8, 9, 10, 11, 12, 13, 14, 15, 16]) }",
+    ),
+    (
+        0x5607,
+        &TAG_BYTES,
+        "RemoveReference { tag: Tag([1, 2, 3, 4, 5, 6, 7, 8, 9, 10, 11, 12, 13, 14, 15, 16]) }",
+    ),
+    (
+        0x5608,
+        &[1, 0, 0, 0, 5, 0, 0, 0],
+        "ListTags { first: 1, count: 5 }",
+    ),
+];
+
+#[test]
+fn each_short_request_goes_both_ways(rt: HostRuntime) -> Result<(), Fail> {
+    for (opcode, payload, expected) in SHORT {
+        let asked = again(&rt, rt.alloc(), opcode, payload)?;
+        assert_eq!(rt; format!(in rt.alloc(); "{asked:?}")?.as_str(), expected);
+    }
     Ok(())
+}
+
+/// Sees the tag and the extents of a payload that places so many.
+fn see_placed(
+    rt: &impl Abort,
+    alloc: Global,
+    opcode: u16,
+    choice: u8,
+    count: u16,
+) -> Result<(), Fail> {
+    let payload = placing(alloc, choice, count)?;
+    let asked = again(rt, alloc, opcode, payload.as_slice())?;
+    let (tag, extents) = placed(asked).ok_or("5604h and 5605h place extents")?;
+    assert_eq!(rt; (tag, extents.len()), (TAG, count as usize));
+    see_extents(rt, extents.as_slice());
+    Ok(())
+}
+
+/// Sees that each extent begins at 16 TiB, whatever its length, and has the tag and the sequence 259.
+fn see_extents(rt: &impl Abort, extents: &[Extent]) {
+    for extent in extents {
+        let want = Extent {
+            start: 0x1000_0000_0000,
+            length: extent.length,
+            tag: TAG,
+            sequence: 259,
+        };
+        assert_eq!(rt; *extent, want);
+    }
 }
 
 #[test]
 fn extents_are_placed_with_their_tags(rt: HostRuntime) -> Result<(), Fail> {
     for (opcode, choice) in [(0x5604, 2), (0x5605, 0x11)] {
         for count in [0, 65535] {
-            let payload = placing(rt.alloc(), choice, count)?;
-            let asked = again(&rt, rt.alloc(), opcode, payload.as_slice())?;
-            let (tag, extents) = placed(asked).ok_or("5604h and 5605h place extents")?;
-            assert_eq!(rt; tag, TAG);
-            assert_eq!(rt; extents.len(), count as usize);
-            for extent in extents.as_slice() {
-                let want = Extent {
-                    start: 0x1000_0000_0000,
-                    length: extent.length,
-                    tag: TAG,
-                    sequence: 259,
-                };
-                assert_eq!(rt; *extent, want);
-            }
+            see_placed(&rt, rt.alloc(), opcode, choice, count)?;
         }
     }
     Ok(())
@@ -280,20 +271,21 @@ fn flags_are_part_of_a_release_as_they_stand(rt: HostRuntime) -> Result<(), Fail
     Ok(())
 }
 
+/// Whether a region that is set sanitizes, by this byte of its flags, where the reserved bits are set.
+fn sanitizes(alloc: Global, byte: u8) -> Result<bool, PayloadFault> {
+    let payload = [1, 9, 9, 9, 0, 0, 32, 0, 0, 0, 0, 0, byte, 9, 9, 9];
+    Ok(matches!(
+        decode(alloc, 0x5602, &payload)?,
+        FmRequest::SetRegion {
+            region: 1,
+            sanitize: true,
+            block: 0x20_0000
+        }
+    ))
+}
+
 #[test]
-fn reserved_bits_are_free(rt: HostRuntime) -> Result<(), Fail> {
-    for (byte, stands) in [(0xFE, false), (0xFF, true)] {
-        let payload = [1, 9, 9, 9, 0, 0, 32, 0, 0, 0, 0, 0, byte, 9, 9, 9];
-        let asked = decode(rt.alloc(), 0x5602, &payload)?;
-        let flag = matches!(
-            asked,
-            FmRequest::SetRegion {
-                region: 1,
-                sanitize: true,
-                block: 0x20_0000
-            }
-        );
-        assert_eq!(rt; flag, stands);
-    }
-    Ok(())
+fn reserved_bits_are_free(rt: HostRuntime) {
+    let found = [sanitizes(rt.alloc(), 0xFE), sanitizes(rt.alloc(), 0xFF)];
+    assert_eq!(rt; found, [Ok(false), Ok(true)]);
 }

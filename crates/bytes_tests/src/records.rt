@@ -30,18 +30,31 @@ fn added(kind: EventKind) -> Event {
     }
 }
 
+/// The record with some of its bytes changed: the place of each, and its new value.
+fn changed(changes: &[(usize, u8)]) -> [u8; 128] {
+    let mut record = RECORD;
+    for (place, value) in changes {
+        if *place < record.len() {
+            record[*place] = *value;
+        }
+    }
+    record
+}
+
+/// Each kind with its number.
+const KINDS: [(EventKind, u8); 6] = [
+    (EventKind::Add, 0),
+    (EventKind::Release, 1),
+    (EventKind::Forced, 2),
+    (EventKind::RegionUpdated, 3),
+    (EventKind::AddResponse, 4),
+    (EventKind::Released, 5),
+];
+
 #[test]
 fn each_kind_is_written_and_read_again(rt: HostRuntime) {
-    let mut record = RECORD;
-    for (kind, number) in [
-        (EventKind::Add, 0),
-        (EventKind::Release, 1),
-        (EventKind::Forced, 2),
-        (EventKind::RegionUpdated, 3),
-        (EventKind::AddResponse, 4),
-        (EventKind::Released, 5),
-    ] {
-        record[48] = number;
+    for (kind, number) in KINDS {
+        let record = changed(&[(48, number)]);
         assert_eq!(rt; encode(&added(kind)).as_slice(), record.as_slice());
         let event = Event {
             host: 0x1234,
@@ -53,23 +66,34 @@ fn each_kind_is_written_and_read_again(rt: HostRuntime) {
     }
 }
 
+/// Bytes of the record that are changed, and the fault then.
+const FAULTS: [(&[(usize, u8)], RecordFault); 3] = [
+    (&[(48, 6)], RecordFault::UnknownKind(6)),
+    (&[(48, 6), (16, 127)], RecordFault::OtherLength(127)),
+    (&[(48, 6), (16, 127), (15, 0x2B)], RecordFault::OtherUuid),
+];
+
 #[test]
 fn the_first_fault_is_answered(rt: HostRuntime) {
-    let mut record = RECORD;
-    record[48] = 6;
-    assert_eq!(rt; decode(&record), Err(RecordFault::UnknownKind(6)));
-    record[16] = 127;
-    assert_eq!(rt; decode(&record), Err(RecordFault::OtherLength(127)));
-    record[15] = 0x2B;
-    assert_eq!(rt; decode(&record), Err(RecordFault::OtherUuid));
+    for (changes, fault) in FAULTS {
+        assert_eq!(rt; decode(&changed(changes)), Err(fault));
+    }
 }
+
+/// Bytes and bits of the record of which nothing is read.
+const OTHER: [(usize, u8); 9] = [
+    (17, 0xFF),
+    (22, 0xFF),
+    (24, 0xFF),
+    (32, 0xFF),
+    (49, 0xFF),
+    (53, 0xFE),
+    (54, 0xFF),
+    (90, 0xFF),
+    (96, 0xFF),
+];
 
 #[test]
 fn other_bytes_change_nothing(rt: HostRuntime) {
-    let mut record = RECORD;
-    for index in [17, 22, 24, 32, 49, 54, 90, 96] {
-        record[index] = 0xFF;
-    }
-    record[53] = 0xFE;
-    assert_eq!(rt; decode(&record), Ok(added(EventKind::Add)));
+    assert_eq!(rt; decode(&changed(&OTHER)), Ok(added(EventKind::Add)));
 }

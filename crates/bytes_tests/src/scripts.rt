@@ -4,8 +4,9 @@ use cci_codec::MessageFault;
 use dcd_base::{Actor, Bytes, HostId};
 use journal_core::Act;
 use region_config::ConfigFault;
-use script_codec::{Line, Reader, ScriptFault, entries_of, pass_of, read, write};
+use script_codec::{Line, Reader, Script, ScriptFault, entries_of, pass_of, read, write};
 use std::alloc::Global;
+use std::process::Abort;
 use std::test::Fail;
 
 /// Two hosts and two regions, and one line: host 0 asks for its configuration.
@@ -120,96 +121,147 @@ fn each_fault_is_answered_with_its_place(rt: HostRuntime) -> Result<(), Fail> {
     Ok(())
 }
 
-#[test]
-fn a_script_of_all_kinds_of_lines_is_read_and_written(rt: HostRuntime) -> Result<(), Fail> {
-    let alloc = rt.alloc();
-    let lines = [
-        1, 0xFE, 12, 0, 0, 1, 0, 0, 0x56, 0, 0, 0, 0, 0, 0, 0, //
-        2, 0x31, 0, 0, 0x20, 0, 0, 0, 0, 0, //
-        3, 0, 8, 0, 0, 0, 0, 0, 0, 0, 7, 0, 0, 0, 0, 0, 0, 0, //
-        4, 0x20, 0, //
-        5, //
-        0,
-    ];
-    let bytes = with_lines(alloc, &[(4, 2), (10, 4)], lines.as_slice())?;
-    let Ok(script) = read(alloc, bytes.as_slice()) else {
+/// A line of each kind, and the end word.
+const LINES: [u8; 49] = [
+    1, 0xFE, 12, 0, 0, 1, 0, 0, 0x56, 0, 0, 0, 0, 0, 0, 0, //
+    2, 0x31, 0, 0, 0x20, 0, 0, 0, 0, 0, //
+    3, 0, 8, 0, 0, 0, 0, 0, 0, 0, 7, 0, 0, 0, 0, 0, 0, 0, //
+    4, 0x20, 0, //
+    5, //
+    0,
+];
+
+/// The script of these bytes.
+fn script_of(alloc: Global, bytes: &[u8]) -> Result<Script, Fail> {
+    match read(alloc, bytes) {
+        Ok(script) => Ok(script),
+        Err(_) => Err("these bytes are a script".into()),
+    }
+}
+
+/// The bytes that the script of these bytes is written as.
+fn written_again(alloc: Global, bytes: &[u8]) -> Result<Bytes, Fail> {
+    let Ok(script) = read(alloc, bytes) else {
         return Err("these bytes are a script".into());
     };
-    assert_eq!(rt; script.lanes, 4);
-    assert_eq!(rt; script.lines.len(), 5);
-    assert_eq!(rt; entries_of(script.lines.as_slice()), 4);
-    let Some(
-        Line::Do {
-            actor,
-            lane,
-            act: Act::Load(dpa),
-        },
-    ) = script.lines.get(1)
-    else {
-        return Err("line 2 is a load".into());
-    };
-    assert_eq!(rt;
-        (*actor, *lane, *dpa),
-        (Actor::Host(HostId(1)), 3, 0x20_0000)
-    );
-    assert_eq!(rt; pass_of(2, 4, actor, *lane), 7);
-    assert_eq!(rt; pass_of(2, 4, &Actor::Sanitizer, 0), 9);
     let mut out = Bytes::new(alloc);
     write(&script, &mut out).ok().ok_or("memory")?;
-    assert_eq!(rt; out.as_slice(), bytes.as_slice());
+    Ok(out)
+}
+
+#[test]
+fn a_script_of_all_kinds_of_lines_is_read_and_written(rt: HostRuntime) -> Result<(), Fail> {
+    let bytes = with_lines(rt.alloc(), &[(4, 2), (10, 4)], LINES.as_slice())?;
+    let script = script_of(rt.alloc(), bytes.as_slice())?;
+    let counts = (
+        script.lanes,
+        script.lines.len(),
+        entries_of(script.lines.as_slice()),
+    );
+    assert_eq!(rt; counts, (4, 5, 4));
+    assert_eq!(rt;
+        load_at(script.lines.get(1)),
+        Some((Actor::Host(HostId(1)), 3, 0x20_0000))
+    );
+    assert_eq!(rt;
+        written_again(rt.alloc(), bytes.as_slice())?.as_slice(),
+        bytes.as_slice()
+    );
     Ok(())
+}
+
+/// The actor, the lane and the address of a line that is a load.
+fn load_at(line: Option<&Line>) -> Option<(Actor, u8, u64)> {
+    match line {
+        Some(
+            Line::Do {
+                actor,
+                lane,
+                act: Act::Load(dpa),
+            },
+        ) => Some((*actor, *lane, *dpa)),
+        _ => None,
+    }
+}
+
+#[test]
+fn each_lane_has_its_pass(rt: HostRuntime) {
+    let passes = (
+        pass_of(2, 4, &Actor::Host(HostId(1)), 3),
+        pass_of(2, 4, &Actor::Sanitizer, 0),
+    );
+    assert_eq!(rt; passes, (7, 9));
+}
+
+/// A script of so many marks.
+fn marks(alloc: Global, count: u32) -> Result<Bytes, Fail> {
+    let mut bytes = with_lines(alloc, &[], &[])?;
+    for _ in 0..count {
+        bytes.push(5).ok().ok_or("memory")?;
+    }
+    bytes.push(0).ok().ok_or("memory")?;
+    Ok(bytes)
 }
 
 #[test]
 fn a_script_has_65536_lines_at_most(rt: HostRuntime) -> Result<(), Fail> {
-    let alloc = rt.alloc();
-    let mut bytes = with_lines(alloc, &[], &[])?;
-    for _ in 0..65_536 {
-        bytes.push(5).ok().ok_or("memory")?;
+    for (count, expected) in [
+        (65_536, None),
+        (65_537, Some(ScriptFault::TooManyLines(65_664))),
+    ] {
+        let bytes = marks(rt.alloc(), count)?;
+        assert_eq!(rt; fault(rt.alloc(), bytes.as_slice()), expected);
     }
-    let place = bytes.len() as u64;
-    bytes.push(0).ok().ok_or("memory")?;
-    assert_eq!(rt; fault(alloc, bytes.as_slice()), None);
-    let mut more = with_lines(alloc, &[], &[])?;
-    for _ in 0..65_537 {
-        more.push(5).ok().ok_or("memory")?;
+    Ok(())
+}
+
+/// What a reader gives next, apart from what a command asks.
+#[derive(Clone, Copy, Debug, PartialEq, Eq)]
+enum Next {
+    Scrub(u16),
+    Mark,
+    Other,
+    End,
+    Fault(ScriptFault),
+}
+
+fn next_of(reader: &mut Reader<'_>) -> Next {
+    match reader.next() {
+        Ok(
+            Some(
+                Line::Do {
+                    act: Act::Scrub(n),
+                    ..
+                },
+            ),
+        ) => Next::Scrub(n),
+        Ok(Some(Line::Mark)) => Next::Mark,
+        Ok(Some(_)) => Next::Other,
+        Ok(None) => Next::End,
+        Err(fault) => Next::Fault(fault),
     }
-    more.push(0).ok().ok_or("memory")?;
-    assert_eq!(rt;
-        fault(alloc, more.as_slice()),
-        Some(ScriptFault::TooManyLines(place))
-    );
+}
+
+/// Sees what a reader gives of a script of a scrub and a mark with this last byte.
+fn see_lines(rt: &impl Abort, alloc: Global, end: u8, last: Next) -> Result<(), Fail> {
+    let bytes = with_lines(alloc, &[(4, 2), (10, 2)], &[4, 0x20, 0, 5, end])?;
+    let Ok((head, mut reader)) = Reader::begin(alloc, bytes.as_slice()) else {
+        return Err("these bytes begin as a script".into());
+    };
+    assert_eq!(rt; (head.version, head.lanes), (2, 2));
+    for next in [Next::Scrub(32), Next::Mark, last, last] {
+        assert_eq!(rt; next_of(&mut reader), next);
+    }
     Ok(())
 }
 
 #[test]
 fn a_script_is_read_line_by_line_to_its_first_fault(rt: HostRuntime) -> Result<(), Fail> {
-    let alloc = rt.alloc();
-    for (end, last) in [(0, None), (6, Some(ScriptFault::UnknownKind(132)))] {
-        let bytes = with_lines(alloc, &[(4, 2), (10, 2)], &[4, 0x20, 0, 5, end])?;
-        let Ok((head, mut reader)) = Reader::begin(alloc, bytes.as_slice()) else {
-            return Err("these bytes begin as a script".into());
-        };
-        assert_eq!(rt; (head.version, head.lanes), (2, 2));
-        let Ok(
-            Some(
-                Line::Do {
-                    act: Act::Scrub(32),
-                    ..
-                },
-            ),
-        ) = reader.next()
-        else {
-            return Err("line 1 is a scrub".into());
-        };
-        let Ok(Some(Line::Mark)) = reader.next() else {
-            return Err("line 2 is a mark".into());
-        };
-        for _ in 0..2 {
-            let answer = reader.next();
-            assert!(rt; !matches!(answer, Ok(Some(_))));
-            assert_eq!(rt; answer.err(), last);
-        }
-    }
-    Ok(())
+    see_lines(&rt, rt.alloc(), 0, Next::End)?;
+    see_lines(
+        &rt,
+        rt.alloc(),
+        6,
+        Next::Fault(ScriptFault::UnknownKind(132)),
+    )
 }

@@ -67,10 +67,10 @@ abbrev pub request_in : List ℕ → Request
 request_in bytes = record { tag = slice_index bytes 1; opcode = number_at w16 bytes 3; payload = drop 12 bytes }
 
 -- What decoding the bytes answers: the request that they are, or the first fault. Memory is wanted for a request alone.
-abbrev pub Decodes : List ℕ → Result Request MessageFault → Type 0
-Decodes bytes (Ok request) = (message_fault bytes ≡ None) × (request ≡ request_in bytes)
-Decodes bytes (Err MessageFault.NoMemory) = message_fault bytes ≡ None
-Decodes bytes (Err fault) = message_fault bytes ≡ Some fault
+abbrev pub DecodesMessage : List ℕ → Result Request MessageFault → Type 0
+DecodesMessage bytes (Ok request) = (message_fault bytes ≡ None) × (request ≡ request_in bytes)
+DecodesMessage bytes (Err MessageFault.NoMemory) = message_fault bytes ≡ None
+DecodesMessage bytes (Err fault) = message_fault bytes ≡ Some fault
 
 -- What decoding answers where the bytes read as this request: the request, if there is memory.
 abbrev pub IsDecoded : Request → Result Request MessageFault → Type 0

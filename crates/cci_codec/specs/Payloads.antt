@@ -3,11 +3,11 @@ use Rattle.std.specs.Prelude.{ℕ, ◌≤◌, List, take, ⊤}
 use Rattle.cci_codec.specs.declared.held.Held.{Held}
 
 -- the bytes, wherever they lie
-abbrev pub bytes_in : Held → List ℕ
-bytes_in (Held.Inline count bytes) = take count bytes
-bytes_in (Held.Apart bytes) = bytes
+abbrev pub held_bytes : Held → List ℕ
+held_bytes (Held.Inline count bytes) = take count bytes
+held_bytes (Held.Apart bytes) = bytes
 
 -- No more bytes are counted than there are.
-abbrev pub IsHeld : Held → Type 0
-IsHeld (Held.Inline count bytes) = count ≤ 14
-IsHeld (Held.Apart bytes) = ⊤
+abbrev pub IsPayloadHeld : Held → Type 0
+IsPayloadHeld (Held.Inline count bytes) = count ≤ 14
+IsPayloadHeld (Held.Apart bytes) = ⊤

@@ -20,14 +20,14 @@ pub struct Payload {
 }
 
 impl Model for Payload {
-    ghost use Rattle.cci_codec.specs.Payloads.{IsHeld, bytes_in};
+    ghost use Rattle.cci_codec.specs.Payloads.{IsPayloadHeld, held_bytes};
     ghost use Rattle.std.specs.Prelude.{List, ℕ};
 
     ghost Value = { List ℕ };
 
-    ghost view = { λ p. bytes_in p.held };
+    ghost view = { λ p. held_bytes p.held };
 
-    ghost invariant = { λ p. IsHeld p.held };
+    ghost invariant = { λ p. IsPayloadHeld p.held };
 }
 
 impl Payload {

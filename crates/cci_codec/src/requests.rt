@@ -1,8 +1,8 @@
 //! Requests in bytes.
 
-ghost use Rattle.cci_codec.specs.Messages.{Decodes, IsDecoded, ReadsRequest, request_bytes, request_fields, length_field, message_fault, request_in};
+ghost use Rattle.cci_codec.specs.Messages.{DecodesMessage, IsDecoded, ReadsRequest, request_bytes, length_field};
 ghost use Rattle.cci_codec.specs.declared.messages.Request.{Request};
-ghost use Rattle.std.specs.Prelude.{IfOk, ◌≡◌, ◌+◌, ◌++◌, ◌<◌, ◌≤◌, ◌^◌, [], ◌∷◌, length, OnOk, OnErr, take};
+ghost use Rattle.std.specs.Prelude.{IfOk, ◌≡◌, ◌+◌, ◌++◌, ◌<◌, ◌≤◌, ◌^◌, length, OnOk, OnErr};
 
 use crate::faults::MessageFault;
 use crate::headers::put_head;
@@ -26,7 +26,7 @@ fn length_of(bytes: &[u8]) -> u32
 /// bits and bytes are ignored. Each fault of `MessageFault` comes exactly in its place, and `NoMemory` only
 /// where the bytes are a request.
 pub fn decode(alloc: Global, bytes: &[u8]) -> Result<Request, MessageFault>
-    ensures cases { Decodes bytes.now result }
+    ensures cases { DecodesMessage bytes.now result }
     ensures reads { IfOk result (λ request. ReadsRequest bytes.now request) }
     ensures only { (request : Request) → ReadsRequest bytes.now request → IsDecoded request result }
 {

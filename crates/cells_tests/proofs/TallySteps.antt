@@ -12,7 +12,7 @@ use Rattle.journal_core.specs.declared.acts.Act.{Act}
 use Rattle.ruled_cells.specs.declared.about.SeatView.{SeatView}
 use Rattle.ruled_cells.specs.declared.cell_value.CellValue.{CellValue}
 use Rattle.ruled_cells.specs.Turning.{NoTurn, HasTurn}
-use Rattle.ruled_cells.specs.Stamps.{Below, after, is_in, pending, stamp}
+use Rattle.ruled_cells.specs.Stamps.{Below, stamps_after, has_index, pending, stamp}
 use Rattle.ruled_cells.specs.Reads.{ChiefReads, about_of}
 use Rattle.ruled_cells.specs.Ruling.{Names, names, access_cell, touches_cell}
 use Rattle.ruled_cells.specs.Telling.{Alike, MayEnter, MayGive, MayGiveFirst, MayNote, GaveCell, last_of, entered_view, changed_view}
@@ -68,28 +68,28 @@ module _ {F : Type 0} (chief : ChiefReads F) where
   none_waits : (v : SeatView) (k : ℕ) → v.entry ≡ None → pending w.touches v.entry v.changed k ≡ false
   none_waits v k e = ap (λ o. pending w.touches o v.changed k) e
 
-  pub may_give : (index number : ℕ) (taken : List (Option (CellValue F Tally))) (seen after : Stamp) (v : SeatView) (x y : Tally) → IsIdle number seen v → length v.calls < 2 ^ 32 → x.index ≡ index → MayHaveAdded number seen x y after → MayGive w (access_cell Adds) follows (suc index) number taken v x y
-  may_give index number taken seen after v x y idle room at done = record {
+  pub may_give : (index number : ℕ) (taken : List (Option (CellValue F Tally))) (seen stamps_after : Stamp) (v : SeatView) (x y : Tally) → IsIdle number seen v → length v.calls < 2 ^ 32 → x.index ≡ index → MayHaveAdded number seen x y stamps_after → MayGive w (access_cell Adds) follows (suc index) number taken v x y
+  may_give index number taken seen stamps_after v x y idle room at done = record {
     at_pending = λ e is p right. never (pending w.touches v.entry v.changed (suc index)) p (none_waits v (suc index) idle.entry);
-    at_others = λ _. ⊎_elim (λ (q : (y ≡ x) × (after ≡ seen)). inl (alike_itself x y q.0)) (λ (q : IsAdded number seen x y × (after ≡ y.clock)). inr (enters index number seen v x y idle room at q.0)) done;
+    at_others = λ _. ⊎_elim (λ (q : (y ≡ x) × (stamps_after ≡ seen)). inl (alike_itself x y q.0)) (λ (q : IsAdded number seen x y × (stamps_after ≡ y.clock)). inr (enters index number seen v x y idle room at q.0)) done;
   }
 
   -- what the seat knows then
-  pub idle_again : (index number : ℕ) (seen after : Stamp) (v v' : SeatView) (a x y : Tally) → IsIdle number seen v → a ≡ x → MayHaveAdded number seen x y after → GaveCell w (suc index) v a y v' → IsIdle number after v' × (length v'.calls ≤ length v.calls + 1)
-  idle_again index number seen after v v' a x y idle same done gave =
-      let Goal : Type 0 = IsIdle number after v' × (length v'.calls ≤ length v.calls + 1) in
+  pub idle_again : (index number : ℕ) (seen stamps_after : Stamp) (v v' : SeatView) (a x y : Tally) → IsIdle number seen v → a ≡ x → MayHaveAdded number seen x y stamps_after → GaveCell w (suc index) v a y v' → IsIdle number stamps_after v' × (length v'.calls ≤ length v.calls + 1)
+  idle_again index number seen stamps_after v v' a x y idle same done gave =
+      let Goal : Type 0 = IsIdle number stamps_after v' × (length v'.calls ≤ length v.calls + 1) in
       let entries : a.entries ≡ x.entries = ap (λ (t : Tally). t.entries) same in
       ⊎_elim
       (λ (p : (y.entries ≡ a.entries) × (((pending w.touches v.entry v.changed (suc index) ≡ false) × (v' ≡ v)) ⊎ ((pending w.touches v.entry v.changed (suc index) ≡ true) × (v' ≡ changed_view (suc index) v)))).
-      let stays : (v' ≡ v) → (after ≡ seen) → Goal = λ q r. (subst (IsIdle number after) (sym q) record { entry = idle.entry; actor = idle.actor; seen_is = r ∙ idle.seen_is }, let l : length v'.calls ≡ length v.calls = ap (λ (u : SeatView). length u.calls) q in omega (arith, l)) in
-      ⊎_elim (λ (q : (pending w.touches v.entry v.changed (suc index) ≡ false) × (v' ≡ v)). ⊎_elim (λ (r : (y ≡ x) × (after ≡ seen)). stays q.1 r.1)
-      (λ (r : IsAdded number seen x y × (after ≡ y.clock)). absurd (let z = r.0.adds in let l : length y.entries ≡ length x.entries + 1 = ap (λ (t : Tally). length t.entries) z.is ∙ length_push x.entries z.entry in
+      let stays : (v' ≡ v) → (stamps_after ≡ seen) → Goal = λ q r. (subst (IsIdle number stamps_after) (sym q) record { entry = idle.entry; actor = idle.actor; seen_is = r ∙ idle.seen_is }, let l : length v'.calls ≡ length v.calls = ap (λ (u : SeatView). length u.calls) q in omega (arith, l)) in
+      ⊎_elim (λ (q : (pending w.touches v.entry v.changed (suc index) ≡ false) × (v' ≡ v)). ⊎_elim (λ (r : (y ≡ x) × (stamps_after ≡ seen)). stays q.1 r.1)
+      (λ (r : IsAdded number seen x y × (stamps_after ≡ y.clock)). absurd (let z = r.0.adds in let l : length y.entries ≡ length x.entries + 1 = ap (λ (t : Tally). length t.entries) z.is ∙ length_push x.entries z.entry in
       let m : length y.entries ≡ length x.entries = ap length (p.0 ∙ entries) in omega (arith, l, m))) done)
       (λ (q : (pending w.touches v.entry v.changed (suc index) ≡ true) × (v' ≡ changed_view (suc index) v)). never (pending w.touches v.entry v.changed (suc index)) q.0 (none_waits v (suc index) idle.entry)) p.1)
       (λ (p : (e : Entry) × (y.entries ≡ a.entries ++ e ∷ []) × (y.clock ≡ e.stamp) × (v' ≡ entered_view e v)). ⊎_elim
-      (λ (r : (y ≡ x) × (after ≡ seen)). absurd (let l : length y.entries ≡ length a.entries + 1 = ap length p.1 ∙ length_push a.entries p.0 in let m : length y.entries ≡ length a.entries = ap (λ (t : Tally). length t.entries) r.0 ∙ ap length (sym entries) in omega (arith, l, m)))
-      (λ (r : IsAdded number seen x y × (after ≡ y.clock)). (
-        subst (IsIdle number after) (sym p.3) record { entry = idle.entry; actor = idle.actor; seen_is = r.1 ∙ p.2 },
+      (λ (r : (y ≡ x) × (stamps_after ≡ seen)). absurd (let l : length y.entries ≡ length a.entries + 1 = ap length p.1 ∙ length_push a.entries p.0 in let m : length y.entries ≡ length a.entries = ap (λ (t : Tally). length t.entries) r.0 ∙ ap length (sym entries) in omega (arith, l, m)))
+      (λ (r : IsAdded number seen x y × (stamps_after ≡ y.clock)). (
+        subst (IsIdle number stamps_after) (sym p.3) record { entry = idle.entry; actor = idle.actor; seen_is = r.1 ∙ p.2 },
         let l : length v'.calls ≡ length v.calls + 1 = ap (λ (u : SeatView). length u.calls) p.3 ∙ length_push v.calls p.0 in omega (arith, l),
       )) done)
       gave
@@ -208,18 +208,18 @@ module _ {F : Type 0} (chief : ChiefReads F) where
 module _ {F : Type 0} (chief : ChiefReads F) where
   -- a first cell with nothing noted is given back as it was taken
   pub may_return : (v : SeatView) (f : F) → chief.sound f → v.entry ≡ None → MayGiveFirst (names chief tally_reads) 3 v f f
-  may_return v f ok none = record { about_is = refl; sound = ok; journal_is = ap (after (chief.journal f)) (sym none); none_left = λ k pos lt. ap (λ o. pending (touches_cell turns) o v.changed k) none }
+  may_return v f ok none = record { about_is = refl; sound = ok; journal_is = ap (stamps_after (chief.journal f)) (sym none); none_left = λ k pos lt. ap (λ o. pending (touches_cell turns) o v.changed k) none }
 
   all_done : (e : Entry) → e.act ≡ Act.Scrub 0 → (k : ℕ) → 0 < k → k < 3 → pending (touches_cell turns) (Some e) (1 ∷ []) k ≡ false
   all_done e act zero pos lt = absurd (omega (arith, pos))
   all_done e act (suc zero) pos lt = pending_done (touches_cell turns) (Some e) [] 1
-  all_done e act (suc (suc zero)) pos lt = ap (λ a. scrubs 1 a && not (is_in 2 (1 ∷ []))) act
+  all_done e act (suc (suc zero)) pos lt = ap (λ a. scrubs 1 a && not (has_index 2 (1 ∷ []))) act
   all_done e act (suc (suc (suc k))) pos lt = absurd (omega (arith, lt))
 
   -- once the counter has counted, the first cell is given back with the entry
   pub may_end : (v : SeatView) (f g : F) (e : Entry) → about_of chief g ≡ about_of chief f → chief.sound g → chief.journal g ≡ chief.journal f ++ e ∷ [] → e.act ≡ Act.Scrub 0 → v.entry ≡ Some e → v.changed ≡ 1 ∷ []
       → MayGiveFirst (names chief tally_reads) 3 v f g
-  may_end v f g e about ok longer act noted done = record { about_is = about; sound = ok; journal_is = longer ∙ ap (after (chief.journal f)) (sym noted); none_left = λ k pos lt. (λ i. pending (touches_cell turns) (noted i) (done i) k) ∙ all_done e act k pos lt }
+  may_end v f g e about ok longer act noted done = record { about_is = about; sound = ok; journal_is = longer ∙ ap (stamps_after (chief.journal f)) (sym noted); none_left = λ k pos lt. (λ i. pending (touches_cell turns) (noted i) (done i) k) ∙ all_done e act k pos lt }
 
   -- what the seat knows once the counter has counted
   pub counted_view : (v v' : SeatView) (e : Entry) (a x y : Tally) → v.entry ≡ Some e → v.changed ≡ [] → e.act ≡ Act.Scrub 0 → a ≡ x → follows e x y → GaveCell (names chief tally_reads) 1 v a y v' → v' ≡ changed_view 1 v

@@ -1,7 +1,5 @@
 //! The calls, by one thread and by two.
-ghost use Rattle.std.specs.Prelude.{◌≡◌, ◌+◌, ◌^◌, ◌<◌, ◌≤◌, ℕ, suc, [], ◌∷◌, false, length, slice_set, IfOk, None};
-ghost use mathlib.Core.Option.{some};
-ghost use lib.ListN.{get_elem?};
+ghost use Rattle.std.specs.Prelude.{◌≡◌, ◌+◌, ◌^◌, ◌<◌, ◌≤◌, suc, [], ◌∷◌, false, length, slice_set, IfOk, None};
 ghost use Rattle.dcd_base.specs.declared.steps.Actor.TheVariants.{Sanitizer};
 ghost use Rattle.journal_core.specs.Entries.{is_control};
 ghost use Rattle.ruled_cells.specs.Calls.{IsNew, IsOf, row_of, seats_of};
@@ -228,24 +226,28 @@ fn row<R: Wait>(
     (during, try_once(cells, two, 1))
 }
 
+/// What seat 1 finds, and how many counters there are then.
+fn found<R: Wait>(rt: &R, alloc: Global) -> Result<([Result<u64, Busy>; 2], usize), NoMemory> {
+    let (cells, mut one, mut two) = made(alloc)?;
+    let (during, after) = row(rt, &cells, &mut one, &mut two);
+    let (_, values) = closed(alloc, cells, one, two)?;
+    Ok(([during, after], values.len()))
+}
+
 #[test]
 fn a_taken_cell_is_busy_until_it_is_given_back(rt: HostRuntime) -> Result<(), Fail> {
-    let alloc = rt.alloc();
-    let (cells, mut one, mut two) = made(alloc).ok().ok_or("memory")?;
-    let (during, after) = row(&rt, &cells, &mut one, &mut two);
-    let (_, values) = closed(alloc, cells, one, two).ok().ok_or("memory")?;
-    assert!(rt; values.len() == 2);
-    assert_eq!(rt; during, Err(Busy { seat_seen: 0 }));
-    assert_eq!(rt; after, Ok(0));
+    let (answers, counters) = found(&rt, rt.alloc())?;
+    assert_eq!(rt; answers, [Err(Busy { seat_seen: 0 }), Ok(0)]);
+    assert_eq!(rt; counters, 2);
     Ok(())
 }
 
 #[test]
 fn two_threads_count_a_thousand_times_each(rt: HostRuntime) -> Result<(), Fail> {
     let alloc = rt.alloc();
-    let (cells, one, two) = made(alloc).ok().ok_or("memory")?;
+    let (cells, one, two) = made(alloc)?;
     let (one, two) = work_both(&rt, &cells, one, two);
-    let (ledger, row) = closed(alloc, cells, one, two).ok().ok_or("memory")?;
+    let (ledger, row) = closed(alloc, cells, one, two)?;
     assert!(rt; ledger.entries.as_slice().is_empty() && row.len() == 2);
     assert!(rt; row[0].value == 2000 && row[0].entries.as_slice().len() == 2000);
     assert!(rt;

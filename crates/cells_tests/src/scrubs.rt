@@ -1,12 +1,10 @@
 //! A command, which the first cell enters and a cell counts.
 ghost use Rattle.std.specs.Prelude.{◌≡◌, ◌+◌, ◌-◌, ◌^◌, ◌<◌, [], ◌∷◌, ◌++◌, length, slice_set, MatchBool, None};
-ghost use mathlib.Core.Option.{some};
-ghost use lib.ListN.{get_elem?};
 ghost use Rattle.dcd_base.specs.declared.steps.Actor.TheVariants.{Sanitizer};
 ghost use Rattle.journal_core.specs.declared.acts.Act.TheVariants.{Scrub};
 ghost use Rattle.journal_core.specs.declared.entries.Entry.{Entry};
 ghost use Rattle.ruled_cells.specs.Calls.{IsOf, row_of};
-ghost use Rattle.ruled_cells.specs.Seats.{HasCell, HasFirst, IsSameSeat, NoTurns, number_of, turns_of, view_of};
+ghost use Rattle.ruled_cells.specs.Seats.{HasCell, HasFirst, IsSameSeat, NoTurns, turns_of, view_of};
 ghost use Rattle.ruled_cells.specs.Stamps.{stamp};
 ghost use Rattle.cells_tests.specs.Tally.{HasScrubbed, MayScrub, follows};
 
@@ -104,9 +102,9 @@ fn run<R: Wait>(rt: &R, cells: &Tallies, seat: &mut Worker) -> bool
 #[test]
 fn a_scrub_is_noted_and_counted(rt: HostRuntime) -> Result<(), Fail> {
     let alloc = rt.alloc();
-    let (cells, mut one, two) = made(alloc).ok().ok_or("memory")?;
+    let (cells, mut one, two) = made(alloc)?;
     let done = run(&rt, &cells, &mut one);
-    let (ledger, row) = closed(alloc, cells, one, two).ok().ok_or("memory")?;
+    let (ledger, row) = closed(alloc, cells, one, two)?;
     assert!(rt; done && ledger.count() == 1 && row.len() == 2);
     assert!(rt;
         row[0].value == 1

@@ -4,6 +4,8 @@ ghost use Rattle.ruled_cells.specs.Calls.{IsOf, row_of};
 ghost use Rattle.ruled_cells.specs.Seats.{IsSameSeat, NoTurns, view_of};
 
 use crate::runs::{Tallies, Worker, closed, made, put_back};
+use dcd_base::NoMemory;
+use std::alloc::Global;
 use std::fs;
 use std::sync::Wait;
 use std::test::*;
@@ -60,25 +62,38 @@ fn keep_both<R: Threads + Wait + Clock + Sync>(
     )
 }
 
+/// The time on the processors so far, in hundredths of a second, that the text of a process's `stat` tells.
+fn time_in(stat: &str) -> Option<u64> {
+    let (_, words) = stat.rsplit_once(')')?;
+    let mut times = words.split_whitespace().skip(11);
+    let user: u64 = times.next()?.parse().ok()?;
+    let system: u64 = times.next()?.parse().ok()?;
+    Some(user.saturating_add(system))
+}
+
 /// The time of the process on the processors so far, in hundredths of a second.
 fn processor_time(rt: &HostRuntime) -> Result<u64, Fail> {
-    let text = fs::read_to_string(rt, "/proc/self/stat")?;
-    let (_, words) = text.rsplit_once(')').ok_or("no name")?;
-    let mut times = words.split_whitespace().skip(11);
-    let user: u64 = times.next().ok_or("no time")?.parse()?;
-    let system: u64 = times.next().ok_or("no time")?.parse()?;
-    Ok(user.saturating_add(system))
+    let stat = fs::read_to_string(rt, "/proc/self/stat")?;
+    Ok(time_in(stat.as_str()).ok_or("no time")?)
+}
+
+/// How many counters are left once both seats wanted the one of index 1.
+fn kept_by_both<R: Threads + Wait + Clock + Sync>(
+    rt: &R,
+    alloc: Global,
+) -> Result<usize, NoMemory> {
+    let (cells, one, two) = made(alloc)?;
+    let (one, two) = keep_both(rt, &cells, one, two);
+    let (_, row) = closed(alloc, cells, one, two)?;
+    Ok(row.len())
 }
 
 #[test]
 fn a_wait_for_a_cell_sleeps(rt: HostRuntime) -> Result<(), Fail> {
-    let alloc = rt.alloc();
-    let (cells, one, two) = made(alloc).ok().ok_or("memory")?;
     let (start, before) = (Instant::now(&rt)?, processor_time(&rt)?);
-    let (one, two) = keep_both(&rt, &cells, one, two);
+    let counters = kept_by_both(&rt, rt.alloc())?;
     let (took, after) = (start.elapsed(&rt)?, processor_time(&rt)?);
-    let (_, row) = closed(alloc, cells, one, two).ok().ok_or("memory")?;
-    assert_eq!(rt; row.len(), 2);
+    assert_eq!(rt; counters, 2);
     assert!(rt; took >= Duration::from_millis(500));
     assert!(rt; after.saturating_sub(before) < 10);
     Ok(())

@@ -20,8 +20,8 @@ use Rattle.region_config.specs.Granules.{granule_total}
 use Rattle.table_laws.proofs.HostBits.{with_has, without_has}
 use Rattle.dcd_base.specs.Hosts.{has_host, with_host, without_host}
 use Rattle.control_core.specs.ChangedRuns.{AreChanges, IsSoundChange}
-use Rattle.device_state.specs.Kept.{IsKept}
-use Rattle.control_core.specs.PutChanges.{AreOfOneHost, ArePut, NameNoOthers, bits_after, is_of}
+use Rattle.device_state.specs.StateAfter.{IsStateAfter}
+use Rattle.control_core.specs.PutChanges.{AreOfOneHost, ArePut, NameNoOthers, bits_after, is_of_host}
 use Rattle.device_state.specs.declared.state.State.{State}
 
 -- ---- bits of the other hosts
@@ -71,7 +71,7 @@ without_other bits k h other = elim (cases_bit bits k) [
 -- ---- one effect
 
 -- of the host that the effects name
-own_one : (holders : List ℕ) (g : ℕ) (h : HostId) (bits : ℕ) (held : Bool) (e : Effect) → is_of (Some h) e ≡ true → has_host bits h ≡ held →
+own_one : (holders : List ℕ) (g : ℕ) (h : HostId) (bits : ℕ) (held : Bool) (e : Effect) → is_of_host (Some h) e ≡ true → has_host bits h ≡ held →
     has_host (bits_after holders g bits e) h ≡ holding_after h g held e
 own_one holders g h bits held (Effect.Take k run) of is = elim (cases_Bool (has_granule run g)) [
   | inl has ↦ rw (has, of) (subst (λ x. has_host (with_host (get_or holders g 0) x) h ≡ true) (sym (eqb-true k h of)) (with_has (get_or holders g 0) h))
@@ -95,11 +95,11 @@ own_one holders g h bits held (Effect.Ref t on) of is = is
 own_one holders g h bits held (Effect.TagEnd t) of is = is
 own_one holders g h bits held (Effect.Block r size) of is = is
 
-own_all : (holders : List ℕ) (g : ℕ) (h : HostId) (bits : ℕ) (held : Bool) (new : List Effect) → list_all (is_of (Some h)) new ≡ true → has_host bits h ≡ held →
+own_all : (holders : List ℕ) (g : ℕ) (h : HostId) (bits : ℕ) (held : Bool) (new : List Effect) → list_all (is_of_host (Some h)) new ≡ true → has_host bits h ≡ held →
     has_host (fold (bits_after holders g) bits new) h ≡ fold (holding_after h g) held new
 own_all holders g h bits held [] all is = is
 own_all holders g h bits held (e ∷ new) all is =
-    let parts = and_parts (is_of (Some h) e) (list_all (is_of (Some h)) new) all in
+    let parts = and_parts (is_of_host (Some h) e) (list_all (is_of_host (Some h)) new) all in
     own_all holders g h (bits_after holders g bits e) (holding_after h g held e) new parts.1 (own_one holders g h bits held e parts.0 is)
 
 -- of another host, which holds what it held
@@ -111,7 +111,7 @@ abbrev IsOther : Option HostId → HostId → Type 0
 IsOther None h = Unit {0}
 IsOther (Some k) h = h ≢ k
 
-other_one : (host : Option HostId) (holders : List ℕ) (g : ℕ) (h : HostId) (bits : ℕ) (held : Bool) (e : Effect) → IsOther host h → is_of host e ≡ true →
+other_one : (host : Option HostId) (holders : List ℕ) (g : ℕ) (h : HostId) (bits : ℕ) (held : Bool) (e : Effect) → IsOther host h → is_of_host host e ≡ true →
     has_host (get_or holders g 0) h ≡ held → has_host bits h ≡ held → Stays holders g h bits held e
 other_one None holders g h bits held (Effect.Take k run) other of table is = absurd (false≢true of)
 other_one None holders g h bits held (Effect.Leave k run) other of table is = absurd (false≢true of)
@@ -152,27 +152,27 @@ other_one host holders g h bits held (Effect.Ref t on) other of table is = recor
 other_one host holders g h bits held (Effect.TagEnd t) other of table is = record { bits_stay = is; holding_stays = refl }
 other_one host holders g h bits held (Effect.Block r size) other of table is = record { bits_stay = is; holding_stays = refl }
 
-other_all : (host : Option HostId) (holders : List ℕ) (g : ℕ) (h : HostId) (bits : ℕ) (held : Bool) (new : List Effect) → IsOther host h → list_all (is_of host) new ≡ true →
+other_all : (host : Option HostId) (holders : List ℕ) (g : ℕ) (h : HostId) (bits : ℕ) (held : Bool) (new : List Effect) → IsOther host h → list_all (is_of_host host) new ≡ true →
     has_host (get_or holders g 0) h ≡ held → has_host bits h ≡ held → has_host (fold (bits_after holders g) bits new) h ≡ fold (holding_after h g) held new
 other_all host holders g h bits held [] other all table is = is
 other_all host holders g h bits held (e ∷ new) other all table is =
-    let parts = and_parts (is_of host e) (list_all (is_of host) new) all in
+    let parts = and_parts (is_of_host host e) (list_all (is_of_host host) new) all in
     let one = other_one host holders g h bits held e other parts.0 table is in
     other_all host holders g h (bits_after holders g bits e) held new other parts.1 table one.bits_stay
     ∙ ap (λ now. fold (holding_after h g) now new) (sym one.holding_stays)
 
 -- ---- all effects
 
-each_host : (host : Option HostId) (holders : List ℕ) (g : ℕ) (h : HostId) (bits : ℕ) (held : Bool) (new : List Effect) → list_all (is_of host) new ≡ true →
+each_host : (host : Option HostId) (holders : List ℕ) (g : ℕ) (h : HostId) (bits : ℕ) (held : Bool) (new : List Effect) → list_all (is_of_host host) new ≡ true →
     has_host (get_or holders g 0) h ≡ held → has_host bits h ≡ held → has_host (fold (bits_after holders g) bits new) h ≡ fold (holding_after h g) held new
 each_host None holders g h bits held new all table is = other_all None holders g h bits held new tt all table is
 each_host (Some m) holders g h bits held new all table is = elim (cases_eq h m) [
-  | inl same ↦ own_all holders g h bits held new (subst (λ x. list_all (is_of (Some x)) new ≡ true) (sym same) all) is
+  | inl same ↦ own_all holders g h bits held new (subst (λ x. list_all (is_of_host (Some x)) new ≡ true) (sym same) all) is
   | inr other ↦ other_all (Some m) holders g h bits held new other all table is
 ]
 
 pub are_changes : (c : Configuration) (before : List Entry) (s : State) (new : List Effect) (changes : List Change) → ArePut (granule_total c) s.holders new changes →
-    (NameNoOthers c s.holders → All (IsSoundChange c) changes) → AreOfOneHost new → IsKept c before s → AreChanges c (effects before) new changes
+    (NameNoOthers c s.holders → All (IsSoundChange c) changes) → AreOfOneHost new → IsStateAfter c before s → AreChanges c (effects before) new changes
 are_changes c before s new changes put sound one kept = record {
   holders = λ g below bits are h host.
       ap (λ b. has_host b h) (put.bits g below bits)

@@ -22,12 +22,12 @@ use Rattle.journal_core.specs.declared.acts.Reply.{Reply}
 use Rattle.journal_core.specs.declared.entries.Entry.{Entry}
 use Rattle.journal_core.specs.declared.outcome.Effect.{Effect}
 use Rattle.journal_core.specs.declared.outcome.HeldKind.{HeldKind}
-use Rattle.device_state.specs.Kept.{lists_in}
+use Rattle.device_state.specs.StateAfter.{lists_in}
 use Rattle.device_commands.specs.Drafts.{told_in}
-use Rattle.device_commands.specs.declared.log_records.Notice.{Notice}
+use Rattle.device_commands.specs.declared.log_records.LogRecords.{LogRecords}
 use Rattle.device_rules.specs.Answers.{dropped, effects_with, host_outcome, host_result, host_result_in, host_rule, reply_with, response, unless}
 use Rattle.device_rules.specs.Outcomes.{Outcome}
-use Rattle.device_rules.specs.ResponseOutcomes.{response_notices, respond_changes, unhold}
+use Rattle.device_rules.specs.ResponseOutcomes.{response_records, respond_changes, unhold}
 use Rattle.device_rules.specs.Views.{View, view_after, view_of}
 use Rattle.step_laws.proofs.ViewOthers.{dropped-leaves}
 use Rattle.table_laws.proofs.QuietSteps.{table-refused}
@@ -41,22 +41,22 @@ use Rattle.control_core.proofs.Doing.{others_stay}
 
 -- ---- the logs that are told are of the device
 
-known_map : (hosts : ℕ) (notices : List Notice) → AllByRecursion (λ (n : LogId × List Event). IsOfLog hosts n.0) (map told_in notices) → AllByRecursion (λ (n : Notice). IsOfLog hosts n.log) notices
+known_map : (hosts : ℕ) (log_records : List LogRecords) → AllByRecursion (λ (n : LogId × List Event). IsOfLog hosts n.0) (map told_in log_records) → AllByRecursion (λ (n : LogRecords). IsOfLog hosts n.log) log_records
 known_map hosts [] each = tt
-known_map hosts (n ∷ notices) each = (each.0, known_map hosts notices each.1)
+known_map hosts (n ∷ log_records) each = (each.0, known_map hosts log_records each.1)
 
-pub notices_known : (hosts : ℕ) (notices : List Notice) (told : List (LogId × List Event)) → map told_in notices ≡ told → AllByRecursion (λ (n : LogId × List Event). IsOfLog hosts n.0) told → All (λ (n : Notice). IsOfLog hosts n.log) notices
-notices_known hosts notices told is each =
-    All-from_recursion (λ (n : Notice). IsOfLog hosts n.log) notices
-    (known_map hosts notices (subst (AllByRecursion (λ (n : LogId × List Event). IsOfLog hosts n.0)) (sym is) each))
+pub records_known : (hosts : ℕ) (log_records : List LogRecords) (told : List (LogId × List Event)) → map told_in log_records ≡ told → AllByRecursion (λ (n : LogId × List Event). IsOfLog hosts n.0) told → All (λ (n : LogRecords). IsOfLog hosts n.log) log_records
+records_known hosts log_records told is each =
+    All-from_recursion (λ (n : LogRecords). IsOfLog hosts n.log) log_records
+    (known_map hosts log_records (subst (AllByRecursion (λ (n : LogId × List Event). IsOfLog hosts n.0)) (sym is) each))
 
 -- a host's commands tell the manager
-response_known : (hosts : ℕ) (c : Configuration) (h : HostId) (v : View) (offers : List (List Extent)) (all : List Extent) → AllByRecursion (λ (n : LogId × List Event). IsOfLog hosts n.0) (response_notices c h v offers all)
+response_known : (hosts : ℕ) (c : Configuration) (h : HostId) (v : View) (offers : List (List Extent)) (all : List Extent) → AllByRecursion (λ (n : LogId × List Event). IsOfLog hosts n.0) (response_records c h v offers all)
 response_known hosts c h v [] all = tt
 response_known hosts c h v (offer ∷ later) [] = (tt, tt)
 response_known hosts c h v (offer ∷ later) (x ∷ xs) = (tt, tt)
 
-pub host_known : (hosts : ℕ) (c : Configuration) (h : HostId) (v : View) (q : HostRequest) → AllByRecursion (λ (n : LogId × List Event). IsOfLog hosts n.0) (host_outcome c h v q).notices
+pub host_known : (hosts : ℕ) (c : Configuration) (h : HostId) (v : View) (q : HostRequest) → AllByRecursion (λ (n : LogId × List Event). IsOfLog hosts n.0) (host_outcome c h v q).log_records
 host_known hosts c h v (HostRequest.GetEvents log) = tt
 host_known hosts c h v (HostRequest.ClearEvents log all handles) = tt
 host_known hosts c h v (HostRequest.GetConfiguration count first) = tt

@@ -19,7 +19,7 @@ use Rattle.journal_core.specs.declared.entries.Entry.{Entry}
 use Rattle.journal_core.specs.declared.outcome.Effect.{Effect}
 use Rattle.journal_core.specs.declared.outcome.HeldKind.{HeldKind}
 use Rattle.device_commands.specs.Drafts.{AreAfter, Drafts}
-use Rattle.device_state.specs.Kept.{lists_in, IsKept}
+use Rattle.device_state.specs.StateAfter.{lists_in, IsStateAfter}
 use Rattle.device_commands.specs.declared.draft.DraftParts.{DraftParts}
 use Rattle.device_rules.specs.Answers.{response}
 use Rattle.device_rules.specs.Hosts.{accepted_after, accepted_of, held_after, moves, offers_after, offers_of}
@@ -35,7 +35,7 @@ use Rattle.tag_refs.specs.declared.entries.TagEntry.{TagEntry}
 use Rattle.control_core.specs.Doing.{IsDone, IsOfHost}
 use Rattle.device_commands.specs.TagChanges.{told_change}
 use Rattle.device_state.specs.Entered.{lists_by, lists_put, unheld}
-use Rattle.control_core.specs.Recording.{told}
+use Rattle.control_core.specs.Recording.{records_entered}
 use Rattle.device_state.specs.Updates.{IsUpdate, lists_after}
 use Rattle.device_state.specs.declared.state.State.{State}
 use Rattle.device_state.specs.declared.updates.NewLists.{NewLists}
@@ -61,10 +61,10 @@ module _ (c : Configuration) (past : List Effect) (o : Outcome) where
   outcome_moves : (h : HostId) → list_any (moves h) (effects_of c past o) ≡ list_any (moves h) o.changes
   outcome_moves h =
       let ends : List Effect = map Effect.TagEnd (ended c past o.changes o.tags) in
-      let records : List Effect = flat_map (λ n. entered_all n.0 (log_of n.0 past) n.1) o.notices in
+      let records : List Effect = flat_map (λ n. entered_all n.0 (log_of n.0 past) n.1) o.log_records in
       let still : list_all (is_still h) (ends ++ records) ≡ true = both_pass (is_still h) ends records
       (map_passes (is_still h) Effect.TagEnd (λ t. refl) (ended c past o.changes o.tags))
-      (told_passes (is_still h) any_log (λ l any. record { logged = λ event. refl; missed = refl }) past o.notices (tells_any o.notices)) in
+      (told_passes (is_still h) any_log (λ l any. record { logged = λ event. refl; missed = refl }) past o.log_records (tells_any o.log_records)) in
       ap (list_any (moves h)) (append_assoc o.changes ends records)
       ∙ list_any-append (moves h) o.changes (ends ++ records)
       ∙ or_nothing (list_any (moves h) o.changes) (list_any (moves h) (ends ++ records)) (none_moves h (ends ++ records) still)
@@ -172,18 +172,18 @@ module _ (c : Configuration) (before : List Entry) (h : HostId) (o : Outcome) (o
 
 -- ---- the draft
 
-module _ (c : Configuration) (before : List Entry) (s : State) (kept : IsKept c before s) (q : Request) (h : HostId) (o : Outcome) (of : IsOfHost c before h o)
+module _ (c : Configuration) (before : List Entry) (s : State) (kept : IsStateAfter c before s) (q : Request) (h : HostId) (o : Outcome) (of : IsOfHost c before h o)
     (draft : DraftParts) (drafts : Drafts c h (view_of c h before) o draft) where
   -- its effects
   all_effects : (lists : Lists) → lists ≡ lists_in (view_after c h (view_of c h before) o.changes) →
-      (draft.changes ++ map Effect.TagEnd (ending h (λ t. has_extent_of t lists.accepted) (λ t. list_any (has_extent_of t) lists.offers) s.tags.entries draft.tags)) ++ told (effects before) draft.notices
+      (draft.changes ++ map Effect.TagEnd (ending h (λ t. has_extent_of t lists.accepted) (λ t. list_any (has_extent_of t) lists.offers) s.tags.entries draft.tags)) ++ records_entered (effects before) draft.log_records
       ≡ effects_of c (effects before) o
   all_effects lists is =
-      (λ i. (drafts.changes i ++ map Effect.TagEnd (ending h (λ t. has_extent_of t lists.accepted) (λ t. list_any (has_extent_of t) lists.offers) s.tags.entries (drafts.tags i))) ++ told_is (effects before) draft.notices i)
-      ∙ (λ i. (o.changes ++ map Effect.TagEnd (its_ended c before h o of s.tags.entries kept.tags_are lists is i)) ++ flat_map (λ n. entered_all n.0 (log_of n.0 (effects before)) n.1) (drafts.notices i))
+      (λ i. (drafts.changes i ++ map Effect.TagEnd (ending h (λ t. has_extent_of t lists.accepted) (λ t. list_any (has_extent_of t) lists.offers) s.tags.entries (drafts.tags i))) ++ told_is (effects before) draft.log_records i)
+      ∙ (λ i. (o.changes ++ map Effect.TagEnd (its_ended c before h o of s.tags.entries kept.tags_are lists is i)) ++ flat_map (λ n. entered_all n.0 (log_of n.0 (effects before)) n.1) (drafts.log_records i))
 
   pub done_new : (lists : Lists) → draft.lists ≡ Some lists → (reply : Reply) (new : List Effect) → reply ≡ response q Code.Success draft.payload →
-      new ≡ (draft.changes ++ map Effect.TagEnd (ending h (λ t. has_extent_of t lists.accepted) (λ t. list_any (has_extent_of t) lists.offers) s.tags.entries draft.tags)) ++ told (effects before) draft.notices →
+      new ≡ (draft.changes ++ map Effect.TagEnd (ending h (λ t. has_extent_of t lists.accepted) (λ t. list_any (has_extent_of t) lists.offers) s.tags.entries draft.tags)) ++ records_entered (effects before) draft.log_records →
       IsDone c before q o (record { reply = reply; effects = new; update = record { lists = Some (record { host = h; lists = lists }); tags = told_change h draft.tags } })
   done_new lists some reply new answers is =
       let its_lists : lists ≡ lists_in (view_after c h (view_of c h before) o.changes) = subst (AreAfter c h (view_of c h before) o) some drafts.lists in
@@ -196,7 +196,7 @@ module _ (c : Configuration) (before : List Entry) (s : State) (kept : IsKept c 
 
   pub done_same : draft.lists ≡ None → (reply : Reply) (new : List Effect) → reply ≡ response q Code.Success draft.payload →
       (lists : Lists) → lists ≡ lists_in (view_of c h before) →
-      new ≡ (draft.changes ++ map Effect.TagEnd (ending h (λ t. has_extent_of t lists.accepted) (λ t. list_any (has_extent_of t) lists.offers) s.tags.entries draft.tags)) ++ told (effects before) draft.notices →
+      new ≡ (draft.changes ++ map Effect.TagEnd (ending h (λ t. has_extent_of t lists.accepted) (λ t. list_any (has_extent_of t) lists.offers) s.tags.entries draft.tags)) ++ records_entered (effects before) draft.log_records →
       IsDone c before q o (record { reply = reply; effects = new; update = record { lists = None; tags = told_change h draft.tags } })
   done_same none reply new answers lists is_lists is =
       let stay : lists_in (view_after c h (view_of c h before) o.changes) ≡ lists_in (view_of c h before) = subst (AreAfter c h (view_of c h before) o) none drafts.lists in
@@ -208,8 +208,8 @@ module _ (c : Configuration) (before : List Entry) (s : State) (kept : IsKept c 
       }
 
 -- a reply alone is done
-pub replied_done : (c : Configuration) (before : List Entry) (s : State) → IsKept c before s → (q : Request) (h : HostId) (o : Outcome) → IsOfHost c before h o → (payload : List ℕ)
-    → Drafts c h (view_of c h before) o (record { payload = payload; changes = []; tags = []; notices = []; lists = None })
+pub replied_done : (c : Configuration) (before : List Entry) (s : State) → IsStateAfter c before s → (q : Request) (h : HostId) (o : Outcome) → IsOfHost c before h o → (payload : List ℕ)
+    → Drafts c h (view_of c h before) o (record { payload = payload; changes = []; tags = []; log_records = []; lists = None })
     → IsDone c before q o (record { reply = response q Code.Success payload; effects = []; update = record { lists = None; tags = TagChange.Nothing } })
 replied_done c before s kept q h o of payload drafts =
-    done_same c before s kept q h o of (record { payload = payload; changes = []; tags = []; notices = []; lists = None }) drafts refl (response q Code.Success payload) [] refl (lists_in (view_of c h before)) refl refl
+    done_same c before s kept q h o of (record { payload = payload; changes = []; tags = []; log_records = []; lists = None }) drafts refl (response q Code.Success payload) [] refl (lists_in (view_of c h before)) refl refl

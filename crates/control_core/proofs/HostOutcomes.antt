@@ -15,7 +15,7 @@ use Rattle.journal_core.specs.declared.entries.Entry.{Entry}
 use Rattle.journal_core.specs.declared.outcome.Effect.{Effect}
 use Rattle.journal_core.specs.declared.outcome.HeldKind.{HeldKind}
 use Rattle.media_map.specs.Places.{run_of}
-use Rattle.device_state.specs.Kept.{lists_in}
+use Rattle.device_state.specs.StateAfter.{lists_in}
 use Rattle.device_rules.specs.Answers.{host_outcome, host_rule}
 use Rattle.device_rules.specs.Hosts.{accepted_of, held_after, offers_of}
 use Rattle.device_rules.specs.Legal.{Legal}

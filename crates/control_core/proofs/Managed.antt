@@ -27,9 +27,9 @@ use Rattle.journal_core.specs.declared.entries.Entry.{Entry}
 use Rattle.journal_core.specs.declared.outcome.Effect.{Effect}
 use Rattle.journal_core.specs.declared.outcome.HeldKind.{HeldKind}
 use Rattle.device_commands.specs.Drafts.{IsOutcome, told_in}
-use Rattle.device_state.specs.Kept.{lists_in, IsKept}
+use Rattle.device_state.specs.StateAfter.{lists_in, IsStateAfter}
 use Rattle.device_commands.specs.declared.draft.DraftParts.{DraftParts}
-use Rattle.device_commands.specs.declared.log_records.Notice.{Notice}
+use Rattle.device_commands.specs.declared.log_records.LogRecords.{LogRecords}
 use Rattle.device_rules.specs.Answers.{effects_with, manager_outcome, manager_result, manager_rule, reply_with, response, unless}
 use Rattle.device_rules.specs.Hosts.{accepted_after, held_after, moves, offers_after}
 use Rattle.device_rules.specs.Legal.{Legal}
@@ -49,13 +49,13 @@ use Rattle.control_core.specs.Deciding.{IsDecidedBy, IsShort}
 use Rattle.control_core.specs.Doing.{IsDone}
 use Rattle.device_state.specs.Entered.{lists_by}
 use Rattle.control_core.specs.Managing.{IsOfNone, Manages, leaves_lists}
-use Rattle.control_core.specs.Recording.{told}
+use Rattle.control_core.specs.Recording.{records_entered}
 use Rattle.device_state.specs.Updates.{IsOfLog, IsUpdate}
 use Rattle.control_core.specs.declared.decided.Decided.{Decided}
 use Rattle.device_state.specs.declared.state.State.{State}
 use Rattle.device_state.specs.declared.updates.TagChange.{TagChange}
 use Rattle.control_core.proofs.Doing.{lists_over, unheld_over}
-use Rattle.control_core.proofs.Decisions.{notices_known}
+use Rattle.control_core.proofs.Decisions.{records_known}
 use Rattle.control_core.proofs.Recorded.{told_is}
 use Rattle.device_commands.specs.ManagerMessages.{DraftsFor}
 
@@ -104,12 +104,12 @@ lists_left c k v es left = λ i. record {
 
 pub entered_done : (c : Configuration) (before : List Entry) (q : Request) (o : Outcome) (over : List Tag) (change : TagChange) → IsOfNone c before o over change →
     (draft : DraftParts) → IsOutcome o draft → (reply : Reply) (new : List Effect) → reply ≡ response q Code.Success draft.payload →
-    new ≡ (draft.changes ++ map Effect.TagEnd over) ++ told (effects before) draft.notices →
+    new ≡ (draft.changes ++ map Effect.TagEnd over) ++ records_entered (effects before) draft.log_records →
     IsDone c before q o (record { reply = reply; effects = new; update = record { lists = None; tags = change } })
 entered_done c before q o over change of draft is reply new answers new_is =
     let effects_are : new ≡ effects_of c (effects before) o = new_is
-    ∙ (λ i. (is.changes i ++ map Effect.TagEnd (sym of.over_are i)) ++ told_is (effects before) draft.notices i)
-    ∙ ap (λ notices. (o.changes ++ map Effect.TagEnd (ended c (effects before) o.changes o.tags)) ++ flat_map (λ n. entered_all n.0 (log_of n.0 (effects before)) n.1) notices) is.notices in record {
+    ∙ (λ i. (is.changes i ++ map Effect.TagEnd (sym of.over_are i)) ++ told_is (effects before) draft.log_records i)
+    ∙ ap (λ log_records. (o.changes ++ map Effect.TagEnd (ended c (effects before) o.changes o.tags)) ++ flat_map (λ n. entered_all n.0 (log_of n.0 (effects before)) n.1) log_records) is.log_records in record {
       reply = answers ∙ ap (response q Code.Success) is.payload;
       effects = effects_are;
       update = subst (λ es. IsUpdate c before es (record { lists = None; tags = change })) (sym effects_are) (record {
@@ -124,10 +124,10 @@ entered_done c before q o over change of draft is reply new answers new_is =
 
 -- a reply alone is entered
 pub replied_entered : (c : Configuration) (before : List Entry) (q : Request) (o : Outcome) → IsOfNone c before o [] TagChange.Nothing → (payload : List ℕ)
-    → IsOutcome o (record { payload = payload; changes = []; tags = []; notices = []; lists = None })
+    → IsOutcome o (record { payload = payload; changes = []; tags = []; log_records = []; lists = None })
     → IsDone c before q o (record { reply = response q Code.Success payload; effects = []; update = record { lists = None; tags = TagChange.Nothing } })
 replied_entered c before q o of payload is =
-    entered_done c before q o [] TagChange.Nothing of (record { payload = payload; changes = []; tags = []; notices = []; lists = None }) is (response q Code.Success payload) [] refl refl
+    entered_done c before q o [] TagChange.Nothing of (record { payload = payload; changes = []; tags = []; log_records = []; lists = None }) is (response q Code.Success payload) [] refl refl
 
 -- ---- the requests
 
@@ -184,7 +184,7 @@ module _ (c : Configuration) (before : List Entry) where
     table = λ entries table. table-add_reference c (effects before) tag entries table;
   }
 
-  pub unrefer_of : IsSound c → Legal c before → (s : State) → IsKept c before s → (tag : Tag) → (over : List Tag) →
+  pub unrefer_of : IsSound c → Legal c before → (s : State) → IsStateAfter c before s → (tag : Tag) → (over : List Tag) →
       over ≡ (if passes tag (λ e. not (is_used (with_reference false e))) s.tags.entries then tag ∷ [] else []) →
       IsOfNone c before (manager_outcome c (effects before) (λ h. view_of c h before) (FmRequest.RemoveReference tag)) over (TagChange.Unrefer tag)
   unrefer_of sound legal s kept tag over is = record {
@@ -200,7 +200,7 @@ module _ (c : Configuration) (before : List Entry) where
   range_known hosts a zero event within = tt
   range_known hosts a (suc n) event within = (omega (arith, within), range_known hosts (a + 1) n event (omega (arith, within)))
 
-  pub quiet_known : (q : FmRequest) → is_quiet_manager q ≡ true → AllByRecursion (λ (n : LogId × List Event). IsOfLog c.hosts n.0) (manager_outcome c (effects before) (λ h. view_of c h before) q).notices
+  pub quiet_known : (q : FmRequest) → is_quiet_manager q ≡ true → AllByRecursion (λ (n : LogId × List Event). IsOfLog c.hosts n.0) (manager_outcome c (effects before) (λ h. view_of c h before) q).log_records
   quiet_known (FmRequest.GetEvents log) quiet = tt
   quiet_known (FmRequest.ClearEvents log all handles) quiet = tt
   quiet_known FmRequest.GetInfo quiet = tt
@@ -233,7 +233,7 @@ module _ (c : Configuration) (before : List Entry) where
 
 -- a command that is refused
 pub manages_err : (c : Configuration) (s : State) (q : Request) (r : FmRequest) → manager_request q.opcode q.payload ≡ Ok r → (P : List Entry → DraftParts → Type 0) (e : Refusal) →
-    ((before : List Entry) → Legal c before → IsKept c before s → ByRow (manager_rule c (effects before) (λ h. view_of c h before) r) (P before) (Err e)) → Manages c s q (Err e)
+    ((before : List Entry) → Legal c before → IsStateAfter c before s → ByRow (manager_rule c (effects before) (λ h. view_of c h before) r) (P before) (Err e)) → Manages c s q (Err e)
 manages_err c s q r asked P (Refusal.Broken rule) is = λ before legal kept. refused_rule c before q r asked rule (is before legal kept)
 manages_err c s q r asked P Refusal.NoMemory is = tt
 
@@ -260,11 +260,11 @@ quiet_drafts c journal (FmRequest.Add h policy r bytes tag list) quiet o d is = 
 quiet_drafts c journal (FmRequest.Remove h flags r bytes tag list) quiet o d is = absurd (false≢true quiet)
 quiet_drafts c journal q quiet o d is = is
 
-pub quiet_notices : (c : Configuration) (before : List Entry) (s : State) → IsKept c before s → (q : FmRequest) → is_quiet_manager q ≡ true →
-    (draft : DraftParts) → IsOutcome (manager_outcome c (effects before) (λ h. view_of c h before) q) draft → All (λ (n : Notice). IsOfLog (length s.hosts.items) n.log) draft.notices
-quiet_notices c before s kept q quiet draft is =
-    notices_known (length s.hosts.items) draft.notices (manager_outcome c (effects before) (λ h. view_of c h before) q).notices is.notices
-    (subst (λ hosts. AllByRecursion (λ (n : LogId × List Event). IsOfLog hosts n.0) (manager_outcome c (effects before) (λ h. view_of c h before) q).notices) (sym kept.host_count) (quiet_known c before q quiet))
+pub quiet_log_records : (c : Configuration) (before : List Entry) (s : State) → IsStateAfter c before s → (q : FmRequest) → is_quiet_manager q ≡ true →
+    (draft : DraftParts) → IsOutcome (manager_outcome c (effects before) (λ h. view_of c h before) q) draft → All (λ (n : LogRecords). IsOfLog (length s.hosts.items) n.log) draft.log_records
+quiet_log_records c before s kept q quiet draft is =
+    records_known (length s.hosts.items) draft.log_records (manager_outcome c (effects before) (λ h. view_of c h before) q).log_records is.log_records
+    (subst (λ hosts. AllByRecursion (λ (n : LogId × List Event). IsOfLog hosts n.0) (manager_outcome c (effects before) (λ h. view_of c h before) q).log_records) (sym kept.host_count) (quiet_known c before q quiet))
 
-pub no_notices : (hosts : ℕ) (draft : DraftParts) → map told_in draft.notices ≡ [] → All (λ (n : Notice). IsOfLog hosts n.log) draft.notices
-no_notices hosts draft none = notices_known hosts draft.notices [] none tt
+pub no_log_records : (hosts : ℕ) (draft : DraftParts) → map told_in draft.log_records ≡ [] → All (λ (n : LogRecords). IsOfLog hosts n.log) draft.log_records
+no_log_records hosts draft none = records_known hosts draft.log_records [] none tt

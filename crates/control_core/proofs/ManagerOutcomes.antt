@@ -8,7 +8,7 @@ use Rattle.region_config.specs.Configurations.{Configuration}
 use Rattle.region_config.specs.Soundness.{IsSound}
 use Rattle.device_commands.specs.Drafts.{told_in}
 use Rattle.device_commands.specs.declared.draft.DraftParts.{DraftParts}
-use Rattle.device_commands.specs.declared.log_records.Notice.{Notice}
+use Rattle.device_commands.specs.declared.log_records.LogRecords.{LogRecords}
 use Rattle.journal_core.specs.Entries.{effects}
 use Rattle.journal_core.specs.declared.entries.Entry.{Entry}
 use Rattle.journal_core.specs.declared.outcome.Effect.{Effect}
@@ -21,10 +21,10 @@ use Rattle.step_laws.proofs.ViewOthers.{remove-leaves}
 use Rattle.table_laws.proofs.GivingSteps.{table-removal}
 use Rattle.table_laws.proofs.LeavingSteps.{removal_row}
 use Rattle.control_core.specs.Doing.{IsOfHost}
-use Rattle.device_state.specs.Kept.{IsKept}
+use Rattle.device_state.specs.StateAfter.{IsStateAfter}
 use Rattle.device_state.specs.Updates.{IsOfLog}
 use Rattle.device_state.specs.declared.state.State.{State}
-use Rattle.control_core.proofs.Decisions.{notices_known}
+use Rattle.control_core.proofs.Decisions.{records_known}
 use Rattle.control_core.proofs.HostOutcomes.{holds_none, own_stay}
 
 pub remove_host : (c : Configuration) (before : List Entry) (h flags r bytes : ℕ) (tag : Tag) (list : List Extent) → manager_rule c (effects before) (λ k. view_of c k before) (FmRequest.Remove h flags r bytes tag list) ≡ None → h < c.hosts
@@ -42,8 +42,8 @@ remove_of c sound before legal h flags r bytes tag list row =
       told = λ entries table. table-removal c sound before legal entries table h flags r bytes tag list row;
     }
 
-pub remove_known : (c : Configuration) (before : List Entry) (s : State) → IsKept c before s → (h flags r bytes : ℕ) (tag : Tag) (list : List Extent) → manager_rule c (effects before) (λ k. view_of c k before) (FmRequest.Remove h flags r bytes tag list) ≡ None →
-    (draft : DraftParts) → map told_in draft.notices ≡ (manager_outcome c (effects before) (λ k. view_of c k before) (FmRequest.Remove h flags r bytes tag list)).notices → All (λ (n : Notice). IsOfLog (length s.hosts.items) n.log) draft.notices
+pub remove_known : (c : Configuration) (before : List Entry) (s : State) → IsStateAfter c before s → (h flags r bytes : ℕ) (tag : Tag) (list : List Extent) → manager_rule c (effects before) (λ k. view_of c k before) (FmRequest.Remove h flags r bytes tag list) ≡ None →
+    (draft : DraftParts) → map told_in draft.log_records ≡ (manager_outcome c (effects before) (λ k. view_of c k before) (FmRequest.Remove h flags r bytes tag list)).log_records → All (λ (n : LogRecords). IsOfLog (length s.hosts.items) n.log) draft.log_records
 remove_known c before s kept h flags r bytes tag list row draft is =
-    notices_known (length s.hosts.items) draft.notices (manager_outcome c (effects before) (λ k. view_of c k before) (FmRequest.Remove h flags r bytes tag list)).notices is
+    records_known (length s.hosts.items) draft.log_records (manager_outcome c (effects before) (λ k. view_of c k before) (FmRequest.Remove h flags r bytes tag list)).log_records is
     (subst (λ n. h < n) (sym kept.host_count) (remove_host c before h flags r bytes tag list row), tt)

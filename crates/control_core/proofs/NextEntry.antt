@@ -15,9 +15,9 @@ use Rattle.device_rules.specs.Answers.{answer}
 use Rattle.device_rules.specs.Legal.{Meets}
 use Rattle.control_core.specs.Deciding.{Holds, IsShort}
 use Rattle.device_state.specs.Entered.{IsEntered}
-use Rattle.device_state.specs.Kept.{IsKept, IsReached}
+use Rattle.device_state.specs.StateAfter.{IsStateAfter, IsReached}
 use Rattle.control_core.specs.PutChanges.{AreOfOneHost}
-use Rattle.control_core.specs.Steps.{Controlled, IsNext, MayStep, entry_of}
+use Rattle.control_core.specs.Steps.{Controlled, IsNextEntry, MayStep, journal_entry}
 use Rattle.device_state.specs.Updates.{IsOfDevice, IsUpdate}
 use Rattle.device_state.specs.declared.state.State.{State}
 use Rattle.device_state.specs.declared.updates.NewParts.{NewParts}
@@ -27,7 +27,7 @@ use Rattle.device_state.proofs.EnteredSteps.{kept-entered, of_device}
 never : IsTrue false → ⊥
 never e = cc
 
-pub next_meets : (c : Configuration) (before : List Entry) (pass line : ℕ) (actor : Actor) (act : Act) → MayStep c actor act → Meets c before (entry_of c before pass line actor act)
+pub next_meets : (c : Configuration) (before : List Entry) (pass line : ℕ) (actor : Actor) (act : Act) → MayStep c actor act → Meets c before (journal_entry c before pass line actor act)
 next_meets c before pass line (Actor.Host h) (Act.Command q) may = record { allowed = may.fits; reply = refl; effects = refl }
 next_meets c before pass line (Actor.Host h) (Act.Load d) may = absurd (never may.control)
 next_meets c before pass line (Actor.Host h) (Act.Store d value) may = absurd (never may.control)
@@ -35,7 +35,7 @@ next_meets c before pass line (Actor.Host h) (Act.Scrub n) may = absurd (never m
 next_meets c before pass line Actor.Manager act may = record { allowed = may.fits; reply = refl; effects = refl }
 next_meets c before pass line Actor.Sanitizer act may = record { allowed = may.fits; reply = refl; effects = refl }
 
-pub is_next_meets : (d : Controlled) (e : Entry) → IsNext d e → Meets d.config d.entries e
+pub is_next_meets : (d : Controlled) (e : Entry) → IsNextEntry d e → Meets d.config d.entries e
 is_next_meets d e next = subst (Meets d.config d.entries) (sym next.is) (next_meets d.config d.entries e.pass e.line e.actor e.act next.may)
 
 -- a host of the device is one that may command
@@ -46,7 +46,7 @@ is_known c h (Act.Store d value) may = absurd (never may.control)
 is_known c h (Act.Scrub n) may = absurd (never may.fits)
 
 -- A fresh control has what every control keeps.
-pub holds_first : (c : Configuration) (entries : List Entry) (s : State) → entries ≡ [] → IsSound c → IsKept c [] s → Holds c entries s
+pub holds_first : (c : Configuration) (entries : List Entry) (s : State) → entries ≡ [] → IsSound c → IsStateAfter c [] s → Holds c entries s
 holds_first c entries s none sound kept = subst (λ es. Holds c es s) (sym none) (record { sound = sound; legal = tt; kept = kept; short = λ k e below. absurd (omega (arith, below)) })
 
 -- What every control keeps is kept by an entry that is entered.
@@ -64,14 +64,14 @@ holds_entered c before e u old now holds meets short update entered = record {
 -- the effects give and take granules of one host
 pub decided_one : (d : Controlled) (actor : Actor) (act : Act) → MayStep d.config actor act → (es : List Effect) → es ≡ (answer d.config d.entries actor act).1 → AreOfOneHost es
 decided_one d actor act may es is =
-    subst AreOfOneHost (sym is) (of_one_host d.config d.entries (entry_of d.config d.entries 0 0 actor act) (next_meets d.config d.entries 0 0 actor act may))
+    subst AreOfOneHost (sym is) (of_one_host d.config d.entries (journal_entry d.config d.entries 0 0 actor act) (next_meets d.config d.entries 0 0 actor act may))
 
 -- they are of the device
 pub decided_device : (d : Controlled) (s : State) → Holds d.config d.entries s → (actor : Actor) (act : Act) → MayStep d.config actor act → (es : List Effect) →
     es ≡ (answer d.config d.entries actor act).1 → All (IsOfDevice d.config) es
 decided_device d s holds actor act may es is =
     subst (All (IsOfDevice d.config)) (sym is)
-    (of_device d.config holds.sound d.entries holds.legal (entry_of d.config d.entries 0 0 actor act) (next_meets d.config d.entries 0 0 actor act may))
+    (of_device d.config holds.sound d.entries holds.legal (journal_entry d.config d.entries 0 0 actor act) (next_meets d.config d.entries 0 0 actor act may))
 
 -- What every control keeps is reached by its entries.
 pub reached : (c : Configuration) (before : List Entry) (s : State) → Holds c before s → IsReached c s

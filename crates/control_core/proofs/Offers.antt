@@ -15,9 +15,9 @@ use Rattle.extent_list.specs.ExtentLists.{has_extent_of}
 use Rattle.fm_payloads.specs.declared.requests.FmRequest.{FmRequest}
 use Rattle.host_lists.specs.Lists.{Lists}
 use Rattle.device_commands.specs.Drafts.{AreAfter, Drafts, told_in}
-use Rattle.device_state.specs.Kept.{lists_in, IsKept}
+use Rattle.device_state.specs.StateAfter.{lists_in, IsStateAfter}
 use Rattle.device_commands.specs.declared.draft.DraftParts.{DraftParts}
-use Rattle.device_commands.specs.declared.log_records.Notice.{Notice}
+use Rattle.device_commands.specs.declared.log_records.LogRecords.{LogRecords}
 use Rattle.region_config.specs.Configurations.{Configuration}
 use Rattle.region_config.specs.Granules.{region_spec}
 use Rattle.region_config.specs.Soundness.{IsSound}
@@ -43,23 +43,23 @@ use Rattle.step_laws.proofs.ViewOthers.{add-leaves}
 use Rattle.table_laws.specs.TagTable.{IsTable}
 use Rattle.table_laws.proofs.AddSteps.{table-add}
 use Rattle.table_laws.proofs.TagEntries.{table_live}
-use Rattle.tag_refs.specs.Tables.{changed, is_live, set_by, still_used}
+use Rattle.tag_refs.specs.Tables.{entries_changed, has_entry, set_by, still_used}
 use Rattle.tag_refs.specs.declared.entries.TagEntry.{TagEntry}
 use Rattle.control_core.specs.Doing.{IsDone}
 use Rattle.device_state.specs.Entered.{lists_by, lists_put, tags_put}
 use Rattle.device_commands.specs.TagChanges.{AreGranular, offer_change}
 use Rattle.control_core.specs.Offers.{IsOfOffer, lists_for}
-use Rattle.control_core.specs.Recording.{told}
+use Rattle.control_core.specs.Recording.{records_entered}
 use Rattle.device_state.specs.Updates.{CanChange, IsOfHosts, IsOfLog, IsUpdate, lists_after}
 use Rattle.device_state.specs.declared.state.State.{State}
 use Rattle.device_state.specs.declared.updates.TagChange.{TagChange}
-use Rattle.control_core.proofs.Decisions.{notices_known}
+use Rattle.control_core.proofs.Decisions.{records_known}
 use Rattle.control_core.proofs.Doing.{lists_over, others_stay, unheld_over}
 use Rattle.control_core.proofs.Recorded.{told_is}
 use Rattle.media_map.proofs.RunLemmas.{granular_from}
 use Rattle.device_rules.proofs.TagSteps.{same_tag-self}
 
-module _ (c : Configuration) (before : List Entry) (s : State) (kept : IsKept c before s) (h : HostId) (r : ℕ) (tag : Tag) (new : List Extent) (o : Outcome) (of : IsOfOffer c before h r tag new o) where
+module _ (c : Configuration) (before : List Entry) (s : State) (kept : IsStateAfter c before s) (h : HostId) (r : ℕ) (tag : Tag) (new : List Extent) (o : Outcome) (of : IsOfOffer c before h r tag new o) where
   own_after : lists_after c h before (effects_of c (effects before) o) ≡ lists_in (view_after c h (view_of c h before) o.changes)
   own_after = lists_over c (effects before) o h (view_of c h before)
 
@@ -96,7 +96,7 @@ module _ (c : Configuration) (before : List Entry) (s : State) (kept : IsKept c 
 
   -- ---- the tags
 
-  live_is : (entries : List TagEntry) → IsTable c (effects before) entries → is_live tag entries ≡ is_live tag s.tags.entries
+  live_is : (entries : List TagEntry) → IsTable c (effects before) entries → has_entry tag entries ≡ has_entry tag s.tags.entries
   live_is entries table = sym (table_live c (effects before) entries table tag) ∙ table_live c (effects before) s.tags.entries kept.tags_are tag
 
   held_is : has_extent_of tag (lists_after c h before (effects_of c (effects before) o)).accepted ≡ has_extent_of tag (accepted_of c h (effects before))
@@ -114,14 +114,14 @@ module _ (c : Configuration) (before : List Entry) (s : State) (kept : IsKept c 
       or_true true = refl
       or_true false = refl
 
-  its_change : (shareable live : Bool) → (region_spec c r).shareable ≡ shareable → is_live tag s.tags.entries ≡ live → (entries : List TagEntry) → IsTable c (effects before) entries →
+  its_change : (shareable live : Bool) → (region_spec c r).shareable ≡ shareable → has_entry tag s.tags.entries ≡ live → (entries : List TagEntry) → IsTable c (effects before) entries →
       CanChange c.hosts (if not shareable then TagChange.Nothing else if live then TagChange.OfHost h (tag ∷ []) else TagChange.Begin tag r (map (run_of c h) new) h) entries
       × IsTable c (effects before ++ effects_of c (effects before) o)
       (tags_put (if not shareable then TagChange.Nothing else if live then TagChange.OfHost h (tag ∷ []) else TagChange.Begin tag r (map (run_of c h) new) h) (λ k. lists_after c k before (effects_of c (effects before) o)) entries)
   its_change false live private is entries table = (tt, (of.offered entries table).private private)
   its_change true true shared is entries table = (
     of.host,
-    subst (λ (x : Bool × Bool). IsTable c (effects before ++ effects_of c (effects before) o) (still_used (changed tag (set_by h x.0 x.1) entries))) (λ i. (sym held_is i, sym offered_is i))
+    subst (λ (x : Bool × Bool). IsTable c (effects before ++ effects_of c (effects before) o) (still_used (entries_changed tag (set_by h x.0 x.1) entries))) (λ i. (sym held_is i, sym offered_is i))
         ((of.offered entries table).shared shared (live_is entries table ∙ is)),
   )
   its_change true false shared is entries table = (
@@ -132,22 +132,22 @@ module _ (c : Configuration) (before : List Entry) (s : State) (kept : IsKept c 
   -- ---- the draft
 
   pub offer_done : (q : Request) (draft : DraftParts) → Drafts c h (view_of c h before) o draft → (reply : Reply) (all : List Effect) (change : TagChange) →
-      reply ≡ response q Code.Success draft.payload → all ≡ draft.changes ++ told (effects before) draft.notices →
-      change ≡ offer_change c h r tag new (is_live tag s.tags.entries) →
+      reply ≡ response q Code.Success draft.payload → all ≡ draft.changes ++ records_entered (effects before) draft.log_records →
+      change ≡ offer_change c h r tag new (has_entry tag s.tags.entries) →
       IsDone c before q o (record { reply = reply; effects = all; update = record { lists = lists_for h draft.lists; tags = change } })
   offer_done q draft drafts reply all change answers is change_is =
       let effects_are : all ≡ effects_of c (effects before) o = is
-      ∙ (λ i. drafts.changes i ++ told_is (effects before) draft.notices i)
-      ∙ ap (λ notices. o.changes ++ flat_map (λ n. entered_all n.0 (log_of n.0 (effects before)) n.1) notices) drafts.notices
-      ∙ ap (λ es. es ++ flat_map (λ n. entered_all n.0 (log_of n.0 (effects before)) n.1) o.notices)
+      ∙ (λ i. drafts.changes i ++ told_is (effects before) draft.log_records i)
+      ∙ ap (λ log_records. o.changes ++ flat_map (λ n. entered_all n.0 (log_of n.0 (effects before)) n.1) log_records) drafts.log_records
+      ∙ ap (λ es. es ++ flat_map (λ n. entered_all n.0 (log_of n.0 (effects before)) n.1) o.log_records)
       (sym (ap (λ tags. o.changes ++ map Effect.TagEnd (ended c (effects before) o.changes tags)) of.no_tags ∙ append-nil o.changes)) in record {
         reply = answers ∙ ap (response q Code.Success) drafts.payload;
         effects = effects_are;
         update = subst (λ (x : List Effect × TagChange). IsUpdate c before x.0 (record { lists = lists_for h draft.lists; tags = x.1 })) (λ i. (sym effects_are i, sym change_is i)) (record {
           of_hosts = its_host draft.lists;
           lists = λ k known. its_lists draft.lists drafts.lists k;
-          can_change = λ entries table. (its_change (region_spec c r).shareable (is_live tag s.tags.entries) refl refl entries table).0;
-          tags = λ entries table. (its_change (region_spec c r).shareable (is_live tag s.tags.entries) refl refl entries table).1;
+          can_change = λ entries table. (its_change (region_spec c r).shareable (has_entry tag s.tags.entries) refl refl entries table).0;
+          tags = λ entries table. (its_change (region_spec c r).shareable (has_entry tag s.tags.entries) refl refl entries table).1;
         });
       }
 
@@ -192,8 +192,8 @@ module _ (c : Configuration) (sound : IsSound c) (before : List Entry) (legal : 
     offered = λ entries table. table-add c sound before legal entries table h policy r bytes tag list row;
   }
 
-  pub add_known : (s : State) → IsKept c before s → (draft : DraftParts) → map told_in draft.notices ≡ (manager_outcome c (effects before) (λ k. view_of c k before) (FmRequest.Add h policy r bytes tag list)).notices →
-      All (λ (n : Notice). IsOfLog (length s.hosts.items) n.log) draft.notices
+  pub add_known : (s : State) → IsStateAfter c before s → (draft : DraftParts) → map told_in draft.log_records ≡ (manager_outcome c (effects before) (λ k. view_of c k before) (FmRequest.Add h policy r bytes tag list)).log_records →
+      All (λ (n : LogRecords). IsOfLog (length s.hosts.items) n.log) draft.log_records
   add_known s kept draft is =
-      notices_known (length s.hosts.items) draft.notices (manager_outcome c (effects before) (λ k. view_of c k before) (FmRequest.Add h policy r bytes tag list)).notices is
+      records_known (length s.hosts.items) draft.log_records (manager_outcome c (effects before) (λ k. view_of c k before) (FmRequest.Add h policy r bytes tag list)).log_records is
       (subst (λ n. h < n) (sym kept.host_count) add_host, tt)

@@ -13,7 +13,7 @@ use Rattle.table_laws.specs.GranuleCells.{status_of}
 use Rattle.granule_map.specs.StateLists.{count_of, same_state}
 use Rattle.granule_map.specs.declared.states.GranuleState.{GranuleState}
 use Rattle.granule_table.specs.Tables.{cell_at}
-use Rattle.device_state.specs.Kept.{IsLogOf, IsKept, part_of}
+use Rattle.device_state.specs.StateAfter.{IsLogOf, IsStateAfter, part_of}
 use Rattle.host_lists.specs.Lists.{Lists}
 use Rattle.journal_core.specs.Entries.{effects}
 use Rattle.journal_core.specs.declared.entries.Entry.{Entry}
@@ -33,7 +33,7 @@ use Rattle.holding_laws.specs.Standing.{IsHome, Stands}
 use Rattle.device_rules.specs.Counts.{dirty_count, extent_count, free_count, granules_held, missed_of, records_of}
 use Rattle.device_rules.specs.Hosts.{accepted_of, held_of, offers_of}
 use Rattle.device_rules.specs.Logs.{log_of}
-use Rattle.device_rules.specs.Tags.{Status, granules_of, is_dirty, is_free, status}
+use Rattle.device_rules.specs.Tags.{Status, all_granules, is_dirty, is_free, status}
 use Rattle.control_core.specs.Deciding.{Holds}
 use Rattle.control_core.specs.HeldExtents.{AreHeld, IsHeld}
 use Rattle.device_state.specs.Updates.{IsOfLog, log_in}
@@ -81,7 +81,7 @@ dirty_is (GranuleState.Held h) = refl
 dirty_is (GranuleState.Tagged t) = refl
 dirty_is GranuleState.Dirty = refl
 
-module _ (c : Configuration) (before : List Entry) (s : State) (kept : IsKept c before s) where
+module _ (c : Configuration) (before : List Entry) (s : State) (kept : IsStateAfter c before s) where
   pub free_told : count_of s.granules.states GranuleState.Free ≡ free_count c (effects before)
   unfolding free_count
   free_told =
@@ -99,7 +99,7 @@ module _ (c : Configuration) (before : List Entry) (s : State) (kept : IsKept c 
       ∙ sym (length-filter (λ g. is_dirty (status c g (effects before))) (range_with_len 0 (granule_total c)))
 
   -- the status of each granule
-  pub states_told : map status_of s.granules.states ≡ map (λ g. status c g (effects before)) (granules_of c)
+  pub states_told : map status_of s.granules.states ≡ map (λ g. status c g (effects before)) (all_granules c)
   states_told =
       status_over status_of (λ g. status c g (effects before)) GranuleState.Dirty s.granules.states 0
       (λ g below. (kept.cells g (omega (arith, below, kept.granule_count))).status_is ∙ sym (ap (λ k. status c k (effects before)) (zero-add g)))

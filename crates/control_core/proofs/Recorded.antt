@@ -13,13 +13,13 @@ use Rattle.journal_core.specs.Entries.{effects}
 use Rattle.journal_core.specs.declared.entries.Entry.{Entry}
 use Rattle.journal_core.specs.declared.outcome.Effect.{Effect}
 use Rattle.region_config.specs.Configurations.{Configuration}
-use Rattle.device_state.specs.Kept.{IsLogOf, IsKept}
+use Rattle.device_state.specs.StateAfter.{IsLogOf, IsStateAfter}
 use Rattle.device_commands.specs.Drafts.{told_in}
-use Rattle.device_commands.specs.declared.log_records.Notice.{Notice}
+use Rattle.device_commands.specs.declared.log_records.LogRecords.{LogRecords}
 use Rattle.device_rules.specs.Logs.{log_after, log_of}
 use Rattle.device_rules.specs.Outcomes.{entered, entered_all}
 use Rattle.step_laws.proofs.LogSteps.{IsSound, IsSound-recorded, room-recorded, same_log-self}
-use Rattle.control_core.specs.Recording.{records_by, told}
+use Rattle.control_core.specs.Recording.{records_by, records_entered}
 use Rattle.device_state.specs.Updates.{IsOfLog, log_in}
 use Rattle.device_state.specs.declared.state.State.{State}
 
@@ -52,7 +52,7 @@ records_are l log sound (e ∷ events) = elim (cases_eq (room_in l log) 0) [
 ]
 
 -- the log that is kept is that of its history
-pub kept_log : (c : Configuration) (journal : List Entry) (s : State) → IsKept c journal s → (l : LogId) → IsOfLog (length s.hosts.items) l → IsLogOf l (log_of l (effects journal)) (log_in s l)
+pub kept_log : (c : Configuration) (journal : List Entry) (s : State) → IsStateAfter c journal s → (l : LogId) → IsOfLog (length s.hosts.items) l → IsLogOf l (log_of l (effects journal)) (log_in s l)
 kept_log c journal s kept (LogId.Host h) known = (kept.parts h (subst (λ n. h < n) kept.host_count known)).log_is
 kept_log c journal s kept LogId.Manager known = kept.manager_log
 
@@ -61,16 +61,16 @@ pub entered_by : (l : LogId) (history : Log) (log : LogState) → IsLogOf l hist
 entered_by l history log of events =
     ap (λ (s : LogState). records_by l s.next (s.capacity - length s.records) events) of.is ∙ records_are l history of.told.sound events
 
--- the same of notices as outcomes have them
-pub told_is : (past : List Effect) (notices : List Notice) → told past notices ≡ flat_map (λ n. entered_all n.0 (log_of n.0 past) n.1) (map told_in notices)
+-- the same of records as outcomes have them
+pub told_is : (past : List Effect) (log_records : List LogRecords) → records_entered past log_records ≡ flat_map (λ n. entered_all n.0 (log_of n.0 past) n.1) (map told_in log_records)
 told_is past [] = refl
-told_is past (n ∷ notices) = ap (λ es. entered_all n.log (log_of n.log past) n.events ++ es) (told_is past notices)
+told_is past (n ∷ log_records) = ap (λ es. entered_all n.log (log_of n.log past) n.events ++ es) (told_is past log_records)
 
--- one notice more
-pub told_more : (past : List Effect) (notices : List Notice) (i : ℕ) (n : Notice) → i < length notices → n ≡ get_or notices i n →
-    told past (take (i + 1) notices) ≡ told past (take i notices) ++ entered_all n.log (log_of n.log past) n.events
-told_more past notices i n below is =
-    let f : Notice → List Effect = λ (m : Notice). entered_all m.log (log_of m.log past) m.events in
-    ap (told past) (take_more notices i n below)
-    ∙ flat_map-append f (take i notices) (get_or notices i n ∷ [])
-    ∙ ap (λ es. told past (take i notices) ++ es) (append-nil (f (get_or notices i n)) ∙ ap f (sym is))
+-- one record more
+pub told_more : (past : List Effect) (log_records : List LogRecords) (i : ℕ) (n : LogRecords) → i < length log_records → n ≡ get_or log_records i n →
+    records_entered past (take (i + 1) log_records) ≡ records_entered past (take i log_records) ++ entered_all n.log (log_of n.log past) n.events
+told_more past log_records i n below is =
+    let f : LogRecords → List Effect = λ (m : LogRecords). entered_all m.log (log_of m.log past) m.events in
+    ap (records_entered past) (take_more log_records i n below)
+    ∙ flat_map-append f (take i log_records) (get_or log_records i n ∷ [])
+    ∙ ap (λ es. records_entered past (take i log_records) ++ es) (append-nil (f (get_or log_records i n)) ∙ ap f (sym is))

@@ -7,7 +7,7 @@ use Rattle.dcd_base.specs.declared.steps.Actor.{Actor}
 use Rattle.region_config.specs.Configurations.{Configuration}
 use Rattle.region_config.specs.Granules.{same_region}
 use Rattle.granule_map.specs.Choices.{joined}
-use Rattle.device_state.specs.Kept.{lists_in}
+use Rattle.device_state.specs.StateAfter.{lists_in}
 use Rattle.host_lists.specs.Lists.{Lists}
 use Rattle.journal_core.specs.Entries.{effects}
 use Rattle.journal_core.specs.declared.acts.Act.{Act}
@@ -18,7 +18,7 @@ use Rattle.device_rules.specs.Answers.{scrubbed as rules_scrubbed, zeroes}
 use Rattle.device_rules.specs.Views.{view_of}
 use Rattle.device_rules.proofs.EffectKinds.{zeroes_pass}
 use Rattle.step_laws.proofs.ViewsLeft.{leaves_view, view_after-left}
-use Rattle.sanitizer.specs.Turns.{granules_of}
+use Rattle.sanitizer.specs.Turns.{run_of_pair}
 use Rattle.table_laws.proofs.QuietSteps.{table-scrubbed}
 use Rattle.control_core.specs.Deciding.{IsDecided}
 use Rattle.device_state.specs.Entered.{lists_by}
@@ -38,8 +38,8 @@ lists_stay h l (run ∷ runs) = lists_stay h l runs
 
 zeroed_lists : (c : Configuration) (h : HostId) (l : Lists) (gs : List ℕ) → fold (lists_by h) l (zeroes c gs) ≡ l
 zeroed_lists c h l gs =
-    ap (fold (lists_by h) l) (sym (map_twice granules_of Effect.Zero (joined (same_region c) gs)))
-    ∙ lists_stay h l (map granules_of (joined (same_region c) gs))
+    ap (fold (lists_by h) l) (sym (map_twice run_of_pair Effect.Zero (joined (same_region c) gs)))
+    ∙ lists_stay h l (map run_of_pair (joined (same_region c) gs))
 
 pub scrub_update : (c : Configuration) (before : List Entry) (gs : List ℕ) → IsUpdate c before (zeroes c gs) (record { lists = None; tags = TagChange.Nothing })
 scrub_update c before gs = record {

@@ -16,7 +16,7 @@ use Rattle.dcd_base.specs.declared.steps.LogId.{LogId}
 use Rattle.dcd_base.specs.declared.tags.TagView.{TagView}
 use Rattle.event_log.specs.LogStates.{LogState}
 use Rattle.event_log.specs.Logs.{Log, empty_log, records_in}
-use Rattle.event_records.specs.Records.{end_fields, head_fields, record_fields}
+use Rattle.event_records.specs.Records.{end_fields, record_head, record_fields}
 use Rattle.event_records.specs.declared.events.Event.{Event}
 use Rattle.fm_payloads.specs.ManagerPayloads.{info_fields, info_head_fields, info_payload, lists_head, regions_head, tag_fields, tags_fields, tags_head_fields, tags_payload}
 use Rattle.fm_payloads.specs.declared.requests.FmRequest.{FmRequest}
@@ -45,7 +45,7 @@ use Rattle.device_rules.specs.TagCommands.{tag_seen}
 use Rattle.device_rules.specs.Tags.{open_tags}
 use Rattle.device_rules.specs.Views.{View, generation_in, view_of}
 use Rattle.control_core.specs.Fitting.{PartFits, RequestFits, TagFits}
-use Rattle.device_state.specs.Kept.{IsKept, IsPart}
+use Rattle.device_state.specs.StateAfter.{IsStateAfter, IsPart}
 use Rattle.device_state.specs.declared.parts.HostPart.{HostPart}
 use Rattle.device_state.specs.declared.state.State.{State}
 
@@ -85,7 +85,7 @@ spelled_extent x fits =
 
 spelled_record : (e : Event) → TagFits e.extent.tag → length (spelling (record_fields e)) ≡ 128
 spelled_record e fits =
-    let front = spelled_both (head_fields e) (extent_fields e.extent ++ end_fields e) in
+    let front = spelled_both (record_head e) (extent_fields e.extent ++ end_fields e) in
     let back = spelled_both (extent_fields e.extent) (end_fields e) in
     front ∙ ap (λ n. 56 + n) (back ∙ (λ i. spelled_extent e.extent fits i + 32))
 
@@ -247,7 +247,7 @@ entry_tags : (entries : List TagEntry) → AllByRecursion (λ (e : TagEntry). Ta
 entry_tags [] fit = tt
 entry_tags (e ∷ entries) fit = (fit.0, entry_tags entries fit.1)
 
-pub short_manager : (c : Configuration) (before : List Entry) (s : State) → IsKept c before s → length c.regions ≤ 8 → (q : FmRequest) → RequestFits s q →
+pub short_manager : (c : Configuration) (before : List Entry) (s : State) → IsStateAfter c before s → length c.regions ≤ 8 → (q : FmRequest) → RequestFits s q →
     manager_rule c (effects before) (λ h. view_of c h before) q ≡ None → length (manager_outcome c (effects before) (λ h. view_of c h before) q).payload ≤ 2048
 short_manager c before s kept few (FmRequest.GetEvents log) fits row =
     short_log log (log_of LogId.Manager (effects before)) (subst (λ (l : LogState). All (λ (e : Event). TagFits e.extent.tag) l.records) kept.manager_log.is fits)

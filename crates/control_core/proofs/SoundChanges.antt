@@ -10,7 +10,7 @@ use Rattle.journal_core.specs.declared.outcome.Effect.{Effect}
 use Rattle.region_config.specs.Configurations.{Configuration}
 use Rattle.region_config.specs.Granules.{granule_total}
 use Rattle.dcd_base.specs.Hosts.{has_host}
-use Rattle.control_core.specs.ChangedRuns.{IsInRegion, IsSoundChange}
+use Rattle.control_core.specs.ChangedRuns.{IsWithinRegion, IsSoundChange}
 use Rattle.control_core.specs.PutChanges.{NameNoOthers, bits_by, is_zero}
 use Rattle.control_core.proofs.ChangedHolders.{with_other, without_other}
 
@@ -22,7 +22,7 @@ no_others_by c e of bits h other none = none
 
 -- one more change, of granules of a region
 pub sound_more : (c : Configuration) (at next : ℕ) (holders : List ℕ) (e : Effect) (region : Run) (mid new : List Change) (change : Change) → at < next → at < granule_total c → IsOfDevice c e →
-    IsInRegion c region → region.first ≤ at → next ≤ region.first + region.count → NameNoOthers c holders → All (IsSoundChange c) mid → new ≡ mid ++ change ∷ [] →
+    IsWithinRegion c region → region.first ≤ at → next ≤ region.first + region.count → NameNoOthers c holders → All (IsSoundChange c) mid → new ≡ mid ++ change ∷ [] →
     change ≡ record { run = record { first = at; count = next - at }; holders = bits_by e (get_or holders at 0); zero = is_zero e } → All (IsSoundChange c) new
 sound_more c at next holders e region mid new change later known of is from to none all pushed change_is =
     let one : IsSoundChange c (record { run = record { first = at; count = next - at }; holders = bits_by e (get_or holders at 0); zero = is_zero e }) = record {

@@ -32,7 +32,7 @@ abbrev pub AreHolders : Configuration → ℕ → List Effect → ℕ → Type 0
 AreHolders c g past bits = (h : HostId) → h < c.hosts → has_host bits h ≡ holds h g past
 
 -- The run lies in one region.
-pub record IsInRegion (c : Configuration) (run : Run) : Type 0 where
+pub record IsWithinRegion (c : Configuration) (run : Run) : Type 0 where
   pub region : ℕ
   pub known : region < length c.regions
   pub from : first_granule c region ≤ run.first
@@ -41,7 +41,7 @@ pub record IsInRegion (c : Configuration) (run : Run) : Type 0 where
 -- The change names some granules, all of one region, and holders that the device has.
 pub record IsSoundChange (c : Configuration) (change : Change) : Type 0 where
   pub some : 0 < change.run.count
-  pub region : IsInRegion c change.run
+  pub region : IsWithinRegion c change.run
   pub hosts : (h : HostId) → c.hosts ≤ h → has_host change.holders h ≡ false
 
 -- One after another the changes leave the holders that the effects leave, they zero the granules that the effects

@@ -8,7 +8,7 @@ use Rattle.journal_core.specs.declared.acts.Reply.{Reply}
 use Rattle.journal_core.specs.declared.entries.Entry.{Entry}
 use Rattle.device_rules.specs.Answers.{answer}
 use Rattle.device_rules.specs.Legal.{Legal}
-use Rattle.device_state.specs.Kept.{IsKept}
+use Rattle.device_state.specs.StateAfter.{IsStateAfter}
 use Rattle.device_state.specs.Updates.{IsUpdate}
 use Rattle.control_core.specs.declared.decided.Decided.{Decided}
 use Rattle.device_state.specs.declared.state.State.{State}
@@ -34,11 +34,11 @@ pub record IsDecidedBy (c : Configuration) (before : List Entry) (actor : Actor)
 
 -- So it is by every legal journal that leads to what is kept.
 abbrev pub IsDecided : Configuration → State → Actor → Act → Decided → Type 0
-IsDecided c s actor act d = (before : List Entry) → Legal c before → IsKept c before s → IsDecidedBy c before actor act d
+IsDecided c s actor act d = (before : List Entry) → Legal c before → IsStateAfter c before s → IsDecidedBy c before actor act d
 
 -- What every control keeps: its entries are legal, what is kept is what they say, and all responses are short.
 pub record Holds (c : Configuration) (journal : List Entry) (s : State) : Type 0 where
   pub sound : IsSound c
   pub legal : Legal c journal
-  pub kept : IsKept c journal s
+  pub kept : IsStateAfter c journal s
   pub short : AreShort journal

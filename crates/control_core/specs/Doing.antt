@@ -16,7 +16,7 @@ use Rattle.journal_core.specs.Entries.{effects}
 use Rattle.journal_core.specs.declared.entries.Entry.{Entry}
 use Rattle.device_commands.specs.HostMessages.{IsDrafted}
 use Rattle.device_commands.specs.Drafts.{Drafts}
-use Rattle.device_state.specs.Kept.{IsKept, lists_in}
+use Rattle.device_state.specs.StateAfter.{IsStateAfter, lists_in}
 use Rattle.device_commands.specs.declared.draft.DraftParts.{DraftParts}
 use Rattle.device_rules.specs.Answers.{host_result_in, response}
 use Rattle.device_rules.specs.Legal.{Legal}
@@ -48,18 +48,18 @@ pub record IsOfHost (c : Configuration) (before : List Entry) (h : HostId) (o : 
 
 -- The draft is done: for each outcome of the host that it is, by every journal that leads to what is kept.
 abbrev pub Does : State → HostId → Request → DraftParts → Decided → Type 0
-Does s h q draft d = (c : Configuration) (before : List Entry) (o : Outcome) → IsKept c before s → IsOfHost c before h o →
+Does s h q draft d = (c : Configuration) (before : List Entry) (o : Outcome) → IsStateAfter c before s → IsOfHost c before h o →
     Drafts c h (view_of c h before) o draft → IsDone c before q o d
 
 -- ---- a host's message
 
 -- By every legal journal that leads to what is kept, the message is drafted so, or refused by this rule.
 abbrev pub Drafted : Configuration → State → HostId → Request → Result DraftParts Refusal → Type 0
-Drafted c s h q result = (before : List Entry) → Legal c before → IsKept c before s → IsDrafted c h (view_of c h before) q result
+Drafted c s h q result = (before : List Entry) → Legal c before → IsStateAfter c before s → IsDrafted c h (view_of c h before) q result
 
 -- ---- a host's message that is refused
 
 -- A message that breaks the rule first comes to this.
 abbrev pub Refuses : Configuration → State → HostId → Request → Rule → Decided → Type 0
-Refuses c s h q rule d = (before : List Entry) → Legal c before → IsKept c before s → host_result_in c h (view_of c h before) q ≡ Err rule →
+Refuses c s h q rule d = (before : List Entry) → Legal c before → IsStateAfter c before s → host_result_in c h (view_of c h before) q ≡ Err rule →
     IsDecidedBy c before (Actor.Host h) (Act.Command q) d

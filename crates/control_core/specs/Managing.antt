@@ -23,7 +23,7 @@ use Rattle.tag_refs.specs.declared.entries.TagEntry.{TagEntry}
 use Rattle.control_core.specs.Deciding.{IsDecided}
 use Rattle.control_core.specs.Doing.{IsDone}
 use Rattle.device_state.specs.Entered.{tags_put}
-use Rattle.device_state.specs.Kept.{IsKept}
+use Rattle.device_state.specs.StateAfter.{IsStateAfter}
 use Rattle.device_state.specs.Updates.{CanChange, lists_after}
 use Rattle.control_core.specs.declared.decided.Decided.{Decided}
 use Rattle.device_state.specs.declared.state.State.{State}
@@ -32,7 +32,7 @@ use Rattle.device_state.specs.declared.updates.TagChange.{TagChange}
 -- The message comes to this, or breaks this rule first.
 abbrev pub Manages : Configuration → State → Request → Result Decided Refusal → Type 0
 Manages c s q (Ok d) = IsDecided c s Actor.Manager (Act.Command q) d
-Manages c s q (Err (Refusal.Broken rule)) = (before : List Entry) → Legal c before → IsKept c before s → manager_result c before (manager_request q.opcode q.payload) ≡ Err rule
+Manages c s q (Err (Refusal.Broken rule)) = (before : List Entry) → Legal c before → IsStateAfter c before s → manager_result c before (manager_request q.opcode q.payload) ≡ Err rule
 Manages c s q (Err Refusal.NoMemory) = Unit {0}
 
 -- ---- commands that change no lists
@@ -55,5 +55,5 @@ pub record IsOfNone (c : Configuration) (before : List Entry) (o : Outcome) (ove
       IsTable c (effects before ++ effects_of c (effects before) o) (tags_put change (λ h. lists_after c h before (effects_of c (effects before) o)) entries)
 
 -- The draft is done: for each such outcome that it is, by every journal that leads to what is kept.
-abbrev pub Enters : State → Request → DraftParts → List Tag → TagChange → Decided → Type 0
-Enters s q draft over change d = (c : Configuration) (before : List Entry) (o : Outcome) → IsKept c before s → IsOfNone c before o over change → IsOutcome o draft → IsDone c before q o d
+abbrev pub EntersDraft : State → Request → DraftParts → List Tag → TagChange → Decided → Type 0
+EntersDraft s q draft over change d = (c : Configuration) (before : List Entry) (o : Outcome) → IsStateAfter c before s → IsOfNone c before o over change → IsOutcome o draft → IsDone c before q o d

@@ -20,7 +20,7 @@ use Rattle.table_laws.specs.TagTableSteps.{IsOffered}
 use Rattle.table_laws.specs.TagTable.{IsTable}
 use Rattle.tag_refs.specs.declared.entries.TagEntry.{TagEntry}
 use Rattle.control_core.specs.Doing.{IsDone}
-use Rattle.device_state.specs.Kept.{IsKept}
+use Rattle.device_state.specs.StateAfter.{IsStateAfter}
 use Rattle.control_core.specs.declared.decided.Decided.{Decided}
 use Rattle.device_state.specs.declared.state.State.{State}
 use Rattle.device_state.specs.declared.updates.NewLists.{NewLists}
@@ -41,5 +41,5 @@ pub record IsOfOffer (c : Configuration) (before : List Entry) (h : HostId) (r :
 
 -- The draft is done: for each such outcome that it is, by every journal that leads to what is kept.
 abbrev pub Offers : Configuration → State → HostId → ℕ → Tag → Request → DraftParts → Decided → Type 0
-Offers c s h r tag q draft d = (before : List Entry) (new : List Extent) (o : Outcome) → IsKept c before s → IsOfOffer c before h r tag new o →
+Offers c s h r tag q draft d = (before : List Entry) (new : List Extent) (o : Outcome) → IsStateAfter c before s → IsOfOffer c before h r tag new o →
     Drafts c h (view_of c h before) o draft → IsDone c before q o d

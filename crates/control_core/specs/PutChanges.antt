@@ -10,10 +10,10 @@ use Rattle.device_rules.specs.Legal.{is_zeroing}
 use Rattle.region_config.specs.Configurations.{Configuration}
 use Rattle.region_config.specs.Granules.{granule_total}
 use Rattle.dcd_base.specs.Hosts.{has_host, with_host, without_host}
-use Rattle.control_core.specs.ChangedRuns.{IsInRegion, holders_after, touches, AreChanges, IsSoundChange, LiesIn}
+use Rattle.control_core.specs.ChangedRuns.{IsWithinRegion, holders_after, touches, AreChanges, IsSoundChange, LiesIn}
 use Rattle.journal_core.specs.Entries.{effects as effects_of}
 use Rattle.journal_core.specs.declared.entries.Entry.{Entry}
-use Rattle.device_state.specs.Kept.{IsKept}
+use Rattle.device_state.specs.StateAfter.{IsStateAfter}
 use Rattle.device_state.specs.declared.state.State.{State}
 
 -- the granules that the effect gives, takes or zeroes
@@ -70,7 +70,7 @@ PutOne n holders e old new = (effects : List Effect) → ArePut n holders effect
 
 -- The granules are those of one region, if there are any.
 abbrev pub IsRegionOrNone : Configuration → Run → Type 0
-IsRegionOrNone c run = 0 < run.count → IsInRegion c run
+IsRegionOrNone c run = 0 < run.count → IsWithinRegion c run
 
 -- No granule has a holder that the device has not.
 abbrev pub NameNoOthers : Configuration → List ℕ → Type 0
@@ -79,24 +79,24 @@ NameNoOthers c holders = (g : ℕ) (h : HostId) → g < granule_total c → c.ho
 -- ---- one host
 
 -- the effect gives or takes granules of this host alone, and zeroes none; without a host it gives and takes none
-abbrev pub is_of : Option HostId → Effect → Bool
-is_of (Some h) (Effect.Take k run) = k == h
-is_of (Some h) (Effect.Leave k run) = k == h
-is_of (Some h) (Effect.Zero run) = false
-is_of None (Effect.Take k run) = false
-is_of None (Effect.Leave k run) = false
-is_of host e = true
+abbrev pub is_of_host : Option HostId → Effect → Bool
+is_of_host (Some h) (Effect.Take k run) = k == h
+is_of_host (Some h) (Effect.Leave k run) = k == h
+is_of_host (Some h) (Effect.Zero run) = false
+is_of_host None (Effect.Take k run) = false
+is_of_host None (Effect.Leave k run) = false
+is_of_host host e = true
 
 -- All of them do, so that the holders before the step say what each change leaves.
 pub record AreOfOneHost (effects : List Effect) : Type 0 where
   pub host : Option HostId
-  pub each : list_all (is_of host) effects ≡ true
+  pub each : list_all (is_of_host host) effects ≡ true
 
 -- ---- what the code says of its changes
 
 -- They are the changes of the effects, by every journal that leads to what is kept.
 abbrev pub AreChangesFrom : Configuration → State → List Effect → List Change → Type 0
-AreChangesFrom c s new changes = (before : List Entry) → IsKept c before s → AreChanges c (effects_of before) new changes
+AreChangesFrom c s new changes = (before : List Entry) → IsStateAfter c before s → AreChanges c (effects_of before) new changes
 
 -- All granules of the run are changed as the effect says.
 abbrev pub IsRunAdded : ℕ → List ℕ → Effect → Run → List Change → List Change → Type 0

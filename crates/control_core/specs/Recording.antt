@@ -3,7 +3,7 @@ use Rattle.std.specs.Prelude.{ℕ, ◌-◌, ◌==◌, List, [], ◌∷◌, flat_
 use Rattle.dcd_base.specs.declared.steps.LogId.{LogId}
 use Rattle.event_log.specs.LogStates.{handle_after}
 use Rattle.event_records.specs.declared.events.Event.{Event}
-use Rattle.device_commands.specs.declared.log_records.Notice.{Notice}
+use Rattle.device_commands.specs.declared.log_records.LogRecords.{LogRecords}
 use Rattle.journal_core.specs.declared.outcome.Effect.{Effect}
 use Rattle.device_rules.specs.Logs.{log_of}
 use Rattle.device_rules.specs.Outcomes.{entered_all}
@@ -18,7 +18,7 @@ use Rattle.region_config.specs.Configurations.{Configuration}
 use Rattle.table_laws.specs.TagTable.{ending}
 use Rattle.tag_refs.specs.Tables.{is_used, passes, set_by}
 use Rattle.tag_refs.specs.declared.entries.TagEntry.{TagEntry}
-use Rattle.device_state.specs.Kept.{IsKept}
+use Rattle.device_state.specs.StateAfter.{IsStateAfter}
 use Rattle.device_state.specs.declared.state.State.{State}
 
 -- one record, by the next handle and the room of its log, and the next handle after it
@@ -33,9 +33,9 @@ abbrev pub records_by : LogId → ℕ → ℕ → List Event → List Effect
 records_by l next room [] = []
 records_by l next room (event ∷ events) = record_by l next room event ∷ records_by l (next_by next room) (room - 1) events
 
--- the records of all notices
-abbrev pub told : List Effect → List Notice → List Effect
-told past notices = flat_map (λ (n : Notice). entered_all n.log (log_of n.log past) n.events) notices
+-- the records of all records
+abbrev pub records_entered : List Effect → List LogRecords → List Effect
+records_entered past log_records = flat_map (λ (n : LogRecords). entered_all n.log (log_of n.log past) n.events) log_records
 
 -- whether a tag ends once a host has these lists, and those of some tags that do
 abbrev pub ends_by_lists : HostId → Lists → List TagEntry → Tag → Bool
@@ -46,15 +46,15 @@ ending_with h l entries tags = ending h (λ t. has_extent_of t l.accepted) (λ t
 
 -- ---- by each journal that leads to what is kept
 
--- The records of a notice come behind the effects, and so do those of all notices.
-abbrev pub IsToldBehind : State → Notice → List Effect → List Effect → Type 0
-IsToldBehind s n old new = (c : Configuration) (journal : List Entry) → IsKept c journal s →
+-- The records of a record come behind the effects, and so do those of all records.
+abbrev pub IsToldBehind : State → LogRecords → List Effect → List Effect → Type 0
+IsToldBehind s n old new = (c : Configuration) (journal : List Entry) → IsStateAfter c journal s →
     new ≡ old ++ entered_all n.log (log_of n.log (effects journal)) n.events
 
-abbrev pub AreToldBehind : State → List Notice → List Effect → List Effect → Type 0
-AreToldBehind s ns old new = (c : Configuration) (journal : List Entry) → IsKept c journal s → new ≡ old ++ told (effects journal) ns
+abbrev pub AreToldBehind : State → List LogRecords → List Effect → List Effect → Type 0
+AreToldBehind s ns old new = (c : Configuration) (journal : List Entry) → IsStateAfter c journal s → new ≡ old ++ records_entered (effects journal) ns
 
 -- The effects are the changes, the ends of those of the tags that end once a host has these lists, and the records.
-abbrev pub AreRecorded : State → HostId → Lists → List Effect → List Tag → List Notice → List Effect → Type 0
-AreRecorded s h l changes tags ns all = (c : Configuration) (journal : List Entry) → IsKept c journal s →
-    all ≡ (changes ++ map Effect.TagEnd (ending_with h l s.tags.entries tags)) ++ told (effects journal) ns
+abbrev pub AreRecorded : State → HostId → Lists → List Effect → List Tag → List LogRecords → List Effect → Type 0
+AreRecorded s h l changes tags ns all = (c : Configuration) (journal : List Entry) → IsStateAfter c journal s →
+    all ≡ (changes ++ map Effect.TagEnd (ending_with h l s.tags.entries tags)) ++ records_entered (effects journal) ns

@@ -2,7 +2,7 @@
 
 ghost use Rattle.control_core.specs.PutChanges.{AreChangesFrom, IsRunAdded, StayInside, StaySound, change_by, AreOfOneHost, ArePut};
 ghost use Rattle.control_core.specs.PutChanges.{IsRegionOrNone, NameNoOthers, PutOne, bits_by, is_zero, touched_by};
-ghost use Rattle.control_core.specs.ChangedRuns.{IsInRegion, IsSoundChange, LiesIn};
+ghost use Rattle.control_core.specs.ChangedRuns.{IsWithinRegion, IsSoundChange, LiesIn};
 ghost use Rattle.device_state.specs.Updates.{IsOfDevice};
 ghost use Rattle.region_config.specs.Granules.{granule_total};
 ghost use Rattle.std.specs.Prelude.{◌≡◌, ◌+◌, ◌-◌, ◌<◌, ◌≤◌, All, IfOk, OnOk, Some, slice_index_or, ℕ};
@@ -123,7 +123,7 @@ fn put_runs(
 fn go_to_region(config: &Config, granule: Granule, region: &mut Run)
     requires known { granule < granule_total config.now }
     requires region { IsRegionOrNone config.now region.old }
-    ensures region { IsInRegion config.now region.new }
+    ensures region { IsWithinRegion config.now region.new }
     ensures from { region.new.first ≤ granule }
     ensures to { granule < region.new.first + region.new.count }
 {

@@ -1,6 +1,6 @@
 //! The control: a configuration and the commands and scrubs so far.
 
-ghost use Rattle.control_core.specs.Steps.{AreChangesOf, IsNext, MayStep, entry_of};
+ghost use Rattle.control_core.specs.Steps.{AreChangesOf, IsNextEntry, MayStep, journal_entry};
 ghost use Rattle.control_core.specs.ChangedRuns.{AreChanges, LiesIn};
 ghost use Rattle.control_core.specs.Deciding.{AreShort, IsDecidedBy, IsShort};
 ghost use Rattle.device_rules.specs.Answers.{answer as answer_to};
@@ -12,11 +12,12 @@ ghost use Rattle.std.specs.Prelude.{◌≡◌, ◌+◌, ◌++◌, ◌∷◌, ◌
 
 use crate::changing::changes_of;
 use crate::decided::Decided;
-use crate::host_steps::host_step;
-use crate::manager_steps::manager_step;
+use crate::host_steps::host_recorded;
+use crate::manager_steps::{manager_command, manager_recorded};
 use crate::plan::Plan;
 use crate::scrub_steps::scrub_step;
 use dcd_base::{Actor, Changes, NoMemory, Stamp};
+use device_commands::host_draft;
 use device_state::{State, Update};
 use journal_core::{Act, Effects, Entry, EntryEffects, Reply};
 use region_config::Config;
@@ -100,7 +101,7 @@ impl Control {
         ensures config { self.new.config ≡ self.old.config }
         ensures entries { self.new.entries ≡ self.old.entries }
         ensures room { OnOk result (0 < self.new.spare) }
-        ensures entry { IfOk result (λ plan. plan.entry ≡ entry_of self.old.config self.old.entries pass line actor act) }
+        ensures entry { IfOk result (λ plan. plan.entry ≡ journal_entry self.old.config self.old.entries pass line actor act) }
         ensures short { IfOk result (λ plan. IsShort plan.entry.reply) }
         ensures changes { IfOk result (λ plan. AreChanges self.old.config (effects self.old.entries) plan.entry.effects plan.changes) }
         ensures inside { IfOk result (λ plan. All (LiesIn (granule_total self.old.config)) plan.changes) }
@@ -115,7 +116,7 @@ impl Control {
     /// The plan was prepared on this control, and no other was entered since.
     pub fn apply(&mut self, plan: Plan)
         requires room { 0 < self.old.spare }
-        requires next { IsNext self.old plan.entry }
+        requires next { IsNextEntry self.old plan.entry }
         requires short { IsShort plan.entry.reply }
         requires update { IsUpdate self.old.config self.old.entries plan.entry.effects plan.update }
         ensures config { self.new.config ≡ self.old.config }
@@ -143,9 +144,9 @@ impl Control {
     ) -> Result<Changes, NoMemory>
         requires { MayStep self.old.config actor act }
         ensures config { self.new.config ≡ self.old.config }
-        ensures entered { OnOk result (self.new.entries ≡ self.old.entries ++ entry_of self.old.config self.old.entries pass line actor act ∷ []) }
+        ensures entered { OnOk result (self.new.entries ≡ self.old.entries ++ journal_entry self.old.config self.old.entries pass line actor act ∷ []) }
         ensures kept { OnErr result (self.new.entries ≡ self.old.entries) }
-        ensures short { OnOk result (IsShort (entry_of self.old.config self.old.entries pass line actor act).reply) }
+        ensures short { OnOk result (IsShort (journal_entry self.old.config self.old.entries pass line actor act).reply) }
         ensures changes { IfOk result (AreChangesOf self.old.config self.old.entries actor act) }
         ensures inside { IfOk result (λ changes. All (LiesIn (granule_total self.old.config)) changes) }
     {
@@ -175,7 +176,7 @@ impl Control {
     ) -> Entry
         requires reply { reply ≡ (answer_to self.now.config self.now.entries actor act).0 }
         requires effects { effects ≡ (answer_to self.now.config self.now.entries actor act).1 }
-        ensures { result ≡ entry_of self.now.config self.now.entries pass line actor act }
+        ensures { result ≡ journal_entry self.now.config self.now.entries pass line actor act }
     {
         Entry {
             pass,
@@ -195,7 +196,7 @@ impl Control {
     #[inline(always)]
     fn take(&mut self, entry: Entry, update: Update)
         requires room { 0 < self.old.spare }
-        requires next { IsNext self.old entry }
+        requires next { IsNextEntry self.old entry }
         requires short { IsShort entry.reply }
         requires update { IsUpdate self.old.config self.old.entries entry.effects update }
         ensures config { self.new.config ≡ self.old.config }
@@ -220,7 +221,7 @@ impl Control {
     /// The step, decided.
     fn planned(&self, pass: u32, line: u32, actor: Actor, act: Act) -> Result<Plan, NoMemory>
         requires { MayStep self.now.config actor act }
-        ensures entry { IfOk result (λ plan. plan.entry ≡ entry_of self.now.config self.now.entries pass line actor act) }
+        ensures entry { IfOk result (λ plan. plan.entry ≡ journal_entry self.now.config self.now.entries pass line actor act) }
         ensures short { IfOk result (λ plan. IsShort plan.entry.reply) }
         ensures changes { IfOk result (λ plan. AreChanges self.now.config (effects self.now.entries) plan.entry.effects plan.changes) }
         ensures inside { IfOk result (λ plan. All (LiesIn (granule_total self.now.config)) plan.changes) }
@@ -239,13 +240,26 @@ impl Control {
         match actor {
             Actor::Host(host) => match act {
                 Act::Command(request) => {
-                    host_step(self.alloc, &self.config, &self.state, *host, request)
+                    let (config, state) = (&self.config, &self.state);
+                    let part = state.part(*host);
+                    let drafted = host_draft(
+                        self.alloc,
+                        config,
+                        &state.present,
+                        *host,
+                        &part.lists,
+                        &part.log,
+                        request,
+                    );
+                    host_recorded(self.alloc, config, state, *host, request, drafted)
                 }
                 _ => unreachable!(),
             },
             Actor::Manager => match act {
                 Act::Command(request) => {
-                    manager_step(self.alloc, &self.config, &self.state, request)
+                    let (config, state) = (&self.config, &self.state);
+                    let managed = manager_command(self.alloc, config, state, request);
+                    manager_recorded(self.alloc, config, state, request, managed)
                 }
                 _ => unreachable!(),
             },
@@ -279,7 +293,7 @@ impl Control {
     ) -> Result<Plan, NoMemory>
         requires may { MayStep self.now.config actor act }
         requires decided { IsDecidedBy self.now.config self.now.entries actor act decided }
-        ensures entry { IfOk result (λ plan. plan.entry ≡ entry_of self.now.config self.now.entries pass line actor act) }
+        ensures entry { IfOk result (λ plan. plan.entry ≡ journal_entry self.now.config self.now.entries pass line actor act) }
         ensures short { IfOk result (λ plan. IsShort plan.entry.reply) }
         ensures changes { IfOk result (λ plan. AreChanges self.now.config (effects self.now.entries) plan.entry.effects plan.changes) }
         ensures inside { IfOk result (λ plan. All (LiesIn (granule_total self.now.config)) plan.changes) }

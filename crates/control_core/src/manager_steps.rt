@@ -1,10 +1,8 @@
 //! A command of the Fabric Manager, from its message to its response and effects.
 
-ghost use Rattle.device_commands.specs.InitiateDynamicCapacityAdd.{add_request};
-ghost use Rattle.device_commands.specs.InitiateDynamicCapacityRelease.{remove_request};
 ghost use Rattle.control_core.specs.Deciding.{IsDecided};
-ghost use Rattle.device_state.specs.Kept.{IsReached};
-ghost use Rattle.control_core.specs.Managing.{Enters, Manages};
+ghost use Rattle.device_state.specs.StateAfter.{IsReached};
+ghost use Rattle.control_core.specs.Managing.{EntersDraft, Manages};
 ghost use Rattle.device_commands.specs.ManagerMessages.{FewCleared};
 ghost use Rattle.device_commands.specs.TagChanges.{OffersGranular, offer_change};
 ghost use Rattle.control_core.specs.Offers.{Offers, lists_for};
@@ -13,7 +11,7 @@ ghost use Rattle.device_state.specs.declared.updates.TagChange.{TagChange};
 ghost use Rattle.dcd_base.specs.declared.steps.Actor.{Actor};
 ghost use Rattle.fm_payloads.specs.ManagerPayloads.{manager_request};
 ghost use Rattle.fm_payloads.specs.declared.requests.FmRequest.{FmRequest};
-ghost use Rattle.device_commands.specs.declared.log_records.Notice.{Notice};
+ghost use Rattle.device_commands.specs.declared.log_records.LogRecords.{LogRecords};
 ghost use Rattle.journal_core.specs.declared.acts.Act.{Act};
 ghost use Rattle.std.specs.Prelude.{◌≡◌, ◌<◌, ◌∷◌, [], All, IfOk, false, if◌then◌else◌, length, not, true};
 ghost use Rattle.std.specs.declared.result.Result.TheVariants.{Ok};
@@ -22,10 +20,10 @@ ghost use Rattle.tag_refs.specs.Tables.{is_used, passes, with_reference};
 
 use crate::decided::{Decided, replied};
 use crate::fitting::request_fits;
-use crate::host_steps::done;
-use crate::recording::{put_ends, put_notices};
+use crate::host_steps::recorded;
+use crate::recording::{put_ends, put_records_of_logs};
 use cci_codec::Request;
-use dcd_base::{Boxed, Extents, HostId, NoMemory, RegionId, Seq, Tag};
+use dcd_base::{Boxed, HostId, NoMemory, RegionId, Seq, Tag};
 use dcd_codes::{Code, Refusal, Rule};
 use device_commands::{
     AddRequest, Content, Draft, DraftParts, RemoveRequest, add, add_reference, answer,
@@ -38,18 +36,19 @@ use journal_core::Effects;
 use region_config::Config;
 use std::alloc::Global;
 
-/// What a message of the manager comes to.
-#[inline(always)]
-pub(crate) fn manager_step(
+/// What a message of the manager comes to, where it comes to this or breaks this rule first.
+pub(crate) fn manager_recorded(
     alloc: Global,
     config: &Config,
     state: &State,
     request: &Request,
+    managed: Result<Decided, Refusal>,
 ) -> Result<Decided, NoMemory>
     requires reached { IsReached config.now state.now }
+    requires managed { Manages config.now state.now request.now managed }
     ensures { IfOk result (IsDecided config.now state.now Actor.Manager (Act.Command request.now)) }
 {
-    match step_of(alloc, config, state, request) {
+    match managed {
         Ok(decided) => Ok(decided),
         Err(Refusal::Broken(rule)) => Ok(Decided {
             reply: refused(alloc, request, &rule),
@@ -60,9 +59,8 @@ pub(crate) fn manager_step(
     }
 }
 
-/// What a message comes to, or the first rule that it breaks.
-#[inline(always)]
-fn step_of(
+/// What a message of the manager comes to, or the first rule that it breaks.
+pub(crate) fn manager_command(
     alloc: Global,
     config: &Config,
     state: &State,
@@ -72,7 +70,56 @@ fn step_of(
     ensures { Manages config.now state.now request.now result }
 {
     match decode(alloc, request.opcode, request.payload.as_slice()) {
-        Ok(asked) => step_asked(alloc, config, state, request, &asked),
+        Ok(
+            FmRequest::Add {
+                host,
+                policy,
+                region,
+                length,
+                tag,
+                extents,
+            },
+        ) => {
+            let offer = AddRequest {
+                host,
+                policy,
+                region,
+                length,
+                tag,
+            };
+            match add(alloc, config, state, &offer, &extents) {
+                Ok(draft) => {
+                    let parts = draft.into_parts(alloc);
+                    Ok(added(alloc, config, state, request, &offer, parts)?)
+                }
+                Err(refusal) => Err(refusal),
+            }
+        }
+        Ok(
+            FmRequest::Remove {
+                host,
+                flags,
+                region,
+                length,
+                tag,
+                extents,
+            },
+        ) => {
+            let removal = RemoveRequest {
+                host,
+                flags,
+                region,
+                length,
+                tag,
+            };
+            match remove(alloc, config, state, &removal, &extents) {
+                Ok(draft) => Ok(recorded(alloc, state, HostId(host as u8), request, draft)?),
+                Err(refusal) => Err(refusal),
+            }
+        }
+        Ok(FmRequest::AddReference { tag }) => step_refer(alloc, config, state, request, &tag),
+        Ok(FmRequest::RemoveReference { tag }) => step_unrefer(alloc, config, state, request, &tag),
+        Ok(asked) => step_read(alloc, config, state, request, &asked),
         Err(PayloadFault::UnknownOpcode(opcode)) => {
             Err(Refusal::Broken(Rule::UnknownOpcode(opcode)))
         }
@@ -80,60 +127,6 @@ fn step_of(
             Err(Refusal::Broken(Rule::WrongLength { need, have }))
         }
         Err(PayloadFault::NoMemory) => Err(Refusal::NoMemory),
-    }
-}
-
-/// What the manager's request comes to.
-fn step_asked(
-    alloc: Global,
-    config: &Config,
-    state: &State,
-    request: &Request,
-    asked: &FmRequest,
-) -> Result<Decided, Refusal>
-    requires reached { IsReached config.now state.now }
-    requires asked { manager_request request.now.opcode request.now.payload ≡ Ok asked.now }
-    requires few { FewCleared asked.now }
-    ensures { Manages config.now state.now request.now result }
-{
-    match asked {
-        FmRequest::Add {
-            host,
-            policy,
-            region,
-            length,
-            tag,
-            extents,
-        } => {
-            let offer = AddRequest {
-                host: *host,
-                policy: *policy,
-                region: *region,
-                length: *length,
-                tag: *tag,
-            };
-            step_add(alloc, config, state, request, &offer, extents)
-        }
-        FmRequest::Remove {
-            host,
-            flags,
-            region,
-            length,
-            tag,
-            extents,
-        } => {
-            let removal = RemoveRequest {
-                host: *host,
-                flags: *flags,
-                region: *region,
-                length: *length,
-                tag: *tag,
-            };
-            step_remove(alloc, config, state, request, &removal, extents)
-        }
-        FmRequest::AddReference { tag } => step_refer(alloc, config, state, request, tag),
-        FmRequest::RemoveReference { tag } => step_unrefer(alloc, config, state, request, tag),
-        _ => step_read(alloc, config, state, request, asked),
     }
 }
 
@@ -161,8 +154,8 @@ fn step_read(
 /// A command that changes no lists and no tags is entered.
 #[inline(always)]
 fn read(alloc: Global, state: &State, request: &Request, draft: Draft) -> Result<Decided, NoMemory>
-    requires known { All (λ (n : Notice). IsOfLog (length state.now.hosts.items) n.log) draft.notices }
-    ensures { IfOk result (Enters state.now request.now draft [] TagChange.Nothing) }
+    requires known { All (λ (n : LogRecords). IsOfLog (length state.now.hosts.items) n.log) draft.log_records }
+    ensures { IfOk result (EntersDraft state.now request.now draft [] TagChange.Nothing) }
 {
     match draft.into_content() {
         Content::Reply(payload) => Ok(replied(alloc, request, payload)),
@@ -170,25 +163,6 @@ fn read(alloc: Global, state: &State, request: &Request, draft: Draft) -> Result
             let parts = parts.into_inner();
             entered(alloc, state, request, parts, &[], TagChange::Nothing)
         }
-    }
-}
-
-/// What a 5605h comes to.
-fn step_remove(
-    alloc: Global,
-    config: &Config,
-    state: &State,
-    request: &Request,
-    asked: &RemoveRequest,
-    list: &Extents,
-) -> Result<Decided, Refusal>
-    requires reached { IsReached config.now state.now }
-    requires asked { manager_request request.now.opcode request.now.payload ≡ Ok (remove_request asked.now list.now) }
-    ensures { Manages config.now state.now request.now result }
-{
-    match remove(alloc, config, state, asked, list) {
-        Ok(draft) => Ok(done(alloc, state, HostId(asked.host as u8), request, draft)?),
-        Err(refusal) => Err(refusal),
     }
 }
 
@@ -225,19 +199,26 @@ fn step_unrefer(
     requires asked { manager_request request.now.opcode request.now.payload ≡ Ok (FmRequest.RemoveReference tag.now) }
     ensures { Manages config.now state.now request.now result }
 {
-    let over = over(alloc, state, tag)?;
+    let ended = ended_unreferenced(alloc, state, tag)?;
     match remove_reference(alloc, config, state, tag) {
         Ok(draft) => {
             let parts = draft.into_parts(alloc);
-            let over = over.as_slice();
-            Ok(entered(alloc, state, request, parts, over, TagChange::Unrefer(*tag))?)
+            let ended = ended.as_slice();
+            Ok(entered(
+                alloc,
+                state,
+                request,
+                parts,
+                ended,
+                TagChange::Unrefer(*tag),
+            )?)
         }
         Err(refusal) => Err(refusal),
     }
 }
 
 /// The tag, where it ends without the manager's reference.
-fn over(alloc: Global, state: &State, tag: &Tag) -> Result<Seq<Tag>, NoMemory>
+fn ended_unreferenced(alloc: Global, state: &State, tag: &Tag) -> Result<Seq<Tag>, NoMemory>
     ensures { IfOk result (λ tags. tags ≡ (if passes tag.now (λ e. not (is_used (with_reference false e))) state.now.tags.entries then tag.now ∷ [] else [])) }
 {
     let mut tags = Seq::new(alloc);
@@ -245,28 +226,6 @@ fn over(alloc: Global, state: &State, tag: &Tag) -> Result<Seq<Tag>, NoMemory>
         tags.push(*tag)?;
     }
     Ok(tags)
-}
-
-/// What a 5604h comes to.
-fn step_add(
-    alloc: Global,
-    config: &Config,
-    state: &State,
-    request: &Request,
-    asked: &AddRequest,
-    list: &Extents,
-) -> Result<Decided, Refusal>
-    requires reached { IsReached config.now state.now }
-    requires asked { manager_request request.now.opcode request.now.payload ≡ Ok (add_request asked.now list.now) }
-    ensures { Manages config.now state.now request.now result }
-{
-    match add(alloc, config, state, asked, list) {
-        Ok(draft) => {
-            let parts = draft.into_parts(alloc);
-            Ok(added(alloc, config, state, request, asked, parts)?)
-        }
-        Err(refusal) => Err(refusal),
-    }
 }
 
 /// An offer is entered.
@@ -282,7 +241,7 @@ fn added(
     requires byte { asked.now.host < 256 }
     requires region { asked.now.region < length config.now.regions }
     requires granular { OffersGranular config.now asked.now.host parts.changes }
-    requires known { All (λ (n : Notice). IsOfLog (length state.now.hosts.items) n.log) parts.notices }
+    requires known { All (λ (n : LogRecords). IsOfLog (length state.now.hosts.items) n.log) parts.log_records }
     ensures { IfOk result (Offers config.now state.now asked.now.host asked.now.region asked.now.tag request.now parts) }
 {
     let host = HostId(asked.host as u8);
@@ -300,11 +259,11 @@ fn added(
         payload,
         changes,
         tags: _,
-        notices,
+        log_records,
         lists,
     } = parts;
     let mut effects = changes;
-    put_notices(state, &notices, &mut effects)?;
+    put_records_of_logs(state, &log_records, &mut effects)?;
     let update = Update::new(alloc, new_lists(host, lists), change)?;
     Ok(Decided {
         reply: answer(request, Code::Success, payload),
@@ -329,22 +288,22 @@ fn entered(
     state: &State,
     request: &Request,
     parts: DraftParts,
-    over: &[Tag],
+    ended: &[Tag],
     change: TagChange,
 ) -> Result<Decided, NoMemory>
-    requires known { All (λ (n : Notice). IsOfLog (length state.now.hosts.items) n.log) parts.notices }
-    ensures { IfOk result (Enters state.now request.now parts over.now change) }
+    requires known { All (λ (n : LogRecords). IsOfLog (length state.now.hosts.items) n.log) parts.log_records }
+    ensures { IfOk result (EntersDraft state.now request.now parts ended.now change) }
 {
     let DraftParts {
         payload,
         changes,
         tags: _,
-        notices,
+        log_records,
         lists: _,
     } = parts;
     let mut effects = changes;
-    put_ends(over, &mut effects)?;
-    put_notices(state, &notices, &mut effects)?;
+    put_ends(ended, &mut effects)?;
+    put_records_of_logs(state, &log_records, &mut effects)?;
     let update = Update::new(alloc, None, change)?;
     Ok(Decided {
         reply: answer(request, Code::Success, payload),

@@ -5,7 +5,7 @@ ghost use Rattle.device_rules.specs.Adding.{present as present_in};
 ghost use Rattle.device_rules.specs.Counts.{dirty_count, extent_count, free_count, granules_held, missed_of, records_of};
 ghost use Rattle.device_rules.specs.Hosts.{accepted_of, held_of, offers_of};
 ghost use Rattle.device_rules.specs.Logs.{log_of};
-ghost use Rattle.device_rules.specs.Tags.{granules_of, status};
+ghost use Rattle.device_rules.specs.Tags.{all_granules, status};
 ghost use Rattle.device_state.specs.Updates.{IsOfLog};
 ghost use Rattle.event_log.specs.Logs.{places_in, state_of};
 ghost use Rattle.table_laws.specs.GranuleCells.{status_of};
@@ -96,7 +96,7 @@ impl Control {
     /// Of a granule that is offered, held or tagged the state names a host or a tag, and of that the clause says nothing:
     /// the accepted extents and the offers of the hosts tell it.
     pub fn states(&self) -> &GranuleMap
-        ensures { map status_of result.now.states ≡ map (λ g. status self.now.config g (effects self.now.entries)) (granules_of self.now.config) }
+        ensures { map status_of result.now.states ≡ map (λ g. status self.now.config g (effects self.now.entries)) (all_granules self.now.config) }
     {
         self.state.granules.states()
     }

@@ -2,12 +2,12 @@
 
 ghost use Rattle.control_core.specs.Recording.{AreToldBehind, IsToldBehind, next_by, record_by, records_by};
 ghost use Rattle.device_state.specs.Updates.{IsOfLog};
-ghost use Rattle.device_commands.specs.declared.log_records.Notice.{Notice};
+ghost use Rattle.device_commands.specs.declared.log_records.LogRecords.{LogRecords};
 ghost use Rattle.journal_core.specs.declared.outcome.Effect.{Effect};
 ghost use Rattle.std.specs.Prelude.{◌≡◌, ◌++◌, ◌-◌, All, OnOk, length, map};
 
 use dcd_base::{LogId, NoMemory, Seq, Tag};
-use device_commands::Notice;
+use device_commands::LogRecords;
 use device_state::State;
 use event_log::{EventLog, handle_after};
 use event_records::Event;
@@ -23,30 +23,34 @@ pub(crate) fn put_ends(tags: &[Tag], effects: &mut Effects) -> Result<(), NoMemo
     Ok(())
 }
 
-/// Puts the records of all notices behind the changes.
-pub(crate) fn put_notices(
+/// Puts the records of all records behind the changes.
+pub(crate) fn put_records_of_logs(
     state: &State,
-    notices: &Seq<Notice>,
+    log_records: &Seq<LogRecords>,
     effects: &mut Effects,
 ) -> Result<(), NoMemory>
-    requires known { All (λ (n : Notice). IsOfLog (length state.now.hosts.items) n.log) notices.now }
-    ensures { OnOk result (AreToldBehind state.now notices.now effects.old effects.new) }
+    requires known { All (λ (n : LogRecords). IsOfLog (length state.now.hosts.items) n.log) log_records.now }
+    ensures { OnOk result (AreToldBehind state.now log_records.now effects.old effects.new) }
 {
-    for i in 0..notices.len() {
-        put_notice(state, &notices.as_slice()[i], effects)?;
+    for i in 0..log_records.len() {
+        put_records_of_log(state, &log_records.as_slice()[i], effects)?;
     }
     Ok(())
 }
 
-/// Puts the records of a notice behind the changes.
-fn put_notice(state: &State, notice: &Notice, effects: &mut Effects) -> Result<(), NoMemory>
-    requires known { IsOfLog (length state.now.hosts.items) notice.now.log }
-    ensures { OnOk result (IsToldBehind state.now notice.now effects.old effects.new) }
+/// Puts the records of a record behind the changes.
+fn put_records_of_log(
+    state: &State,
+    record_for: &LogRecords,
+    effects: &mut Effects,
+) -> Result<(), NoMemory>
+    requires known { IsOfLog (length state.now.hosts.items) record_for.now.log }
+    ensures { OnOk result (IsToldBehind state.now record_for.now effects.old effects.new) }
 {
     put_records(
-        state.log(notice.log),
-        &notice.log,
-        notice.events.as_slice(),
+        state.log(record_for.log),
+        &record_for.log,
+        record_for.events.as_slice(),
         effects,
     )
 }

@@ -2,7 +2,7 @@
 
 ghost use Rattle.control_core.specs.Deciding.{IsDecided};
 ghost use Rattle.dcd_base.specs.declared.steps.Actor.{Actor};
-ghost use Rattle.device_state.specs.Kept.{IsReached};
+ghost use Rattle.device_state.specs.StateAfter.{IsReached};
 ghost use Rattle.journal_core.specs.declared.acts.Act.{Act};
 ghost use Rattle.std.specs.Prelude.{IfOk};
 

@@ -2,7 +2,7 @@
 
 ghost use Rattle.dcd_base.specs.Ends.{IsRead};
 ghost use Rattle.dcd_base.specs.Streams.{HasRisen, IsAtEnd, with_front};
-ghost use Rattle.std.specs.Prelude.{◌≡◌, ◌+◌, ◌<◌, ◌≤◌, [], IfOk, IsOk, OnErr, Some, drop, length, min, take};
+ghost use Rattle.std.specs.Prelude.{◌≡◌, ◌+◌, ◌<◌, ◌≤◌, IfOk, IsOk, OnErr, Some, drop, length, min, take};
 
 use crate::failures::Failed;
 use crate::reading::Source;

@@ -1,9 +1,9 @@
 //! What each policy chooses, and each rule with its values.
 
 ghost use Rattle.region_config.specs.Granules.{granule_total};
-ghost use Rattle.std.specs.Prelude.{◌≡◌, IfOk, length};
+ghost use Rattle.std.specs.Prelude.{◌≡◌, ◌<◌, IfOk, length};
 
-use crate::fixtures::{BASE, M, listed, run, two_regions};
+use crate::fixtures::{BASE, M, are_runs, listed, run, two_regions};
 use dcd_base::{HostId, NoMemory, RegionId, Run, Runs, Tag};
 use dcd_codes::{Refusal, Rule};
 use granule_map::{GranuleMap, GranuleState};
@@ -13,17 +13,14 @@ use std::alloc::Global;
 use std::process::Abort;
 use std::test::Fail;
 
-/// The selection has these runs, each a first granule and a count, or is refused for this rule.
-fn chooses(rt: &impl Abort, answer: Result<Runs, Refusal>, expected: Result<&[(u32, u32)], Rule>) {
+/// The runs that are chosen, each a first granule and a count, or the rule that is broken.
+type Chosen = Result<&'static [(u32, u32)], Rule>;
+
+fn is_chosen(answer: &Result<Runs, Refusal>, expected: Chosen) -> bool {
     match (answer, expected) {
-        (Ok(runs), Ok(expected)) => {
-            assert_eq!(rt; runs.len(), expected.len());
-            for (run, (first, count)) in runs.iter().zip(expected.iter()) {
-                assert_eq!(rt; (run.first.0, run.count), (*first, *count));
-            }
-        }
-        (Err(Refusal::Broken(rule)), Err(expected)) => assert_eq!(rt; rule, expected),
-        _ => assert!(rt; false, "another kind of answer"),
+        (Ok(runs), Ok(expected)) => are_runs(runs, expected),
+        (Err(refusal), Err(rule)) => *refusal == Refusal::Broken(rule),
+        _ => false,
     }
 }
 
@@ -39,54 +36,70 @@ fn all_but(alloc: Global, granules: u32, taken: Run) -> Result<GranuleMap, NoMem
     Ok(map)
 }
 
+const MANY: u64 = 1 << 40;
+
+/// The first granule of the area, the granules of a block, how many blocks are wanted, and what Free chooses.
+const FREE: [(u32, u32, u64, Chosen); 3] = [
+    (0, 1, 4, Ok(&[(0, 2), (3, 2)])),
+    (0, 2, 2, Ok(&[(0, 2), (4, 2)])),
+    (
+        0,
+        2,
+        MANY,
+        Err(Rule::TooFewFree {
+            need: MANY,
+            have: 7,
+        }),
+    ),
+];
+
+/// The same, and what Contiguous chooses.
+const CONTIGUOUS: [(u32, u32, u64, Chosen); 3] = [
+    (0, 1, 3, Ok(&[(3, 3)])),
+    (2, 2, 6, Ok(&[(4, 12)])),
+    (
+        0,
+        2,
+        MANY,
+        Err(Rule::TooFewFree {
+            need: MANY,
+            have: 6,
+        }),
+    ),
+];
+
+/// Sees what both policies choose of 16 granules.
+fn see_choices(rt: &impl Abort, alloc: Global, map: &GranuleMap)
+    requires { length map.now.states ≡ 16 }
+{
+    for (first, block, need, expected) in FREE {
+        let answer = free(alloc, map, run(first, 16 - first), block, need);
+        assert!(rt; is_chosen(&answer, expected), "{first}, {block}, {need}");
+    }
+    for (first, block, need, expected) in CONTIGUOUS {
+        let answer = contiguous(alloc, map, run(first, 16 - first), block, need);
+        assert!(rt; is_chosen(&answer, expected), "{first}, {block}, {need}");
+    }
+}
+
 #[test]
 fn the_lowest_free_blocks_on_the_grid_are_chosen(rt: HostRuntime) -> Result<(), Fail> {
-    let alloc = rt.alloc();
-    let map = all_but(alloc, 16, run(2, 1))?;
-    let many = 1 << 40;
-    for (first, block, need, expected) in [
-        (0, 1, 4, Ok([(0, 2), (3, 2)].as_slice())),
-        (0, 2, 2, Ok(&[(0, 2), (4, 2)])),
-        (
-            0,
-            2,
-            many,
-            Err(Rule::TooFewFree {
-                need: many,
-                have: 7,
-            }),
-        ),
-    ] {
-        let area = run(first, 16 - first);
-        chooses(&rt, free(alloc, &map, area, block, need), expected);
-    }
-    for (first, block, need, expected) in [
-        (0, 1, 3, Ok([(3, 3)].as_slice())),
-        (2, 2, 6, Ok(&[(4, 12)])),
-        (
-            0,
-            2,
-            many,
-            Err(Rule::TooFewFree {
-                need: many,
-                have: 6,
-            }),
-        ),
-    ] {
-        let area = run(first, 16 - first);
-        chooses(&rt, contiguous(alloc, &map, area, block, need), expected);
-    }
+    see_choices(&rt, rt.alloc(), &all_but(rt.alloc(), 16, run(2, 1))?);
     Ok(())
+}
+
+/// Sees what Free chooses of 128 granules, one by one.
+fn see_parts(rt: &impl Abort, alloc: Global, map: &GranuleMap)
+    requires { length map.now.states ≡ 128 }
+{
+    let one = free(alloc, map, run(0, 128), 1, 1);
+    let all = free(alloc, map, run(0, 128), 1, 127);
+    assert!(rt; is_chosen(&one, Ok(&[(0, 1)])) && is_chosen(&all, Ok(&[(0, 1), (2, 126)])));
 }
 
 #[test]
 fn a_part_that_was_given_up_is_chosen_first(rt: HostRuntime) -> Result<(), Fail> {
-    let alloc = rt.alloc();
-    let map = all_but(alloc, 128, run(1, 1))?;
-    let one = free(alloc, &map, run(0, 128), 1, 1);
-    chooses(&rt, one, Ok(&[(0, 1)]));
-    let all = free(alloc, &map, run(0, 128), 1, 127);
-    chooses(&rt, all, Ok(&[(0, 1), (2, 126)]));
+    see_parts(&rt, rt.alloc(), &all_but(rt.alloc(), 128, run(1, 1))?);
     Ok(())
 }
 
@@ -102,48 +115,73 @@ fn map_of(alloc: Global, config: &Config) -> Result<GranuleMap, NoMemory>
     Ok(map)
 }
 
+const GOOD: (u64, u64) = (6 * M, 4 * M);
+
+const LOW: (u64, u64) = (2 * M, 2 * M);
+
+/// The region, the list of host 0, and what Prescriptive chooses.
+const PRESCRIBED: [(u8, &[(u64, u64)], Chosen); 15] = [
+    (0, &[GOOD, LOW], Ok(&[(6, 4), (2, 2)])),
+    (1, &[(BASE, 8 * M)], Ok(&[(16, 8)])),
+    (0, &[], Err(Rule::EmptyList)),
+    (0, &[(0, 0); 64], Err(Rule::ZeroLength(0))),
+    (0, &[(0, 0); 65], Err(Rule::TooManyListed(65))),
+    (2, &[(2 * BASE, M)], Err(Rule::OutsideRegion(0))),
+    (
+        0,
+        &[GOOD, GOOD, (0, 0)],
+        Err(Rule::Overlap { index: 1, with: 0 }),
+    ),
+    (0, &[GOOD, (0, 0), GOOD], Err(Rule::ZeroLength(1))),
+    (
+        0,
+        &[GOOD, LOW, (15 * M, 2 * M)],
+        Err(Rule::OutsideRegion(2)),
+    ),
+    (0, &[(BASE, 2 * M), GOOD], Err(Rule::OutsideRegion(0))),
+    (0, &[GOOD, (M, 2 * M), GOOD], Err(Rule::Unaligned(1))),
+    (0, &[GOOD, (0, 3 * M), GOOD], Err(Rule::Unaligned(1))),
+    (0, &[(4 * M, 4 * M), GOOD, GOOD], Err(Rule::NotFree(0))),
+    (0, &[GOOD, (4 * M, 4 * M), GOOD], Err(Rule::NotFree(1))),
+    (
+        0,
+        &[(12 * M, 2 * M), GOOD, (8 * M, 6 * M)],
+        Err(Rule::Overlap { index: 2, with: 0 }),
+    ),
+];
+
+/// What is chosen of a list of host 0.
+fn prescribed(
+    alloc: Global,
+    map: &GranuleMap,
+    config: &Config,
+    region: u8,
+    ranges: &[(u64, u64)],
+) -> Result<Runs, Refusal>
+    requires host { config.now.hosts ≡ 2 }
+    requires granules { length map.now.states ≡ granule_total config.now }
+{
+    let list = listed(alloc, ranges)?;
+    prescriptive(alloc, map, config, HostId(0), RegionId(region), &list)
+}
+
+/// Sees what is chosen of each list of the table.
+fn see_prescribed(rt: &impl Abort, alloc: Global, map: &GranuleMap, config: &Config)
+    requires host { config.now.hosts ≡ 2 }
+    requires granules { length map.now.states ≡ granule_total config.now }
+{
+    for (i, (region, ranges, expected)) in PRESCRIBED.iter().enumerate() {
+        let answer = prescribed(alloc, map, config, *region, ranges);
+        assert!(rt; is_chosen(&answer, *expected), "list {i}");
+    }
+}
+
 #[test]
 fn a_prescribed_list_is_taken_in_its_order_or_breaks_its_first_rule(
     rt: HostRuntime,
 ) -> Result<(), Fail> {
-    let alloc = rt.alloc();
-    let config = two_regions(alloc, 2 * M)?;
-    let map = map_of(alloc, &config)?;
-    let good = (6 * M, 4 * M);
-    let low = (2 * M, 2 * M);
-    let none = [(0, 0); 65];
-    for (region, ranges, expected) in [
-        (0, [good, low].as_slice(), Ok([(6, 4), (2, 2)].as_slice())),
-        (1, &[(BASE, 8 * M)], Ok(&[(16, 8)])),
-        (0, &none[..0], Err(Rule::EmptyList)),
-        (0, &none[..64], Err(Rule::ZeroLength(0))),
-        (0, &none[..65], Err(Rule::TooManyListed(65))),
-        (2, &[(2 * BASE, M)], Err(Rule::OutsideRegion(0))),
-        (
-            0,
-            &[good, good, (0, 0)],
-            Err(Rule::Overlap { index: 1, with: 0 }),
-        ),
-        (0, &[good, (0, 0), good], Err(Rule::ZeroLength(1))),
-        (
-            0,
-            &[good, low, (15 * M, 2 * M)],
-            Err(Rule::OutsideRegion(2)),
-        ),
-        (0, &[(BASE, 2 * M), good], Err(Rule::OutsideRegion(0))),
-        (0, &[good, (M, 2 * M), good], Err(Rule::Unaligned(1))),
-        (0, &[good, (0, 3 * M), good], Err(Rule::Unaligned(1))),
-        (0, &[(4 * M, 4 * M), good, good], Err(Rule::NotFree(0))),
-        (0, &[good, (4 * M, 4 * M), good], Err(Rule::NotFree(1))),
-        (
-            0,
-            &[(12 * M, 2 * M), good, (8 * M, 6 * M)],
-            Err(Rule::Overlap { index: 2, with: 0 }),
-        ),
-    ] {
-        let list = listed(alloc, ranges)?;
-        let answer = prescriptive(alloc, &map, &config, HostId(0), RegionId(region), &list);
-        chooses(&rt, answer, expected);
-    }
+    let config = two_regions(rt.alloc(), 2 * M)?;
+    let map = map_of(rt.alloc(), &config)?;
+    see_prescribed(&rt, rt.alloc(), &map, &config);
     Ok(())
 }

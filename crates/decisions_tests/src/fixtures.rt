@@ -1,8 +1,8 @@
 //! The device, the extents and the runs that the tests share.
 
-ghost use Rattle.std.specs.Prelude.{◌≡◌, ◌<◌, ◌^◌, ◌+◌, IfOk};
+ghost use Rattle.std.specs.Prelude.{◌≡◌, ◌<◌, IfOk};
 
-use dcd_base::{Extent, Extents, Granule, NoMemory, Run, Tag};
+use dcd_base::{Extent, Extents, Granule, NoMemory, Run, Runs, Tag};
 use region_config::{Config, ConfigFault, RegionSpec};
 use std::alloc::Global;
 
@@ -67,4 +67,17 @@ pub fn run(first: u32, count: u32) -> Run
         first: Granule(first),
         count,
     }
+}
+
+/// Whether these are the runs, each a first granule and a count.
+pub fn are_runs(runs: &Runs, expected: &[(u32, u32)]) -> bool {
+    if runs.len() != expected.len() {
+        return false;
+    }
+    for (run, (first, count)) in runs.iter().zip(expected.iter()) {
+        if run.first.0 != *first || run.count != *count {
+            return false;
+        }
+    }
+    true
 }

@@ -1,19 +1,25 @@
 //! Releases and removals: each rule with its values, and what leaves, for a host with three accepted extents.
 
+ghost use Rattle.std.specs.Prelude.{◌≡◌, ◌+◌, ◌<◌, IfOk, length};
+
 use crate::fixtures::{BASE, M, extent, listed, two_regions};
-use dcd_base::{Extents, HostId, NoMemory, RegionId, Tag};
-use dcd_codes::{Refusal, Rule};
+use dcd_base::{Extent, HostId, NoMemory, RegionId, Tag};
+use dcd_codes::Refusal::{self, Broken};
+use dcd_codes::Rule;
 use extent_list::ExtentList;
 use region_config::Config;
 use release_core::{GivenBack, Releases, by_tag, removal};
 use std::alloc::Global;
+use std::process::Abort;
 use std::test::Fail;
 
 /// How many extents the host is offered: with three accepted ones, 64 in all.
 const OFFERED: usize = 61;
 
 /// Six blocks of tag 7, and two shared extents of tag 9 out of the order of their addresses.
-fn accepted(alloc: Global) -> Result<ExtentList, NoMemory> {
+fn accepted(alloc: Global) -> Result<ExtentList, NoMemory>
+    ensures { IfOk result (λ list. length list.extents ≡ 3) }
+{
     let mut list = ExtentList::new(alloc);
     list.reserve(3)?;
     list.add(extent(BASE + 3 * M, M, 9, 2));
@@ -24,200 +30,243 @@ fn accepted(alloc: Global) -> Result<ExtentList, NoMemory> {
     Ok(list)
 }
 
-/// What a command answers, apart from what leaves.
-#[derive(Clone, Copy, Debug, PartialEq, Eq)]
-enum Told {
-    Held,
-    Nothing,
-    Done,
-    Broken(Rule),
+/// A release of these ranges by host 0.
+fn release(
+    releases: &mut Releases,
+    config: &Config,
+    accepted: &ExtentList,
+    ranges: &[(u64, u64)],
+    more: bool,
+) -> Result<GivenBack, Refusal>
+    requires host { 0 < config.now.hosts }
+    requires few { length accepted.now.extents ≡ 3 }
+{
+    let list = listed(releases.held().allocator(), ranges)?;
+    releases.release(config, HostId(0), accepted, OFFERED, &list, more)
 }
 
-/// The device's host 0, and all that left it.
-#[derive(Drop)]
-struct Host {
-    config: Config,
-    accepted: ExtentList,
-    releases: Releases,
-    left: Extents,
-}
-
-impl Host {
-    fn new(alloc: Global) -> Result<Host, Fail> {
-        Ok(Host {
-            config: two_regions(alloc, M)?,
-            accepted: accepted(alloc)?,
-            releases: Releases::new(alloc),
-            left: Extents::new(alloc),
-        })
-    }
-
-    /// A release of these ranges.
-    fn release(&mut self, ranges: &[(u64, u64)], more: bool) -> Result<Told, Fail> {
-        let list = listed(self.left.allocator(), ranges)?;
-        if self.config.hosts() == 0 || self.accepted.len() > 3 {
-            return Err(Fail::new("more than three extents"));
-        }
-        let (config, accepted) = (&self.config, &self.accepted);
-        match self
-            .releases
-            .release(config, HostId(0), accepted, OFFERED, &list, more)
-        {
-            Ok(GivenBack::Held) => Ok(Told::Held),
-            Ok(GivenBack::Nothing) => Ok(Told::Nothing),
-            Ok(GivenBack::Done(leaving)) => {
-                self.left.extend_from_slice(leaving.as_slice())?;
-                Ok(Told::Done)
-            }
-            Err(Refusal::Broken(rule)) => Ok(Told::Broken(rule)),
-            Err(Refusal::NoMemory) => Err(Fail::new("no memory")),
-        }
-    }
-
-    /// A removal of these ranges in the region, forced or not.
-    fn remove(&self, region: u8, ranges: &[(u64, u64)], forced: bool) -> Result<Told, Fail> {
-        let alloc = self.left.allocator();
-        let list = listed(alloc, ranges)?;
-        if self.config.hosts() == 0 || self.accepted.len() > 3 {
-            return Err(Fail::new("more than three extents"));
-        }
-        let (config, accepted) = (&self.config, &self.accepted);
-        match removal(
-            alloc,
-            config,
-            HostId(0),
-            accepted,
-            OFFERED,
-            RegionId(region),
-            &list,
-            forced,
-        ) {
-            Ok(_) => Ok(Told::Done),
-            Err(Refusal::Broken(rule)) => Ok(Told::Broken(rule)),
-            Err(Refusal::NoMemory) => Err(Fail::new("no memory")),
-        }
+/// Sees what leaves in a release of these ranges.
+fn see_leaving(
+    rt: &impl Abort,
+    alloc: Global,
+    config: &Config,
+    accepted: &ExtentList,
+    ranges: &[(u64, u64)],
+    expected: &[Extent],
+)
+    requires host { 0 < config.now.hosts }
+    requires few { length accepted.now.extents ≡ 3 }
+{
+    match release(&mut Releases::new(alloc), config, accepted, ranges, false) {
+        Ok(GivenBack::Done(leaving)) => assert_eq!(rt; leaving.as_slice(), expected),
+        _ => assert!(rt; false, "nothing leaves"),
     }
 }
 
 #[test]
 fn what_leaves_has_the_tag_of_its_extent(rt: HostRuntime) -> Result<(), Fail> {
-    let mut host = Host::new(rt.alloc())?;
-    for list in [[(5 * M, M), (0, M)], [(BASE + 3 * M, M), (BASE, 2 * M)]] {
-        assert_eq!(rt; host.release(&list, false)?, Told::Done);
-    }
-    let expected = [
-        extent(5 * M, M, 7, 0),
-        extent(0, M, 7, 0),
-        extent(BASE + 3 * M, M, 9, 2),
-        extent(BASE, 2 * M, 9, 1),
-    ];
-    assert_eq!(rt; host.left.as_slice(), expected.as_slice());
+    let alloc = rt.alloc();
+    let (config, accepted) = (two_regions(alloc, M)?, accepted(alloc)?);
+    let parts = [extent(5 * M, M, 7, 0), extent(0, M, 7, 0)];
+    see_leaving(
+        &rt,
+        alloc,
+        &config,
+        &accepted,
+        &[(5 * M, M), (0, M)],
+        &parts,
+    );
+    let shared = [extent(BASE + 3 * M, M, 9, 2), extent(BASE, 2 * M, 9, 1)];
+    let listed = [(BASE + 3 * M, M), (BASE, 2 * M)];
+    see_leaving(&rt, alloc, &config, &accepted, &listed, &shared);
     Ok(())
+}
+
+/// What a command comes to, apart from what leaves.
+#[derive(Clone, Copy, Debug, PartialEq, Eq)]
+enum Told {
+    Held,
+    Nothing,
+    Done,
+}
+
+fn told_of(answer: Result<GivenBack, Refusal>) -> Result<Told, Refusal> {
+    match answer? {
+        GivenBack::Held => Ok(Told::Held),
+        GivenBack::Nothing => Ok(Told::Nothing),
+        GivenBack::Done(_) => Ok(Told::Done),
+    }
+}
+
+/// How many extents are held, in a copy.
+fn held(releases: &Releases) -> Result<usize, NoMemory> {
+    Ok(releases.copy()?.held().len())
+}
+
+/// The ranges of a release, whether more follows, what it comes to, and how many extents are held then.
+const IN_TURN: [(&[(u64, u64)], bool, Result<Told, Refusal>, usize); 6] = [
+    (&[(0, 2 * M)], true, Ok(Told::Held), 1),
+    (
+        &[(M, M)],
+        false,
+        Err(Broken(Rule::Overlap { index: 1, with: 0 })),
+        0,
+    ),
+    (&[(0, 3 * M)], false, Ok(Told::Done), 0),
+    (&[(0, 0); 40], true, Ok(Told::Held), 40),
+    (&[(0, 0); 25], true, Err(Broken(Rule::TooManyListed(65))), 0),
+    (&[], false, Ok(Told::Nothing), 0),
+];
+
+/// Sees what each release comes to, one after another.
+fn see_in_turn(rt: &impl Abort, releases: &mut Releases, config: &Config, accepted: &ExtentList)
+    requires host { 0 < config.now.hosts }
+    requires few { length accepted.now.extents ≡ 3 }
+{
+    for (ranges, more, expected, count) in IN_TURN {
+        let answer = told_of(release(releases, config, accepted, ranges, more));
+        assert_eq!(rt; (answer, held(releases)), (expected, Ok(count)));
+    }
 }
 
 #[test]
 fn lists_with_more_are_held_until_a_refusal(rt: HostRuntime) -> Result<(), Fail> {
-    let mut host = Host::new(rt.alloc())?;
-    let none = [(0, 0); 40];
-    let overlap = Rule::Overlap { index: 1, with: 0 };
-    for (list, more, told, held) in [
-        ([(0, 2 * M)].as_slice(), true, Told::Held, 1),
-        (&[(M, M)], false, Told::Broken(overlap), 0),
-        (&[(0, 3 * M)], false, Told::Done, 0),
-        (&none[..40], true, Told::Held, 40),
-        (&none[..25], true, Told::Broken(Rule::TooManyListed(65)), 0),
-        (&none[..0], false, Told::Nothing, 0),
-    ] {
-        assert_eq!(rt; host.release(list, more)?, told);
-        assert_eq!(rt; host.releases.copy()?.held().len(), held);
-    }
+    let (config, accepted) = (two_regions(rt.alloc(), M)?, accepted(rt.alloc())?);
+    see_in_turn(&rt, &mut Releases::new(rt.alloc()), &config, &accepted);
     Ok(())
+}
+
+/// A range that is released behind 1 MiB at 4 MiB, and what that comes to.
+const RELEASED: [((u64, u64), Result<Told, Refusal>); 9] = [
+    ((0, 0), Err(Broken(Rule::ZeroLength(1)))),
+    ((15 * M, 2 * M), Err(Broken(Rule::OutsideRegion(1)))),
+    ((M / 2, M), Err(Broken(Rule::Unaligned(1)))),
+    ((8 * M, M), Err(Broken(Rule::NotAccepted(1)))),
+    (
+        (3 * M, 3 * M),
+        Err(Broken(Rule::Overlap { index: 1, with: 0 })),
+    ),
+    ((BASE, M), Err(Broken(Rule::NotWhole(1)))),
+    (
+        (BASE, 2 * M),
+        Err(Broken(Rule::TagIncomplete { listed: 1, need: 2 })),
+    ),
+    ((M, M), Err(Broken(Rule::TooManyExtents(66)))),
+    ((5 * M, M), Ok(Told::Done)),
+];
+
+/// Sees what the release of each range of the table comes to, one after another.
+fn see_released(rt: &impl Abort, releases: &mut Releases, config: &Config, accepted: &ExtentList)
+    requires host { 0 < config.now.hosts }
+    requires few { length accepted.now.extents ≡ 3 }
+{
+    for (range, expected) in RELEASED {
+        let first = told_of(release(releases, config, accepted, &[(4 * M, M)], true));
+        let answer = told_of(release(releases, config, accepted, &[range], false));
+        assert_eq!(rt; (first, answer), (Ok(Told::Held), expected));
+    }
 }
 
 #[test]
 fn each_rule_of_a_release_counts_from_the_held_list(rt: HostRuntime) -> Result<(), Fail> {
-    let mut host = Host::new(rt.alloc())?;
-    for (start, length, told) in [
-        (0, 0, Told::Broken(Rule::ZeroLength(1))),
-        (15 * M, 2 * M, Told::Broken(Rule::OutsideRegion(1))),
-        (M / 2, M, Told::Broken(Rule::Unaligned(1))),
-        (8 * M, M, Told::Broken(Rule::NotAccepted(1))),
-        (
-            3 * M,
-            3 * M,
-            Told::Broken(Rule::Overlap { index: 1, with: 0 }),
-        ),
-        (BASE, M, Told::Broken(Rule::NotWhole(1))),
-        (
-            BASE,
-            2 * M,
-            Told::Broken(Rule::TagIncomplete { listed: 1, need: 2 }),
-        ),
-        (M, M, Told::Broken(Rule::TooManyExtents(66))),
-        (5 * M, M, Told::Done),
-    ] {
-        assert_eq!(rt; host.release(&[(4 * M, M)], true)?, Told::Held);
-        assert_eq!(rt;
-            host.release(&[(start, length)], false)?,
-            told,
-            "{start:x}, {length:x}"
-        );
-    }
+    let (config, accepted) = (two_regions(rt.alloc(), M)?, accepted(rt.alloc())?);
+    see_released(&rt, &mut Releases::new(rt.alloc()), &config, &accepted);
     Ok(())
+}
+
+/// A removal of these ranges in the region of host 0, forced or not.
+fn remove(
+    alloc: Global,
+    config: &Config,
+    accepted: &ExtentList,
+    region: u8,
+    ranges: &[(u64, u64)],
+    forced: bool,
+) -> Result<(), Refusal>
+    requires host { 0 < config.now.hosts }
+    requires few { length accepted.now.extents ≡ 3 }
+{
+    let (host, region) = (HostId(0), RegionId(region));
+    let list = listed(alloc, ranges)?;
+    let _ = removal(
+        alloc, config, host, accepted, OFFERED, region, &list, forced,
+    )?;
+    Ok(())
+}
+
+/// The region of a removal, its ranges, whether it is forced, and the rule that it breaks.
+const REMOVED: [(u8, &[(u64, u64)], bool, Result<(), Refusal>); 14] = [
+    (2, &[(0, M)], true, Err(Broken(Rule::NoSuchRegion(2)))),
+    (0, &[], false, Err(Broken(Rule::EmptyList))),
+    (
+        0,
+        &[(0, 0); 65],
+        false,
+        Err(Broken(Rule::TooManyListed(65))),
+    ),
+    (0, &[(0, 0)], true, Err(Broken(Rule::ZeroLength(0)))),
+    (
+        0,
+        &[(BASE, 2 * M)],
+        true,
+        Err(Broken(Rule::OutsideRegion(0))),
+    ),
+    (0, &[(M / 2, M)], true, Err(Broken(Rule::Unaligned(0)))),
+    (0, &[(8 * M, M)], true, Err(Broken(Rule::NotAccepted(0)))),
+    (
+        0,
+        &[(0, M), (M, M), (0, 2 * M)],
+        false,
+        Err(Broken(Rule::Overlap { index: 2, with: 0 })),
+    ),
+    (1, &[(BASE, M)], true, Err(Broken(Rule::NotWhole(0)))),
+    (
+        1,
+        &[(BASE, 2 * M)],
+        true,
+        Err(Broken(Rule::TagIncomplete { listed: 1, need: 2 })),
+    ),
+    (0, &[(M, M)], true, Err(Broken(Rule::TooManyExtents(65)))),
+    // A request counts nothing, and a list is counted whole.
+    (0, &[(M, M)], false, Ok(())),
+    (0, &[(M, M), (0, M)], true, Ok(())),
+    (0, &[(0, M)], true, Ok(())),
+];
+
+/// Sees what each removal of the table comes to.
+fn see_removed(rt: &impl Abort, alloc: Global, config: &Config, accepted: &ExtentList)
+    requires host { 0 < config.now.hosts }
+    requires few { length accepted.now.extents ≡ 3 }
+{
+    for (region, ranges, forced, expected) in REMOVED {
+        let answer = remove(alloc, config, accepted, region, ranges, forced);
+        assert_eq!(rt; answer, expected);
+    }
 }
 
 #[test]
 fn each_rule_of_a_removal(rt: HostRuntime) -> Result<(), Fail> {
-    let host = Host::new(rt.alloc())?;
-    let many = [(0, 0); 65];
-    let incomplete = Rule::TagIncomplete { listed: 1, need: 2 };
-    let twice = Rule::Overlap { index: 2, with: 0 };
-    for (region, list, forced, told) in [
-        (
-            2,
-            [(0, M)].as_slice(),
-            true,
-            Told::Broken(Rule::NoSuchRegion(2)),
-        ),
-        (0, &many[..0], false, Told::Broken(Rule::EmptyList)),
-        (0, &many, false, Told::Broken(Rule::TooManyListed(65))),
-        (0, &[(0, 0)], true, Told::Broken(Rule::ZeroLength(0))),
-        (
-            0,
-            &[(BASE, 2 * M)],
-            true,
-            Told::Broken(Rule::OutsideRegion(0)),
-        ),
-        (0, &[(M / 2, M)], true, Told::Broken(Rule::Unaligned(0))),
-        (0, &[(8 * M, M)], true, Told::Broken(Rule::NotAccepted(0))),
-        (0, &[(0, M), (M, M), (0, 2 * M)], false, Told::Broken(twice)),
-        (1, &[(BASE, M)], true, Told::Broken(Rule::NotWhole(0))),
-        (1, &[(BASE, 2 * M)], true, Told::Broken(incomplete)),
-        (0, &[(M, M)], true, Told::Broken(Rule::TooManyExtents(65))),
-        // A request counts nothing, and a list is counted whole.
-        (0, &[(M, M)], false, Told::Done),
-        (0, &[(M, M), (0, M)], true, Told::Done),
-        (0, &[(0, M)], true, Told::Done),
-    ] {
-        assert_eq!(rt; host.remove(region, list, forced)?, told);
-    }
+    let (config, accepted) = (two_regions(rt.alloc(), M)?, accepted(rt.alloc())?);
+    see_removed(&rt, rt.alloc(), &config, &accepted);
     Ok(())
+}
+
+/// The rule that a removal by the tag of these bytes breaks, if it does.
+fn refused(alloc: Global, accepted: &ExtentList, tag: u8) -> Option<Refusal> {
+    by_tag(alloc, accepted, &Tag([tag; 16])).err()
 }
 
 #[test]
 fn a_tag_stands_for_its_extents_in_order(rt: HostRuntime) -> Result<(), Fail> {
-    let alloc = rt.alloc();
-    let accepted = accepted(alloc)?;
-    for (tag, broken) in [(0, Rule::ZeroTag), (8, Rule::NoSuchTag)] {
-        let answer = by_tag(alloc, &accepted, &Tag([tag; 16]));
-        assert_eq!(rt; answer.err(), Some(Refusal::Broken(broken)));
-    }
-    match by_tag(alloc, &accepted, &Tag([9; 16])) {
-        Ok(leaving) => {
-            let expected = [extent(BASE + 3 * M, M, 9, 2), extent(BASE, 2 * M, 9, 1)];
-            assert_eq!(rt; leaving.as_slice(), expected.as_slice());
-        }
-        Err(_) => return Err(Fail::new("refused")),
-    }
+    let accepted = accepted(rt.alloc())?;
+    let broken = [Some(Broken(Rule::ZeroTag)), Some(Broken(Rule::NoSuchTag))];
+    let found = [
+        refused(rt.alloc(), &accepted, 0),
+        refused(rt.alloc(), &accepted, 8),
+    ];
+    let leaving = by_tag(rt.alloc(), &accepted, &Tag([9; 16]))?;
+    let expected = [extent(BASE + 3 * M, M, 9, 2), extent(BASE, 2 * M, 9, 1)];
+    assert_eq!(rt; leaving.as_slice(), expected.as_slice());
+    assert_eq!(rt; found, broken);
     Ok(())
 }

@@ -3,12 +3,13 @@
 ghost use Rattle.region_config.specs.Granules.{granule_total};
 ghost use Rattle.std.specs.Prelude.{◌≡◌, IfOk, length};
 
-use crate::fixtures::{M, run, two_regions};
+use crate::fixtures::{M, are_runs, run, two_regions};
 use dcd_base::{Granule, HostId, NoMemory, Runs};
 use granule_map::{GranuleMap, GranuleState};
 use region_config::Config;
 use sanitizer::{dirty_runs, turn};
 use std::alloc::Global;
+use std::process::Abort;
 use std::test::Fail;
 
 /// Gives the granules to a host, or makes them dirty, where the map has them.
@@ -51,27 +52,84 @@ fn scrub(alloc: Global, map: &mut GranuleMap, config: &Config, n: u32) -> Result
     turn(alloc, map, config, n)
 }
 
+/// Sees the runs that a turn frees, and the lowest granule that is dirty then.
+fn see_turn(
+    rt: &impl Abort,
+    alloc: Global,
+    map: &mut GranuleMap,
+    config: &Config,
+    n: u32,
+    runs: &[(u32, u32)],
+    next: Option<Granule>,
+) -> Result<(), NoMemory>
+    requires { length map.old.states ≡ granule_total config.now }
+    ensures { length map.new.states ≡ length map.old.states }
+{
+    let freed = scrub(alloc, map, config, n)?;
+    assert!(rt; are_runs(&freed, runs));
+    assert_eq!(rt; map.next_dirty(0), next);
+    Ok(())
+}
+
+/// Sees what each of three turns frees, of which the last one wants more than there is.
+fn see_turns(
+    rt: &impl Abort,
+    alloc: Global,
+    map: &mut GranuleMap,
+    config: &Config,
+) -> Result<(), NoMemory>
+    requires { length map.old.states ≡ granule_total config.now }
+{
+    see_turn(rt, alloc, map, config, 0, &[], Some(Granule(1)))?;
+    see_turn(
+        rt,
+        alloc,
+        map,
+        config,
+        3,
+        &[(1, 2), (4, 1)],
+        Some(Granule(5)),
+    )?;
+    see_turn(
+        rt,
+        alloc,
+        map,
+        config,
+        100,
+        &[(5, 2), (14, 2), (16, 2)],
+        None,
+    )
+}
+
+/// Sees the lowest six dirty granules of nine.
+fn see_dirty(
+    rt: &impl Abort,
+    alloc: Global,
+    map: &GranuleMap,
+    config: &Config,
+) -> Result<(), NoMemory>
+    requires { length map.now.states ≡ granule_total config.now }
+{
+    let found = dirty_runs(alloc, map, config, 6)?;
+    assert!(rt; are_runs(&found, &[(1, 2), (4, 3), (14, 1)]));
+    assert_eq!(rt; map.count(GranuleState::Dirty), 9);
+    Ok(())
+}
+
+/// How many granules are free, and how many host 1 has.
+fn counts(map: &GranuleMap) -> (u32, u32) {
+    (
+        map.count(GranuleState::Free),
+        map.count(GranuleState::Held(HostId(1))),
+    )
+}
+
 #[test]
 fn the_lowest_dirty_granules_are_freed_in_runs_of_one_region(rt: HostRuntime) -> Result<(), Fail> {
-    let alloc = rt.alloc();
-    let config = two_regions(alloc, M)?;
-    let mut map = map_of(alloc, &config)?;
-    let found = dirty_runs(alloc, &map, &config, 6)?;
-    assert_eq!(rt;
-        found.as_slice(),
-        [run(1, 2), run(4, 3), run(14, 1)].as_slice()
-    );
-    assert_eq!(rt; map.count(GranuleState::Dirty), 9);
-    assert_eq!(rt; scrub(alloc, &mut map, &config, 0)?.len(), 0);
-    let first = scrub(alloc, &mut map, &config, 3)?;
-    assert_eq!(rt; first.as_slice(), [run(1, 2), run(4, 1)].as_slice());
-    assert_eq!(rt; map.next_dirty(0), Some(Granule(5)));
-    let rest = scrub(alloc, &mut map, &config, 100)?;
-    assert_eq!(rt;
-        rest.as_slice(),
-        [run(5, 2), run(14, 2), run(16, 2)].as_slice()
-    );
-    assert_eq!(rt; map.count(GranuleState::Free), 22);
-    assert_eq!(rt; map.count(GranuleState::Held(HostId(1))), 2);
+    let config = two_regions(rt.alloc(), M)?;
+    let mut map = map_of(rt.alloc(), &config)?;
+    see_dirty(&rt, rt.alloc(), &map, &config)?;
+    see_turns(&rt, rt.alloc(), &mut map, &config)?;
+    assert_eq!(rt; counts(&map), (22, 2));
     Ok(())
 }

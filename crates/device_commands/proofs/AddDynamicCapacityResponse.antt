@@ -20,13 +20,13 @@ use Rattle.offer_core.specs.Responses.{respond_rule}
 use Rattle.host_lists.specs.Answers.{IsAccepted, generation_after}
 use Rattle.host_lists.specs.Lists.{Lists, extent_total}
 use Rattle.device_rules.specs.Hosts.{accepted_after, held_after, moves, offers_after}
-use Rattle.device_rules.specs.ResponseOutcomes.{hold, respond_changes, respond_outcome, response_notices, unhold}
+use Rattle.device_rules.specs.ResponseOutcomes.{hold, respond_changes, respond_outcome, response_records, unhold}
 use Rattle.device_rules.specs.Views.{View, generation_in, view_after}
 use Rattle.holding_laws.proofs.Homes.{run_same}
 use Rattle.device_commands.specs.declared.draft.DraftParts.{DraftParts}
 use Rattle.device_commands.specs.Drafts.{AreAfter, Drafts}
-use Rattle.device_state.specs.Kept.{lists_in}
-use Rattle.device_commands.specs.ListDrafts.{Tells, changed}
+use Rattle.device_state.specs.StateAfter.{lists_in}
+use Rattle.device_commands.specs.ListDrafts.{Tells, lists_changed}
 use Rattle.device_commands.specs.AddDynamicCapacityResponse.{takes, told_of}
 use Rattle.device_commands.proofs.ListedExtents.{Granular, marked_granular, response_few, response_granular}
 use Rattle.device_commands.proofs.ListsAfter.{hold_changes, hold_joins, hold_moves, none_changes, none_moves, once_more, other_joins, other_stays, unhold_changes, unhold_empties, unhold_moves}
@@ -38,7 +38,7 @@ takes_same c b h offer (x ∷ xs) = λ i. Effect.Take h (run_same c b h x i) ∷
 
 -- the same is told
 told_same : (c : Configuration) (h : HostId) (w : View) (offer : List Extent) (later : List (List Extent)) (all : List Extent)
-    → (LogId.Manager, told_of h w (map (marked offer) all)) ∷ [] ≡ response_notices c h w (offer ∷ later) all
+    → (LogId.Manager, told_of h w (map (marked offer) all)) ∷ [] ≡ response_records c h w (offer ∷ later) all
 told_same c h w offer later [] = refl
 told_same c h w offer later (x ∷ xs) = refl
 
@@ -120,7 +120,7 @@ module _ (c : Configuration) (h : HostId) (v : View) where
         payload = t.payload;
         changes = t.changes_are ∙ ap (λ es. unhold h HeldKind.Responses v.responses ++ Effect.Answer h (map (marked offer) all) ∷ es) (takes_same c v.block h offer all);
         tags = t.tags_are;
-        notices = t.notices w after_is ∙ told_same c h w offer later all;
+        log_records = t.log_records w after_is ∙ told_same c h w offer later all;
         lists = subst (λ (ls : Option Lists). AreAfter c h (record v { offers = offer ∷ later }) (respond_outcome c h (record v { offers = offer ∷ later }) false list) ls) (sym t.lists_are) after_is;
       }
 
@@ -147,7 +147,7 @@ answered_drafts c p h v lists after list accepted more d present shows last a te
 
 -- more is to come
 pub held_response : (c : Configuration) (h : HostId) (v : View) (lists after : Lists) (list : List Extent) (more : Bool) (d : DraftParts)
-    → lists ≡ lists_in v → more ≡ true → after ≡ record lists { responses = lists.responses ++ list } → d ≡ changed (hold h HeldKind.Responses list) after
+    → lists ≡ lists_in v → more ≡ true → after ≡ record lists { responses = lists.responses ++ list } → d ≡ lists_changed (hold h HeldKind.Responses list) after
     → Drafts c h v (respond_outcome c h v more list) d
 held_response c h v lists after list more d shows goes_on is drafts =
     let left : after ≡ lists_in (view_after c h v (hold h HeldKind.Responses list)) = is
@@ -161,7 +161,7 @@ held_response c h v lists after list more d shows goes_on is drafts =
     }) in
     subst (λ (b : Bool). Drafts c h v (respond_outcome c h v b list) d) (sym goes_on)
     (subst (λ (e : DraftParts). Drafts c h v (respond_outcome c h v true list) e) (sym drafts)
-    (record { payload = refl; changes = refl; tags = refl; notices = refl; lists = left }))
+    (record { payload = refl; changes = refl; tags = refl; log_records = refl; lists = left }))
 
 -- ---- what the lists' answer gives
 

@@ -8,7 +8,7 @@ use Rattle.event_log.specs.Logs.{Log, places_in, state_of}
 use Rattle.event_log.specs.LogStates.{LogState}
 use Rattle.device_rules.specs.EventCommands.{clear_outcome, clear_rule}
 use Rattle.device_commands.specs.ClearEventRecords.{clearing_outcome, clearing_rule}
-use Rattle.device_state.specs.Kept.{IsLogOf}
+use Rattle.device_state.specs.StateAfter.{IsLogOf}
 use Rattle.device_commands.specs.Drafts.{IsOutcome}
 use Rattle.device_commands.specs.declared.draft.DraftParts.{DraftParts}
 

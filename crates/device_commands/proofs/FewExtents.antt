@@ -8,7 +8,7 @@ use Rattle.host_lists.specs.Lists.{Lists, extent_total}
 use Rattle.region_config.specs.Configurations.{Configuration}
 use Rattle.holding_laws.proofs.LegalSound.{legal_is_sound}
 use Rattle.device_rules.specs.Views.{View, view_of}
-use Rattle.device_state.specs.Kept.{IsReached, part_of}
+use Rattle.device_state.specs.StateAfter.{IsReached, part_of}
 use Rattle.device_state.specs.declared.state.State.{State}
 
 pub few_extents : (c : Configuration) (s : State) → IsReached c s → (h : HostId) → h < c.hosts → extent_total (part_of s h).lists ≤ 64

@@ -6,7 +6,7 @@ use Rattle.std.proofs.lemmas.Bool.{cases_Bool}
 use Rattle.std.proofs.lemmas.List.Sums.{length-filter}
 use Rattle.granule_map.specs.StateLists.{count_of, is_free_state, same_state}
 use Rattle.granule_map.specs.declared.states.GranuleState.{GranuleState}
-use Rattle.granule_table.specs.Tables.{Table, cell_at}
+use Rattle.granule_table.specs.Tables.{CellTable, cell_at}
 use Rattle.table_laws.specs.GranuleCells.{IsCell, status_of}
 use Rattle.journal_core.specs.declared.outcome.Effect.{Effect}
 use Rattle.region_config.specs.Configurations.{Configuration}
@@ -48,7 +48,7 @@ passing_same p q d a (x ∷ xs) same =
       | inr fails ↦ rw (here, fails) rest
     ]
 
-module _ (c : Configuration) (past : List Effect) (t : Table) (count : length t.states ≡ granule_total c) (cells : (g : ℕ) → g < granule_total c → IsCell c past g (cell_at t g)) where
+module _ (c : Configuration) (past : List Effect) (t : CellTable) (count : length t.states ≡ granule_total c) (cells : (g : ℕ) → g < granule_total c → IsCell c past g (cell_at t g)) where
   test_of : (p : GranuleState → Bool) (q : Status → Bool) → ((s : GranuleState) → p s ≡ q (status_of s)) → (g : ℕ) → g < length t.states → p (get_or t.states g GranuleState.Dirty) ≡ q (status c g past)
   test_of p q same g below = same (get_or t.states g GranuleState.Dirty) ∙ ap q (cells g (omega (arith, below, count))).status_is
 

@@ -20,7 +20,7 @@ use Rattle.dcd_codes.specs.declared.rules.Rule.{Rule}
 use Rattle.extent_list.specs.ExtentLists.{has_extent_of, real_tags}
 use Rattle.granule_map.specs.StateLists.{is_free_at}
 use Rattle.device_commands.specs.Drafts.{AreAfter, Drafts}
-use Rattle.device_state.specs.Kept.{lists_in, IsKept, part_of}
+use Rattle.device_state.specs.StateAfter.{lists_in, IsStateAfter, part_of}
 use Rattle.device_commands.specs.declared.draft.DraftParts.{DraftParts}
 use Rattle.host_lists.specs.Lists.{Lists, extent_total}
 use Rattle.journal_core.specs.Entries.{effects}
@@ -35,13 +35,13 @@ use Rattle.region_config.specs.declared.region_spec.RegionSpec.{RegionSpec}
 use Rattle.region_config.proofs.Faultless.{granules_within}
 use Rattle.selection.proofs.Agreeing.{Agree, contiguous_runs_agree, free_blocks_agree, free_runs_agree, longest_free_agree, prescribed_rule_agree}
 use Rattle.selection.specs.Selections.{prescribed_rule, too_few_free}
-use Rattle.tag_refs.specs.Tables.{entry_of, is_live, passes, some_passes}
+use Rattle.tag_refs.specs.Tables.{entry_with, has_entry, passes, some_passes}
 use Rattle.tag_refs.specs.declared.entries.TagEntry.{TagEntry}
 use Rattle.table_laws.specs.TagTable.{IsEntry}
-use Rattle.device_rules.specs.Adding.{add_outcome, add_rule, area_of, by_length_rule, chosen, extents_of, free_blocks, is_free_now, is_open_in, longest_free, offered, per_block, present, tagged, too_many_tags}
+use Rattle.device_rules.specs.Adding.{add_outcome, add_rule, area_of, by_length_rule, chosen, extents_of, region_free_blocks, is_free_now, is_open_in, region_longest_free, offered, per_block, present, with_tag, too_many_tags}
 use Rattle.device_rules.specs.Hosts.{accepted_of, block_of, offers_of}
 use Rattle.device_rules.specs.Legal.{Legal}
-use Rattle.device_rules.specs.Outcomes.{log_full, notices_of}
+use Rattle.device_rules.specs.Outcomes.{log_full, records_of_extents}
 use Rattle.device_rules.specs.Tags.{last_offer, open_tags, tag_runs, is_live as is_tag_live}
 use Rattle.device_rules.specs.Views.{View, extents_in, view_after, view_of}
 use Rattle.holding_laws.specs.Pictures.{picture_of}
@@ -54,7 +54,7 @@ use Rattle.device_commands.proofs.CountedTags.{HasOne, no_more, own_first}
 use Rattle.device_commands.proofs.FreeGranules.{free_at}
 use Rattle.device_commands.proofs.TagReadings.{tags_live, tags_open, tags_open_in}
 use Rattle.device_commands.proofs.Reached.{hosts_kept, region_kept, regions_kept, stands_by, total_kept}
-use Rattle.device_commands.specs.InitiateDynamicCapacityAdd.{IsOffered, chosen_rule, is_used_tag, is_with_hosts, lists_have, named_rule, offered_lists, offered_now, room_rule, tag_rule}
+use Rattle.device_commands.specs.InitiateDynamicCapacityAdd.{DraftOffers, chosen_rule, is_used_tag, is_with_hosts, lists_have, target_rule, offered_lists, offered_now, room_rule, tag_rule}
 use Rattle.device_state.specs.Entered.{runs_found, runs_in}
 use Rattle.device_state.specs.declared.state.State.{State}
 
@@ -70,8 +70,8 @@ any_flat p [] = refl
 any_flat p (xs ∷ xss) = list_any-append p xs (flat_map (λ ys. ys) xss) ∙ ap (λ b. list_any p xs || b) (any_flat p xss)
 
 -- the runs that are found are those of the tag
-entry_runs : (c : Configuration) (past : List Effect) (entries : List TagEntry) → AllByRecursion (IsEntry c past) entries → (t : Tag) → is_live t entries ≡ true →
-    runs_found (entry_of t entries) ≡ tag_runs c (last_offer t past)
+entry_runs : (c : Configuration) (past : List Effect) (entries : List TagEntry) → AllByRecursion (IsEntry c past) entries → (t : Tag) → has_entry t entries ≡ true →
+    runs_found (entry_with t entries) ≡ tag_runs c (last_offer t past)
 entry_runs c past [] each t live = absurd (false≢true live)
 entry_runs c past (e ∷ entries) each t live = elim (cases_Bool (same_tag t e.tag)) [
   | inl here ↦ rw here (each.0.runs_are ∙ ap (λ u. tag_runs c (last_offer u past)) (sym (same_tag-is t e.tag here)))
@@ -84,7 +84,7 @@ passed_some test (Some e) passed = refl
 
 -- ---- the runs of a tag
 
-module _ (c : Configuration) (sound : IsSound c) (journal : List Entry) (legal : Legal c journal) (s : State) (kept : IsKept c journal s) where
+module _ (c : Configuration) (sound : IsSound c) (journal : List Entry) (legal : Legal c journal) (s : State) (kept : IsStateAfter c journal s) where
   abbrev past : List Effect
   past = effects journal
 
@@ -120,7 +120,7 @@ module _ (c : Configuration) (sound : IsSound c) (journal : List Entry) (legal :
         few = omega (arith, few, length-map o.extents (run_of c o.host), sound.granules);
       })
 
-  runs_live : (t : Tag) → is_live t s.tags.entries ≡ true → runs_in s t ≡ tag_runs c (last_offer t (effects journal))
+  runs_live : (t : Tag) → has_entry t s.tags.entries ≡ true → runs_in s t ≡ tag_runs c (last_offer t (effects journal))
   runs_live t live = entry_runs c (effects journal) s.tags.entries kept.tags_are.each t live
 
   no_runs : (found : Option TagEntry) → is_some found ≡ false → runs_found found ≡ []
@@ -128,9 +128,9 @@ module _ (c : Configuration) (sound : IsSound c) (journal : List Entry) (legal :
   no_runs (Some e) none = absurd (false≢true (sym none))
 
   tag_runs_are : (t : Tag) → AreRuns (runs_in s t)
-  tag_runs_are t = elim (cases_Bool (is_live t s.tags.entries)) [
+  tag_runs_are t = elim (cases_Bool (has_entry t s.tags.entries)) [
     | inl live ↦ subst AreRuns (sym (runs_live t live)) (open_runs t (tags_open c journal s.tags.entries sound legal kept.tags_are t ∙ live))
-    | inr none ↦ subst AreRuns (sym (no_runs (entry_of t s.tags.entries) none)) (record { each = tt; few = omega arith })
+    | inr none ↦ subst AreRuns (sym (no_runs (entry_with t s.tags.entries) none)) (record { each = tt; few = omega arith })
   ]
 
   pub runs_are_runs : (t : Tag) → All (IsRun s.present) (runs_in s t)
@@ -196,11 +196,11 @@ module _ (c : Configuration) (sound : IsSound c) (journal : List Entry) (legal :
     abbrev whole_row : Option Rule
     whole_row = add_rule c past (λ k. view_of c k journal) h policy r bytes tag list
 
-    names_same : named_rule c.hosts (length c.regions) h policy r ≡ named_rule s.present.hosts (length s.present.regions) h policy r
-    names_same = λ i. named_rule (sym (hosts_kept c journal s kept) i) (sym (regions_kept c journal s kept) i) h policy r
+    names_same : target_rule c.hosts (length c.regions) h policy r ≡ target_rule s.present.hosts (length s.present.regions) h policy r
+    names_same = λ i. target_rule (sym (hosts_kept c journal s kept) i) (sym (regions_kept c journal s kept) i) h policy r
 
     -- a name is wrong
-    pub row_names : (rule : Rule) → named_rule s.present.hosts (length s.present.regions) h policy r ≡ Some rule → add_rule c (effects journal) (λ k. view_of c k journal) h policy r bytes tag list ≡ Some rule
+    pub row_names : (rule : Rule) → target_rule s.present.hosts (length s.present.regions) h policy r ≡ Some rule → add_rule c (effects journal) (λ k. view_of c k journal) h policy r bytes tag list ≡ Some rule
     row_names rule broken = ap (λ first. after_choice (after_tag (after_names first))) (names_same ∙ broken)
 
     -- the names are right
@@ -209,7 +209,7 @@ module _ (c : Configuration) (sound : IsSound c) (journal : List Entry) (legal :
       pub policy_is : policy ≤ 3
       pub region : r < length c.regions
 
-    pub named_parts : named_rule s.present.hosts (length s.present.regions) h policy r ≡ None → AreNamed
+    pub named_parts : target_rule s.present.hosts (length s.present.regions) h policy r ≡ None → AreNamed
     named_parts row =
         let p2 = neither (leb s.present.hosts h breaks Rule.NoSuchHost h or ltb 3 policy breaks Rule.NoSuchPolicy policy) (leb (length s.present.regions) r breaks Rule.NoSuchRegion r) row in
         let p1 = neither (leb s.present.hosts h breaks Rule.NoSuchHost h) (ltb 3 policy breaks Rule.NoSuchPolicy policy) p2.0 in
@@ -219,7 +219,7 @@ module _ (c : Configuration) (sound : IsSound c) (journal : List Entry) (legal :
           region = omega (arith, regions_kept c journal s kept, leb-false (length s.present.regions) r (not_broken (leb (length s.present.regions) r) (Rule.NoSuchRegion r) p2.1));
         }
 
-    module _ (named : named_rule s.present.hosts (length s.present.regions) h policy r ≡ None) where
+    module _ (named : target_rule s.present.hosts (length s.present.regions) h policy r ≡ None) where
       are : AreNamed
       are = named_parts named
 
@@ -234,7 +234,7 @@ module _ (c : Configuration) (sound : IsSound c) (journal : List Entry) (legal :
           or ((policy == 3) && not (sym (tags_open_in c journal s.tags.entries sound legal kept.tags_are r tag) i)) breaks Rule.NoSuchTag
           or ((policy == 3) && have_same h are.host tag i) breaks Rule.AlreadyShared)
 
-      names_kept : named_rule c.hosts (length c.regions) h policy r ≡ None
+      names_kept : target_rule c.hosts (length c.regions) h policy r ≡ None
       names_kept = names_same ∙ named
 
       -- the tag breaks a rule
@@ -257,8 +257,8 @@ module _ (c : Configuration) (sound : IsSound c) (journal : List Entry) (legal :
         host_here : h < s.present.hosts
         host_here = omega (arith, are.host, hosts_kept c journal s kept)
 
-        counts_same : (b : Bool) → (if b then free_blocks s.present (is_free_at s.granules.states) r else longest_free s.present (is_free_at s.granules.states) r)
-            ≡ (if b then free_blocks s.present (is_free_now c (effects journal)) r else longest_free s.present (is_free_now c (effects journal)) r)
+        counts_same : (b : Bool) → (if b then region_free_blocks s.present (is_free_at s.granules.states) r else region_longest_free s.present (is_free_at s.granules.states) r)
+            ≡ (if b then region_free_blocks s.present (is_free_now c (effects journal)) r else region_longest_free s.present (is_free_now c (effects journal)) r)
         counts_same true = free_blocks_agree (is_free_at s.granules.states) (is_free_now c (effects journal)) (area_of s.present r) (per_block s.present r) in_area
         counts_same false = longest_free_agree (is_free_at s.granules.states) (is_free_now c (effects journal)) (area_of s.present r) (per_block s.present r) in_area
 
@@ -295,7 +295,7 @@ module _ (c : Configuration) (sound : IsSound c) (journal : List Entry) (legal :
             let closed : ((policy == 3) && not (passes tag (λ (e : TagEntry). e.region == r) s.tags.entries)) ≡ false = not_broken ((policy == 3) && not (passes tag (λ (e : TagEntry). e.region == r) s.tags.entries)) Rule.NoSuchTag p3.1 in
             let opened : passes tag (λ (e : TagEntry). e.region == r) s.tags.entries ≡ true =
             not-false (passes tag (λ (e : TagEntry). e.region == r) s.tags.entries) (sym (ap (λ b. b && not (passes tag (λ (e : TagEntry). e.region == r) s.tags.entries)) is3) ∙ closed) in
-            runs_live tag (passed_some (λ (e : TagEntry). e.region == r) (entry_of tag s.tags.entries) opened)
+            runs_live tag (passed_some (λ (e : TagEntry). e.region == r) (entry_with tag s.tags.entries) opened)
 
         offered_same : offered_now s h policy r bytes tag list ≡ offered c (effects journal) h policy r bytes tag list
         offered_same =
@@ -307,8 +307,8 @@ module _ (c : Configuration) (sound : IsSound c) (journal : List Entry) (legal :
             (ap (extents_of s.present h) (free_runs_agree f g (area_of s.present r) (per_block s.present r) in_area need))
             (ap (extents_of s.present h) (contiguous_runs_agree f g (area_of s.present r) (per_block s.present r) in_area need))
             (λ no0 no1 no2. ap (extents_of s.present h) (shared_runs no0 no1 no2)) in
-            (λ i. tagged (shareable_same i) tag (picked i))
-            ∙ ap (λ d. tagged (region_spec c r).shareable tag (chosen d (is_free_now c (effects journal)) (tag_runs c (last_offer tag (effects journal))) h policy r bytes list)) kept.present_is
+            (λ i. with_tag (shareable_same i) tag (picked i))
+            ∙ ap (λ d. with_tag (region_spec c r).shareable tag (chosen d (is_free_now c (effects journal)) (tag_runs c (last_offer tag (effects journal))) h policy r bytes list)) kept.present_is
 
         -- ---- the room, and the draft
 
@@ -330,15 +330,15 @@ module _ (c : Configuration) (sound : IsSound c) (journal : List Entry) (legal :
             let more : (view_after c h (view_of c h journal) (Effect.Offer h xs ∷ [])).offers ≡ offers_of h (effects journal) ++ xs ∷ [] = ap (λ b. if b then offers_of h (effects journal) ++ xs ∷ [] else offers_of h (effects journal)) (eq-eqb h h refl) in
             λ i. record (lists_in (view_of c h journal)) { offers = sym more i }
 
-        pub drafts_offered : (xs : List Extent) → xs ≡ offered_now s h policy r bytes tag list → (d : DraftParts) → IsOffered h (part_of s h).lists xs d →
+        pub drafts_offered : (xs : List Extent) → xs ≡ offered_now s h policy r bytes tag list → (d : DraftParts) → DraftOffers h (part_of s h).lists xs d →
             Drafts c h (view_of c h journal) (add_outcome c (effects journal) (λ k. view_of c k journal) h policy r bytes tag list) d
         drafts_offered xs are_xs d is =
-            subst (λ ys. Drafts c h (view_of c h journal) (record { payload = []; changes = Effect.Offer h ys ∷ []; tags = []; notices = (LogId.Host h, notices_of h (view_after c h (view_of c h journal) (Effect.Offer h ys ∷ [])) EventKind.Add ys) ∷ [] }) d) (are_xs ∙ offered_same)
+            subst (λ ys. Drafts c h (view_of c h journal) (record { payload = []; changes = Effect.Offer h ys ∷ []; tags = []; log_records = (LogId.Host h, records_of_extents h (view_after c h (view_of c h journal) (Effect.Offer h ys ∷ [])) EventKind.Add ys) ∷ [] }) d) (are_xs ∙ offered_same)
             (let after : offered_lists (part_of s h).lists xs ≡ lists_in (view_after c h (view_of c h journal) (Effect.Offer h xs ∷ [])) = ap (λ (l : Lists). offered_lists l xs) (kept.parts h are.host).lists_are ∙ offered_view xs in
             record {
               payload = is.payload;
               changes = is.changes_are;
               tags = is.tags;
-              notices = is.notices (view_after c h (view_of c h journal) (Effect.Offer h xs ∷ [])) after;
-              lists = subst (AreAfter c h (view_of c h journal) (record { payload = []; changes = Effect.Offer h xs ∷ []; tags = []; notices = (LogId.Host h, notices_of h (view_after c h (view_of c h journal) (Effect.Offer h xs ∷ [])) EventKind.Add xs) ∷ [] })) (sym is.lists_are) after;
+              log_records = is.log_records (view_after c h (view_of c h journal) (Effect.Offer h xs ∷ [])) after;
+              lists = subst (AreAfter c h (view_of c h journal) (record { payload = []; changes = Effect.Offer h xs ∷ []; tags = []; log_records = (LogId.Host h, records_of_extents h (view_after c h (view_of c h journal) (Effect.Offer h xs ∷ [])) EventKind.Add xs) ∷ [] })) (sym is.lists_are) after;
             })

@@ -4,10 +4,10 @@ use Rattle.std.specs.Prelude.{All, IfOk, filter, flat_map, fold, if◌then◌els
 use Rattle.std.specs.List.{AllByRecursion, list_all, list_any}
 use Rattle.std.proofs.Math.Nat.{add-mul-mod_self_right, mod-add-div'}
 use Rattle.std.proofs.lemmas.Bool.{eq-eqb, leb-false, ltb-false}
-use Rattle.std.proofs.lemmas.List.{length-append, length-map}
+use Rattle.std.proofs.lemmas.List.{length-append}
 use Rattle.std.proofs.lemmas.List.Concat.{length-flat_map}
 use Rattle.std.proofs.lemmas.List.Sums.{count_by-le-length, length-filter}
-use Rattle.dcd_base.specs.Words.{◌or◌, is_empty, same_tag, where_true}
+use Rattle.dcd_base.specs.Words.{◌or◌, same_tag}
 use Rattle.dcd_base.specs.declared.capacity.Extent.{Extent}
 use Rattle.dcd_base.specs.declared.capacity.Tag.{Tag}
 use Rattle.dcd_base.specs.declared.ids.HostId.{HostId}
@@ -21,16 +21,16 @@ use Rattle.host_lists.specs.Answers.{generation_after}
 use Rattle.host_lists.specs.Lists.{Lists}
 use Rattle.journal_core.specs.declared.outcome.Effect.{Effect}
 use Rattle.journal_core.specs.declared.outcome.HeldKind.{HeldKind}
-use Rattle.list_rules.specs.Listing.{incomplete, too_many_extents, too_many_listed}
+use Rattle.list_rules.specs.Listing.{incomplete, too_many_extents}
 use Rattle.media_map.proofs.RunLemmas.{granular_from}
 use Rattle.media_map.specs.Places.{is_granular, region_at, run_of}
 use Rattle.region_config.specs.Configurations.{Configuration}
 use Rattle.region_config.specs.Granules.{region_spec, with_blocks}
 use Rattle.region_config.specs.Soundness.{IsSound}
 use Rattle.release_core.specs.Leaving.{AllCanLeave, count_after}
-use Rattle.release_core.specs.Removals.{by_tag_rule, listed_rule, tagged}
+use Rattle.release_core.specs.Removals.{by_tag_rule, prescribed_removal_rule, extents_of_tag}
 use Rattle.device_rules.specs.Hosts.{accepted_after, block_of, held_after, moves, offers_after}
-use Rattle.device_rules.specs.Outcomes.{log_full, notices_of}
+use Rattle.device_rules.specs.Outcomes.{log_full, records_of_extents}
 use Rattle.device_rules.specs.ReleaseOutcomes.{is_cleaning, is_forced, policy_in, remove_rule, removals, removed, soils}
 use Rattle.device_rules.specs.Views.{View, view_after, view_of}
 use Rattle.holding_laws.specs.Pictures.{Picture, picture_of}
@@ -46,8 +46,8 @@ use Rattle.event_records.specs.declared.events.EventKind.{EventKind}
 use Rattle.journal_core.specs.Entries.{effects}
 use Rattle.journal_core.specs.declared.entries.Entry.{Entry}
 use Rattle.device_commands.proofs.Reached.{hosts_kept, stands_by}
-use Rattle.device_state.specs.Kept.{IsKept, IsReached, part_of, lists_in}
-use Rattle.device_commands.specs.InitiateDynamicCapacityRelease.{Departs, IsDrafted, choice_rule, meant_rule, removal_outcome, removed_lists}
+use Rattle.device_state.specs.StateAfter.{IsStateAfter, IsReached, part_of, lists_in}
+use Rattle.device_commands.specs.InitiateDynamicCapacityRelease.{Departs, IsDrafted, flags_rule, meant_rule, removal_outcome, removed_lists}
 use Rattle.device_state.specs.declared.state.State.{State}
 use Rattle.device_commands.specs.declared.draft.DraftParts.{DraftParts}
 use Rattle.device_commands.specs.Drafts.{AreAfter, Drafts}
@@ -107,7 +107,7 @@ module _ (c : Configuration) (sound : IsSound c) (p : Picture) (stands : Stands 
       }
 
   -- those of a tag: whole ones leave, and so no more are there
-  pub tagged_departs : (clean : Bool) (tag : Tag) → Departs c h (record { accepted = p.accepted h; offers = p.offers h; responses = []; releases = []; generation = 0 }) clean (tagged tag (p.accepted h))
+  pub tagged_departs : (clean : Bool) (tag : Tag) → Departs c h (record { accepted = p.accepted h; offers = p.offers h; responses = []; releases = []; generation = 0 }) clean (extents_of_tag tag (p.accepted h))
   tagged_departs clean tag =
       let test : Extent → Bool = λ x. same_tag x.tag tag in
       let ys : List Extent = filter test (p.accepted h) in
@@ -125,7 +125,7 @@ module _ (c : Configuration) (sound : IsSound c) (p : Picture) (stands : Stands 
   marked_removals clean (x ∷ xs) = ap (λ es. Effect.Leave h (run_of c h x) ∷ soils clean (run_of c h x) ++ es) (marked_removals clean xs)
 
   -- the listed ones
-  pub listed_departs : (clean : Bool) (offered r : ℕ) (list : List Extent) → offered ≡ count_in (p.offers h) → listed_rule (with_blocks c p.block) h (p.accepted h) offered r list true ≡ None →
+  pub listed_departs : (clean : Bool) (offered r : ℕ) (list : List Extent) → offered ≡ count_in (p.offers h) → prescribed_removal_rule (with_blocks c p.block) h (p.accepted h) offered r list true ≡ None →
       Departs c h (record { accepted = p.accepted h; offers = p.offers h; responses = []; releases = []; generation = 0 }) clean (map (marked (p.accepted h)) list)
   listed_departs clean offered r list is row =
       let w : Configuration = with_blocks c p.block in
@@ -188,21 +188,11 @@ removed_view c h v clean leaving d = λ i. record {
 -- ---- how many are meant
 
 pub few_tagged : (row : Option Rule) (tag : Tag) (accepted : List Extent) (result : Result (List Extent) Refusal) → length accepted ≤ 64 →
-    ByRow row (λ leaving. leaving ≡ tagged tag accepted) result → IfOk result (λ leaving. length leaving ≤ 64)
+    ByRow row (λ leaving. leaving ≡ extents_of_tag tag accepted) result → IfOk result (λ leaving. length leaving ≤ 64)
 few_tagged row tag accepted (Ok leaving) few is =
     omega (arith, few, ap length is.1, length-filter (λ (x : Extent). same_tag x.tag tag) accepted, count_by-le-length (λ (x : Extent). same_tag x.tag tag) accepted)
 few_tagged row tag accepted (Err (Refusal.Broken rule)) few is = tt
 few_tagged row tag accepted (Err Refusal.NoMemory) few is = tt
-
-pub few_listed : (c : Configuration) (h : HostId) (accepted : List Extent) (offered r : ℕ) (list : List Extent) (forced : Bool) (result : Result (List Extent) Refusal) →
-    ByRow (listed_rule c h accepted offered r list forced) (λ leaving. leaving ≡ map (marked accepted) list) result → IfOk result (λ leaving. length leaving ≤ 64)
-few_listed c h accepted offered r list forced (Ok leaving) is =
-    let p4 = neither _ (where_true forced (too_many_extents (count_after accepted offered list))) is.0 in
-    let p3 = neither (nat_le (length c.regions) r breaks Rule.NoSuchRegion r or is_empty list breaks Rule.EmptyList or too_many_listed list) _ p4.0 in
-    let p2 = neither (nat_le (length c.regions) r breaks Rule.NoSuchRegion r or is_empty list breaks Rule.EmptyList) (too_many_listed list) p3.0 in
-    omega (arith, ltb-false 64 (length list) (not_broken (ltb 64 (length list)) (Rule.TooManyListed (length list)) p2.1), ap length is.1, length-map list (marked accepted))
-few_listed c h accepted offered r list forced (Err (Refusal.Broken rule)) is = tt
-few_listed c h accepted offered r list forced (Err Refusal.NoMemory) is = tt
 
 -- ---- what is meant can be taken, where no rule is broken
 
@@ -227,16 +217,16 @@ meant_departs c s reached h host flags r tag list leaving forced row is =
         Departs c h (lists_in (view_of c h reached.journal)) (is_cleaning flags) (removed (view_of c h reached.journal).accepted flags tag list)
     by true e row =
         let v : View = view_of c h reached.journal in
-        let which : removed (view_of c h reached.journal).accepted flags tag list ≡ tagged tag (view_of c h reached.journal).accepted = ap (λ b. if b then tagged tag (view_of c h reached.journal).accepted else map (marked (view_of c h reached.journal).accepted) list) e in
+        let which : removed (view_of c h reached.journal).accepted flags tag list ≡ extents_of_tag tag (view_of c h reached.journal).accepted = ap (λ b. if b then extents_of_tag tag (view_of c h reached.journal).accepted else map (marked (view_of c h reached.journal).accepted) list) e in
         subst (Departs c h (lists_in (view_of c h reached.journal)) (is_cleaning flags)) (sym which)
-        (departs-others c h _ (lists_in v) (is_cleaning flags) (tagged tag v.accepted) refl refl
+        (departs-others c h _ (lists_in v) (is_cleaning flags) (extents_of_tag tag v.accepted) refl refl
         (tagged_departs c reached.sound (picture_of c (effects reached.journal)) (stands_by c reached.sound reached.journal reached.legal) h host (is_cleaning flags) tag))
     by false e row =
         let v : View = view_of c h reached.journal in
-        let which : removed (view_of c h reached.journal).accepted flags tag list ≡ map (marked (view_of c h reached.journal).accepted) list = ap (λ b. if b then tagged tag (view_of c h reached.journal).accepted else map (marked (view_of c h reached.journal).accepted) list) e in
-        let listed : listed_rule (with_blocks c (λ k. block_of c k (effects reached.journal))) h (view_of c h reached.journal).accepted (count_in (view_of c h reached.journal).offers) r list true ≡ None =
+        let which : removed (view_of c h reached.journal).accepted flags tag list ≡ map (marked (view_of c h reached.journal).accepted) list = ap (λ b. if b then extents_of_tag tag (view_of c h reached.journal).accepted else map (marked (view_of c h reached.journal).accepted) list) e in
+        let listed : prescribed_removal_rule (with_blocks c (λ k. block_of c k (effects reached.journal))) h (view_of c h reached.journal).accepted (count_in (view_of c h reached.journal).offers) r list true ≡ None =
         sym (λ i. if e i then by_tag_rule (view_of c h reached.journal).accepted tag
-        else listed_rule (with_blocks c (λ k. block_of c k (effects reached.journal))) h (view_of c h reached.journal).accepted (count_in (view_of c h reached.journal).offers) r list (forced i)) ∙ row in
+        else prescribed_removal_rule (with_blocks c (λ k. block_of c k (effects reached.journal))) h (view_of c h reached.journal).accepted (count_in (view_of c h reached.journal).offers) r list (forced i)) ∙ row in
         subst (Departs c h (lists_in (view_of c h reached.journal)) (is_cleaning flags)) (sym which)
         (departs-others c h _ (lists_in v) (is_cleaning flags) (map (marked v.accepted) list) refl refl
         (listed_departs c reached.sound (picture_of c (effects reached.journal)) (stands_by c reached.sound reached.journal reached.legal) h host (is_cleaning flags) (count_in v.offers) r list refl listed))
@@ -256,29 +246,29 @@ drafts_taken c h v flags leaving l d own forced departs is =
       payload = is.payload;
       changes = is.changes_are ∙ sym changes;
       tags = is.tags;
-      notices = is.notices (view_after c h v (if is_forced flags then removals c h (is_cleaning flags) leaving else [])) after
-          ∙ ap (λ b. (LogId.Host h, notices_of h (view_after c h v (if is_forced flags then removals c h (is_cleaning flags) leaving else [])) (if b then EventKind.Forced else EventKind.Release) leaving) ∷ []) (sym forced);
+      log_records = is.log_records (view_after c h v (if is_forced flags then removals c h (is_cleaning flags) leaving else [])) after
+          ∙ ap (λ b. (LogId.Host h, records_of_extents h (view_after c h v (if is_forced flags then removals c h (is_cleaning flags) leaving else [])) (if b then EventKind.Forced else EventKind.Release) leaving) ∷ []) (sym forced);
       lists = subst (AreAfter c h v (removal_outcome c h v flags leaving)) (sym is.lists_are) after;
     }
 
 -- ---- the row
 
 -- the host is one of the device
-pub chosen_host : (hosts h flags : ℕ) → choice_rule hosts h flags ≡ None → h < hosts
+pub chosen_host : (hosts h flags : ℕ) → flags_rule hosts h flags ≡ None → h < hosts
 chosen_host hosts h flags row =
     let p2 = neither (nat_le hosts h breaks Rule.NoSuchHost h or (is_cleaning flags && not (is_forced flags)) breaks Rule.UnsupportedFlag) (ltb 1 (policy_in flags) breaks Rule.NoSuchPolicy (policy_in flags)) row in
     let p1 = neither (nat_le hosts h breaks Rule.NoSuchHost h) ((is_cleaning flags && not (is_forced flags)) breaks Rule.UnsupportedFlag) p2.0 in
     leb-false hosts h (not_broken (leb hosts h) (Rule.NoSuchHost h) p1.0)
 
 -- the rules of the host, the flags and the list are kept
-pub removal_row : (c : Configuration) (s : State) (journal : List Entry) → IsKept c journal s → (h flags r : ℕ) (tag : Tag) (list leaving : List Extent) → choice_rule s.present.hosts h flags ≡ None →
+pub removal_row : (c : Configuration) (s : State) (journal : List Entry) → IsStateAfter c journal s → (h flags r : ℕ) (tag : Tag) (list leaving : List Extent) → flags_rule s.present.hosts h flags ≡ None →
     meant_rule s.present h (part_of s h).lists flags r tag list ≡ None → leaving ≡ removed (part_of s h).lists.accepted flags tag list →
     (remove_rule c (λ k. view_of c k journal) h flags r tag list ≡ log_full h (view_of c h journal).log (length leaving)) × (leaving ≡ removed (view_of c h journal).accepted flags tag list)
 removal_row c s journal kept h flags r tag list leaving choice row is =
     let hosts : s.present.hosts ≡ c.hosts = hosts_kept c journal s kept in
     let known : h < c.hosts = omega (arith, hosts, chosen_host s.present.hosts h flags choice) in
     let own : (part_of s h).lists ≡ lists_in (view_of c h journal) = (kept.parts h known).lists_are in
-    let front : choice_rule c.hosts h flags ≡ None = ap (λ n. choice_rule n h flags) (sym hosts) ∙ choice in
+    let front : flags_rule c.hosts h flags ≡ None = ap (λ n. flags_rule n h flags) (sym hosts) ∙ choice in
     let back : meant_rule (with_blocks c (λ k. block_of c k (effects journal))) h (lists_in (view_of c h journal)) flags r tag list ≡ None =
     (λ i. meant_rule (sym kept.present_is i) h (sym own i) flags r tag list) ∙ row in
     let are : leaving ≡ removed (view_of c h journal).accepted flags tag list = is ∙ ap (λ (m : Lists). removed m.accepted flags tag list) own in (

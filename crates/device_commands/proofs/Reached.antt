@@ -24,7 +24,7 @@ use Rattle.holding_laws.specs.Pictures.{picture_of}
 use Rattle.holding_laws.specs.Standing.{Stands}
 use Rattle.holding_laws.proofs.LegalSound.{legal_is_sound}
 use Rattle.device_commands.proofs.CountedTags.{few_tags}
-use Rattle.device_state.specs.Kept.{IsKept, IsReached, part_of}
+use Rattle.device_state.specs.StateAfter.{IsStateAfter, IsReached, part_of}
 use Rattle.device_commands.specs.SetDcRegionConfiguration.{ListsAreOf, LogsAreOf}
 use Rattle.device_state.specs.declared.state.State.{State}
 
@@ -32,7 +32,7 @@ use Rattle.device_state.specs.declared.state.State.{State}
 pub blocks_long : (c : Configuration) (b : ℕ → ℕ) → length (with_blocks c b).regions ≡ length c.regions
 blocks_long c b = length-map (enumerate_from 0 c.regions) (λ spec. record spec.1 { block = b spec.0 }) ∙ length-enumerate_from 0 c.regions
 
-module _ (c : Configuration) (journal : List Entry) (s : State) (kept : IsKept c journal s) where
+module _ (c : Configuration) (journal : List Entry) (s : State) (kept : IsStateAfter c journal s) where
   pub hosts_kept : s.present.hosts ≡ c.hosts
   hosts_kept = ap (λ (d : Configuration). d.hosts) kept.present_is
 

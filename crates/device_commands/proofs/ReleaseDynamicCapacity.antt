@@ -11,7 +11,7 @@ use Rattle.region_config.specs.Granules.{with_blocks}
 use Rattle.region_config.specs.Soundness.{IsSound}
 use Rattle.journal_core.specs.declared.outcome.Effect.{Effect}
 use Rattle.journal_core.specs.declared.outcome.HeldKind.{HeldKind}
-use Rattle.media_map.specs.Places.{IsRunOf, bytes_in, run_of, start_of}
+use Rattle.media_map.specs.Places.{IsRunOf, bytes_of_run, run_of, start_of}
 use Rattle.media_map.proofs.RunLemmas.{run_told}
 use Rattle.selection.proofs.Placed.{granular_run}
 use Rattle.extent_list.specs.ExtentLists.{count_in, cut, cut_all, marked, tags_of}
@@ -19,15 +19,15 @@ use Rattle.host_lists.specs.Answers.{given_up}
 use Rattle.host_lists.specs.Lists.{Lists}
 use Rattle.release_core.specs.Releases.{give_back_rule}
 use Rattle.device_rules.specs.Hosts.{accepted_after, held_after, moves, offers_after}
-use Rattle.device_rules.specs.Outcomes.{notices_of}
+use Rattle.device_rules.specs.Outcomes.{records_of_extents}
 use Rattle.device_rules.specs.ReleaseOutcomes.{give_back_outcome, leaves, removals}
 use Rattle.device_rules.specs.ResponseOutcomes.{hold, unhold}
 use Rattle.device_rules.specs.Views.{View, view_after}
 use Rattle.holding_laws.proofs.Homes.{bytes_same, run_same, start_same}
 use Rattle.device_commands.specs.declared.draft.DraftParts.{DraftParts}
 use Rattle.device_commands.specs.Drafts.{AreAfter, Drafts}
-use Rattle.device_state.specs.Kept.{lists_in}
-use Rattle.device_commands.specs.ListDrafts.{Tells, changed}
+use Rattle.device_state.specs.StateAfter.{lists_in}
+use Rattle.device_commands.specs.ListDrafts.{Tells, lists_changed}
 use Rattle.device_commands.proofs.ListedExtents.{Granular, marked_granular, release_granular}
 use Rattle.device_commands.proofs.ListsAfter.{hold_changes, hold_joins, hold_moves, none_changes, once_more, other_joins, other_stays, unhold_changes, unhold_empties, unhold_moves}
 
@@ -43,8 +43,8 @@ module _ (c : Configuration) (b : ℕ → ℕ) (h : HostId) (sound : IsSound (wi
   starts : (x : Extent) → Granular (with_blocks c b) h x → start_of c h (run_of c h x) ≡ x.start
   starts x made = sym (start_same c b h (run_of c h x)) ∙ ap (start_of (with_blocks c b) h) (sym (run_same c b h x)) ∙ (its_range x made).start
 
-  bytes : (x : Extent) → Granular (with_blocks c b) h x → bytes_in c (run_of c h x) ≡ x.length
-  bytes x made = sym (bytes_same c b (run_of c h x)) ∙ ap (bytes_in (with_blocks c b)) (sym (run_same c b h x)) ∙ (its_range x made).bytes
+  bytes : (x : Extent) → Granular (with_blocks c b) h x → bytes_of_run c (run_of c h x) ≡ x.length
+  bytes x made = sym (bytes_same c b (run_of c h x)) ∙ ap (bytes_of_run (with_blocks c b)) (sym (run_same c b h x)) ∙ (its_range x made).bytes
 
   -- what leaves is cut out
   one_cut : (x : Extent) → Granular (with_blocks c b) h x → (accepted : List Extent) → accepted_after c h accepted (Effect.Leave h (run_of c h x)) ≡ cut x.start x.length accepted
@@ -76,7 +76,7 @@ pub given_drafts : (c p : Configuration) (h : HostId) (v : View) (lists after : 
     → p ≡ with_blocks c v.block → lists ≡ lists_in v → more ≡ false → IsSound p → h < c.hosts
     → lists.releases ++ list ≢ [] → AllByRecursion (Granular p h) (lists.releases ++ list)
     → leaving ≡ map (marked lists.accepted) (lists.releases ++ list) → after ≡ given_up lists (lists.releases ++ list)
-    → Tells (unhold h HeldKind.Releases lists.releases ++ removals p h false leaving) (tags_of leaving) (λ w. notices_of h w EventKind.Released leaving) after d
+    → Tells (unhold h HeldKind.Releases lists.releases ++ removals p h false leaving) (tags_of leaving) (λ w. records_of_extents h w EventKind.Released leaving) after d
     → Drafts c h v (give_back_outcome c h v more list) d
 given_drafts c p h v lists after list leaving more d present shows last sound host some made marks is tells =
     let sound_now : IsSound (with_blocks c v.block) = subst (λ q. IsSound q) present sound in
@@ -87,19 +87,19 @@ given_drafts c p h v lists after list leaving more d present shows last sound ho
     let marks_now : leaving ≡ map (marked v.accepted) (v.releases ++ list) = marks ∙ ap (λ (ls : Lists). map (marked ls.accepted) (ls.releases ++ list)) shows in
     let w : View = view_after c h v (unhold h HeldKind.Releases v.releases ++ leaves c h (v.releases ++ list)) in
     let left : after ≡ lists_in w = is ∙ ap (λ (ls : Lists). given_up ls (ls.releases ++ list)) shows ∙ sym (given_lists c h v sound_now host (v.releases ++ list) some_now made_now) in
-    let t = subst (λ (q : Configuration × (Lists × List Extent)). Tells (unhold h HeldKind.Releases q.1.0.releases ++ removals q.0 h false q.1.1) (tags_of q.1.1) (λ u. notices_of h u EventKind.Released q.1.1) after d)
+    let t = subst (λ (q : Configuration × (Lists × List Extent)). Tells (unhold h HeldKind.Releases q.1.0.releases ++ removals q.0 h false q.1.1) (tags_of q.1.1) (λ u. records_of_extents h u EventKind.Released q.1.1) after d)
     (λ i. (present i, (shows i, marks_now i))) tells in
     subst (λ (m : Bool). Drafts c h v (give_back_outcome c h v m list) d) (sym last) (record {
       payload = t.payload;
       changes = t.changes_are ∙ ap (λ es. unhold h HeldKind.Releases v.releases ++ es) (removals_same c v.block h v.accepted (v.releases ++ list));
       tags = t.tags_are;
-      notices = t.notices w left;
+      log_records = t.log_records w left;
       lists = subst (λ (ls : Option Lists). AreAfter c h v (give_back_outcome c h v false list) ls) (sym t.lists_are) left;
     })
 
 -- more is to come
 pub held_release : (c : Configuration) (h : HostId) (v : View) (lists after : Lists) (list : List Extent) (more : Bool) (d : DraftParts)
-    → lists ≡ lists_in v → more ≡ true → after ≡ record lists { releases = lists.releases ++ list } → d ≡ changed (hold h HeldKind.Releases list) after
+    → lists ≡ lists_in v → more ≡ true → after ≡ record lists { releases = lists.releases ++ list } → d ≡ lists_changed (hold h HeldKind.Releases list) after
     → Drafts c h v (give_back_outcome c h v more list) d
 held_release c h v lists after list more d shows goes_on is drafts =
     let left : after ≡ lists_in (view_after c h v (hold h HeldKind.Releases list)) = is
@@ -113,7 +113,7 @@ held_release c h v lists after list more d shows goes_on is drafts =
     }) in
     subst (λ (b : Bool). Drafts c h v (give_back_outcome c h v b list) d) (sym goes_on)
     (subst (λ (e : DraftParts). Drafts c h v (give_back_outcome c h v true list) e) (sym drafts)
-    (record { payload = refl; changes = refl; tags = refl; notices = refl; lists = left }))
+    (record { payload = refl; changes = refl; tags = refl; log_records = refl; lists = left }))
 
 -- ---- what the lists' answer gives
 

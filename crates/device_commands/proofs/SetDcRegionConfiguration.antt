@@ -13,7 +13,7 @@ use Rattle.journal_core.specs.Entries.{effects}
 use Rattle.journal_core.specs.declared.entries.Entry.{Entry}
 use Rattle.region_config.specs.Blocks.{block_fault}
 use Rattle.region_config.specs.Configurations.{Configuration}
-use Rattle.region_config.specs.Granules.{first_granule, granule_total, granules_in, hosts_of, is_supported, region_spec, sizes_in}
+use Rattle.region_config.specs.Granules.{first_granule, granule_total, region_granules, hosts_of, is_supported, region_spec, sizes_in}
 use Rattle.region_config.specs.Soundness.{IsSound}
 use Rattle.region_config.specs.declared.faults.BlockFault.{BlockFault}
 use Rattle.region_config.specs.declared.region_spec.RegionSpec.{RegionSpec}
@@ -29,11 +29,11 @@ use Rattle.device_rules.specs.Views.{View}
 use Rattle.device_commands.proofs.FreeGranules.{filter_agree, free_at}
 use Rattle.device_commands.proofs.Reached.{first_kept, hosts_kept, region_kept}
 use Rattle.device_commands.proofs.Rows.{kept_rule, not_up_to}
-use Rattle.device_commands.specs.SetDcRegionConfiguration.{region_notice, size_rule, used_in}
+use Rattle.device_commands.specs.SetDcRegionConfiguration.{region_record, size_rule, used_in}
 use Rattle.device_commands.specs.Drafts.{IsOutcome}
 use Rattle.device_commands.specs.declared.draft.DraftParts.{DraftParts}
 use Rattle.journal_core.specs.declared.outcome.Effect.{Effect}
-use Rattle.device_state.specs.Kept.{IsKept}
+use Rattle.device_state.specs.StateAfter.{IsStateAfter}
 use Rattle.device_state.specs.declared.state.State.{State}
 
 -- the rule that a fault is
@@ -62,21 +62,21 @@ other_block : (spec : RegionSpec) (b size : ℕ) (sanitize : Bool) (used : ℕ) 
 unfolding sizes_in
 other_block spec b size sanitize used = refl
 
-module _ (c : Configuration) (sound : IsSound c) (journal : List Entry) (s : State) (kept : IsKept c journal s) (r : ℕ) (known : r < length c.regions) where
-  granules_same : granules_in s.present r ≡ granules_in c r
-  granules_same = ap (λ (d : Configuration). granules_in d r) kept.present_is ∙ granules_in-with_blocks c (λ k. block_of c k (effects journal)) r
+module _ (c : Configuration) (sound : IsSound c) (journal : List Entry) (s : State) (kept : IsStateAfter c journal s) (r : ℕ) (known : r < length c.regions) where
+  granules_same : region_granules s.present r ≡ region_granules c r
+  granules_same = ap (λ (d : Configuration). region_granules d r) kept.present_is ∙ granules_in-with_blocks c (λ k. block_of c k (effects journal)) r
 
   -- the tests of the granules agree
   pub free_agree : Agree (is_free_at s.granules.states) (is_free_now c (effects journal)) 0 (granule_total c)
   free_agree g low high = free_at c (effects journal) s.granules kept.granule_count kept.cells g high
 
-  used_agree : count_by (λ g. not (is_free_at s.granules.states g)) (range_with_len (first_granule c r) (granules_in c r)) ≡ in_use c (effects journal) r
+  used_agree : count_by (λ g. not (is_free_at s.granules.states g)) (range_with_len (first_granule c r) (region_granules c r)) ≡ in_use c (effects journal) r
   used_agree =
       let p : ℕ → Bool = λ g. not (is_free_at s.granules.states g) in
       let q : ℕ → Bool = λ g. not (is_free (status c g (effects journal))) in
-      let rs : List ℕ = range_with_len (first_granule c r) (granules_in c r) in
+      let rs : List ℕ = range_with_len (first_granule c r) (region_granules c r) in
       sym (length-filter p rs)
-      ∙ ap length (filter_agree p q (first_granule c r) (granules_in c r) (λ g low high. ap not (free_agree g (omega arith) (omega (arith, high, granules_within c r known)))))
+      ∙ ap length (filter_agree p q (first_granule c r) (region_granules c r) (λ g low high. ap not (free_agree g (omega arith) (omega (arith, high, granules_within c r known)))))
       ∙ length-filter q rs
 
   used_kept : used_in s r ≡ in_use c (effects journal) r
@@ -119,7 +119,7 @@ module _ (c : Configuration) (sound : IsSound c) (journal : List Entry) (s : Sta
     -- each host of the device is told
     pub told_all : (d : DraftParts) → IsOutcome (set_outcome s.present view_for r size) d → IsOutcome (set_outcome c view_for r size) d
     told_all d is =
-        subst (λ n. IsOutcome (record { payload = []; changes = Effect.Block r size ∷ []; tags = []; notices = map (region_notice view_for r) (range_with_len 0 n) }) d) (hosts_kept c journal s kept) is
+        subst (λ n. IsOutcome (record { payload = []; changes = Effect.Block r size ∷ []; tags = []; log_records = map (region_record view_for r) (range_with_len 0 n) }) d) (hosts_kept c journal s kept) is
 
 -- a region past the last
 pub unknown_region : (c : Configuration) (journal : List Entry) (view_for : HostId → View) (r : ℕ) (sanitize : Bool) (size : ℕ) → length c.regions ≤ r →

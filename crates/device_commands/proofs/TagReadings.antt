@@ -9,7 +9,7 @@ use Rattle.journal_core.specs.declared.entries.Entry.{Entry}
 use Rattle.region_config.specs.Configurations.{Configuration}
 use Rattle.region_config.specs.Granules.{hosts_of}
 use Rattle.region_config.specs.Soundness.{IsSound}
-use Rattle.tag_refs.specs.Tables.{is_live, passes, view_of, is_referenced as is_entry_referenced}
+use Rattle.tag_refs.specs.Tables.{has_entry, passes, tag_view, entry_referenced as is_entry_referenced}
 use Rattle.tag_refs.specs.declared.entries.TagEntry.{TagEntry}
 use Rattle.device_rules.specs.Adding.{is_open_in}
 use Rattle.device_rules.specs.Hosts.{accepted_of, offers_of}
@@ -30,12 +30,12 @@ tags_length c before entries sound legal table = table_length c (effects before)
 
 -- a tag is open just where it has an entry
 pub tags_open : (c : Configuration) (before : List Entry) (entries : List TagEntry) → IsSound c → Legal c before → IsTable c (effects before) entries →
-    (t : Tag) → has_tag (open_tags c (effects before)) t ≡ is_live t entries
+    (t : Tag) → has_tag (open_tags c (effects before)) t ≡ has_entry t entries
 tags_open c before entries sound legal table t = table_live c (effects before) entries table t
 
 -- each entry shows what is seen of its tag
 pub tags_seen : (c : Configuration) (before : List Entry) (entries : List TagEntry) → IsSound c → Legal c before → IsTable c (effects before) entries →
-    map (tag_seen c (effects before)) (open_tags c (effects before)) ≡ map view_of entries
+    map (tag_seen c (effects before)) (open_tags c (effects before)) ≡ map tag_view entries
 tags_seen c before entries sound legal table = table_seen c (effects before) entries table
 
 -- the manager has a reference just where the entry says so

@@ -8,15 +8,15 @@ use Rattle.table_laws.specs.GranuleCells.{IsCell, status_of}
 use Rattle.granule_map.specs.Choices.{joined}
 use Rattle.granule_map.specs.StateLists.{is_dirty_at, is_dirty_state}
 use Rattle.granule_map.specs.declared.states.GranuleState.{GranuleState}
-use Rattle.granule_table.specs.Tables.{Table, cell_at}
-use Rattle.device_state.specs.Kept.{IsKept}
+use Rattle.granule_table.specs.Tables.{CellTable, cell_at}
+use Rattle.device_state.specs.StateAfter.{IsStateAfter}
 use Rattle.journal_core.specs.Entries.{effects}
 use Rattle.journal_core.specs.declared.acts.Reply.{Reply}
 use Rattle.journal_core.specs.declared.entries.Entry.{Entry}
 use Rattle.journal_core.specs.declared.outcome.Effect.{Effect}
 use Rattle.device_rules.specs.Answers.{scrubbed as rules_scrubbed, zeroes}
 use Rattle.device_rules.specs.Tags.{is_dirty, status}
-use Rattle.sanitizer.specs.Turns.{granules_in, granules_of, scrub_runs, scrubbed}
+use Rattle.sanitizer.specs.Turns.{granules_of_runs, run_of_pair, scrub_runs, lowest_dirty}
 use Rattle.sanitizer.proofs.Scrubbed.{scrub_runs_agree, scrubbed_agree}
 use Rattle.device_state.specs.declared.state.State.{State}
 use Rattle.device_commands.specs.Scrub.{IsZeroed}
@@ -31,7 +31,7 @@ dirty_is (GranuleState.Tagged t) = refl
 dirty_is GranuleState.Dirty = refl
 
 -- a granule is dirty by its state just where it is by the effects so far
-pub same_dirty : (c : Configuration) (past : List Effect) (t : Table) (g : ℕ) → g < length t.states → IsCell c past g (cell_at t g) →
+pub same_dirty : (c : Configuration) (past : List Effect) (t : CellTable) (g : ℕ) → g < length t.states → IsCell c past g (cell_at t g) →
     is_dirty_at t.states g ≡ is_dirty (status c g past)
 same_dirty c past t g below is =
     ap is_dirty_state (get_or_default t.states g GranuleState.Free GranuleState.Dirty below)
@@ -44,21 +44,21 @@ pub map_twice : {X Y Z : Type 0} (f : X → Y) (g : Y → Z) (xs : List X) → m
 map_twice f g [] = refl
 map_twice f g (x ∷ xs) = ap (λ ys. g (f x) ∷ ys) (map_twice f g xs)
 
-module _ (c : Configuration) (before : List Entry) (s : State) (kept : IsKept c before s) (n : ℕ) where
+module _ (c : Configuration) (before : List Entry) (s : State) (kept : IsStateAfter c before s) (n : ℕ) where
   agree : (g : ℕ) → g < granule_total c → is_dirty_at s.granules.states g ≡ is_dirty (status c g (effects before))
   agree g below = same_dirty c (effects before) s.granules g (omega (arith, below, kept.granule_count)) (kept.cells g below)
 
-  pub same_granules : scrubbed c (is_dirty_at s.granules.states) n ≡ rules_scrubbed c (effects before) n
+  pub same_granules : lowest_dirty c (is_dirty_at s.granules.states) n ≡ rules_scrubbed c (effects before) n
   same_granules = scrubbed_agree c (is_dirty_at s.granules.states) (λ g. is_dirty (status c g (effects before))) n agree
 
   pub same_zeroes : map Effect.Zero (scrub_runs c (is_dirty_at s.granules.states) n) ≡ zeroes c (rules_scrubbed c (effects before) n)
   same_zeroes =
       ap (λ runs. map Effect.Zero runs) (scrub_runs_agree c (is_dirty_at s.granules.states) (λ g. is_dirty (status c g (effects before))) n agree)
-      ∙ map_twice granules_of Effect.Zero (joined (same_region c) (rules_scrubbed c (effects before) n))
+      ∙ map_twice run_of_pair Effect.Zero (joined (same_region c) (rules_scrubbed c (effects before) n))
 
 -- So many granules are zeroed as by a scrub.
-pub is_zeroed : (c : Configuration) (s : State) (n : ℕ) (runs : List Run) (granules : ℕ) (changes : List Effect) → granules ≡ granules_in runs → changes ≡ map Effect.Zero runs →
-    runs ≡ scrub_runs c (is_dirty_at s.granules.states) n → granules_in runs ≡ length (scrubbed c (is_dirty_at s.granules.states) n) →
+pub is_zeroed : (c : Configuration) (s : State) (n : ℕ) (runs : List Run) (granules : ℕ) (changes : List Effect) → granules ≡ granules_of_runs runs → changes ≡ map Effect.Zero runs →
+    runs ≡ scrub_runs c (is_dirty_at s.granules.states) n → granules_of_runs runs ≡ length (lowest_dirty c (is_dirty_at s.granules.states) n) →
     IsZeroed c s n (record { granules = granules; changes = changes })
 is_zeroed c s n runs granules changes count new runs_are total = λ before legal kept.
     let zeroed = new ∙ ap (λ rs. map Effect.Zero rs) runs_are ∙ same_zeroes c before s kept n in

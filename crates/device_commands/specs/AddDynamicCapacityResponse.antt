@@ -7,7 +7,7 @@ use Rattle.event_records.specs.declared.events.EventKind.{EventKind}
 use Rattle.region_config.specs.Configurations.{Configuration}
 use Rattle.journal_core.specs.declared.outcome.Effect.{Effect}
 use Rattle.media_map.specs.Places.{run_of}
-use Rattle.device_rules.specs.Outcomes.{no_extent, notice, notices_of}
+use Rattle.device_rules.specs.Outcomes.{no_extent, record_for, records_of_extents}
 use Rattle.device_rules.specs.Views.{View}
 use Rattle.extent_list.specs.ExtentLists.{tags_of}
 use Rattle.offer_core.specs.Offerings.{oldest_of}
@@ -23,8 +23,8 @@ takes c h xs = map (λ x. Effect.Take h (run_of c h x)) xs
 
 -- the manager is told of each accepted extent, or of one zero extent where none is accepted
 abbrev pub told_of : HostId → View → List Extent → List Event
-told_of h w [] = notice h w EventKind.AddResponse false no_extent ∷ []
-told_of h w (x ∷ xs) = notices_of h w EventKind.AddResponse (x ∷ xs)
+told_of h w [] = record_for h w EventKind.AddResponse false no_extent ∷ []
+told_of h w (x ∷ xs) = records_of_extents h w EventKind.AddResponse (x ∷ xs)
 
 -- what an answer changes: what is held goes, and the host takes the extents
 abbrev pub answer_changes : Configuration → HostId → Lists → List Extent → List Effect

@@ -10,7 +10,7 @@ use Rattle.device_rules.specs.Outcomes.{Outcome}
 use Rattle.std.specs.declared.result.Result.{Result}
 use Rattle.dcd_codes.specs.declared.refusals.Refusal.{Refusal}
 use Rattle.event_log.specs.Logs.{Log}
-use Rattle.device_state.specs.Kept.{IsLogOf}
+use Rattle.device_state.specs.StateAfter.{IsLogOf}
 use Rattle.device_commands.specs.Drafts.{IsOutcome}
 use Rattle.device_commands.specs.declared.draft.DraftParts.{DraftParts}
 
@@ -19,15 +19,15 @@ abbrev pub whole_rule : LogState → Option Rule
 whole_rule log = (log.missed == 0) breaks Rule.NotOverflowed
 
 -- and else handle by handle
-abbrev pub listed_rule : LogState → List ℕ → Option Rule
-listed_rule log handles = option_map rule_of (clear_fault handles log.records)
+abbrev pub log_handles_rule : LogState → List ℕ → Option Rule
+log_handles_rule log handles = option_map rule_of (clear_fault handles log.records)
 
 abbrev pub clearing_rule : LogState → Bool → List ℕ → Option Rule
-clearing_rule log all handles = if all then whole_rule log else listed_rule log handles
+clearing_rule log all handles = if all then whole_rule log else log_handles_rule log handles
 
 -- changes, and no more
 abbrev pub changing : List Effect → Outcome
-changing changes = record { payload = []; changes = changes; tags = []; notices = [] }
+changing changes = record { payload = []; changes = changes; tags = []; log_records = [] }
 
 abbrev pub whole_outcome : LogId → LogState → Outcome
 whole_outcome l log = changing (cleared l (length log.records) ++ Effect.Reset l ∷ [])

@@ -2,7 +2,7 @@
 use Rattle.std.specs.Prelude.{◌≡◌, ℕ, List}
 use Rattle.device_rules.specs.Settings.{lists_reply}
 use Rattle.device_rules.specs.Views.{View}
-use Rattle.device_state.specs.Kept.{lists_in, part_of}
+use Rattle.device_state.specs.StateAfter.{lists_in, part_of}
 use Rattle.device_state.specs.declared.state.State.{State}
 
 -- The payload is the reply, for each view that the lists of the host show.

@@ -10,7 +10,7 @@ use Rattle.region_config.specs.Granules.{with_blocks}
 use Rattle.device_rules.specs.Outcomes.{only}
 use Rattle.device_rules.specs.Settings.{configuration_reply, no_such_region}
 use Rattle.device_rules.specs.Views.{View}
-use Rattle.device_state.specs.Kept.{lists_in}
+use Rattle.device_state.specs.StateAfter.{lists_in}
 use Rattle.device_commands.specs.Drafts.{IsOutcome}
 use Rattle.device_commands.specs.declared.draft.DraftParts.{DraftParts}
 

@@ -7,7 +7,7 @@ use Rattle.host_lists.specs.Lists.{Lists}
 use Rattle.device_rules.specs.Outcomes.{only}
 use Rattle.device_rules.specs.Settings.{extents_reply, past_end}
 use Rattle.device_rules.specs.Views.{View}
-use Rattle.device_state.specs.Kept.{lists_in}
+use Rattle.device_state.specs.StateAfter.{lists_in}
 use Rattle.device_commands.specs.Drafts.{IsOutcome}
 use Rattle.device_commands.specs.declared.draft.DraftParts.{DraftParts}
 

@@ -4,7 +4,7 @@ use Rattle.region_config.specs.Configurations.{Configuration}
 use Rattle.region_config.specs.Granules.{with_blocks}
 use Rattle.device_rules.specs.Settings.{regions_reply}
 use Rattle.device_rules.specs.Views.{View}
-use Rattle.device_state.specs.Kept.{lists_in, part_of}
+use Rattle.device_state.specs.StateAfter.{lists_in, part_of}
 use Rattle.device_state.specs.declared.state.State.{State}
 
 -- The payload is the reply, for each configuration and view that the present blocks and the lists of the host show.

@@ -7,8 +7,8 @@ use Rattle.host_lists.specs.Lists.{Lists}
 use Rattle.device_rules.specs.ResponseOutcomes.{unhold}
 
 -- the held list of the command ends
-abbrev pub dropped_by : HostId → Lists → ℕ → List Effect
-dropped_by h l opcode =
+abbrev pub unheld_by : HostId → Lists → ℕ → List Effect
+unheld_by h l opcode =
     if opcode == 0x4802 then unhold h HeldKind.Responses l.responses
     else if opcode == 0x4803 then unhold h HeldKind.Releases l.releases
     else []

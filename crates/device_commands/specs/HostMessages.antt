@@ -1,5 +1,5 @@
 -- How a host's message is read, and what it comes to by what the device keeps of the host.
-use Rattle.std.specs.Prelude.{◌≡◌, ◌≤◌, length, None}
+use Rattle.std.specs.Prelude.{◌≡◌, None}
 use Rattle.std.specs.declared.result.Result.{Result}
 use Rattle.std.specs.declared.result.Result.TheVariants.{Ok, Err}
 use Rattle.cci_codec.specs.declared.messages.Request.{Request}
@@ -17,7 +17,7 @@ use Rattle.device_rules.specs.Answers.{host_outcome, host_result_in, host_rule}
 use Rattle.device_rules.specs.Views.{View}
 use Rattle.device_commands.specs.declared.draft.DraftParts.{DraftParts}
 use Rattle.device_commands.specs.Drafts.{Drafts}
-use Rattle.device_state.specs.Kept.{IsLogOf, lists_in}
+use Rattle.device_state.specs.StateAfter.{IsLogOf, lists_in}
 
 -- The draft is the outcome of the request that the message is, which breaks no rule.
 pub record IsDraft (c : Configuration) (h : HostId) (v : View) (q : Request) (draft : DraftParts) : Type 0 where
@@ -32,18 +32,8 @@ IsDrafted c h v q (Ok draft) = IsDraft c h v q draft
 IsDrafted c h v q (Err (Refusal.Broken rule)) = host_result_in c h v q ≡ Err rule
 IsDrafted c h v q (Err Refusal.NoMemory) = Unit {0}
 
--- A request to clear records lists so many at most.
-abbrev pub FewHandles : HostRequest → Type 0
-FewHandles (HostRequest.ClearEvents log all handles) = length handles ≤ 255
-FewHandles q = Unit {0}
-
--- A host's request answers by its row, and the draft is its outcome, for each view that the present blocks, the lists and
--- the log show.
-abbrev pub AnswersHost : Configuration → Configuration → HostId → Lists → LogState → HostRequest → Result DraftParts Refusal → Type 0
-AnswersHost c present h lists log asked result = (v : View) → present ≡ with_blocks c v.block → lists ≡ lists_in v → IsLogOf (LogId.Host h) v.log log →
-    ByRow (host_rule c h v asked) (Drafts c h v (host_outcome c h v asked)) result
-
--- So it is without the log, of which most requests read nothing.
+-- A host's request answers by its row, and the draft is its outcome, for each view that the present blocks and the lists
+-- show: most requests read nothing of the log.
 abbrev pub AnswersByLists : Configuration → Configuration → HostId → Lists → HostRequest → Result DraftParts Refusal → Type 0
 AnswersByLists c present h lists q result = (v : View) → present ≡ with_blocks c v.block → lists ≡ lists_in v →
     ByRow (host_rule c h v q) (Drafts c h v (host_outcome c h v q)) result

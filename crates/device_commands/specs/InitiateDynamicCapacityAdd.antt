@@ -13,31 +13,30 @@ use Rattle.event_log.specs.Logs.{Log}
 use Rattle.event_records.specs.declared.events.EventKind.{EventKind}
 use Rattle.extent_list.specs.ExtentLists.{has_extent_of, real_tags}
 use Rattle.granule_map.specs.StateLists.{is_free_at}
-use Rattle.device_state.specs.Kept.{lists_in, part_of, IsLogOf}
+use Rattle.device_state.specs.StateAfter.{lists_in, part_of, IsLogOf}
 use Rattle.device_commands.specs.Drafts.{told_in}
 use Rattle.device_commands.specs.declared.draft.DraftParts.{DraftParts}
-use Rattle.host_lists.specs.Lists.{Lists, extent_total, extents_in}
+use Rattle.host_lists.specs.Lists.{Lists, extent_total, extents_of_lists}
 use Rattle.journal_core.specs.declared.outcome.Effect.{Effect}
 use Rattle.list_rules.specs.Listing.{too_many_extents}
-use Rattle.region_config.specs.Granules.{hosts_of, region_spec, first_granule, granules_in}
-use Rattle.selection.specs.Selections.{contiguous_runs, free_runs, prescribed_rule, AreBetween, too_few_free}
-use Rattle.tag_refs.specs.Tables.{is_referenced, passes}
+use Rattle.region_config.specs.Granules.{hosts_of, region_spec}
+use Rattle.selection.specs.Selections.{contiguous_runs, free_runs, prescribed_rule}
+use Rattle.tag_refs.specs.Tables.{entry_referenced, passes}
 use Rattle.tag_refs.specs.declared.entries.TagEntry.{TagEntry}
-use Rattle.device_rules.specs.Adding.{extents_of, area_of, by_length_rule, chosen, per_block, tagged, too_many_tags, free_blocks, longest_free}
-use Rattle.device_rules.specs.Outcomes.{log_full, notices_of}
+use Rattle.device_rules.specs.Adding.{extents_of, area_of, by_length_rule, chosen, per_block, with_tag, too_many_tags}
+use Rattle.device_rules.specs.Outcomes.{log_full, records_of_extents}
 use Rattle.device_rules.specs.Views.{View}
 use Rattle.device_state.specs.Entered.{runs_in}
 use Rattle.device_state.specs.declared.state.State.{State}
 use Rattle.dcd_codes.specs.declared.refusals.Refusal.{Refusal}
 use Rattle.std.specs.declared.result.Result.{Result}
 use Rattle.fm_payloads.specs.declared.requests.FmRequest.{FmRequest}
-use Rattle.region_config.specs.Configurations.{Configuration}
 use Rattle.device_commands.specs.declared.choosing.Asked.{Asked}
 use Rattle.device_commands.specs.declared.initiate_dynamic_capacity_add.AddRequest.{AddRequest}
 
 -- the rules of the host, the policy and the region
-abbrev pub named_rule : ℕ → ℕ → ℕ → ℕ → ℕ → Option Rule
-named_rule hosts regions h policy r =
+abbrev pub target_rule : ℕ → ℕ → ℕ → ℕ → ℕ → Option Rule
+target_rule hosts regions h policy r =
     nat_le hosts h breaks Rule.NoSuchHost h
     or nat_lt 3 policy breaks Rule.NoSuchPolicy policy
     or nat_le regions r breaks Rule.NoSuchRegion r
@@ -50,7 +49,7 @@ abbrev pub is_with_hosts : State → Tag → Bool
 is_with_hosts s t = list_any (λ h. lists_have t (part_of s h).lists) (hosts_of s.present)
 
 abbrev pub is_used_tag : State → Tag → Bool
-is_used_tag s t = not (is_zero_tag t) && (is_with_hosts s t || passes t is_referenced s.tags.entries)
+is_used_tag s t = not (is_zero_tag t) && (is_with_hosts s t || passes t entry_referenced s.tags.entries)
 
 -- the rules of a tag that is shared
 abbrev pub shared_rule : State → HostId → ℕ → Tag → Option Rule
@@ -86,13 +85,13 @@ abbrev pub chosen_now : State → HostId → ℕ → ℕ → ℕ → Tag → Lis
 chosen_now s h policy r bytes t list = chosen s.present (is_free_at s.granules.states) (runs_in s t) h policy r bytes list
 
 abbrev pub offered_now : State → HostId → ℕ → ℕ → ℕ → Tag → List Extent → List Extent
-offered_now s h policy r bytes t list = tagged (region_spec s.present r).shareable t (chosen_now s h policy r bytes t list)
+offered_now s h policy r bytes t list = with_tag (region_spec s.present r).shareable t (chosen_now s h policy r bytes t list)
 
 -- the rules of what the host would have then
 abbrev pub room_rule : HostId → Lists → Log → List Extent → Option Rule
 room_rule h l log new =
     too_many_extents (extent_total l + length new)
-    or too_many_tags (length (real_tags (extents_in l ++ new)))
+    or too_many_tags (length (real_tags (extents_of_lists l ++ new)))
     or log_full h log (length new)
 
 -- the lists with one more offer
@@ -100,12 +99,12 @@ abbrev pub offered_lists : Lists → List Extent → Lists
 offered_lists l new = record l { offers = l.offers ++ new ∷ [] }
 
 -- The draft offers these to the host, and tells it of each.
-pub record IsOffered (h : HostId) (old : Lists) (new : List Extent) (d : DraftParts) : Type 0 where
+pub record DraftOffers (h : HostId) (old : Lists) (new : List Extent) (d : DraftParts) : Type 0 where
   pub payload : d.payload ≡ []
   pub changes_are : d.changes ≡ Effect.Offer h new ∷ []
   pub tags : d.tags ≡ []
   pub lists_are : d.lists ≡ Some (offered_lists old new)
-  pub notices : (v : View) → offered_lists old new ≡ lists_in v → map told_in d.notices ≡ (LogId.Host h, notices_of h v EventKind.Add new) ∷ []
+  pub log_records : (v : View) → offered_lists old new ≡ lists_in v → map told_in d.log_records ≡ (LogId.Host h, records_of_extents h v EventKind.Add new) ∷ []
 
 -- ---- by the fields of a request
 
@@ -115,23 +114,16 @@ add_request q list = FmRequest.Add q.host q.policy q.region q.length q.tag list
 
 -- the rules of its host, policy and region
 abbrev pub request_rule : State → AddRequest → Option Rule
-request_rule s q = named_rule s.present.hosts (length s.present.regions) q.host q.policy q.region
+request_rule s q = target_rule s.present.hosts (length s.present.regions) q.host q.policy q.region
 
 -- ---- by what is asked for, where host, policy and region are there
 
--- the rules of what is chosen, what that is, and what is offered of it
+-- the rules of what is chosen, and what is offered of it
 abbrev pub policy_rule : State → Asked → List Extent → Option Rule
 policy_rule s a list = chosen_rule s a.host a.policy a.region a.length list
 
-abbrev pub policy_choice : State → Asked → List Extent → List Extent
-policy_choice s a list = chosen_now s a.host a.policy a.region a.length a.tag list
-
 abbrev pub new_offer : State → Asked → List Extent → List Extent
 new_offer s a list = offered_now s a.host a.policy a.region a.length a.tag list
-
--- the rules of listed extents
-abbrev pub listed_offer_rule : State → Asked → List Extent → Option Rule
-listed_offer_rule s a list = prescribed_rule s.present a.host (is_free_at s.granules.states) a.region list
 
 -- the rules of so many bytes, the runs that are found, and the extents of the host that they are
 abbrev pub length_rule : State → Asked → Option Rule
@@ -143,19 +135,6 @@ length_runs s a = by_length_runs s a.policy a.region a.length
 abbrev pub extents_by_length : State → Asked → List Extent
 extents_by_length s a = extents_of s.present a.host (length_runs s a)
 
--- the rule of so many blocks, and the runs that are found
-abbrev pub blocks_rule : State → Asked → ℕ → Option Rule
-blocks_rule s a blocks = too_few_free blocks
-    (if a.policy == 0 then free_blocks s.present (is_free_at s.granules.states) a.region
-    else longest_free s.present (is_free_at s.granules.states) a.region)
-
-abbrev pub chosen_blocks : State → Asked → ℕ → List Run
-chosen_blocks s a blocks = block_runs s a.policy a.region blocks
-
--- The runs lie in the region.
-abbrev pub LieInRegion : Configuration → ℕ → List Run → Type 0
-LieInRegion c r runs = AreBetween (first_granule c r) (first_granule c r + granules_in c r) runs
-
 -- ---- by each history that the host's log shows
 
 -- It is the rule of the room that the host has for more extents.
@@ -165,4 +144,4 @@ IsRoomRule s h new found = (log : Log) → IsLogOf (LogId.Host h) log (part_of s
 -- The extents are offered, or this rule is broken.
 abbrev pub AnswersOffer : State → HostId → List Extent → Result DraftParts Refusal → Type 0
 AnswersOffer s h new result = (log : Log) → IsLogOf (LogId.Host h) log (part_of s h).log →
-    ByRow (room_rule h (part_of s h).lists log new) (IsOffered h (part_of s h).lists new) result
+    ByRow (room_rule h (part_of s h).lists log new) (DraftOffers h (part_of s h).lists new) result

@@ -8,8 +8,8 @@ use Rattle.dcd_base.specs.declared.steps.LogId.{LogId}
 use Rattle.dcd_codes.specs.Rules.{◌breaks◌, ByRow}
 use Rattle.dcd_codes.specs.declared.rules.Rule.{Rule}
 use Rattle.event_records.specs.declared.events.EventKind.{EventKind}
-use Rattle.extent_list.specs.ExtentLists.{count_in, cut_all, tags_of, marked}
-use Rattle.device_state.specs.Kept.{lists_in, IsKept, part_of}
+use Rattle.extent_list.specs.ExtentLists.{count_in, cut_all, tags_of}
+use Rattle.device_state.specs.StateAfter.{lists_in, IsStateAfter, part_of}
 use Rattle.device_commands.specs.Drafts.{told_in, Drafts}
 use Rattle.device_commands.specs.declared.draft.DraftParts.{DraftParts}
 use Rattle.host_lists.specs.Answers.{generation_after}
@@ -18,9 +18,9 @@ use Rattle.journal_core.specs.declared.outcome.Effect.{Effect}
 use Rattle.media_map.specs.Places.{is_granular}
 use Rattle.region_config.specs.Configurations.{Configuration}
 use Rattle.release_core.specs.Leaving.{AllCanLeave}
-use Rattle.release_core.specs.Removals.{by_tag_rule, listed_rule}
+use Rattle.release_core.specs.Removals.{by_tag_rule, prescribed_removal_rule}
 use Rattle.device_rules.specs.Hosts.{accepted_after, offers_after}
-use Rattle.device_rules.specs.Outcomes.{Outcome, notices_of, log_full}
+use Rattle.device_rules.specs.Outcomes.{Outcome, records_of_extents, log_full}
 use Rattle.device_rules.specs.ReleaseOutcomes.{is_cleaning, is_forced, policy_in, removals, removed}
 use Rattle.device_rules.specs.Views.{View, view_after, view_of}
 use Rattle.std.specs.declared.result.Result.{Result}
@@ -32,8 +32,8 @@ use Rattle.device_state.specs.declared.state.State.{State}
 use Rattle.device_commands.specs.declared.initiate_dynamic_capacity_release.RemoveRequest.{RemoveRequest}
 
 -- the rules of the host and of the flags
-abbrev pub choice_rule : ℕ → ℕ → ℕ → Option Rule
-choice_rule hosts h flags =
+abbrev pub flags_rule : ℕ → ℕ → ℕ → Option Rule
+flags_rule hosts h flags =
     nat_le hosts h breaks Rule.NoSuchHost h
     or (is_cleaning flags && not (is_forced flags)) breaks Rule.UnsupportedFlag
     or nat_lt 1 (policy_in flags) breaks Rule.NoSuchPolicy (policy_in flags)
@@ -41,7 +41,7 @@ choice_rule hosts h flags =
 -- the rules of what is meant
 abbrev pub meant_rule : Configuration → HostId → Lists → ℕ → ℕ → Tag → List Extent → Option Rule
 meant_rule present h l flags r tag list =
-    if policy_in flags == 0 then by_tag_rule l.accepted tag else listed_rule present h l.accepted (count_in l.offers) r list (is_forced flags)
+    if policy_in flags == 0 then by_tag_rule l.accepted tag else prescribed_removal_rule present h l.accepted (count_in l.offers) r list (is_forced flags)
 
 -- the lists once these have left
 abbrev pub removed_lists : Lists → List Extent → Lists
@@ -61,7 +61,7 @@ pub record IsDrafted (h : HostId) (kind : EventKind) (changes : List Effect) (ne
   pub changes_are : d.changes ≡ changes
   pub tags : d.tags ≡ tags_of leaving
   pub lists_are : d.lists ≡ lists
-  pub notices : (v : View) → new ≡ lists_in v → map told_in d.notices ≡ (LogId.Host h, notices_of h v kind leaving) ∷ []
+  pub log_records : (v : View) → new ≡ lists_in v → map told_in d.log_records ≡ (LogId.Host h, records_of_extents h v kind leaving) ∷ []
 
 -- what a removal of these does
 abbrev pub removal_outcome : Configuration → HostId → View → ℕ → List Extent → Outcome
@@ -70,7 +70,7 @@ removal_outcome c h v flags all =
       payload = [];
       changes = changes;
       tags = tags_of all;
-      notices = (LogId.Host h, notices_of h (view_after c h v changes) (if is_forced flags then EventKind.Forced else EventKind.Release) all) ∷ [];
+      log_records = (LogId.Host h, records_of_extents h (view_after c h v changes) (if is_forced flags then EventKind.Forced else EventKind.Release) all) ∷ [];
     }
 
 -- The extents are taken from the host, which has these lists, by force.
@@ -94,15 +94,8 @@ meant_rule_of s h q list = meant_rule s.present h (part_of s h).lists q.flags q.
 abbrev pub meant_of : State → HostId → RemoveRequest → List Extent → List Extent
 meant_of s h q list = removed (part_of s h).lists.accepted q.flags q.tag list
 
--- of listed ones
-abbrev pub listed_leaving_rule : State → HostId → ℕ → List Extent → Bool → Option Rule
-listed_leaving_rule s h r list forced = listed_rule s.present h (part_of s h).lists.accepted (count_in (part_of s h).lists.offers) r list forced
-
-abbrev pub listed_leaving : State → HostId → List Extent → List Extent
-listed_leaving s h list = map (marked (part_of s h).lists.accepted) list
-
 -- The extents are taken or asked for, or the host's log has no room, by every legal journal that leads to what is kept.
 abbrev pub AnswersRemoval : Configuration → State → HostId → ℕ → List Extent → Result DraftParts Refusal → Type 0
-AnswersRemoval c s h flags leaving result = (journal : List Entry) → Legal c journal → IsKept c journal s →
+AnswersRemoval c s h flags leaving result = (journal : List Entry) → Legal c journal → IsStateAfter c journal s →
     ByRow (log_full h (view_of c h journal).log (length leaving))
     (Drafts c h (view_of c h journal) (removal_outcome c h (view_of c h journal) flags leaving)) result

@@ -4,20 +4,20 @@ use Rattle.dcd_base.specs.declared.capacity.Tag.{Tag}
 use Rattle.dcd_base.specs.declared.capacity.Extent.{Extent}
 use Rattle.dcd_base.specs.declared.ids.HostId.{HostId}
 use Rattle.event_records.specs.declared.events.EventKind.{EventKind}
-use Rattle.device_rules.specs.Outcomes.{notices_of}
-use Rattle.device_commands.specs.declared.log_records.Notice.{Notice}
+use Rattle.device_rules.specs.Outcomes.{records_of_extents}
+use Rattle.device_commands.specs.declared.log_records.LogRecords.{LogRecords}
 use Rattle.dcd_base.specs.declared.steps.LogId.{LogId}
 use Rattle.event_records.specs.declared.events.Event.{Event}
 use Rattle.journal_core.specs.declared.outcome.Effect.{Effect}
 use Rattle.host_lists.specs.Lists.{Lists}
 use Rattle.device_rules.specs.Views.{View}
 use Rattle.device_commands.specs.declared.draft.DraftParts.{DraftParts}
-use Rattle.device_state.specs.Kept.{lists_in}
+use Rattle.device_state.specs.StateAfter.{lists_in}
 use Rattle.device_commands.specs.Drafts.{told_in}
 
 -- changes, and the lists after them
-abbrev pub changed : List Effect → Lists → DraftParts
-changed changes lists = record { payload = []; changes = changes; tags = []; notices = []; lists = Some lists }
+abbrev pub lists_changed : List Effect → Lists → DraftParts
+lists_changed changes lists = record { payload = []; changes = changes; tags = []; log_records = []; lists = Some lists }
 
 -- The draft has these changes, these tags that may end, these lists, and for the manager these events of a view with
 -- these lists.
@@ -25,9 +25,9 @@ pub record Tells (changes : List Effect) (tags : List Tag) (events : View → Li
   pub payload : d.payload ≡ []
   pub changes_are : d.changes ≡ changes
   pub tags_are : d.tags ≡ tags
-  pub notices : (w : View) → lists ≡ lists_in w → map told_in d.notices ≡ (LogId.Manager, events w) ∷ []
+  pub log_records : (w : View) → lists ≡ lists_in w → map told_in d.log_records ≡ (LogId.Manager, events w) ∷ []
   pub lists_are : d.lists ≡ Some lists
 
--- The notices tell the log of a host of each extent, by a view with these lists.
-abbrev pub TellOf : HostId → EventKind → Lists → List Extent → List Notice → Type 0
-TellOf h kind lists extents ns = (v : View) → lists ≡ lists_in v → map told_in ns ≡ (LogId.Host h, notices_of h v kind extents) ∷ []
+-- The records tell the log of a host of each extent, by a view with these lists.
+abbrev pub TellOf : HostId → EventKind → Lists → List Extent → List LogRecords → Type 0
+TellOf h kind lists extents ns = (v : View) → lists ≡ lists_in v → map told_in ns ≡ (LogId.Host h, records_of_extents h v kind extents) ∷ []

@@ -12,7 +12,7 @@ use Rattle.device_rules.specs.Answers.{manager_outcome, manager_rule}
 use Rattle.device_rules.specs.Legal.{Legal}
 use Rattle.device_rules.specs.Outcomes.{Outcome}
 use Rattle.device_rules.specs.Views.{view_of}
-use Rattle.device_state.specs.Kept.{IsKept}
+use Rattle.device_state.specs.StateAfter.{IsStateAfter}
 use Rattle.device_state.specs.declared.state.State.{State}
 use Rattle.device_commands.specs.Drafts.{Drafts, IsOutcome}
 use Rattle.device_commands.specs.declared.draft.DraftParts.{DraftParts}
@@ -33,7 +33,7 @@ DraftsFor c journal q o = IsOutcome o
 
 -- By every legal journal that leads to what is kept, the request is refused by its row, or drafted as its outcome.
 abbrev pub ManagerAnswers : Configuration → State → FmRequest → Result DraftParts Refusal → Type 0
-ManagerAnswers c s q result = (journal : List Entry) → Legal c journal → IsKept c journal s →
+ManagerAnswers c s q result = (journal : List Entry) → Legal c journal → IsStateAfter c journal s →
     ByRow (rule_after c journal q) (DraftsFor c journal q (outcome_after c journal q)) result
 
 -- A request to clear records lists so many at most.

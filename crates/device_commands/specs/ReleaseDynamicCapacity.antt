@@ -8,7 +8,7 @@ use Rattle.host_lists.specs.Lists.{Lists}
 use Rattle.journal_core.specs.declared.outcome.Effect.{Effect}
 use Rattle.journal_core.specs.declared.outcome.HeldKind.{HeldKind}
 use Rattle.region_config.specs.Configurations.{Configuration}
-use Rattle.device_rules.specs.Outcomes.{notices_of}
+use Rattle.device_rules.specs.Outcomes.{records_of_extents}
 use Rattle.device_rules.specs.ReleaseOutcomes.{removals}
 use Rattle.device_rules.specs.ResponseOutcomes.{unhold}
 use Rattle.device_commands.specs.ListDrafts.{Tells}
@@ -20,4 +20,4 @@ release_changes p h l leaving = unhold h HeldKind.Releases l.releases ++ removal
 
 -- The extents leave the host, which had these lists, and these are its lists after it.
 abbrev pub IsReleased : Configuration → HostId → Lists → List Extent → Lists → DraftParts → Type 0
-IsReleased p h before leaving after d = Tells (release_changes p h before leaving) (tags_of leaving) (λ w. notices_of h w EventKind.Released leaving) after d
+IsReleased p h before leaving after d = Tells (release_changes p h before leaving) (tags_of leaving) (λ w. records_of_extents h w EventKind.Released leaving) after d

@@ -6,11 +6,11 @@ use Rattle.journal_core.specs.declared.entries.Entry.{Entry}
 use Rattle.region_config.specs.Configurations.{Configuration}
 use Rattle.device_rules.specs.Answers.{scrub_answer}
 use Rattle.device_rules.specs.Legal.{Legal}
-use Rattle.device_state.specs.Kept.{IsKept}
+use Rattle.device_state.specs.StateAfter.{IsStateAfter}
 use Rattle.device_state.specs.declared.state.State.{State}
 use Rattle.device_commands.specs.declared.scrub.Zeroed.{Zeroed}
 
 -- So many granules are zeroed as a scrub of at most so many zeroes, by every legal journal that leads to what is kept.
 abbrev pub IsZeroed : Configuration → State → ℕ → Zeroed → Type 0
-IsZeroed c s most z = (before : List Entry) → Legal c before → IsKept c before s →
+IsZeroed c s most z = (before : List Entry) → Legal c before → IsStateAfter c before s →
     (Reply.Scrubbed z.granules, z.changes) ≡ scrub_answer c before (Act.Scrub most)

@@ -4,25 +4,25 @@ use Rattle.dcd_base.specs.declared.ids.HostId.{HostId}
 use Rattle.dcd_base.specs.declared.steps.LogId.{LogId}
 use Rattle.dcd_codes.specs.Rules.{◌breaks◌, each_in}
 use Rattle.dcd_codes.specs.declared.rules.Rule.{Rule}
-use Rattle.device_rules.specs.Outcomes.{no_extent, notice, log_full}
+use Rattle.device_rules.specs.Outcomes.{no_extent, record_for, log_full}
 use Rattle.device_rules.specs.Views.{View}
-use Rattle.device_state.specs.Kept.{IsLogOf, lists_in, part_of}
+use Rattle.device_state.specs.StateAfter.{IsLogOf, lists_in, part_of}
 use Rattle.device_state.specs.declared.state.State.{State}
 use Rattle.event_records.specs.declared.events.Event.{Event}
 use Rattle.event_records.specs.declared.events.EventKind.{EventKind}
 use Rattle.granule_map.specs.StateLists.{is_free_at}
-use Rattle.region_config.specs.Granules.{first_granule, granules_in, is_supported, hosts_of}
+use Rattle.region_config.specs.Granules.{first_granule, region_granules, is_supported, hosts_of}
 use Rattle.region_config.specs.declared.region_spec.RegionSpec.{RegionSpec}
 use Rattle.std.specs.List.{range_with_len}
 use Rattle.std.specs.Prelude.{◌≡◌, ℕ, ◌<◌, Bool, List, [], Option, count_by, false, not, ◌==◌, nat_lt, ◌∷◌, map}
 use Rattle.device_rules.specs.Settings.{set_outcome}
 use Rattle.device_commands.specs.Drafts.{IsOutcome, told_in}
 use Rattle.device_commands.specs.declared.draft.DraftParts.{DraftParts}
-use Rattle.device_commands.specs.declared.log_records.Notice.{Notice}
+use Rattle.device_commands.specs.declared.log_records.LogRecords.{LogRecords}
 
 -- how many of the region's granules are not free
 abbrev pub used_in : State → ℕ → ℕ
-used_in s r = count_by (λ g. not (is_free_at s.granules.states g)) (range_with_len (first_granule s.present r) (granules_in s.present r))
+used_in s r = count_by (λ g. not (is_free_at s.granules.states g)) (range_with_len (first_granule s.present r) (region_granules s.present r))
 
 -- the rules of a block size, where so many granules are in use
 abbrev pub size_rule : RegionSpec → ℕ → Bool → ℕ → Option Rule
@@ -32,8 +32,8 @@ size_rule spec size sanitize used =
     or nat_lt 0 used breaks Rule.RegionInUse used
 
 -- a host is told of the region
-abbrev pub region_notice : (HostId → View) → ℕ → HostId → LogId × List Event
-region_notice view_for r h = (LogId.Host h, record (notice h (view_for h) EventKind.RegionUpdated false no_extent) { region = r } ∷ [])
+abbrev pub region_record : (HostId → View) → ℕ → HostId → LogId × List Event
+region_record view_for r h = (LogId.Host h, record (record_for h (view_for h) EventKind.RegionUpdated false no_extent) { region = r } ∷ [])
 
 -- The lists that are kept are those of these views, and so are the logs.
 abbrev pub ListsAreOf : State → (HostId → View) → Type 0
@@ -47,11 +47,11 @@ abbrev pub IsFirstFull : State → Option Rule → Type 0
 IsFirstFull s found = (view_for : HostId → View) → LogsAreOf s view_for → found ≡ each_in (hosts_of s.present) (λ before h. log_full h (view_for h).log 1)
 
 -- A host is told, and so are all hosts.
-abbrev pub TellsHost : State → ℕ → HostId → Notice → Type 0
-TellsHost s r h n = (view_for : HostId → View) → (part_of s h).lists ≡ lists_in (view_for h) → told_in n ≡ region_notice view_for r h
+abbrev pub TellsHost : State → ℕ → HostId → LogRecords → Type 0
+TellsHost s r h n = (view_for : HostId → View) → (part_of s h).lists ≡ lists_in (view_for h) → told_in n ≡ region_record view_for r h
 
-abbrev pub TellAll : State → ℕ → List Notice → Type 0
-TellAll s r ns = (view_for : HostId → View) → ListsAreOf s view_for → map told_in ns ≡ map (region_notice view_for r) (hosts_of s.present)
+abbrev pub TellAll : State → ℕ → List LogRecords → Type 0
+TellAll s r ns = (view_for : HostId → View) → ListsAreOf s view_for → map told_in ns ≡ map (region_record view_for r) (hosts_of s.present)
 
 -- The draft gives the region other blocks, and tells all hosts.
 abbrev pub IsSet : State → ℕ → ℕ → DraftParts → Type 0

@@ -7,23 +7,22 @@ ghost use Rattle.device_commands.specs.AddDynamicCapacityResponse.{IsAnswered, a
 ghost use Rattle.device_commands.specs.HostMessages.{AnswersByLists};
 ghost use Rattle.host_payloads.specs.declared.requests.HostRequest.{HostRequest};
 ghost use Rattle.device_rules.specs.Outcomes.{no_extent};
-ghost use Rattle.device_rules.specs.ResponseOutcomes.{hold, respond_outcome, unhold};
+ghost use Rattle.device_rules.specs.ResponseOutcomes.{hold, unhold};
 ghost use Rattle.device_rules.specs.Views.{View};
 ghost use Rattle.extent_list.specs.ExtentLists.{tags_of};
 ghost use Rattle.dcd_base.specs.declared.steps.LogId.{LogId};
 ghost use Rattle.device_commands.specs.Drafts.{told_in};
-ghost use Rattle.device_state.specs.Kept.{lists_in};
-ghost use Rattle.device_commands.specs.ListDrafts.{changed};
+ghost use Rattle.device_state.specs.StateAfter.{lists_in};
+ghost use Rattle.device_commands.specs.ListDrafts.{lists_changed};
 ghost use Rattle.host_lists.specs.Lists.{extent_total};
 ghost use Rattle.journal_core.specs.declared.outcome.Effect.{Effect};
 ghost use Rattle.journal_core.specs.declared.outcome.HeldKind.{HeldKind};
 ghost use Rattle.media_map.specs.Places.{is_granular};
-ghost use Rattle.offer_core.specs.Responses.{respond_rule};
 ghost use Rattle.std.specs.Prelude.{◌≡◌, ◌++◌, ◌∷◌, ◌<◌, ◌≤◌, [], All, IfOk, IfSome, IsTrue, OnOk, length, map};
 
 use crate::draft::Draft;
 use crate::held_lists::{hold, unhold};
-use crate::log_records::{Notice, event_for, no_extent, notices_of, one_notice};
+use crate::log_records::{LogRecords, event_for, no_extent, one_record, records_of_extents};
 use crate::runs::run_of;
 use crate::tags::tags_of;
 use dcd_base::{Extent, Extents, HostId, LogId, NoMemory, Seq};
@@ -31,6 +30,7 @@ use dcd_codes::Refusal;
 use event_records::{Event, EventKind};
 use host_lists::{HostLists, Responded};
 use journal_core::{Effect, Effects, HeldKind};
+use offer_core::broken_rule;
 use region_config::Config;
 use std::alloc::Global;
 
@@ -56,8 +56,12 @@ pub fn add_response(
 {
     // What is made of present blocks is made of granules, in every configuration.
     let _regions = present.regions();
+    let (accepted, offers) = (lists.accepted().len(), lists.offers());
+    if let Some(rule) = broken_rule(present, host, accepted, offers, list.as_slice(), more)? {
+        return Err(Refusal::Broken(rule));
+    }
     let mut after = lists.copy()?;
-    match after.respond(present, host, list, more)? {
+    match after.answer(list, more)? {
         Responded::Held => Ok(held(alloc, host, list, after)?),
         Responded::Nothing => Ok(nothing(alloc, host, lists, after)?),
         Responded::Done(accepted) => Ok(done(alloc, present, host, lists, after, accepted)?),
@@ -67,7 +71,7 @@ pub fn add_response(
 /// More is to come.
 fn held(alloc: Global, host: HostId, list: &Extents, after: HostLists) -> Result<Draft, NoMemory>
     requires few { extent_total after ≤ 64 }
-    ensures drafts { IfOk result (λ draft. draft ≡ changed (hold host HeldKind.Responses list.now) after) }
+    ensures drafts { IfOk result (λ draft. draft ≡ lists_changed (hold host HeldKind.Responses list.now) after) }
     ensures few { IfOk result (λ draft. IfSome draft.lists (λ new. extent_total new ≤ 64)) }
 {
     let changes = hold(alloc, host, HeldKind::Responses, list)?;
@@ -82,7 +86,7 @@ fn nothing(
     after: HostLists,
 ) -> Result<Draft, NoMemory>
     requires few { extent_total after ≤ 64 }
-    ensures drafts { IfOk result (λ draft. draft ≡ changed (unhold host HeldKind.Responses lists.now.responses) after) }
+    ensures drafts { IfOk result (λ draft. draft ≡ lists_changed (unhold host HeldKind.Responses lists.now.responses) after) }
     ensures few { IfOk result (λ draft. IfSome draft.lists (λ new. extent_total new ≤ 64)) }
 {
     let changes = unhold(alloc, host, HeldKind::Responses, lists.responses())?;
@@ -106,8 +110,8 @@ fn done(
 {
     let changes = answered(alloc, present, host, lists, &accepted)?;
     let tags = tags_of(alloc, lists.oldest())?;
-    let notices = notices_to_manager(alloc, host, &after, accepted.as_slice())?;
-    Draft::listing(alloc, changes, tags, notices, after)
+    let log_records = records_to_manager(alloc, host, &after, accepted.as_slice())?;
+    Draft::listing(alloc, changes, tags, log_records, after)
 }
 
 /// What is held goes, the offer is answered, and the host takes the extents.
@@ -128,18 +132,18 @@ fn answered(
     Ok(changes)
 }
 
-/// The notice of what the Fabric Manager is told.
-fn notices_to_manager(
+/// The record of what the Fabric Manager is told.
+fn records_to_manager(
     alloc: Global,
     host: HostId,
     after: &HostLists,
     accepted: &[Extent],
-) -> Result<Seq<Notice>, NoMemory>
+) -> Result<Seq<LogRecords>, NoMemory>
     requires { extent_total after.now ≤ 64 }
-    ensures { IfOk result (λ notices. (w : View) → after.now ≡ lists_in w → map told_in notices ≡ (LogId.Manager, told_of host w accepted.now) ∷ []) }
+    ensures { IfOk result (λ log_records. (w : View) → after.now ≡ lists_in w → map told_in log_records ≡ (LogId.Manager, told_of host w accepted.now) ∷ []) }
 {
     let events = told(alloc, host, after, accepted)?;
-    one_notice(alloc, LogId::Manager, events)
+    one_record(alloc, LogId::Manager, events)
 }
 
 /// What the Fabric Manager is told: each accepted extent, or one of zeros where none is accepted.
@@ -155,7 +159,7 @@ fn told(
     if accepted.is_empty() {
         return told_none(alloc, host, after);
     }
-    notices_of(alloc, host, after, EventKind::AddResponse, accepted)
+    records_of_extents(alloc, host, after, EventKind::AddResponse, accepted)
 }
 
 /// What the Fabric Manager is told where no extent is accepted.

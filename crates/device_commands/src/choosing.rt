@@ -1,16 +1,15 @@
 //! Which extents an offer has, by the policy of 5604h.
 
-ghost use Rattle.device_commands.specs.InitiateDynamicCapacityAdd.{LieInRegion, blocks_rule, chosen_blocks, extents_by_length, length_rule};
-ghost use Rattle.device_commands.specs.InitiateDynamicCapacityAdd.{length_runs, listed_offer_rule, new_offer, policy_choice, policy_rule};
+ghost use Rattle.device_commands.specs.InitiateDynamicCapacityAdd.{extents_by_length, length_rule, new_offer, policy_rule};
 ghost use Rattle.device_state.specs.Entered.{runs_in};
 ghost use Rattle.dcd_codes.specs.Rules.{ByRow};
-ghost use Rattle.device_rules.specs.Adding.{extents_of, per_block, tagged};
+ghost use Rattle.device_rules.specs.Adding.{extents_of, with_tag};
 ghost use Rattle.media_map.specs.Places.{IsRun};
 ghost use Rattle.region_config.specs.Granules.{granule_total};
-ghost use Rattle.std.specs.Prelude.{◌≡◌, ◌+◌, ◌==◌, ◌^◌, ◌<◌, ◌≤◌, All, IfOk, if◌then◌else◌, length};
+ghost use Rattle.std.specs.Prelude.{◌≡◌, ◌^◌, ◌<◌, ◌≤◌, All, IfOk, if◌then◌else◌, length};
 
 use crate::initiate_dynamic_capacity_add::{CONTIGUOUS, PRESCRIPTIVE};
-use dcd_base::{Extent, Extents, HostId, NoMemory, RegionId, Run, Runs, Tag, no_tag};
+use dcd_base::{Extent, Extents, HostId, NoMemory, RegionId, Run, Tag, no_tag};
 use dcd_codes::{Refusal, Rule};
 use device_state::State;
 use media_map::extent_of;
@@ -43,42 +42,20 @@ pub(crate) fn new_extents(
     ensures few { IfOk result (λ new. length new < 2 ^ 16) }
 {
     let shareable = state.present.region(asked.region).shareable;
-    match chosen(alloc, state, asked, list) {
-        Ok(chosen) => Ok(tagged(alloc, shareable, &asked.tag, chosen.as_slice())?),
-        Err(refusal) => Err(refusal),
-    }
-}
-
-/// What the policy chooses.
-fn chosen(alloc: Global, state: &State, asked: &Asked, list: &Extents) -> Result<Extents, Refusal>
-    requires host { asked.now.host < state.now.present.hosts }
-    requires region { asked.now.region < length state.now.present.regions }
-    requires granules { length state.now.granules.states ≡ granule_total state.now.present }
-    requires runs { All (IsRun state.now.present) (runs_in state.now asked.now.tag) }
-    requires few_runs { length (runs_in state.now asked.now.tag) ≤ 4096 }
-    ensures row { ByRow (policy_rule state.now asked.now list.now) (λ xs. xs ≡ policy_choice state.now asked.now list.now) result }
-    ensures few { IfOk result (λ xs. length xs ≤ 4096) }
-{
     if asked.policy == PRESCRIPTIVE {
-        listed(alloc, state, asked, list)
+        let map = state.granules.states();
+        match selection::prescriptive(alloc, map, &state.present, asked.host, asked.region, list) {
+            Ok(_runs) => Ok(with_tag(alloc, shareable, &asked.tag, list.as_slice())?),
+            Err(refusal) => Err(refusal),
+        }
     } else if asked.policy > CONTIGUOUS {
-        Ok(shared(alloc, state, asked)?)
+        let shared = shared(alloc, state, asked)?;
+        Ok(with_tag(alloc, shareable, &asked.tag, shared.as_slice())?)
     } else {
-        free_extents(alloc, state, asked)
-    }
-}
-
-/// The listed extents, where they can be offered.
-fn listed(alloc: Global, state: &State, asked: &Asked, list: &Extents) -> Result<Extents, Refusal>
-    requires host { asked.now.host < state.now.present.hosts }
-    requires granules { length state.now.granules.states ≡ granule_total state.now.present }
-    ensures row { ByRow (listed_offer_rule state.now asked.now list.now) (λ xs. xs ≡ list.now) result }
-    ensures few { IfOk result (λ xs. length xs ≤ 4096) }
-{
-    let map = state.granules.states();
-    match selection::prescriptive(alloc, map, &state.present, asked.host, asked.region, list) {
-        Ok(_runs) => Ok(list.copy()?),
-        Err(refusal) => Err(refusal),
+        match free_extents(alloc, state, asked) {
+            Ok(free) => Ok(with_tag(alloc, shareable, &asked.tag, free.as_slice())?),
+            Err(refusal) => Err(refusal),
+        }
     }
 }
 
@@ -104,41 +81,22 @@ fn free_extents(alloc: Global, state: &State, asked: &Asked) -> Result<Extents, 
 {
     // That runs are of the device rests on what every configuration keeps.
     let _regions = state.present.regions();
-    match by_length(alloc, state, asked) {
-        Ok(runs) => Ok(extents_of(alloc, &state.present, asked.host, runs.as_slice())?),
-        Err(refusal) => Err(refusal),
-    }
-}
-
-/// So many bytes of free blocks.
-fn by_length(alloc: Global, state: &State, asked: &Asked) -> Result<Runs, Refusal>
-    requires region { asked.now.region < length state.now.present.regions }
-    requires granules { length state.now.granules.states ≡ granule_total state.now.present }
-    ensures row { ByRow (length_rule state.now asked.now) (λ runs. runs ≡ length_runs state.now asked.now) result }
-    ensures within { IfOk result (LieInRegion state.now.present asked.now.region) }
-{
     let block = state.present.region(asked.region).block;
     if asked.length == 0 || asked.length % block != 0 {
         return Err(Refusal::Broken(Rule::BadLength(asked.length)));
     }
-    blocks_of(alloc, state, asked, asked.length / block)
-}
-
-/// So many free blocks.
-fn blocks_of(alloc: Global, state: &State, asked: &Asked, blocks: u64) -> Result<Runs, Refusal>
-    requires region { asked.now.region < length state.now.present.regions }
-    requires granules { length state.now.granules.states ≡ granule_total state.now.present }
-    requires some { 0 < blocks }
-    ensures row { ByRow (blocks_rule state.now asked.now blocks) (λ runs. runs ≡ chosen_blocks state.now asked.now blocks) result }
-    ensures within { IfOk result (LieInRegion state.now.present asked.now.region) }
-{
+    let blocks = asked.length / block;
     let area = state.present.granules_of(asked.region);
     let per_block = state.present.per_block(asked.region);
     let map = state.granules.states();
-    if asked.policy == 0 {
+    let found = if asked.policy == 0 {
         selection::free(alloc, map, area, per_block, blocks)
     } else {
         selection::contiguous(alloc, map, area, per_block, blocks)
+    };
+    match found {
+        Ok(runs) => Ok(extents_of(alloc, &state.present, asked.host, runs.as_slice())?),
+        Err(refusal) => Err(refusal),
     }
 }
 
@@ -161,14 +119,14 @@ fn extents_of(
 }
 
 /// Each extent with the tag, and numbered from 1 where hosts can share it.
-fn tagged(
+fn with_tag(
     alloc: Global,
     shareable: bool,
     tag: &Tag,
     extents: &[Extent],
 ) -> Result<Extents, NoMemory>
     requires { length extents.now ≤ 4096 }
-    ensures { IfOk result (λ xs. xs ≡ tagged shareable tag.now extents.now) }
+    ensures { IfOk result (λ xs. xs ≡ with_tag shareable tag.now extents.now) }
 {
     let mut tagged = Extents::new(alloc);
     for i in 0..extents.len() {

@@ -4,9 +4,9 @@
 //! Bytes: docs/formats.md, 'Commands of a host'.
 
 ghost use Rattle.device_commands.specs.ClearEventRecords.{AnswersClear, changing, clearing_outcome, clearing_rule, empty_rule, listed_outcome};
-ghost use Rattle.device_commands.specs.ClearEventRecords.{listed_rule, whole_outcome, whole_rule};
+ghost use Rattle.device_commands.specs.ClearEventRecords.{log_handles_rule, whole_outcome, whole_rule};
 ghost use Rattle.dcd_codes.specs.Rules.{ByRow};
-ghost use Rattle.device_rules.specs.EventCommands.{clear_outcome, clear_rule, cleared, rule_of};
+ghost use Rattle.device_rules.specs.EventCommands.{cleared, rule_of};
 ghost use Rattle.device_commands.specs.Drafts.{IsOutcome};
 ghost use Rattle.journal_core.specs.declared.outcome.Effect.{Effect};
 ghost use Rattle.std.specs.Prelude.{◌≡◌, ◌++◌, ◌≤◌, [], IfOk, None, OnOk, length};
@@ -97,7 +97,7 @@ fn clear_listed(
     handles: &[u16],
 ) -> Result<Draft, Refusal>
     requires { length handles.now ≤ 255 }
-    ensures { ByRow (listed_rule log.now handles.now) (IsOutcome (listed_outcome id.now handles.now)) result }
+    ensures { ByRow (log_handles_rule log.now handles.now) (IsOutcome (listed_outcome id.now handles.now)) result }
 {
     if let Some(fault) = log.clear_fault(handles) {
         return Err(Refusal::Broken(rule_of(fault)));

@@ -1,10 +1,10 @@
 //! What a command does that breaks no rule.
 
-ghost use Rattle.device_commands.specs.DraftContents.{parts_in};
-ghost use Rattle.device_commands.specs.ListDrafts.{changed};
+ghost use Rattle.device_commands.specs.DraftContents.{parts_of_content};
+ghost use Rattle.device_commands.specs.ListDrafts.{lists_changed};
 ghost use Rattle.std.specs.Prelude.{◌≡◌, [], IfOk, None, Some};
 
-use crate::log_records::Notice;
+use crate::log_records::LogRecords;
 use dcd_base::{Boxed, Bytes, NoMemory, Seq, Tag};
 use host_lists::HostLists;
 use journal_core::Effects;
@@ -21,7 +21,7 @@ pub struct DraftParts {
     /// The tags that may end by it.
     pub tags: Seq<Tag>,
     /// What it tells, log by log.
-    pub notices: Seq<Notice>,
+    pub log_records: Seq<LogRecords>,
     /// The lists of the host after it, where it changes them.
     pub lists: Option<Boxed<HostLists>>,
 }
@@ -44,18 +44,18 @@ pub struct Draft {
 }
 
 impl Model for Draft {
-    ghost use Rattle.device_commands.specs.DraftContents.{parts_in};
+    ghost use Rattle.device_commands.specs.DraftContents.{parts_of_content};
     ghost use Rattle.device_commands.specs.declared.draft.DraftParts.{DraftParts};
 
     ghost Value = { DraftParts };
 
-    ghost view = { λ draft. parts_in draft.content };
+    ghost view = { λ draft. parts_of_content draft.content };
 }
 
 impl Draft {
     /// A payload, and no more. It takes no memory.
     pub fn only(payload: Bytes) -> Draft
-        ensures { result ≡ record { payload = payload; changes = []; tags = []; notices = []; lists = None } }
+        ensures { result ≡ record { payload = payload; changes = []; tags = []; log_records = []; lists = None } }
     {
         Draft {
             content: Content::Reply(payload),
@@ -74,7 +74,7 @@ impl Draft {
 
     /// Changes, and no more.
     pub fn changing(alloc: Global, changes: Effects) -> Result<Draft, NoMemory>
-        ensures { IfOk result (λ draft. draft ≡ record { payload = []; changes = changes; tags = []; notices = []; lists = None }) }
+        ensures { IfOk result (λ draft. draft ≡ record { payload = []; changes = changes; tags = []; log_records = []; lists = None }) }
     {
         Draft::of(
             alloc,
@@ -82,7 +82,7 @@ impl Draft {
                 payload: Bytes::new(alloc),
                 changes,
                 tags: Seq::new(alloc),
-                notices: Seq::new(alloc),
+                log_records: Seq::new(alloc),
                 lists: None,
             },
         )
@@ -93,10 +93,10 @@ impl Draft {
         alloc: Global,
         changes: Effects,
         tags: Seq<Tag>,
-        notices: Seq<Notice>,
+        log_records: Seq<LogRecords>,
         lists: HostLists,
     ) -> Result<Draft, NoMemory>
-        ensures { IfOk result (λ draft. draft ≡ record { payload = []; changes = changes; tags = tags; notices = notices; lists = Some lists }) }
+        ensures { IfOk result (λ draft. draft ≡ record { payload = []; changes = changes; tags = tags; log_records = log_records; lists = Some lists }) }
     {
         let lists = Boxed::new(alloc, lists)?;
         Draft::of(
@@ -105,7 +105,7 @@ impl Draft {
                 payload: Bytes::new(alloc),
                 changes,
                 tags,
-                notices,
+                log_records,
                 lists: Some(lists),
             },
         )
@@ -113,10 +113,10 @@ impl Draft {
 
     /// Changes, and the lists after them.
     pub fn relisting(alloc: Global, changes: Effects, lists: HostLists) -> Result<Draft, NoMemory>
-        ensures { IfOk result (λ draft. draft ≡ changed changes lists) }
+        ensures { IfOk result (λ draft. draft ≡ lists_changed changes lists) }
     {
-        let (tags, notices) = (Seq::new(alloc), Seq::new(alloc));
-        Draft::listing(alloc, changes, tags, notices, lists)
+        let (tags, log_records) = (Seq::new(alloc), Seq::new(alloc));
+        Draft::listing(alloc, changes, tags, log_records, lists)
     }
 
     /// Its parts, taken from the heap.
@@ -128,7 +128,7 @@ impl Draft {
                 payload,
                 changes: Effects::new(alloc),
                 tags: Seq::new(alloc),
-                notices: Seq::new(alloc),
+                log_records: Seq::new(alloc),
                 lists: None,
             },
             Content::Parts(parts) => parts.into_inner(),
@@ -137,7 +137,7 @@ impl Draft {
 
     /// What it has: a payload alone, or all parts where they lie.
     pub fn into_content(self) -> Content
-        ensures { parts_in result ≡ self }
+        ensures { parts_of_content result ≡ self }
     {
         self.content
     }

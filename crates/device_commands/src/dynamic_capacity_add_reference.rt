@@ -4,11 +4,11 @@
 //! Bytes: docs/formats.md, 'Commands of the Fabric Manager'.
 
 ghost use Rattle.device_commands.specs.ManagerMessages.{ManagerAnswers};
-ghost use Rattle.device_state.specs.Kept.{IsReached};
+ghost use Rattle.device_state.specs.StateAfter.{IsReached};
 ghost use Rattle.fm_payloads.specs.declared.requests.FmRequest.{FmRequest};
 ghost use Rattle.journal_core.specs.declared.outcome.Effect.{Effect};
 ghost use Rattle.std.specs.Prelude.{◌≡◌, ◌∷◌, [], IfOk, if◌then◌else◌, true};
-ghost use Rattle.tag_refs.specs.Tables.{is_referenced, passes};
+ghost use Rattle.tag_refs.specs.Tables.{entry_referenced, passes};
 
 use crate::draft::Draft;
 use dcd_base::{NoMemory, Tag};
@@ -38,7 +38,7 @@ pub fn add_reference(
 
 /// A reference to the tag, unless there is one.
 fn reference_to(alloc: Global, tags: &Tags, tag: &Tag) -> Result<Effects, NoMemory>
-    ensures { IfOk result (λ changes. changes ≡ (if passes tag.now is_referenced tags.now.entries then [] else Effect.Ref tag.now true ∷ [])) }
+    ensures { IfOk result (λ changes. changes ≡ (if passes tag.now entry_referenced tags.now.entries then [] else Effect.Ref tag.now true ∷ [])) }
 {
     let mut changes = Effects::new(alloc);
     if !tags.is_referenced(tag) {

@@ -4,11 +4,11 @@
 //! Bytes: docs/formats.md, 'Commands of the Fabric Manager', 'Replies to the Fabric Manager'.
 
 ghost use Rattle.device_commands.specs.ManagerMessages.{ManagerAnswers};
-ghost use Rattle.device_state.specs.Kept.{IsReached};
+ghost use Rattle.device_state.specs.StateAfter.{IsReached};
 ghost use Rattle.fm_payloads.specs.declared.requests.FmRequest.{FmRequest};
 ghost use Rattle.device_rules.specs.Settings.{page};
 ghost use Rattle.std.specs.Prelude.{◌≡◌, ◌≤◌, IfOk, length, map};
-ghost use Rattle.tag_refs.specs.Tables.{view_of};
+ghost use Rattle.tag_refs.specs.Tables.{tag_view};
 
 use crate::draft::Draft;
 use dcd_base::limits::PAGE_TAGS;
@@ -55,7 +55,7 @@ fn views_of(
     count: usize,
 ) -> Result<Seq<TagView>, NoMemory>
     requires { first ≤ length tags.now.entries }
-    ensures views { IfOk result (λ views. views ≡ map view_of (page first count tags.now.entries)) }
+    ensures views { IfOk result (λ views. views ≡ map tag_view (page first count tags.now.entries)) }
     ensures few { IfOk result (λ views. length views ≤ count) }
 {
     let count = count.min(tags.len() - first);

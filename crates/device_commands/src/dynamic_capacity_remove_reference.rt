@@ -4,10 +4,9 @@
 //! Bytes: docs/formats.md, 'Commands of the Fabric Manager'.
 
 ghost use Rattle.device_commands.specs.ManagerMessages.{ManagerAnswers};
-ghost use Rattle.device_state.specs.Kept.{IsReached};
+ghost use Rattle.device_state.specs.StateAfter.{IsReached};
 ghost use Rattle.fm_payloads.specs.declared.requests.FmRequest.{FmRequest};
 ghost use Rattle.journal_core.specs.declared.outcome.Effect.{Effect};
-ghost use Rattle.tag_refs.specs.Tables.{is_referenced};
 
 use crate::draft::{Draft, DraftParts};
 use dcd_base::{Bytes, Seq, Tag};
@@ -39,7 +38,7 @@ pub fn remove_reference(
         payload: Bytes::new(alloc),
         changes,
         tags,
-        notices: Seq::new(alloc),
+        log_records: Seq::new(alloc),
         lists: None,
     };
     Ok(Draft::of(alloc, parts)?)

@@ -4,7 +4,7 @@
 //! Bytes: docs/formats.md, 'Commands of the Fabric Manager', 'Replies to the Fabric Manager'.
 
 ghost use Rattle.device_commands.specs.ManagerMessages.{ManagerAnswers};
-ghost use Rattle.device_state.specs.Kept.{IsReached};
+ghost use Rattle.device_state.specs.StateAfter.{IsReached};
 ghost use Rattle.fm_payloads.specs.declared.requests.FmRequest.{FmRequest};
 ghost use Rattle.std.specs.Prelude.{◌≡◌, ◌≤◌, IfOk, length, map};
 

@@ -5,9 +5,7 @@
 
 ghost use Rattle.device_commands.specs.GetDynamicCapacityConfiguration.{AnswersConfiguration};
 ghost use Rattle.device_rules.specs.Outcomes.{only};
-ghost use Rattle.device_rules.specs.Settings.{configuration_reply, no_such_region};
 ghost use Rattle.host_lists.specs.Lists.{extent_total};
-ghost use Rattle.region_config.specs.Configurations.{Configuration};
 ghost use Rattle.std.specs.Prelude.{◌≡◌, ◌<◌, ◌≤◌, IfOk, None};
 
 use crate::draft::Draft;

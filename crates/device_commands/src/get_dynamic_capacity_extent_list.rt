@@ -5,7 +5,6 @@
 
 ghost use Rattle.device_commands.specs.GetDynamicCapacityExtentList.{AnswersExtents};
 ghost use Rattle.device_rules.specs.Outcomes.{only};
-ghost use Rattle.device_rules.specs.Settings.{extents_reply, past_end};
 ghost use Rattle.host_lists.specs.Lists.{extent_total};
 ghost use Rattle.std.specs.Prelude.{◌≡◌, ◌≤◌, IfOk, None};
 

@@ -5,12 +5,10 @@
 
 ghost use Rattle.device_commands.specs.GetHostDcRegionConfiguration.{IsRegionsReply};
 ghost use Rattle.device_commands.specs.ManagerMessages.{ManagerAnswers};
-ghost use Rattle.device_state.specs.Kept.{IsReached, part_of};
+ghost use Rattle.device_state.specs.StateAfter.{IsReached, part_of};
 ghost use Rattle.fm_payloads.specs.declared.requests.FmRequest.{FmRequest};
-ghost use Rattle.device_rules.specs.Settings.{regions_reply};
 ghost use Rattle.host_lists.specs.Lists.{extent_total};
 ghost use Rattle.host_payloads.specs.HostPayloads.{region_bytes};
-ghost use Rattle.region_config.specs.Configurations.{Configuration};
 ghost use Rattle.std.specs.Prelude.{◌≡◌, ◌++◌, ◌<◌, ◌≤◌, IfOk, OnOk, flat_map, length};
 
 use crate::draft::Draft;

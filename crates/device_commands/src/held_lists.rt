@@ -2,7 +2,7 @@
 
 ghost use Rattle.device_rules.specs.ResponseOutcomes.{hold, unhold};
 ghost use Rattle.std.specs.Prelude.{◌≡◌, IfOk, ◌<◌};
-ghost use Rattle.device_commands.specs.HeldLists.{dropped_by};
+ghost use Rattle.device_commands.specs.HeldLists.{unheld_by};
 
 use dcd_base::{Extents, HostId, NoMemory};
 use host_lists::HostLists;
@@ -53,7 +53,7 @@ pub fn dropped(
     lists: &HostLists,
     opcode: u16,
 ) -> Result<Effects, NoMemory>
-    ensures { IfOk result (λ effects. effects ≡ dropped_by host lists.now opcode) }
+    ensures { IfOk result (λ effects. effects ≡ unheld_by host lists.now opcode) }
 {
     if opcode == ADD_RESPONSE {
         return unhold(alloc, host, HeldKind::Responses, lists.responses());

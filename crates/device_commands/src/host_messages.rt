@@ -1,6 +1,6 @@
 //! A message of a host: which command it is, and what that drafts.
 
-ghost use Rattle.device_commands.specs.HostMessages.{DraftsHost, AnswersHost, FewHandles};
+ghost use Rattle.device_commands.specs.HostMessages.{DraftsHost};
 ghost use Rattle.dcd_base.specs.declared.steps.LogId.{LogId};
 ghost use Rattle.host_lists.specs.Lists.{extent_total};
 ghost use Rattle.std.specs.Prelude.{◌≡◌, ◌<◌, ◌≤◌, IfOk, IfSome};
@@ -41,7 +41,24 @@ pub fn host_draft(
     ensures few { IfOk result (λ draft. IfSome draft.lists (λ new. extent_total new ≤ 64)) }
 {
     match decode(alloc, request.opcode, request.payload.as_slice()) {
-        Ok(asked) => draft_asked(alloc, config, present, host, lists, log, &asked),
+        Ok(HostRequest::GetEvents { log: number }) => get_events(alloc, number, log),
+        Ok(
+            HostRequest::ClearEvents {
+                log: number,
+                all,
+                handles,
+            },
+        ) => clear_events(alloc, LogId::Host(host), number, log, all, &handles),
+        Ok(HostRequest::GetConfiguration { count, first }) => {
+            get_configuration(alloc, present, host, lists, count, first)
+        }
+        Ok(HostRequest::GetExtents { count, first }) => get_extents(alloc, lists, count, first),
+        Ok(HostRequest::AddResponse { more, extents }) => {
+            add_response(alloc, config, present, host, lists, more, &extents)
+        }
+        Ok(HostRequest::GiveBack { more, extents }) => {
+            give_back(alloc, config, present, host, lists, more, &extents)
+        }
         Err(PayloadFault::UnknownOpcode(opcode)) => {
             Err(Refusal::Broken(Rule::UnknownOpcode(opcode)))
         }
@@ -49,42 +66,5 @@ pub fn host_draft(
             Err(Refusal::Broken(Rule::WrongLength { need, have }))
         }
         Err(PayloadFault::NoMemory) => Err(Refusal::NoMemory),
-    }
-}
-
-/// The draft of what a host asks.
-fn draft_asked(
-    alloc: Global,
-    config: &Config,
-    present: &Config,
-    host: HostId,
-    lists: &HostLists,
-    log: &EventLog,
-    asked: &HostRequest,
-) -> Result<Draft, Refusal>
-    requires host { host < config.now.hosts }
-    requires hosts { present.now.hosts ≡ config.now.hosts }
-    requires few { extent_total lists.now ≤ 64 }
-    requires handles { FewHandles asked.now }
-    ensures drafts { AnswersHost config.now present.now host lists.now log.now asked.now result }
-    ensures few { IfOk result (λ draft. IfSome draft.lists (λ new. extent_total new ≤ 64)) }
-{
-    match asked {
-        HostRequest::GetEvents { log: number } => get_events(alloc, *number, log),
-        HostRequest::ClearEvents {
-            log: number,
-            all,
-            handles,
-        } => clear_events(alloc, LogId::Host(host), *number, log, *all, handles),
-        HostRequest::GetConfiguration { count, first } => {
-            get_configuration(alloc, present, host, lists, *count, *first)
-        }
-        HostRequest::GetExtents { count, first } => get_extents(alloc, lists, *count, *first),
-        HostRequest::AddResponse { more, extents } => {
-            add_response(alloc, config, present, host, lists, *more, extents)
-        }
-        HostRequest::GiveBack { more, extents } => {
-            give_back(alloc, config, present, host, lists, *more, extents)
-        }
     }
 }

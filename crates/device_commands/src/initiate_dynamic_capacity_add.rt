@@ -4,13 +4,13 @@
 //! Bytes: docs/formats.md, 'Commands of the Fabric Manager'.
 
 ghost use Rattle.device_commands.specs.ManagerMessages.{ManagerAnswers};
-ghost use Rattle.device_commands.specs.InitiateDynamicCapacityAdd.{AnswersOffer, IsRoomRule, add_request, offered_lists, request_rule, IsOffered};
-ghost use Rattle.device_commands.specs.InitiateDynamicCapacityAdd.{is_used_tag, is_with_hosts, lists_have, named_rule, room_rule, shared_rule};
+ghost use Rattle.device_commands.specs.InitiateDynamicCapacityAdd.{AnswersOffer, IsRoomRule, add_request, offered_lists, request_rule, DraftOffers};
+ghost use Rattle.device_commands.specs.InitiateDynamicCapacityAdd.{is_used_tag, is_with_hosts, lists_have, target_rule, room_rule, shared_rule};
 ghost use Rattle.device_commands.specs.InitiateDynamicCapacityAdd.{tag_rule};
 ghost use Rattle.device_commands.specs.ListDrafts.{TellOf};
 ghost use Rattle.event_records.specs.declared.events.EventKind.{EventKind};
 ghost use Rattle.journal_core.specs.declared.outcome.Effect.{Effect};
-ghost use Rattle.device_state.specs.Kept.{IsReached, part_of};
+ghost use Rattle.device_state.specs.StateAfter.{IsReached, part_of};
 ghost use Rattle.dcd_base.specs.declared.steps.LogId.{LogId};
 ghost use Rattle.host_lists.specs.Lists.{extent_total};
 ghost use Rattle.std.specs.Prelude.{◌≡◌, ◌+◌, ◌==◌, ◌^◌, ◌<◌, ◌≤◌, ◌∷◌, [], IfNone, IfOk, length};
@@ -19,7 +19,7 @@ ghost use Rattle.tag_refs.specs.declared.entries.TagEntry.{TagEntry};
 
 use crate::choosing::{Asked, new_extents};
 use crate::draft::Draft;
-use crate::log_records::{Notice, log_full, notices_to};
+use crate::log_records::{LogRecords, log_full, records_to};
 use dcd_base::limits::TAGS;
 use dcd_base::{Extents, HostId, LogId, NoMemory, RegionId, Seq, Tag, is_no_tag};
 use dcd_codes::{Refusal, Rule};
@@ -65,7 +65,7 @@ pub fn add(
 {
     // That granules are of the device rests on what every configuration keeps.
     let _regions = state.present.regions();
-    if let Some(rule) = named_rule(state, request) {
+    if let Some(rule) = target_rule(state, request) {
         return Err(Refusal::Broken(rule));
     }
     let asked = Asked {
@@ -98,7 +98,7 @@ fn offer_of(alloc: Global, state: &State, asked: &Asked, extents: Extents) -> Re
 }
 
 /// The rule that is broken where there is no such host, policy or region.
-fn named_rule(state: &State, request: &AddRequest) -> Option<Rule>
+fn target_rule(state: &State, request: &AddRequest) -> Option<Rule>
     ensures { result ≡ request_rule state.now request.now }
 {
     if request.host >= u16::from(state.present.hosts()) {
@@ -220,13 +220,13 @@ fn draft_of(
 ) -> Result<Draft, NoMemory>
     requires part { asked.now.host < length state.now.hosts.items }
     requires few { extent_total (part_of state.now asked.now.host).lists + length extents ≤ 64 }
-    ensures { IfOk result (IsOffered asked.now.host (part_of state.now asked.now.host).lists extents) }
+    ensures { IfOk result (DraftOffers asked.now.host (part_of state.now asked.now.host).lists extents) }
 {
     let lists = lists_with(state, asked, &extents)?;
-    let notices = notices_of_offer(alloc, asked.host, &lists, &extents)?;
+    let log_records = offer_records(alloc, asked.host, &lists, &extents)?;
     let changes = offering(alloc, asked.host, extents)?;
     let tags = Seq::new(alloc);
-    Draft::listing(alloc, changes, tags, notices, lists)
+    Draft::listing(alloc, changes, tags, log_records, lists)
 }
 
 /// The lists of the host with the offer.
@@ -240,16 +240,16 @@ fn lists_with(state: &State, asked: &Asked, extents: &Extents) -> Result<HostLis
 }
 
 /// The records for the host.
-fn notices_of_offer(
+fn offer_records(
     alloc: Global,
     host: HostId,
     lists: &HostLists,
     extents: &Extents,
-) -> Result<Seq<Notice>, NoMemory>
+) -> Result<Seq<LogRecords>, NoMemory>
     requires { extent_total lists.now ≤ 64 }
     ensures { IfOk result (TellOf host EventKind.Add lists.now extents.now) }
 {
-    notices_to(
+    records_to(
         alloc,
         LogId::Host(host),
         host,

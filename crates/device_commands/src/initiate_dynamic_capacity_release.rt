@@ -4,12 +4,11 @@
 //! Bytes: docs/formats.md, 'Commands of the Fabric Manager'.
 
 ghost use Rattle.device_commands.specs.ManagerMessages.{ManagerAnswers};
-ghost use Rattle.device_commands.specs.InitiateDynamicCapacityRelease.{AnswersRemoval, IsAskedFor, IsTakenByForce, listed_leaving};
-ghost use Rattle.device_commands.specs.InitiateDynamicCapacityRelease.{listed_leaving_rule, meant_of, meant_rule_of, remove_request, Departs};
-ghost use Rattle.device_commands.specs.InitiateDynamicCapacityRelease.{choice_rule, removed_lists};
+ghost use Rattle.device_commands.specs.InitiateDynamicCapacityRelease.{AnswersRemoval, IsAskedFor, IsTakenByForce, meant_of};
+ghost use Rattle.device_commands.specs.InitiateDynamicCapacityRelease.{flags_rule, meant_rule_of, remove_request, removed_lists, Departs};
 ghost use Rattle.device_commands.specs.ListDrafts.{TellOf};
 ghost use Rattle.release_core.specs.Leaving.{AllCanLeave};
-ghost use Rattle.device_state.specs.Kept.{IsReached, part_of};
+ghost use Rattle.device_state.specs.StateAfter.{IsReached, part_of};
 ghost use Rattle.dcd_codes.specs.Rules.{ByRow};
 ghost use Rattle.device_rules.specs.Outcomes.{log_full};
 ghost use Rattle.device_rules.specs.ReleaseOutcomes.{is_cleaning, is_forced};
@@ -19,7 +18,7 @@ ghost use Rattle.std.specs.Prelude.{◌≡◌, ◌<◌, ◌≤◌, IfOk, Option,
 
 use crate::draft::{Draft, DraftParts};
 use crate::leaves::put_leaves;
-use crate::log_records::{Notice, log_full, notices_to};
+use crate::log_records::{LogRecords, log_full, records_to};
 use crate::tags::tags_of;
 use dcd_base::{Bytes, Extents, HostId, LogId, NoMemory, RegionId, Seq, Tag};
 use dcd_codes::{Refusal, Rule};
@@ -66,19 +65,19 @@ pub fn remove(
 {
     // No policy reads the length.
     let _length = request.length;
-    if let Some(rule) = choice_rule(state, request) {
+    if let Some(rule) = flags_rule(state, request) {
         return Err(Refusal::Broken(rule));
     }
     let host = HostId(request.host as u8);
-    match meant(alloc, state, host, request, list) {
+    match extents_meant(alloc, state, host, request, list) {
         Err(refusal) => Err(refusal),
         Ok(leaving) => removal_of(alloc, config, state, host, request.flags, leaving),
     }
 }
 
 /// The rule that is broken where there is no such host, or the flags ask for what there is not.
-fn choice_rule(state: &State, request: &RemoveRequest) -> Option<Rule>
-    ensures { result ≡ choice_rule state.now.present.hosts request.now.host request.now.flags }
+fn flags_rule(state: &State, request: &RemoveRequest) -> Option<Rule>
+    ensures { result ≡ flags_rule state.now.present.hosts request.now.host request.now.flags }
 {
     let flags = request.flags;
     if request.host >= u16::from(state.present.hosts()) {
@@ -95,7 +94,7 @@ fn choice_rule(state: &State, request: &RemoveRequest) -> Option<Rule>
 }
 
 /// The extents that are meant: those of the tag, or the listed ones.
-fn meant(
+fn extents_meant(
     alloc: Global,
     state: &State,
     host: HostId,
@@ -109,41 +108,22 @@ fn meant(
     ensures few { IfOk result (λ leaving. length leaving ≤ 64) }
 {
     let flags = request.flags;
-    if flags & POLICY == 0 {
-        by_tag(alloc, state.part(host).lists.accepted(), &request.tag)
-    } else {
-        let region = RegionId(request.region);
-        listed(alloc, state, host, region, list, flags & FORCED != 0)
-    }
-}
-
-/// The listed extents.
-fn listed(
-    alloc: Global,
-    state: &State,
-    host: HostId,
-    region: RegionId,
-    list: &Extents,
-    forced: bool,
-) -> Result<Extents, Refusal>
-    requires host { host < state.now.present.hosts }
-    requires parts { length state.now.hosts.items ≡ state.now.present.hosts }
-    requires few { extent_total (part_of state.now host).lists ≤ 64 }
-    ensures row { ByRow (listed_leaving_rule state.now host region list.now forced) (λ leaving. leaving ≡ listed_leaving state.now host list.now) result }
-    ensures few { IfOk result (λ leaving. length leaving ≤ 64) }
-{
     let lists = &state.part(host).lists;
-    let offered = lists.offered();
-    removal(
-        alloc,
-        &state.present,
-        host,
-        lists.accepted(),
-        offered,
-        region,
-        list,
-        forced,
-    )
+    let accepted = lists.accepted();
+    if flags & POLICY == 0 {
+        by_tag(alloc, accepted, &request.tag)
+    } else {
+        removal(
+            alloc,
+            &state.present,
+            host,
+            accepted,
+            lists.offered(),
+            RegionId(request.region),
+            list,
+            flags & FORCED != 0,
+        )
+    }
 }
 
 /// These extents are taken from the host by force, or it is asked for them, where its log has room.
@@ -165,14 +145,14 @@ fn removal_of(
         return Err(Refusal::Broken(rule));
     }
     if flags & FORCED == 0 {
-        Ok(asked(alloc, state, host, leaving)?)
+        Ok(by_request(alloc, state, host, leaving)?)
     } else {
-        Ok(taken(alloc, config, state, host, flags & CLEANING != 0, leaving)?)
+        Ok(by_force(alloc, config, state, host, flags & CLEANING != 0, leaving)?)
     }
 }
 
 /// The extents are taken from the host.
-fn taken(
+fn by_force(
     alloc: Global,
     config: &Config,
     state: &State,
@@ -189,8 +169,8 @@ fn taken(
     let mut changes = Effects::new(alloc);
     put_leaves(config, host, cleaning, leaving.as_slice(), &mut changes)?;
     let tags = tags_of(alloc, leaving.as_slice())?;
-    let notices = notices_of_removal(alloc, host, &lists, EventKind::Forced, &leaving)?;
-    Draft::listing(alloc, changes, tags, notices, lists)
+    let log_records = removal_records(alloc, host, &lists, EventKind::Forced, &leaving)?;
+    Draft::listing(alloc, changes, tags, log_records, lists)
 }
 
 /// The lists of the host once the extents have left.
@@ -205,17 +185,17 @@ fn lists_without(state: &State, host: HostId, leaving: &Extents) -> Result<HostL
 }
 
 /// The records for the host.
-fn notices_of_removal(
+fn removal_records(
     alloc: Global,
     host: HostId,
     lists: &HostLists,
     kind: EventKind,
     leaving: &Extents,
-) -> Result<Seq<Notice>, NoMemory>
+) -> Result<Seq<LogRecords>, NoMemory>
     requires { extent_total lists.now ≤ 64 }
     ensures { IfOk result (TellOf host kind lists.now leaving.now) }
 {
-    notices_to(
+    records_to(
         alloc,
         LogId::Host(host),
         host,
@@ -226,18 +206,23 @@ fn notices_of_removal(
 }
 
 /// The host is asked to give the extents back.
-fn asked(alloc: Global, state: &State, host: HostId, leaving: Extents) -> Result<Draft, NoMemory>
+fn by_request(
+    alloc: Global,
+    state: &State,
+    host: HostId,
+    leaving: Extents,
+) -> Result<Draft, NoMemory>
     requires part { host < length state.now.hosts.items }
     requires few { extent_total (part_of state.now host).lists ≤ 64 }
     ensures { IfOk result (IsAskedFor host (part_of state.now host).lists leaving) }
 {
     let lists = &state.part(host).lists;
-    let notices = notices_of_removal(alloc, host, lists, EventKind::Release, &leaving)?;
+    let log_records = removal_records(alloc, host, lists, EventKind::Release, &leaving)?;
     let parts = DraftParts {
         payload: Bytes::new(alloc),
         changes: Effects::new(alloc),
         tags: tags_of(alloc, leaving.as_slice())?,
-        notices,
+        log_records,
         lists: None,
     };
     Draft::of(alloc, parts)

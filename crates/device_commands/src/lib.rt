@@ -43,7 +43,7 @@ pub use held_lists::dropped;
 pub use host_messages::host_draft;
 pub use initiate_dynamic_capacity_add::{AddRequest, add};
 pub use initiate_dynamic_capacity_release::{RemoveRequest, remove};
-pub use log_records::{Notice, event_for, no_extent, notices_of};
+pub use log_records::{LogRecords, event_for, no_extent, records_of_extents};
 pub use manager_messages::quiet_draft;
 pub use responses::{answer, refused};
 pub use runs::run_of;

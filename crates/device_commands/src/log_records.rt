@@ -1,9 +1,9 @@
 //! Records that a command adds to event logs, and whether a log has room for them.
 
-ghost use Rattle.device_rules.specs.Outcomes.{notice, notices_of, no_extent, log_full};
+ghost use Rattle.device_rules.specs.Outcomes.{record_for, records_of_extents, no_extent, log_full};
 ghost use Rattle.device_rules.specs.Views.{View};
 ghost use Rattle.event_records.specs.declared.events.EventKind.{EventKind};
-ghost use Rattle.device_state.specs.Kept.{lists_in, part_of, IsLogOf};
+ghost use Rattle.device_state.specs.StateAfter.{lists_in, part_of, IsLogOf};
 ghost use Rattle.host_lists.specs.Lists.{extent_total};
 ghost use Rattle.std.specs.Prelude.{◌≡◌, ◌≤◌, ◌∷◌, [], IfOk, ◌<◌, length, map};
 ghost use Rattle.dcd_base.specs.declared.steps.LogId.{LogId};
@@ -19,7 +19,7 @@ use std::alloc::Global;
 
 /// Records for one log, in order. The log gives each its handle.
 #[derive(Drop)]
-pub struct Notice {
+pub struct LogRecords {
     pub log: LogId,
     pub events: Seq<Event>,
 }
@@ -33,7 +33,7 @@ pub fn event_for(
     extent: &Extent,
 ) -> Event
     requires { extent_total lists.now ≤ 64 }
-    ensures { (v : View) → lists.now ≡ lists_in v → result ≡ notice host v kind more extent.now }
+    ensures { (v : View) → lists.now ≡ lists_in v → result ≡ record_for host v kind more extent.now }
 {
     Event {
         handle: 0,
@@ -48,7 +48,7 @@ pub fn event_for(
 }
 
 /// A record for each extent, each of which says whether more come.
-pub fn notices_of(
+pub fn records_of_extents(
     alloc: Global,
     host: HostId,
     lists: &HostLists,
@@ -56,7 +56,7 @@ pub fn notices_of(
     extents: &[Extent],
 ) -> Result<Seq<Event>, NoMemory>
     requires { extent_total lists.now ≤ 64 }
-    ensures { IfOk result (λ events. (v : View) → lists.now ≡ lists_in v → events ≡ notices_of host v kind extents.now) }
+    ensures { IfOk result (λ events. (v : View) → lists.now ≡ lists_in v → events ≡ records_of_extents host v kind extents.now) }
 {
     let extents_available = lists.extents_available();
     let tags_available = lists.tags_available();
@@ -77,28 +77,32 @@ pub fn notices_of(
 }
 
 /// A record for each extent, for one log.
-pub fn notices_to(
+pub fn records_to(
     alloc: Global,
     log: LogId,
     host: HostId,
     lists: &HostLists,
     kind: EventKind,
     extents: &[Extent],
-) -> Result<Seq<Notice>, NoMemory>
+) -> Result<Seq<LogRecords>, NoMemory>
     requires { extent_total lists.now ≤ 64 }
-    ensures { IfOk result (λ notices. (v : View) → lists.now ≡ lists_in v → map told_in notices ≡ (log, notices_of host v kind extents.now) ∷ []) }
+    ensures { IfOk result (λ log_records. (v : View) → lists.now ≡ lists_in v → map told_in log_records ≡ (log, records_of_extents host v kind extents.now) ∷ []) }
 {
-    let events = notices_of(alloc, host, lists, kind, extents)?;
-    one_notice(alloc, log, events)
+    let events = records_of_extents(alloc, host, lists, kind, extents)?;
+    one_record(alloc, log, events)
 }
 
-/// One notice alone.
-pub fn one_notice(alloc: Global, log: LogId, events: Seq<Event>) -> Result<Seq<Notice>, NoMemory>
-    ensures { IfOk result (λ notices. notices ≡ record { log = log; events = events } ∷ []) }
+/// One record alone.
+pub fn one_record(
+    alloc: Global,
+    log: LogId,
+    events: Seq<Event>,
+) -> Result<Seq<LogRecords>, NoMemory>
+    ensures { IfOk result (λ log_records. log_records ≡ record { log = log; events = events } ∷ []) }
 {
-    let mut notices = Seq::new(alloc);
-    notices.push(Notice { log, events })?;
-    Ok(notices)
+    let mut log_records = Seq::new(alloc);
+    log_records.push(LogRecords { log, events })?;
+    Ok(log_records)
 }
 
 /// An extent of zeros.

@@ -1,7 +1,7 @@
 //! The requests of the Fabric Manager that change no extents and no tags: which command each is.
 
 ghost use Rattle.device_commands.specs.ManagerMessages.{FewCleared, ManagerAnswers};
-ghost use Rattle.device_state.specs.Kept.{IsReached};
+ghost use Rattle.device_state.specs.StateAfter.{IsReached};
 ghost use Rattle.std.specs.Prelude.{◌≡◌, true};
 ghost use Rattle.table_laws.specs.QuietRequests.{is_quiet_manager};
 

@@ -3,7 +3,7 @@
 ghost use Rattle.device_commands.specs.ShownFlags.{AreSeen, flags_of as flags_shown};
 ghost use Rattle.device_rules.specs.Settings.{host_counts, page, region_seen};
 ghost use Rattle.device_rules.specs.Views.{View};
-ghost use Rattle.device_state.specs.Kept.{lists_in};
+ghost use Rattle.device_state.specs.StateAfter.{lists_in};
 ghost use Rattle.host_lists.specs.Lists.{extent_total};
 ghost use Rattle.host_payloads.specs.declared.views.RegionView.{RegionView};
 ghost use Rattle.region_config.specs.Granules.{with_blocks};

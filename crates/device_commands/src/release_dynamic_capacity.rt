@@ -6,21 +6,19 @@
 ghost use Rattle.device_commands.specs.ReleaseDynamicCapacity.{IsReleased};
 ghost use Rattle.device_commands.specs.HostMessages.{AnswersByLists};
 ghost use Rattle.host_payloads.specs.declared.requests.HostRequest.{HostRequest};
-ghost use Rattle.device_rules.specs.ReleaseOutcomes.{give_back_outcome};
 ghost use Rattle.device_rules.specs.ResponseOutcomes.{hold, unhold};
 ghost use Rattle.event_records.specs.declared.events.EventKind.{EventKind};
 ghost use Rattle.extent_list.specs.ExtentLists.{tags_of};
-ghost use Rattle.device_commands.specs.ListDrafts.{changed};
+ghost use Rattle.device_commands.specs.ListDrafts.{lists_changed};
 ghost use Rattle.host_lists.specs.Lists.{extent_total};
 ghost use Rattle.journal_core.specs.declared.outcome.HeldKind.{HeldKind};
 ghost use Rattle.media_map.specs.Places.{is_granular};
-ghost use Rattle.release_core.specs.Releases.{give_back_rule};
 ghost use Rattle.std.specs.Prelude.{◌≡◌, ◌<◌, ◌≤◌, All, IfOk, IfSome, IsTrue, false};
 
 use crate::draft::Draft;
 use crate::held_lists::{hold, unhold};
 use crate::leaves::put_leaves;
-use crate::log_records::notices_to;
+use crate::log_records::records_to;
 use crate::tags::tags_of;
 use dcd_base::{Extent, Extents, HostId, LogId, NoMemory};
 use dcd_codes::Refusal;
@@ -28,7 +26,7 @@ use event_records::EventKind;
 use host_lists::HostLists;
 use journal_core::HeldKind;
 use region_config::Config;
-use release_core::GivenBack;
+use release_core::{GivenBack, broken_rule};
 use std::alloc::Global;
 
 /// What the host gives back: this list behind what it holds of earlier messages, and whether more messages are to
@@ -53,8 +51,12 @@ pub fn give_back(
 {
     // What is made of present blocks is made of granules, in every configuration.
     let _regions = present.regions();
+    let (accepted, offered, earlier) = (lists.accepted(), lists.offered(), lists.releases());
+    if let Some(rule) = broken_rule(present, host, accepted, offered, earlier, list, more)? {
+        return Err(Refusal::Broken(rule));
+    }
     let mut after = lists.copy()?;
-    match after.give_back(present, host, list, more)? {
+    match after.let_go(list, more)? {
         GivenBack::Held => Ok(held(alloc, host, list, after)?),
         GivenBack::Nothing => {
             let leaving = Extents::new(alloc);
@@ -69,7 +71,7 @@ pub fn give_back(
 /// More is to come.
 fn held(alloc: Global, host: HostId, list: &Extents, after: HostLists) -> Result<Draft, NoMemory>
     requires few { extent_total after ≤ 64 }
-    ensures drafts { IfOk result (λ draft. draft ≡ changed (hold host HeldKind.Releases list.now) after) }
+    ensures drafts { IfOk result (λ draft. draft ≡ lists_changed (hold host HeldKind.Releases list.now) after) }
     ensures few { IfOk result (λ draft. IfSome draft.lists (λ new. extent_total new ≤ 64)) }
 {
     let changes = hold(alloc, host, HeldKind::Releases, list)?;
@@ -94,7 +96,7 @@ fn done(
     let mut changes = unhold(alloc, host, HeldKind::Releases, lists.releases())?;
     put_leaves(present, host, false, leaving, &mut changes)?;
     let tags = tags_of(alloc, leaving)?;
-    let notices = notices_to(
+    let log_records = records_to(
         alloc,
         LogId::Manager,
         host,
@@ -102,5 +104,5 @@ fn done(
         EventKind::Released,
         leaving,
     )?;
-    Draft::listing(alloc, changes, tags, notices, after)
+    Draft::listing(alloc, changes, tags, log_records, after)
 }

@@ -2,9 +2,9 @@
 //! Outcome: `scrub_answer`, device_rules/specs/Answers.antt. It has no bytes.
 
 ghost use Rattle.device_commands.specs.Scrub.{IsZeroed};
-ghost use Rattle.device_state.specs.Kept.{IsReached};
+ghost use Rattle.device_state.specs.StateAfter.{IsReached};
 ghost use Rattle.journal_core.specs.declared.outcome.Effect.{Effect};
-ghost use Rattle.sanitizer.specs.Turns.{granules_in};
+ghost use Rattle.sanitizer.specs.Turns.{granules_of_runs};
 ghost use Rattle.std.specs.Prelude.{◌≡◌, ◌<◌, ◌^◌, IfOk, map};
 
 use dcd_base::{NoMemory, Run};
@@ -35,15 +35,15 @@ pub fn zero_dirty(
 {
     let runs = dirty_runs(alloc, state.granules.states(), config, u32::from(most))?;
     Ok(Zeroed {
-        granules: granules_in(runs.as_slice()),
+        granules: granules_of_runs(runs.as_slice()),
         changes: zeroes(alloc, runs.as_slice())?,
     })
 }
 
 /// How many granules the runs have.
-fn granules_in(runs: &[Run]) -> u32
-    requires fits { granules_in runs.now < 2 ^ 32 }
-    ensures { result ≡ granules_in runs.now }
+fn granules_of_runs(runs: &[Run]) -> u32
+    requires fits { granules_of_runs runs.now < 2 ^ 32 }
+    ensures { result ≡ granules_of_runs runs.now }
 {
     let mut granules = 0;
     for i in 0..runs.len() {

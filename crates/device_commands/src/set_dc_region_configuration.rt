@@ -5,10 +5,9 @@
 
 ghost use Rattle.device_commands.specs.SetDcRegionConfiguration.{IsFirstFull, IsSet, TellAll, TellsHost, size_rule, used_in};
 ghost use Rattle.device_commands.specs.ManagerMessages.{ManagerAnswers};
-ghost use Rattle.device_state.specs.Kept.{IsReached, part_of};
+ghost use Rattle.device_state.specs.StateAfter.{IsReached, part_of};
 ghost use Rattle.fm_payloads.specs.declared.requests.FmRequest.{FmRequest};
 ghost use Rattle.device_rules.specs.Outcomes.{log_full};
-ghost use Rattle.device_rules.specs.Settings.{set_outcome};
 ghost use Rattle.granule_map.specs.StateLists.{is_free_at};
 ghost use Rattle.host_lists.specs.Lists.{extent_total};
 ghost use Rattle.region_config.specs.Granules.{granule_total, region_spec};
@@ -17,7 +16,7 @@ ghost use Rattle.std.specs.Prelude.{◌≡◌, ◌+◌, ◌<◌, ◌≤◌, IfOk
 ghost use Rattle.std.specs.List.{range_with_len};
 
 use crate::draft::{Draft, DraftParts};
-use crate::log_records::{Notice, event_for, log_full, no_extent};
+use crate::log_records::{LogRecords, event_for, log_full, no_extent};
 use dcd_base::{Bytes, Granule, HostId, LogId, NoMemory, RegionId, Seq};
 use dcd_codes::{Refusal, Rule};
 use device_state::State;
@@ -131,32 +130,36 @@ fn draft_of(alloc: Global, state: &State, region: RegionId, block: u64) -> Resul
         payload: Bytes::new(alloc),
         changes,
         tags: Seq::new(alloc),
-        notices: notices_for_all(alloc, state, region)?,
+        log_records: records_for_all(alloc, state, region)?,
         lists: None,
     };
     Draft::of(alloc, parts)
 }
 
 /// A record for each host.
-fn notices_for_all(alloc: Global, state: &State, region: RegionId) -> Result<Seq<Notice>, NoMemory>
+fn records_for_all(
+    alloc: Global,
+    state: &State,
+    region: RegionId,
+) -> Result<Seq<LogRecords>, NoMemory>
     requires parts { length state.now.hosts.items ≡ state.now.present.hosts }
     requires few { (h : HostId) → h < state.now.present.hosts → extent_total (part_of state.now h).lists ≤ 64 }
     ensures { IfOk result (TellAll state.now region) }
 {
-    let mut notices = Seq::new(alloc);
+    let mut log_records = Seq::new(alloc);
     for host in 0..state.present.hosts() {
-        notices.push(notice_for(alloc, state, HostId(host), region)?)?;
+        log_records.push(region_record_for(alloc, state, HostId(host), region)?)?;
     }
-    Ok(notices)
+    Ok(log_records)
 }
 
 /// The record for a host.
-fn notice_for(
+fn region_record_for(
     alloc: Global,
     state: &State,
     host: HostId,
     region: RegionId,
-) -> Result<Notice, NoMemory>
+) -> Result<LogRecords, NoMemory>
     requires part { host < length state.now.hosts.items }
     requires few { extent_total (part_of state.now host).lists ≤ 64 }
     ensures { IfOk result (TellsHost state.now region host) }
@@ -168,7 +171,7 @@ fn notice_for(
     };
     let mut events = Seq::new(alloc);
     events.push(event)?;
-    Ok(Notice {
+    Ok(LogRecords {
         log: LogId::Host(host),
         events,
     })

@@ -2,12 +2,11 @@
 
 ghost use Rattle.device_commands.specs.TagChanges.{AreGranular, IsOfferChange, OffersGranular, told_change};
 ghost use Rattle.journal_core.specs.declared.outcome.Effect.{Effect};
-ghost use Rattle.std.specs.Prelude.{◌≡◌, ◌<◌, IfOk, List, length, map, ◌∷◌, []};
+ghost use Rattle.std.specs.Prelude.{◌≡◌, ◌<◌, IfOk, length, map, ◌∷◌, []};
 ghost use Rattle.device_state.specs.declared.updates.TagChange.{TagChange};
-ghost use Rattle.dcd_base.specs.declared.capacity.Extent.{Extent};
 ghost use Rattle.media_map.specs.Places.{run_of};
 ghost use Rattle.std.specs.declared.result.Result.TheVariants.{Ok};
-ghost use Rattle.tag_refs.specs.Tables.{is_live};
+ghost use Rattle.tag_refs.specs.Tables.{has_entry};
 
 use crate::runs::run_of;
 use dcd_base::{Extents, HostId, NoMemory, RegionId, Runs, Seq, Tag};
@@ -40,7 +39,7 @@ pub fn offer_change(
     requires host { host < config.now.hosts }
     requires region { region < length config.now.regions }
     requires granular { OffersGranular config.now host changes.now }
-    ensures { IfOk result (IsOfferChange config.now host region tag.now (is_live tag.now state.now.tags.entries) changes.now) }
+    ensures { IfOk result (IsOfferChange config.now host region tag.now (has_entry tag.now state.now.tags.entries) changes.now) }
 {
     if !config.region(region).shareable {
         return Ok(TagChange::Nothing);

@@ -1,9 +1,7 @@
 -- What every device keeps is kept by one more entry.
 use Rattle.std.proofs.Common.{◌≡◌, ℕ, ◌+◌, ◌<◌, Bool, true, false, get_or, leb, ◌&&◌, ◌==◌, List, [], ◌∷◌, ◌++◌, length, refl, sym, ap, subst, ◌∙◌, append-nil, add-zero, arith}
-use Rattle.std.specs.Prelude.{All, IfOk, IsFalse, IsTrue, fold, if◌then◌else◌}
+use Rattle.std.specs.Prelude.{All, IfOk, IsFalse, IsTrue, fold, if◌then◌else◌, not}
 use Rattle.std.specs.List.{filter, list_any}
-use Rattle.std.specs.Option.{option_to_list}
-use Rattle.std.proofs.Common.{None, Some}
 use Rattle.std.specs.declared.result.Result.{Result}
 use Rattle.std.specs.declared.result.Result.TheVariants.{Ok, Err}
 use Rattle.std.proofs.lemmas.Bool.{and_from, eq-eqb, le-leb, lt-ltb}
@@ -35,21 +33,16 @@ use Rattle.device_rules.specs.Hosts.{changes_of, moves}
 use Rattle.device_rules.specs.Legal.{Meets, access_at, granted_reply, is_zeroing, stored_at, word_after, word_by, word_of, written_by}
 use Rattle.control_core.specs.ChangedRuns.{AreChanges, AreHolders, holders_after}
 use Rattle.control_core.specs.Deciding.{IsShort}
-use Rattle.control_core.specs.Steps.{MayStep, entry_of}
-use Rattle.device_plain.specs.Accesses.{AreMade, StoresAt, access_entry, granted_in, held_at, load_said, store_said, word_from}
+use Rattle.control_core.specs.Steps.{MayStep, journal_entry}
+use Rattle.journal_core.specs.Accesses.{access_entry, load_said}
+use Rattle.device_plain.specs.Accesses.{AreMade, StoresAt, granted_place, held_at, store_said, word_from}
 use Rattle.device_plain.specs.Keeping.{Keeps}
-use Rattle.device_plain.specs.Numbering.{IsCounted, IsReachedBy}
+use Rattle.device_plain.specs.Numbering.{IsCounted, IsReachedBy, accesses_of}
 use Rattle.device_plain.proofs.Answered.{answer_same}
-use Rattle.device_plain.proofs.Numbered.{before_access, before_command, commands-push, reached_access, reached_command, since-push}
+use Rattle.device_plain.proofs.Numbered.{accesses-push, before_access, before_command, commands-push, reached_access, reached_command, since-push}
 
 never : IsTrue false → ⊥
 never e = cc
-
--- the journal grows by the entry, be it the device's own or the control's
-pub grown : (is_own : Bool) (own control : List Entry) (e : Entry) →
-    (if is_own then own ++ option_to_list (if is_own then Some e else None) else control ++ e ∷ []) ≡ (if is_own then own else control) ++ e ∷ []
-grown true own control e = refl
-grown false own control e = refl
 
 -- a fresh device
 pub keeps_first : (c : Configuration) (m : Media) → IsSound c → length m.holders ≡ granule_total c → IsFresh m → Keeps c [] m [] 0
@@ -78,7 +71,7 @@ module _ (c : Configuration) (control : List Entry) (m : Media) (journal : List 
   -- ---- a command or a scrub
 
   -- the answer over the commands and scrubs is that over all entries
-  command_meets : (pass line : ℕ) (actor : Actor) (act : Act) → MayStep c actor act → Meets c journal (entry_of c control pass line actor act)
+  command_meets : (pass line : ℕ) (actor : Actor) (act : Act) → MayStep c actor act → Meets c journal (journal_entry c control pass line actor act)
   command_meets pass line (Actor.Host h) (Act.Command q) may = record {
     allowed = may.fits;
     reply = ap (λ r. r.0) (answer_same c control journal k.effects_are k.changes (Actor.Host h) (Act.Command q));
@@ -109,7 +102,7 @@ module _ (c : Configuration) (control : List Entry) (m : Media) (journal : List 
 
   module _ (pass line : ℕ) (actor : Actor) (act : Act) (may : MayStep c actor act) where
     abbrev next : Entry
-    next = entry_of c control pass line actor act
+    next = journal_entry c control pass line actor act
 
     pub keeps_command : IsShort next.reply → (changes : List Change) → AreChanges c (effects control) next.effects changes →
         (made : Media) → AreMade m made changes → Keeps c (control ++ next ∷ []) made (journal ++ next ∷ []) 0
@@ -197,7 +190,7 @@ module _ (c : Configuration) (control : List Entry) (m : Media) (journal : List 
       effects_are = k.effects_are ∙ sym past;
       changes = λ h. k.changes h ∙ sym (fold_push (moved h) 0 journal e ∙ ap (λ es. if list_any (moves h) es then changes_of h journal + 1 else changes_of h journal) none);
       since = ap (λ n. n + 1) k.since ∙ sym (since-push journal e ∙ ap (λ b. if b then 0 else since_now + 1) access);
-      few = let long = length-append journal (e ∷ []) in omega (arith, k.few, long);
+      few = omega (arith, k.few, ap length one_more, length-append (accesses_of journal) (e ∷ []));
       reached = All-push (λ (x : Entry). IsReachedBy (length control) (since + 1) x.stamp) journal e
           (All-weaker (λ (x : Entry). IsReachedBy (length control) since x.stamp) (λ (x : Entry). IsReachedBy (length control) (since + 1) x.stamp) (λ x r. reached_access (length control) since x.stamp r) journal k.reached)
           (subst (IsReachedBy (length control) (since + 1)) (sym stamp) (record { below = omega arith; count = λ same. omega arith }));
@@ -226,6 +219,9 @@ module _ (c : Configuration) (control : List Entry) (m : Media) (journal : List 
 
         commands : List Entry
         commands = filter (λ (x : Entry). is_control x.act) journal
+
+        one_more : accesses_of (journal ++ e ∷ []) ≡ accesses_of journal ++ e ∷ []
+        one_more = accesses-push journal e ∙ ap (λ b. accesses_of journal ++ (if not b then e ∷ [] else [])) access
 
         past : effects (journal ++ e ∷ []) ≡ effects journal
         past = effects-push journal e ∙ ap (λ es. effects journal ++ es) none ∙ append-nil (effects journal)
@@ -273,28 +269,28 @@ module _ (c : Configuration) (control : List Entry) (m : Media) (journal : List 
       by false = refl
 
   module _ (pass line : ℕ) (h : HostId) (d : ℕ) (host : h < c.hosts) (inside : IfOk (locate c h d) (λ (p : Place). p.granule < granule_total c)) where
-    pub keeps_load : (e : Entry) → e ≡ access_entry pass line h (Act.Load d) (load_said (word_from m (granted_in c m h d))) (length control) (since + 1) →
+    pub keeps_load : (e : Entry) → e ≡ access_entry pass line h (Act.Load d) (load_said (word_from m (granted_place c m h d))) (record { number = length control; count = since + 1 }) →
         Keeps c control m (journal ++ e ∷ []) (since + 1)
     keeps_load e is = subst (λ x. Keeps c control m (journal ++ x ∷ []) (since + 1)) (sym is) (
         keeps_access loaded (record { allowed = lt-ltb h c.hosts host; reply = load_at h d host (locate c h d) inside; effects = refl })
-        refl refl (told (word_from m (granted_in c m h d))) refl m refl (λ g w below. refl))
+        refl refl (told (word_from m (granted_place c m h d))) refl m refl (λ g w below. refl))
       where
         loaded : Entry
-        loaded = access_entry pass line h (Act.Load d) (load_said (word_from m (granted_in c m h d))) (length control) (since + 1)
+        loaded = access_entry pass line h (Act.Load d) (load_said (word_from m (granted_place c m h d))) (record { number = length control; count = since + 1 })
 
         told : (r : Result ℕ AccessFault) → IsShort (load_said r)
         told (Ok word) = tt
         told (Err fault) = tt
 
-    pub keeps_store : (value : ℕ) (new : Media) → StoresAt m new (granted_in c m h d) value → new.holders ≡ m.holders →
-        (e : Entry) → e ≡ access_entry pass line h (Act.Store d value) (store_said (granted_in c m h d)) (length control) (since + 1) →
+    pub keeps_store : (value : ℕ) (new : Media) → StoresAt m new (granted_place c m h d) value → new.holders ≡ m.holders →
+        (e : Entry) → e ≡ access_entry pass line h (Act.Store d value) (store_said (granted_place c m h d)) (record { number = length control; count = since + 1 }) →
         Keeps c control new (journal ++ e ∷ []) (since + 1)
     keeps_store value new stores holders e is = subst (λ x. Keeps c control new (journal ++ x ∷ []) (since + 1)) (sym is) (
         keeps_access stored (record { allowed = lt-ltb h c.hosts host; reply = store_at h d value host (locate c h d) inside; effects = refl })
-        refl refl (told (granted_in c m h d)) refl new holders (λ g w below. stores g w ∙ written h d value g w (word_in m g w) (locate c h d) refl))
+        refl refl (told (granted_place c m h d)) refl new holders (λ g w below. stores g w ∙ written h d value g w (word_in m g w) (locate c h d) refl))
       where
         stored : Entry
-        stored = access_entry pass line h (Act.Store d value) (store_said (granted_in c m h d)) (length control) (since + 1)
+        stored = access_entry pass line h (Act.Store d value) (store_said (granted_place c m h d)) (record { number = length control; count = since + 1 })
 
         told : (r : Result Place AccessFault) → IsShort (store_said r)
         told (Ok p) = tt

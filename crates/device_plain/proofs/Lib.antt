@@ -1,5 +1,5 @@
 pub mod Answered
 pub mod Keeping
 pub mod MadeChanges
+pub mod Merged
 pub mod Numbered
-pub mod Readied

@@ -6,14 +6,11 @@ use Rattle.dcd_base.specs.declared.failures.AccessFault.{AccessFault}
 use Rattle.dcd_base.specs.declared.ids.HostId.{HostId}
 use Rattle.dcd_base.specs.declared.media.Change.{Change}
 use Rattle.dcd_base.specs.declared.media.Place.{Place}
-use Rattle.dcd_base.specs.declared.steps.Actor.{Actor}
-use Rattle.std.specs.Prelude.{[], fold, length, ◌&&◌}
+use Rattle.std.specs.Prelude.{fold, length, ◌&&◌}
 use Rattle.std.specs.List.{list_any}
 use Rattle.dcd_base.specs.Words.{has_granule}
 use Rattle.granule_mem.specs.Contents.{Media, holders_in, word_in}
-use Rattle.journal_core.specs.declared.acts.Act.{Act}
 use Rattle.journal_core.specs.declared.acts.Reply.{Reply}
-use Rattle.journal_core.specs.declared.entries.Entry.{Entry}
 use Rattle.media_map.specs.Places.{locate}
 use Rattle.region_config.specs.Configurations.{Configuration}
 use Rattle.dcd_base.specs.Hosts.{has_host}
@@ -25,19 +22,15 @@ abbrev pub held_at : HostId → Media → Result Place AccessFault → Result Pl
 held_at h m (Ok p) = if has_host (holders_in m p.granule) h then Ok p else Err AccessFault.NotGranted
 held_at h m (Err fault) = Err fault
 
-abbrev pub granted_in : Configuration → Media → HostId → ℕ → Result Place AccessFault
-granted_in c m h d = held_at h m (locate c h d)
+abbrev pub granted_place : Configuration → Media → HostId → ℕ → Result Place AccessFault
+granted_place c m h d = held_at h m (locate c h d)
 
 -- the word there
 abbrev pub word_from : Media → Result Place AccessFault → Result ℕ AccessFault
 word_from m (Ok p) = Ok (word_in m p.granule p.word)
 word_from m (Err fault) = Err fault
 
--- what is replied to a load and to a store
-abbrev pub load_said : Result ℕ AccessFault → Reply
-load_said (Ok word) = Reply.Word word
-load_said (Err fault) = Reply.Refused fault
-
+-- what is replied to a store
 abbrev pub store_said : Result Place AccessFault → Reply
 store_said (Ok p) = Reply.Stored
 store_said (Err fault) = Reply.Refused fault
@@ -45,18 +38,6 @@ store_said (Err fault) = Reply.Refused fault
 -- The word of the place, if it is one, is this value, and each other word is what it was.
 abbrev pub StoresAt : Media → Media → Result Place AccessFault → ℕ → Type 0
 StoresAt old new place value = (g w : ℕ) → word_in new g w ≡ stored_at g w (word_in old g w) place value
-
--- the entry of an access: it has no effects
-abbrev pub access_entry : ℕ → ℕ → HostId → Act → Reply → ℕ → ℕ → Entry
-access_entry pass line h act reply number count = record {
-  pass = pass;
-  line = line;
-  actor = Actor.Host h;
-  act = act;
-  reply = reply;
-  effects = [];
-  stamp = record { number = number; count = count };
-}
 
 -- The changes were made one after another.
 pub record AreMade (old new : Media) (changes : List Change) : Type 0 where

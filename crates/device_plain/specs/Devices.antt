@@ -1,5 +1,5 @@
 -- The device as contracts see it, and what one step does to it.
-use Rattle.std.specs.Prelude.{◌≡◌, ℕ, Bool, List, [], ◌∷◌, ◌++◌, Option, Some, None, if◌then◌else◌}
+use Rattle.std.specs.Prelude.{◌≡◌, ℕ, List, [], ◌∷◌, ◌++◌}
 use Rattle.dcd_base.specs.declared.steps.Actor.{Actor}
 use Rattle.region_config.specs.Configurations.{Configuration}
 use Rattle.journal_core.specs.declared.acts.Act.{Act}
@@ -25,8 +25,3 @@ pub record Enters (old new : Plain) (its_pass its_line : ℕ) (its_actor : Actor
 -- It did so, and its reply stands in the entry alone.
 abbrev pub Appends : Plain → Plain → ℕ → ℕ → Actor → Act → Type 0
 Appends old new pass line actor act = (reply : Reply) × Enters old new pass line actor act reply
-
--- It did so, and its reply is told if it is asked for.
-abbrev pub Tells : Plain → Plain → ℕ → ℕ → Actor → Act → Bool → Option Reply → Type 0
-Tells old new pass line actor act asked told =
-    (reply : Reply) × (Enters old new pass line actor act reply × (told ≡ (if asked then Some reply else None)))

@@ -1,5 +1,5 @@
 -- How the entries of a journal are numbered.
-use Rattle.std.specs.Prelude.{◌≡◌, ℕ, ◌+◌, ◌≤◌, List, filter, fold, if◌then◌else◌}
+use Rattle.std.specs.Prelude.{◌≡◌, ℕ, ◌+◌, ◌≤◌, List, filter, fold, if◌then◌else◌, not}
 use Rattle.dcd_base.specs.declared.steps.Stamp.{Stamp}
 use Rattle.journal_core.specs.declared.acts.Act.{Act}
 use Rattle.journal_core.specs.declared.entries.Entry.{Entry}
@@ -9,6 +9,10 @@ use Rattle.journal_core.specs.Merging.{commands_in}
 -- the commands and scrubs, in order
 abbrev pub commands_of : List Entry → List Entry
 commands_of journal = filter (λ (e : Entry). is_control e.act) journal
+
+-- the loads and stores, in order
+abbrev pub accesses_of : List Entry → List Entry
+accesses_of journal = filter (λ (e : Entry). not (is_control e.act)) journal
 
 -- how many loads and stores came since the last command or scrub
 abbrev pub accesses_since : List Entry → ℕ

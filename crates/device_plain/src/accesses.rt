@@ -1,16 +1,17 @@
 //! Loads and stores of hosts.
 
-ghost use Rattle.device_plain.specs.Accesses.{StoresAt, access_entry as access_entry_of, granted_in, load_said, store_said, word_from};
+ghost use Rattle.device_plain.specs.Accesses.{StoresAt, granted_place, store_said, word_from};
 ghost use Rattle.dcd_base.specs.declared.failures.AccessFault.{AccessFault};
 ghost use Rattle.dcd_base.specs.declared.media.Place.{Place};
+ghost use Rattle.journal_core.specs.Accesses.{stored_unless};
 ghost use Rattle.media_map.specs.Places.{locate};
 ghost use Rattle.region_config.specs.Granules.{granule_total};
-ghost use Rattle.std.specs.Prelude.{◌≡◌, ◌+◌, ◌<◌, ◌^◌, IfOk, OnErr, OnOk, length};
+ghost use Rattle.std.specs.Prelude.{◌≡◌, ◌+◌, ◌<◌, ◌^◌, IfOk, OnErr, OnOk, length, vec_capacity, vec_len};
 
 use control_core::Control;
-use dcd_base::{AccessFault, Actor, HostId, NoMemory, Place, Stamp, host_bits};
+use dcd_base::{AccessFault, HostId, NoMemory, Place, Stamp, host_bits};
 use granule_mem::Memory;
-use journal_core::{Act, Entry, EntryEffects, Reply};
+use journal_core::Access;
 use media_map::locate;
 use region_config::Config;
 
@@ -24,7 +25,7 @@ pub(crate) fn granted(
 ) -> Result<Place, AccessFault>
     requires host { host < config.now.hosts }
     requires granules { length memory.now.holders ≡ granule_total config.now }
-    ensures value { result ≡ granted_in config.now memory.now host dpa }
+    ensures value { result ≡ granted_place config.now memory.now host dpa }
     ensures inside { IfOk result (λ p. p.granule < granule_total config.now) }
     ensures placed { IfOk (locate config.now host dpa) (λ p. p.granule < granule_total config.now) }
 {
@@ -73,24 +74,24 @@ pub(crate) fn store_at(
     }
 }
 
-/// What is replied to a load.
-pub(crate) fn load_reply(found: &Result<u64, AccessFault>) -> Reply
-    ensures { result ≡ load_said found.now }
+/// Why there is no place, if there is none.
+pub(crate) fn refused_by(place: &Result<Place, AccessFault>) -> Option<AccessFault>
+    ensures { stored_unless result ≡ store_said place.now }
 {
-    match found {
-        Ok(word) => Reply::Word(*word),
-        Err(fault) => Reply::Refused(*fault),
+    match place {
+        Ok(_) => None,
+        Err(fault) => Some(*fault),
     }
 }
 
-/// What is replied to a store.
-pub(crate) fn store_reply(place: &Result<Place, AccessFault>) -> Reply
-    ensures { result ≡ store_said place.now }
+/// Makes room for one more load or store.
+pub(crate) fn reserve(accesses: &mut Vec<Access>) -> Result<(), NoMemory>
+    ensures room { OnOk result (vec_len accesses.new < vec_capacity accesses.new) }
+    ensures few { OnOk result (length accesses.new.items < 2 ^ 63) }
+    ensures items { accesses.new.items ≡ accesses.old.items }
 {
-    match place {
-        Ok(_) => Reply::Stored,
-        Err(fault) => Reply::Refused(*fault),
-    }
+    accesses.reserve(1)?;
+    Ok(())
 }
 
 /// The stamp of the next access, where so many came since the last command or scrub.
@@ -101,27 +102,5 @@ pub(crate) fn stamp_of(control: &Control, since: u64) -> Stamp
     Stamp {
         number: control.entries().len() as u64,
         count: since + 1,
-    }
-}
-
-/// The entry of an access, which has no effects.
-pub(crate) fn access_entry(
-    pass: u32,
-    line: u32,
-    host: HostId,
-    act: Act,
-    reply: Reply,
-    stamp: Stamp,
-) -> Entry
-    ensures { result ≡ access_entry_of pass line host act reply stamp.number stamp.count }
-{
-    Entry {
-        pass,
-        line,
-        actor: Actor::Host(host),
-        act,
-        reply,
-        effects: EntryEffects::none(),
-        stamp,
     }
 }

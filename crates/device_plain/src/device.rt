@@ -3,25 +3,21 @@
 ghost use Rattle.control_core.specs.Deciding.{AreShort};
 ghost use Rattle.control_core.specs.Steps.{MayStep};
 ghost use Rattle.dcd_base.specs.declared.steps.Actor.{Actor};
-ghost use Rattle.device_plain.specs.Devices.{Appends, Enters, Tells};
+ghost use Rattle.device_plain.specs.Devices.{Appends, Enters};
 ghost use Rattle.device_plain.specs.Numbering.{IsCounted, commands_of};
 ghost use Rattle.device_rules.specs.Legal.{Exclusive, Legal};
 ghost use Rattle.journal_core.specs.declared.acts.Act.{Act};
 ghost use Rattle.journal_core.specs.Entries.{Each, effects, fits};
 ghost use Rattle.journal_core.specs.Merging.{Numbered};
-ghost use Rattle.std.specs.Prelude.{◌≡◌, ◌<◌, [], IfOk, IsTrue, OnErr, OnOk};
+ghost use Rattle.std.specs.Prelude.{◌≡◌, ◌<◌, ◌^◌, [], IfOk, IsTrue, OnErr, OnOk, length};
 
-use crate::accesses::{
-    access_entry, granted, load_reply, stamp_of, store_at, store_reply, word_at,
-};
-use crate::commands::{enter_ready, make_ready, reply_of};
-use crate::history::History;
+use crate::accesses::{granted, refused_by, reserve, stamp_of, store_at, word_at};
 use crate::making::make_all;
 use control_core::Control;
 use dcd_base::{Actor, HostId, NoMemory};
 use granule_mem::Memory;
 use holding_laws::law_exclusive;
-use journal_core::{Act, Entry, Reply};
+use journal_core::{Access, Act, Reply, Whole, whole};
 use region_config::Config;
 use std::alloc::Global;
 use std::marker::Model;
@@ -33,21 +29,23 @@ use std::marker::Model;
 pub struct Device {
     control: Control,
     memory: Memory,
-    history: History,
-    /// How many accesses came since the last command or scrub.
+    /// The loads and stores, in order.
+    accesses: Vec<Access>,
+    /// How many of them came since the last command or scrub.
     since: u64,
 }
 
 impl Model for Device {
     ghost use Rattle.device_plain.specs.Devices.{Plain};
-    ghost use Rattle.device_plain.specs.Histories.{journal_by};
-    ghost use Rattle.device_plain.specs.Keeping.{Keeps};
+    ghost use Rattle.device_plain.specs.Keeping.{KeepsBoth};
+    ghost use Rattle.journal_core.specs.Merging.{merged};
+    ghost use Rattle.std.specs.Prelude.{◌∷◌, []};
 
     ghost Value = { Plain };
 
-    ghost view = { λ d. record { config = d.control.config; journal = journal_by d.history d.control.entries } };
+    ghost view = { λ d. record { config = d.control.config; journal = merged d.control.entries (d.accesses.items ∷ []) } };
 
-    ghost invariant = { λ d. Keeps d.control.config d.control.entries d.memory (journal_by d.history d.control.entries) d.since };
+    ghost invariant = { λ d. KeepsBoth d.control.config d.control.entries d.accesses.items d.memory d.since };
 }
 
 impl Device {
@@ -62,7 +60,7 @@ impl Device {
         Ok(Device {
             control: Control::new(alloc, config)?,
             memory,
-            history: History::new(alloc),
+            accesses: Vec::new(alloc),
             since: 0,
         })
     }
@@ -76,21 +74,31 @@ impl Device {
         &self.control
     }
 
-    /// All steps in order, each with what it replied.
+    /// How many steps it has taken.
+    #[tactic(auto, using(crate::proofs::Merged::length_of_whole))]
+    pub fn len(&self) -> u64
+        ensures { result ≡ length self.now.journal }
+    {
+        self.control.entries().len() as u64 + self.accesses.as_slice().len() as u64
+    }
+
+    /// All steps in order, each with what it replied: the control's entries and the loads and stores, lent.
     ///
     /// It is legal: each reply is the one that the entries before it give. No granule of a region that is not shareable
     /// ever has two hosts in it. Commands and scrubs are numbered from 1; an access has the number of the last of them,
     /// or 0, and its count is one more than that of the accesses since.
-    pub fn journal(&self) -> &[Entry]
-        ensures value { result.now ≡ self.now.journal }
+    pub fn journal(&self) -> Whole<'_>
+        ensures value { result ≡ self.now.journal }
         ensures legal { Legal self.now.config self.now.journal }
         ensures exclusive { Exclusive self.now.config self.now.journal }
         ensures numbered { Numbered self.now.journal }
         ensures counted { Each IsCounted self.now.journal }
         ensures short { AreShort self.now.journal }
+        ensures few { length self.now.journal < 2 ^ 64 }
     {
         law_exclusive();
-        self.history.entries(&self.control)
+        let _steps = self.len();
+        whole(self.control.entries(), self.accesses.as_slice())
     }
 
     /// Takes a step: enters it at the end of the journal and answers its reply. Without memory nothing has changed.
@@ -143,17 +151,19 @@ impl Device {
         }
     }
 
-    /// Takes a command or a scrub and tells its reply.
+    /// Takes a command or a scrub and tells its reply, in a copy that is made before anything changes.
     fn answered(&mut self, pass: u32, line: u32, actor: Actor, act: &Act) -> Result<Reply, NoMemory>
         requires { MayStep self.old.config actor act.now }
         ensures entered { IfOk result (Enters self.old self.new pass line actor act.now) }
         ensures kept { OnErr result (self.new ≡ self.old) }
     {
         let act = act.copy()?;
-        match self.command(pass, line, actor, act, true)? {
-            Some(reply) => Ok(reply),
-            None => unreachable!(),
-        }
+        let plan = self.control.prepare(pass, line, actor, act)?;
+        let reply = plan.entry().reply.copy()?;
+        make_all(&mut self.memory, plan.changes().as_slice());
+        self.control.apply(plan);
+        self.since = 0;
+        Ok(reply)
     }
 
     /// Takes a command or a scrub that is handed over.
@@ -168,41 +178,10 @@ impl Device {
         ensures entered { OnOk result (Appends self.old self.new pass line actor act) }
         ensures kept { OnErr result (self.new ≡ self.old) }
     {
-        if self.history.is_own() {
-            let _reply = self.command(pass, line, actor, act, false)?;
-            return Ok(());
-        }
         let changes = self.control.step(pass, line, actor, act)?;
         make_all(&mut self.memory, changes.as_slice());
         self.since = 0;
         Ok(())
-    }
-
-    /// Takes a command or a scrub, and enters it in the control and in the device's own journal, where there is one. Its
-    /// reply is told if it is asked for, in a copy that is made before anything changes.
-    #[inline(never)]
-    fn command(
-        &mut self,
-        pass: u32,
-        line: u32,
-        actor: Actor,
-        act: Act,
-        asked: bool,
-    ) -> Result<Option<Reply>, NoMemory>
-        requires { MayStep self.old.config actor act }
-        ensures entered { IfOk result (Tells self.old self.new pass line actor act asked) }
-        ensures kept { OnErr result (self.new ≡ self.old) }
-    {
-        let ready = make_ready(&mut self.control, &mut self.history, pass, line, actor, act)?;
-        let reply = reply_of(ready.plan.entry(), asked)?;
-        enter_ready(
-            &mut self.control,
-            &mut self.memory,
-            &mut self.history,
-            &mut self.since,
-            ready,
-        );
-        Ok(reply)
     }
 
     /// Takes a load of a host.
@@ -211,20 +190,15 @@ impl Device {
         ensures entered { IfOk result (Enters self.old self.new pass line (Actor.Host host) (Act.Load dpa)) }
         ensures kept { OnErr result (self.new ≡ self.old) }
     {
-        self.history.make_own(&self.control)?;
+        reserve(&mut self.accesses)?;
         let place = granted(self.control.config(), &self.memory, host, dpa);
         let found = word_at(&self.memory, &place);
         let stamp = stamp_of(&self.control, self.since);
+        let access = Access::load(pass, line, host, dpa, &found, stamp);
+        let reply = access.reply();
         self.since += 1;
-        self.history.push(access_entry(
-            pass,
-            line,
-            host,
-            Act::Load(dpa),
-            load_reply(&found),
-            stamp,
-        ));
-        Ok(load_reply(&found))
+        self.accesses.push_reserved(access);
+        Ok(reply)
     }
 
     /// Takes a store of a host.
@@ -240,19 +214,14 @@ impl Device {
         ensures entered { IfOk result (Enters self.old self.new pass line (Actor.Host host) (Act.Store dpa value)) }
         ensures kept { OnErr result (self.new ≡ self.old) }
     {
-        self.history.make_own(&self.control)?;
+        reserve(&mut self.accesses)?;
         let place = granted(self.control.config(), &self.memory, host, dpa);
         store_at(&mut self.memory, &place, value)?;
         let stamp = stamp_of(&self.control, self.since);
+        let access = Access::store(pass, line, host, dpa, value, refused_by(&place), stamp);
+        let reply = access.reply();
         self.since += 1;
-        self.history.push(access_entry(
-            pass,
-            line,
-            host,
-            Act::Store(dpa, value),
-            store_reply(&place),
-            stamp,
-        ));
-        Ok(store_reply(&place))
+        self.accesses.push_reserved(access);
+        Ok(reply)
     }
 }

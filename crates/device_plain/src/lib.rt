@@ -2,9 +2,7 @@
 #![tactic(auto)]
 
 mod accesses;
-mod commands;
 mod device;
-mod history;
 mod making;
 
 pub use device::Device;

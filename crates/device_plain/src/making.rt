@@ -2,7 +2,7 @@
 
 ghost use Rattle.control_core.specs.ChangedRuns.{LiesIn};
 ghost use Rattle.device_plain.specs.Accesses.{AreMade};
-ghost use Rattle.std.specs.Prelude.{◌≡◌, ◌∷◌, [], All, length};
+ghost use Rattle.std.specs.Prelude.{◌∷◌, [], All, length};
 
 use dcd_base::Change;
 use granule_mem::Memory;

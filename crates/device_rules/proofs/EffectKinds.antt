@@ -23,7 +23,7 @@ use Rattle.device_rules.specs.EventCommands.{clear_changes, cleared}
 use Rattle.device_rules.specs.Logs.{log_after, log_of}
 use Rattle.device_rules.specs.Outcomes.{Outcome, effects_of, ended, entered, entered_all}
 use Rattle.device_rules.specs.ReleaseOutcomes.{give_back_changes, leaves, removals}
-use Rattle.device_rules.specs.ResponseOutcomes.{answered, hold, respond_changes, response_notices, unhold}
+use Rattle.device_rules.specs.ResponseOutcomes.{answered, hold, respond_changes, response_records, unhold}
 use Rattle.device_rules.specs.Views.{View, view_after}
 use Rattle.device_rules.proofs.Leaving.{both_pass, map_passes}
 
@@ -62,30 +62,30 @@ module _ (p : Effect → Bool) (l : LogId) (records : PassRecords p l) where
 
 -- the records of a command go to logs of a kind
 abbrev pub tells : (LogId → Bool) → List (LogId × List Event) → Bool
-tells q notices = list_all (λ n. q n.0) notices
+tells q log_records = list_all (λ n. q n.0) log_records
 
 abbrev pub any_log : LogId → Bool
 any_log l = true
 
-pub tells_any : (notices : List (LogId × List Event)) → tells any_log notices ≡ true
+pub tells_any : (log_records : List (LogId × List Event)) → tells any_log log_records ≡ true
 tells_any [] = refl
-tells_any (n ∷ notices) = tells_any notices
+tells_any (n ∷ log_records) = tells_any log_records
 
 module _ (p : Effect → Bool) (q : LogId → Bool) (records : (l : LogId) → q l ≡ true → PassRecords p l) where
-  pub told_passes : (past : List Effect) (notices : List (LogId × List Event)) → tells q notices ≡ true → list_all p (flat_map (λ n. entered_all n.0 (log_of n.0 past) n.1) notices) ≡ true
+  pub told_passes : (past : List Effect) (log_records : List (LogId × List Event)) → tells q log_records ≡ true → list_all p (flat_map (λ n. entered_all n.0 (log_of n.0 past) n.1) log_records) ≡ true
   told_passes past [] told = refl
-  told_passes past (n ∷ notices) told =
-      let parts = and_parts (q n.0) (tells q notices) told in
-      both_pass p (entered_all n.0 (log_of n.0 past) n.1) (flat_map (λ m. entered_all m.0 (log_of m.0 past) m.1) notices)
-      (entered_all_passes p n.0 (records n.0 parts.0) (log_of n.0 past) n.1) (told_passes past notices parts.1)
+  told_passes past (n ∷ log_records) told =
+      let parts = and_parts (q n.0) (tells q log_records) told in
+      both_pass p (entered_all n.0 (log_of n.0 past) n.1) (flat_map (λ m. entered_all m.0 (log_of m.0 past) m.1) log_records)
+      (entered_all_passes p n.0 (records n.0 parts.0) (log_of n.0 past) n.1) (told_passes past log_records parts.1)
 
   -- where the changes of a command pass, and ends of tags, all its effects do
   pub outcome_passes : (end : (t : Tag) → p (Effect.TagEnd t) ≡ true) (c : Configuration) (past : List Effect) (o : Outcome) →
-      list_all p o.changes ≡ true → tells q o.notices ≡ true → list_all p (effects_of c past o) ≡ true
+      list_all p o.changes ≡ true → tells q o.log_records ≡ true → list_all p (effects_of c past o) ≡ true
   outcome_passes end c past o changes told =
-      both_pass p (o.changes ++ map Effect.TagEnd (ended c past o.changes o.tags)) (flat_map (λ n. entered_all n.0 (log_of n.0 past) n.1) o.notices)
+      both_pass p (o.changes ++ map Effect.TagEnd (ended c past o.changes o.tags)) (flat_map (λ n. entered_all n.0 (log_of n.0 past) n.1) o.log_records)
       (both_pass p o.changes (map Effect.TagEnd (ended c past o.changes o.tags)) changes (map_passes p Effect.TagEnd end (ended c past o.changes o.tags)))
-      (told_passes past o.notices told)
+      (told_passes past o.log_records told)
 
 -- ---- the changes of each command
 
@@ -155,7 +155,7 @@ zeroes_pass p zero c gs = map_passes p (λ (r : ℕ × ℕ). Effect.Zero (record
 -- ---- a host's command
 
 -- its records go to the manager's log
-response_tells : (q : LogId → Bool) → q LogId.Manager ≡ true → (c : Configuration) (h : HostId) (v : View) (offers : List (List Extent)) (taken : List Extent) → tells q (response_notices c h v offers taken) ≡ true
+response_tells : (q : LogId → Bool) → q LogId.Manager ≡ true → (c : Configuration) (h : HostId) (v : View) (offers : List (List Extent)) (taken : List Extent) → tells q (response_records c h v offers taken) ≡ true
 response_tells q manager c h v [] taken = refl
 response_tells q manager c h v (offer ∷ later) [] = ap (λ b. b && true) manager
 response_tells q manager c h v (offer ∷ later) (x ∷ xs) = ap (λ b. b && true) manager

@@ -16,23 +16,23 @@ use Rattle.dcd_codes.specs.declared.rules.Rule.{Rule}
 use Rattle.event_records.specs.declared.events.EventKind.{EventKind}
 use Rattle.region_config.specs.Configurations.{Configuration}
 use Rattle.journal_core.specs.declared.outcome.Effect.{Effect}
-use Rattle.region_config.specs.Granules.{first_granule, granule_size, granules_in, region_spec, with_blocks}
+use Rattle.region_config.specs.Granules.{first_granule, granule_size, region_granules, region_spec, with_blocks}
 use Rattle.device_rules.specs.Hosts.{block_of}
 use Rattle.device_rules.specs.Views.{View, view_after, extents_in}
 use Rattle.extent_list.specs.ExtentLists.{real_tags, has_extent_of}
 use Rattle.dcd_codes.specs.Rules.{◌breaks◌}
 use Rattle.device_rules.specs.Tags.{last_offer, tag_region, tag_runs, is_live, open_tags, status, is_free}
 use Rattle.list_rules.specs.Listing.{too_many_extents}
-use Rattle.device_rules.specs.Outcomes.{log_full, Outcome, notices_of}
+use Rattle.device_rules.specs.Outcomes.{log_full, Outcome, records_of_extents}
 
 -- each with the tag, and in a shareable region numbered from 1
-abbrev pub tagged : Bool → Tag → List Extent → List Extent
-tagged shareable tag xs =
+abbrev pub with_tag : Bool → Tag → List Extent → List Extent
+with_tag shareable tag xs =
     map (λ x. record x.1 { tag = tag; sequence = if shareable then x.0 else 0 }) (enumerate_from 1 xs)
 
 -- the granules of a region, and how many of them a block has
 abbrev pub area_of : Configuration → ℕ → Run
-area_of c r = record { first = first_granule c r; count = granules_in c r }
+area_of c r = record { first = first_granule c r; count = region_granules c r }
 
 abbrev pub per_block : Configuration → ℕ → ℕ
 per_block c r = (region_spec c r).block / granule_size c r
@@ -59,24 +59,24 @@ present c past = with_blocks c (λ r. block_of c r past)
 -- the extents that a 5604h offers
 abbrev pub offered : Configuration → List Effect → HostId → ℕ → ℕ → ℕ → Tag → List Extent → List Extent
 offered c past h policy r bytes tag list =
-    tagged (region_spec c r).shareable tag (chosen (present c past) (is_free_now c past) (tag_runs c (last_offer tag past)) h policy r bytes list)
+    with_tag (region_spec c r).shareable tag (chosen (present c past) (is_free_now c past) (tag_runs c (last_offer tag past)) h policy r bytes list)
 
 -- a live shareable tag of the region
 abbrev pub is_open_in : Configuration → List Effect → ℕ → Tag → Bool
 is_open_in c past r tag = has_tag (open_tags c past) tag && (unwrap_or (tag_region c (last_offer tag past)) 0 == r)
 
 -- how many blocks are free, and the most of them that lie together
-abbrev pub free_blocks : Configuration → (ℕ → Bool) → ℕ → ℕ
-free_blocks c free r = length (passing (is_free_block free (area_of c r) (per_block c r)) (block_count (area_of c r) (per_block c r)))
+abbrev pub region_free_blocks : Configuration → (ℕ → Bool) → ℕ → ℕ
+region_free_blocks c free r = length (passing (is_free_block free (area_of c r) (per_block c r)) (block_count (area_of c r) (per_block c r)))
 
-abbrev pub longest_free : Configuration → (ℕ → Bool) → ℕ → ℕ
-longest_free c free r = longest_run (is_free_block free (area_of c r) (per_block c r)) (block_count (area_of c r) (per_block c r))
+abbrev pub region_longest_free : Configuration → (ℕ → Bool) → ℕ → ℕ
+region_longest_free c free r = longest_run (is_free_block free (area_of c r) (per_block c r)) (block_count (area_of c r) (per_block c r))
 
 -- the row of the policies Free and Contiguous
 abbrev pub by_length_rule : Configuration → (ℕ → Bool) → ℕ → ℕ → ℕ → Option Rule
 by_length_rule c free r policy bytes = let size = (region_spec c r).block in
     ((bytes == 0) || not (bytes % size == 0)) breaks Rule.BadLength bytes
-    or too_few_free (bytes / size) (if policy == 0 then free_blocks c free r else longest_free c free r)
+    or too_few_free (bytes / size) (if policy == 0 then region_free_blocks c free r else region_longest_free c free r)
 
 -- the host would have so many distinct tags
 abbrev pub too_many_tags : ℕ → Option Rule
@@ -108,5 +108,5 @@ add_outcome c past view_for h policy r bytes tag list =
       payload = [];
       changes = changes;
       tags = [];
-      notices = (LogId.Host h, notices_of h (view_after c h (view_for h) changes) EventKind.Add new) ∷ [];
+      log_records = (LogId.Host h, records_of_extents h (view_after c h (view_for h) changes) EventKind.Add new) ∷ [];
     }

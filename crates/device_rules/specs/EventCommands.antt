@@ -50,4 +50,4 @@ clear_changes l number own all handles =
 
 abbrev pub clear_outcome : LogId → ℕ → Log → Bool → List ℕ → Outcome
 clear_outcome l number own all handles =
-    record { payload = []; changes = clear_changes l number own all handles; tags = []; notices = [] }
+    record { payload = []; changes = clear_changes l number own all handles; tags = []; log_records = [] }

@@ -9,7 +9,7 @@ use Rattle.journal_core.specs.declared.outcome.Effect.{Effect}
 use Rattle.journal_core.specs.declared.entries.Entry.{Entry}
 use Rattle.dcd_base.specs.Words.{is_empty}
 use Rattle.region_config.specs.Granules.{region_spec}
-use Rattle.media_map.specs.Places.{start_of, bytes_in}
+use Rattle.media_map.specs.Places.{start_of, bytes_of_run}
 use Rattle.extent_list.specs.ExtentLists.{cut}
 
 -- an offer joins the last, and an answer takes the first away
@@ -25,7 +25,7 @@ offers_of h past = fold (offers_after h) [] past
 -- an answer joins what it lists, and a leave cuts its run out
 abbrev pub accepted_after : Configuration → HostId → List Extent → Effect → List Extent
 accepted_after c h accepted (Effect.Answer k xs) = if k == h then accepted ++ xs else accepted
-accepted_after c h accepted (Effect.Leave k run) = if k == h then cut (start_of c h run) (bytes_in c run) accepted else accepted
+accepted_after c h accepted (Effect.Leave k run) = if k == h then cut (start_of c h run) (bytes_of_run c run) accepted else accepted
 accepted_after c h accepted e = accepted
 
 -- the accepted extents

@@ -21,15 +21,15 @@ pub record Outcome : Type 0 where
   pub payload : List ℕ
   pub changes : List Effect
   pub tags : List Tag
-  pub notices : List (LogId × List Event)
+  pub log_records : List (LogId × List Event)
 
 -- a payload, and no more
 abbrev pub only : List ℕ → Outcome
-only payload = record { payload = payload; changes = []; tags = []; notices = [] }
+only payload = record { payload = payload; changes = []; tags = []; log_records = [] }
 
 -- what is told of an extent, with what the host has available then; the log gives the handle
-abbrev pub notice : HostId → View → EventKind → Bool → Extent → Event
-notice h v kind more x = record {
+abbrev pub record_for : HostId → View → EventKind → Bool → Extent → Event
+record_for h v kind more x = record {
   handle = 0;
   kind = kind;
   host = h;
@@ -41,9 +41,9 @@ notice h v kind more x = record {
 }
 
 -- one for each extent, and each says whether more come
-abbrev pub notices_of : HostId → View → EventKind → List Extent → List Event
-notices_of h v kind [] = []
-notices_of h v kind (x ∷ xs) = notice h v kind (not (is_empty xs)) x ∷ notices_of h v kind xs
+abbrev pub records_of_extents : HostId → View → EventKind → List Extent → List Event
+records_of_extents h v kind [] = []
+records_of_extents h v kind (x ∷ xs) = record_for h v kind (not (is_empty xs)) x ∷ records_of_extents h v kind xs
 
 abbrev pub no_extent : Extent
 no_extent = record { start = 0; length = 0; tag = zero_tag; sequence = 0 }
@@ -65,7 +65,7 @@ ended c past changes tags = filter (λ t. has_tag (open_tags c past) t && not (i
 -- the effects: the changes, the ends of tags, the records
 abbrev pub effects_of : Configuration → List Effect → Outcome → List Effect
 effects_of c past o =
-    o.changes ++ map Effect.TagEnd (ended c past o.changes o.tags) ++ flat_map (λ n. entered_all n.0 (log_of n.0 past) n.1) o.notices
+    o.changes ++ map Effect.TagEnd (ended c past o.changes o.tags) ++ flat_map (λ n. entered_all n.0 (log_of n.0 past) n.1) o.log_records
 
 -- fewer places in the host's log than records that are due
 abbrev pub log_full : HostId → Log → ℕ → Option Rule

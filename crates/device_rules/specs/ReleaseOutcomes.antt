@@ -16,9 +16,9 @@ use Rattle.extent_list.specs.ExtentLists.{tags_of, marked, count_in}
 use Rattle.device_rules.specs.Views.{View, view_after}
 use Rattle.region_config.specs.Granules.{with_blocks}
 use Rattle.dcd_codes.specs.Rules.{◌breaks◌}
-use Rattle.device_rules.specs.Outcomes.{log_full, Outcome, notices_of}
+use Rattle.device_rules.specs.Outcomes.{log_full, Outcome, records_of_extents}
 use Rattle.device_rules.specs.ResponseOutcomes.{hold, unhold}
-use Rattle.release_core.specs.Removals.{by_tag_rule, listed_rule, tagged}
+use Rattle.release_core.specs.Removals.{by_tag_rule, prescribed_removal_rule, extents_of_tag}
 
 abbrev pub leaves : Configuration → HostId → List Extent → List Effect
 leaves c h xs = map (λ x. Effect.Leave h (run_of c h x)) xs
@@ -35,7 +35,7 @@ give_back_outcome c h v more list =
       payload = [];
       changes = changes;
       tags = if more then [] else tags_of going;
-      notices = if more then [] else (LogId.Manager, notices_of h (view_after c h v changes) EventKind.Released going) ∷ [];
+      log_records = if more then [] else (LogId.Manager, records_of_extents h (view_after c h v changes) EventKind.Released going) ∷ [];
     }
 
 -- the low four bits are the policy, bit 4 is force, bit 5 says to clean
@@ -58,7 +58,7 @@ removals c h clean xs = flat_map (λ x. Effect.Leave h (run_of c h x) ∷ soils 
 -- the extents that it means: by tag, those that have it; else the listed ones
 abbrev pub removed : List Extent → ℕ → Tag → List Extent → List Extent
 removed accepted flags tag list =
-    if policy_in flags == 0 then tagged tag accepted else map (marked accepted) list
+    if policy_in flags == 0 then extents_of_tag tag accepted else map (marked accepted) list
 
 abbrev pub remove_rule : Configuration → (HostId → View) → ℕ → ℕ → ℕ → Tag → List Extent → Option Rule
 remove_rule c view_for h flags r tag list =
@@ -67,7 +67,7 @@ remove_rule c view_for h flags r tag list =
     or (is_cleaning flags && not (is_forced flags)) breaks Rule.UnsupportedFlag
     or nat_lt 1 (policy_in flags) breaks Rule.NoSuchPolicy (policy_in flags)
     or (if policy_in flags == 0 then by_tag_rule v.accepted tag
-    else listed_rule (with_blocks c v.block) h v.accepted (count_in v.offers) r list (is_forced flags))
+    else prescribed_removal_rule (with_blocks c v.block) h v.accepted (count_in v.offers) r list (is_forced flags))
     or log_full h v.log (length all)
 
 abbrev pub remove_outcome : Configuration → (HostId → View) → ℕ → ℕ → Tag → List Extent → Outcome
@@ -78,5 +78,5 @@ remove_outcome c view_for h flags tag list =
       payload = [];
       changes = changes;
       tags = tags_of all;
-      notices = (LogId.Host h, notices_of h (view_after c h v changes) (if is_forced flags then EventKind.Forced else EventKind.Release) all) ∷ [];
+      log_records = (LogId.Host h, records_of_extents h (view_after c h v changes) (if is_forced flags then EventKind.Forced else EventKind.Release) all) ∷ [];
     }

@@ -11,7 +11,7 @@ use Rattle.journal_core.specs.declared.outcome.Effect.{Effect}
 use Rattle.media_map.specs.Places.{run_of}
 use Rattle.device_rules.specs.Views.{View, view_after}
 use Rattle.extent_list.specs.ExtentLists.{tags_of, marked}
-use Rattle.device_rules.specs.Outcomes.{Outcome, notice, notices_of, no_extent}
+use Rattle.device_rules.specs.Outcomes.{Outcome, record_for, records_of_extents, no_extent}
 use Rattle.offer_core.specs.Offerings.{oldest_of}
 
 abbrev pub hold : HostId → HeldKind → List Extent → List Effect
@@ -28,10 +28,10 @@ answered c h [] all = []
 answered c h (offer ∷ later) all = Effect.Answer h (map (marked offer) all) ∷ map (λ x. Effect.Take h (run_of c h x)) all
 
 -- the manager is told of each extent, or of one zero extent where none was taken
-abbrev pub response_notices : Configuration → HostId → View → List (List Extent) → List Extent → List (LogId × List Event)
-response_notices c h v [] all = []
-response_notices c h v (offer ∷ later) [] = (LogId.Manager, notice h v EventKind.AddResponse false no_extent ∷ []) ∷ []
-response_notices c h v (offer ∷ later) (x ∷ xs) = (LogId.Manager, notices_of h v EventKind.AddResponse (map (marked offer) (x ∷ xs))) ∷ []
+abbrev pub response_records : Configuration → HostId → View → List (List Extent) → List Extent → List (LogId × List Event)
+response_records c h v [] all = []
+response_records c h v (offer ∷ later) [] = (LogId.Manager, record_for h v EventKind.AddResponse false no_extent ∷ []) ∷ []
+response_records c h v (offer ∷ later) (x ∷ xs) = (LogId.Manager, records_of_extents h v EventKind.AddResponse (map (marked offer) (x ∷ xs))) ∷ []
 
 abbrev pub respond_changes : Configuration → HostId → List (List Extent) → List Extent → Bool → List Extent → List Effect
 respond_changes c h offers held more list =
@@ -43,5 +43,5 @@ respond_outcome c h v more list = let changes = respond_changes c h v.offers v.r
   payload = [];
   changes = changes;
   tags = if more then [] else tags_of (oldest_of v.offers);
-  notices = if more then [] else response_notices c h (view_after c h v changes) v.offers (v.responses ++ list);
+  log_records = if more then [] else response_records c h (view_after c h v changes) v.offers (v.responses ++ list);
 }

@@ -16,10 +16,10 @@ use Rattle.event_records.specs.declared.events.EventKind.{EventKind}
 use Rattle.region_config.specs.declared.region_spec.RegionSpec.{RegionSpec}
 use Rattle.region_config.specs.Configurations.{Configuration}
 use Rattle.journal_core.specs.declared.outcome.Effect.{Effect}
-use Rattle.region_config.specs.Granules.{region_spec, regions_of, base_of, is_supported, granules_in, first_granule, granule_total, hosts_of}
+use Rattle.region_config.specs.Granules.{region_spec, regions_of, base_of, is_supported, region_granules, first_granule, granule_total, hosts_of}
 use Rattle.dcd_codes.specs.Rules.{◌breaks◌, each_in}
 use Rattle.device_rules.specs.Tags.{status, is_free, free_granules, dirty_granules}
-use Rattle.device_rules.specs.Outcomes.{log_full, Outcome, notice, no_extent}
+use Rattle.device_rules.specs.Outcomes.{log_full, Outcome, record_for, no_extent}
 use Rattle.dcd_base.specs.Words.{flag_of}
 
 -- members from a place on, as many as asked and no more than fit
@@ -91,7 +91,7 @@ lists_reply view_for host count first = let v = view_for host in let xs = page f
 
 -- 5602h
 abbrev pub in_use : Configuration → List Effect → ℕ → ℕ
-in_use c past r = count_by (λ g. not (is_free (status c g past))) (range_with_len (first_granule c r) (granules_in c r))
+in_use c past r = count_by (λ g. not (is_free (status c g past))) (range_with_len (first_granule c r) (region_granules c r))
 
 abbrev pub set_rule : Configuration → List Effect → (HostId → View) → ℕ → Bool → ℕ → Option Rule
 set_rule c past view_for r sanitize size =
@@ -107,5 +107,5 @@ set_outcome c view_for r size = record {
   payload = [];
   changes = Effect.Block r size ∷ [];
   tags = [];
-  notices = map (λ h. (LogId.Host h, record (notice h (view_for h) EventKind.RegionUpdated false no_extent) { region = r } ∷ [])) (hosts_of c);
+  log_records = map (λ h. (LogId.Host h, record (record_for h (view_for h) EventKind.RegionUpdated false no_extent) { region = r } ∷ [])) (hosts_of c);
 }

@@ -20,13 +20,13 @@ add_reference_rule c past tag = not (has_tag (open_tags c past) tag) breaks Rule
 
 abbrev pub add_reference_outcome : List Effect → Tag → Outcome
 add_reference_outcome past tag =
-    record { payload = []; changes = if is_referenced tag past then [] else Effect.Ref tag true ∷ []; tags = []; notices = [] }
+    record { payload = []; changes = if is_referenced tag past then [] else Effect.Ref tag true ∷ []; tags = []; log_records = [] }
 
 abbrev pub remove_reference_rule : List Effect → Tag → Option Rule
 remove_reference_rule past tag = not (is_referenced tag past) breaks Rule.NoReference
 
 abbrev pub remove_reference_outcome : Tag → Outcome
-remove_reference_outcome tag = record { payload = []; changes = Effect.Ref tag false ∷ []; tags = tag ∷ []; notices = [] }
+remove_reference_outcome tag = record { payload = []; changes = Effect.Ref tag false ∷ []; tags = tag ∷ []; log_records = [] }
 
 -- a number with bit h where the test holds of host h
 abbrev pub host_bits : Configuration → (HostId → Bool) → ℕ

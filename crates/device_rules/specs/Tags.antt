@@ -111,11 +111,11 @@ is_dirty Dirty = true
 is_dirty s = false
 
 -- the granules of the device, and those that are dirty
-abbrev pub granules_of : Configuration → List ℕ
-granules_of c = range_with_len 0 (granule_total c)
+abbrev pub all_granules : Configuration → List ℕ
+all_granules c = range_with_len 0 (granule_total c)
 
 abbrev pub free_granules : Configuration → List Effect → List ℕ
-free_granules c past = filter (λ g. is_free (status c g past)) (granules_of c)
+free_granules c past = filter (λ g. is_free (status c g past)) (all_granules c)
 
 abbrev pub dirty_granules : Configuration → List Effect → List ℕ
-dirty_granules c past = filter (λ g. is_dirty (status c g past)) (granules_of c)
+dirty_granules c past = filter (λ g. is_dirty (status c g past)) (all_granules c)

@@ -31,7 +31,7 @@ use Rattle.region_config.specs.Granules.{is_supported, region_spec}
 use Rattle.device_rules.specs.Answers.{dropped, effects_with, host_outcome, host_result, host_rule, manager_outcome, manager_result, manager_rule, scrubbed, unless}
 use Rattle.device_rules.specs.Legal.{Legal, Meets, right_answer}
 use Rattle.device_rules.specs.Logs.{log_of}
-use Rattle.device_rules.specs.Outcomes.{Outcome, effects_of, log_full, no_extent, notice}
+use Rattle.device_rules.specs.Outcomes.{Outcome, effects_of, log_full, no_extent, record_for}
 use Rattle.device_rules.specs.ReleaseOutcomes.{is_cleaning, is_forced, policy_in, remove_rule, removed}
 use Rattle.device_rules.specs.Settings.{no_such_region, set_rule}
 use Rattle.device_rules.specs.Tags.{is_referenced}
@@ -125,7 +125,7 @@ module _ (c : Configuration) where
     abbrev views : HostId → View
     views h = view_of c h before
 
-    outcome : (o : Outcome) → list_all p o.changes ≡ true → tells (is_log_of c) o.notices ≡ true → list_all p (effects_of c past o) ≡ true
+    outcome : (o : Outcome) → list_all p o.changes ≡ true → tells (is_log_of c) o.log_records ≡ true → list_all p (effects_of c past o) ≡ true
     outcome o changes told = outcome_passes p (is_log_of c) records ends c past o changes told
 
     set_passes : (r : ℕ) (sanitize : Bool) (size : ℕ) → set_rule c past views r sanitize size ≡ None → p (Effect.Block r size) ≡ true
@@ -154,7 +154,7 @@ module _ (c : Configuration) where
     manager_passes (FmRequest.GetRegions host count first) rule = refl
     manager_passes (FmRequest.SetRegion r sanitize size) rule =
         outcome (manager_outcome c past views (FmRequest.SetRegion r sanitize size)) (ap (λ b. b && true) (set_passes r sanitize size rule))
-        (tells_each (λ h. record (notice h (views h) EventKind.RegionUpdated false no_extent) { region = r }) 0 c.hosts (omega arith))
+        (tells_each (λ h. record (record_for h (views h) EventKind.RegionUpdated false no_extent) { region = r }) 0 c.hosts (omega arith))
     manager_passes (FmRequest.GetExtentLists host count first) rule = refl
     manager_passes (FmRequest.Add host policy r bytes tag xs) rule =
         let known = lt-ltb host c.hosts (row_of c before host policy r bytes tag xs rule).host in

@@ -7,7 +7,7 @@ use Rattle.region_config.specs.Soundness.{IsSound}
 use Rattle.table_laws.proofs.GranuleCommands.{granules_kept}
 use Rattle.device_rules.specs.Legal.{Legal, Meets}
 use Rattle.device_state.specs.Entered.{IsEntered}
-use Rattle.device_state.specs.Kept.{IsKept}
+use Rattle.device_state.specs.StateAfter.{IsStateAfter}
 use Rattle.device_state.specs.Updates.{IsOfDevice, IsUpdate}
 use Rattle.device_state.specs.declared.state.State.{State}
 use Rattle.device_state.specs.declared.updates.NewParts.{NewParts}
@@ -18,6 +18,6 @@ pub of_device : (c : Configuration) → IsSound c → (before : List Entry) → 
 of_device c sound before legal e meets = legal_of_device c before e legal meets
 
 pub kept-entered : (c : Configuration) → IsSound c → (before : List Entry) → Legal c before → (e : Entry) → Meets c before e → (u : NewParts) → (old now : State) →
-    IsKept c before old → IsUpdate c before e.effects u → IsEntered c e.effects u old now → IsKept c (before ++ e ∷ []) now
+    IsStateAfter c before old → IsUpdate c before e.effects u → IsEntered c e.effects u old now → IsStateAfter c (before ++ e ∷ []) now
 kept-entered c sound before legal e meets u old now kept update entered =
     step_kept c sound before legal e meets old now u kept update entered (granules_kept c sound before legal e meets)

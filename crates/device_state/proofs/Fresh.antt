@@ -11,8 +11,8 @@ use Rattle.event_log.proofs.Histories.{begins}
 use Rattle.event_log.specs.Logs.{empty_log}
 use Rattle.table_laws.specs.GranuleCells.{IsCell}
 use Rattle.granule_map.specs.declared.states.GranuleState.{GranuleState}
-use Rattle.granule_table.specs.Tables.{Table, cell_at}
-use Rattle.device_state.specs.Kept.{IsLogOf, IsKept, IsPart, no_part}
+use Rattle.granule_table.specs.Tables.{CellTable, cell_at}
+use Rattle.device_state.specs.StateAfter.{IsLogOf, IsStateAfter, IsPart, no_part}
 use Rattle.region_config.specs.Configurations.{Configuration}
 use Rattle.region_config.specs.declared.region_spec.RegionSpec.{RegionSpec}
 use Rattle.region_config.specs.Granules.{granule_total, hosts_of, no_region, region_of, region_spec, with_blocks}
@@ -70,7 +70,7 @@ clean false = refl
 pub first_cell : (c : Configuration) (g : ℕ) → IsCell c [] g (record { state = GranuleState.Free; unclean = false })
 first_cell c g = record { status_is = sym (first_status c g); unclean_is = clean (region_spec c (region_of c g)).sanitize }
 
-first_cells : (c : Configuration) (t : Table) → t.states ≡ replicate (granule_total c) GranuleState.Free → t.unclean ≡ replicate (granule_total c) false →
+first_cells : (c : Configuration) (t : CellTable) → t.states ≡ replicate (granule_total c) GranuleState.Free → t.unclean ≡ replicate (granule_total c) false →
     (g : ℕ) → g < granule_total c → IsCell c [] g (cell_at t g)
 first_cells c t states unclean g below =
     let state = ap (λ xs. get_or xs g GranuleState.Dirty) states ∙ get_or-replicate (granule_total c) g GranuleState.Free GranuleState.Dirty below in
@@ -86,7 +86,7 @@ first_part c h = record { lists_are = refl; log_is = record { is = sym (begins 6
 
 pub first_kept : (c : Configuration) (s : State) → s.present ≡ c → s.hosts.items ≡ replicate c.hosts no_part → IsLogOf LogId.Manager empty_log s.manager →
     s.granules.states ≡ replicate (granule_total c) GranuleState.Free → s.granules.unclean ≡ replicate (granule_total c) false →
-    s.holders ≡ replicate (granule_total c) 0 → s.tags.entries ≡ [] → IsKept c [] s
+    s.holders ≡ replicate (granule_total c) 0 → s.tags.entries ≡ [] → IsStateAfter c [] s
 first_kept c s present hosts manager states unclean holders tags = record {
   present_is = present ∙ sym (own_blocks c);
   host_count = ap length hosts ∙ length-replicate c.hosts no_part;

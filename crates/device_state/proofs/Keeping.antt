@@ -14,7 +14,7 @@ use Rattle.event_log.specs.Logs.{empty_log, places_in, state_of}
 use Rattle.table_laws.specs.GranuleCells.{IsCell}
 use Rattle.table_laws.specs.GranuleTable.{AreKnown, StaysRight}
 use Rattle.granule_table.specs.Tables.{cell_at}
-use Rattle.device_state.specs.Kept.{IsLogOf, lists_in, IsKept, IsPart, no_part, part_of}
+use Rattle.device_state.specs.StateAfter.{IsLogOf, lists_in, IsStateAfter, IsPart, no_part, part_of}
 use Rattle.host_lists.specs.Lists.{Lists}
 use Rattle.journal_core.proofs.EachSteps.{Each-push}
 use Rattle.journal_core.proofs.JournalSteps.{effects-push, over-push}
@@ -29,7 +29,7 @@ use Rattle.region_config.specs.Granules.{granule_total, region_spec, with_blocks
 use Rattle.region_config.specs.Soundness.{IsSound}
 use Rattle.table_laws.specs.TagTable.{IsEntry, IsTable}
 use Rattle.dcd_base.specs.Hosts.{has_host}
-use Rattle.tag_refs.specs.Tables.{entry_of}
+use Rattle.tag_refs.specs.Tables.{entry_with}
 use Rattle.tag_refs.specs.declared.entries.TagEntry.{TagEntry}
 use Rattle.holding_laws.proofs.LegalSound.{legal_is_sound}
 use Rattle.device_rules.proofs.ViewSteps.{view_of-push}
@@ -74,20 +74,20 @@ one_tag : (t u : Tag) → same_tag t u ≡ true → t ≡ u
 one_tag t u same = let bytes : t.0 ≡ u.0 = same_text t.0 u.0 (sym same) in λ i. record { 0 = bytes i }
 
 found_runs : (c : Configuration) (past : List Effect) (t : Tag) (entries : List TagEntry) → AllByRecursion (IsEntry c past) entries →
-    has_tag (map (λ (e : TagEntry). e.tag) entries) t ≡ true → runs_found (entry_of t entries) ≡ tag_runs c (last_offer t past)
+    has_tag (map (λ (e : TagEntry). e.tag) entries) t ≡ true → runs_found (entry_with t entries) ≡ tag_runs c (last_offer t past)
 found_runs c past t [] each has = absurd (false≢true has)
 found_runs c past t (x ∷ xs) each has = by (same_tag t x.tag) refl (found_runs c past t xs each.1)
   where
-    by : (b : Bool) → same_tag t x.tag ≡ b → (has_tag (map (λ (e : TagEntry). e.tag) xs) t ≡ true → runs_found (entry_of t xs) ≡ tag_runs c (last_offer t past)) →
-        runs_found (entry_of t (x ∷ xs)) ≡ tag_runs c (last_offer t past)
+    by : (b : Bool) → same_tag t x.tag ≡ b → (has_tag (map (λ (e : TagEntry). e.tag) xs) t ≡ true → runs_found (entry_with t xs) ≡ tag_runs c (last_offer t past)) →
+        runs_found (entry_with t (x ∷ xs)) ≡ tag_runs c (last_offer t past)
     by true here rest =
-        ap (λ b. runs_found (if b then Some x else entry_of t xs)) here
+        ap (λ b. runs_found (if b then Some x else entry_with t xs)) here
         ∙ each.0.runs_are ∙ ap (λ u. tag_runs c (last_offer u past)) (sym (one_tag t x.tag here))
     by false other rest =
-        ap (λ b. runs_found (if b then Some x else entry_of t xs)) other ∙ rest (rw other at has)
+        ap (λ b. runs_found (if b then Some x else entry_with t xs)) other ∙ rest (rw other at has)
 
 table_runs : (c : Configuration) (past : List Effect) (entries : List TagEntry) → IsTable c past entries → (t : Tag) → has_tag (open_tags c past) t ≡ true →
-    runs_found (entry_of t entries) ≡ tag_runs c (last_offer t past)
+    runs_found (entry_with t entries) ≡ tag_runs c (last_offer t past)
 table_runs c past entries table t open_tag = found_runs c past t entries table.each (ap (λ tags. has_tag tags t) table.tags_are ∙ open_tag)
 
 put_alike : (hosts : ℕ) (change : TagChange) (f g : HostId → Lists) (entries : List TagEntry) → CanChange hosts change entries → ((h : HostId) → h < hosts → f h ≡ g h) →
@@ -101,7 +101,7 @@ put_alike hosts (TagChange.Unrefer tag) f g entries can same = refl
 -- ---- one more entry
 
 module _ (c : Configuration) (sound : IsSound c) (before : List Entry) (legal : Legal c before) (e : Entry) (meets : Meets c before e)
-    (old now : State) (u : NewParts) (kept : IsKept c before old) (update : IsUpdate c before e.effects u) (step : IsEntered c e.effects u old now) where
+    (old now : State) (u : NewParts) (kept : IsStateAfter c before old) (update : IsUpdate c before e.effects u) (step : IsEntered c e.effects u old now) where
   past : List Effect
   past = effects before
 
@@ -165,7 +165,7 @@ module _ (c : Configuration) (sound : IsSound c) (before : List Entry) (legal : 
       (subst (IsTable c (effects before ++ e.effects)) (sym is) (update.tags old.tags.entries kept.tags_are))
 
   -- Where the granules stay right, everything that is kept is what the entries say, also the new one.
-  pub kept-entered : StaysRight c before e → IsKept c (before ++ e ∷ []) now
+  pub kept-entered : StaysRight c before e → IsStateAfter c (before ++ e ∷ []) now
   kept-entered right = record {
     present_is = present_now;
     host_count = step.host_count ∙ kept.host_count;

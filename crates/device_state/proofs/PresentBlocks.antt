@@ -10,7 +10,7 @@ use Rattle.region_config.specs.Configurations.{Configuration}
 use Rattle.region_config.specs.Granules.{no_region, region_spec, with_blocks}
 use Rattle.region_config.specs.declared.region_spec.RegionSpec.{RegionSpec}
 use Rattle.device_rules.specs.Hosts.{block_of}
-use Rattle.device_state.specs.Kept.{IsKept}
+use Rattle.device_state.specs.StateAfter.{IsStateAfter}
 use Rattle.device_state.specs.declared.state.State.{State}
 
 long : (c : Configuration) (b : ℕ → ℕ) → length (with_blocks c b).regions ≡ length c.regions
@@ -25,7 +25,7 @@ same_blocks c a b same = λ i. record { hosts = c.hosts; regions = regions i; ba
         (λ r below. let known : r < length c.regions = omega (arith, below, long c a) in
         region_spec-with_blocks c a r known ∙ ap (λ n. record (region_spec c r) { block = n }) (same r known) ∙ sym (region_spec-with_blocks c b r known))
 
-pub present_blocks : (c : Configuration) (journal : List Entry) (s : State) → IsKept c journal s → s.present ≡ with_blocks c (λ r. (region_spec s.present r).block)
+pub present_blocks : (c : Configuration) (journal : List Entry) (s : State) → IsStateAfter c journal s → s.present ≡ with_blocks c (λ r. (region_spec s.present r).block)
 present_blocks c journal s kept =
     kept.present_is
     ∙ same_blocks c (λ r. block_of c r (effects journal)) (λ r. (region_spec (with_blocks c (λ r. block_of c r (effects journal))) r).block)

@@ -11,10 +11,10 @@ use Rattle.event_records.specs.declared.events.Event.{Event}
 use Rattle.journal_core.specs.declared.outcome.Effect.{Effect}
 use Rattle.device_rules.specs.Logs.{log_after, same_log}
 use Rattle.device_state.specs.Entered.{log_by, put_in}
-use Rattle.device_state.specs.Rooms.{HasRoom, HaveRoom, IsNext}
+use Rattle.device_state.specs.Rooms.{HasRoom, HaveRoom, IsNextRecord}
 
 -- a record that has room
-put_room : (l : LogId) (log : Log) (event : Event) → IsNext l log event →
+put_room : (l : LogId) (log : Log) (event : Event) → IsNextRecord l log event →
     put_in (state_of (places_in l) log) event ≡ state_of (places_in l) (record log { ever = log.ever ++ event ∷ [] })
 put_room l log event next =
     let state : LogState = state_of (places_in l) log in
@@ -30,7 +30,7 @@ clears capacity log n = sym (rw (drop-drop n log.cleared log.ever) refl)
 log_one : (l : LogId) (log : Log) (e : Effect) → HasRoom l log e → log_by l (state_of (places_in l) log) e ≡ state_of (places_in l) (log_after l log e)
 log_one l log (Effect.Logged k event) room = by (same_log k l) room
   where
-    by : (own : Bool) → (own ≡ true → IsNext l log event) → (if own then put_in (state_of (places_in l) log) event else state_of (places_in l) log) ≡ state_of (places_in l) (if own then record log { ever = log.ever ++ event ∷ [] } else log)
+    by : (own : Bool) → (own ≡ true → IsNextRecord l log event) → (if own then put_in (state_of (places_in l) log) event else state_of (places_in l) log) ≡ state_of (places_in l) (if own then record log { ever = log.ever ++ event ∷ [] } else log)
     by true next = put_room l log event (next refl)
     by false next = refl
 log_one l log (Effect.Missed k) room = by (same_log k l)

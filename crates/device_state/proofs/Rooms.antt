@@ -19,9 +19,9 @@ use Rattle.device_rules.specs.Answers.{host_outcome, manager_outcome, scrubbed, 
 use Rattle.device_rules.specs.EventCommands.{clear_changes, clear_outcome}
 use Rattle.device_rules.specs.Legal.{Legal, Meets}
 use Rattle.device_rules.specs.Logs.{log_after, log_of, same_log}
-use Rattle.device_rules.specs.Outcomes.{Outcome, effects_of, ended, entered, entered_all, no_extent, notice}
+use Rattle.device_rules.specs.Outcomes.{Outcome, effects_of, ended, entered, entered_all, no_extent, record_for}
 use Rattle.device_rules.specs.ReleaseOutcomes.{is_cleaning, is_forced, removed}
-use Rattle.device_rules.specs.ResponseOutcomes.{response_notices, unhold}
+use Rattle.device_rules.specs.ResponseOutcomes.{response_records, unhold}
 use Rattle.device_rules.specs.Tags.{is_referenced}
 use Rattle.device_rules.specs.Views.{View, view_after, view_of}
 use Rattle.device_rules.specs.ResponseOutcomes.{respond_changes}
@@ -99,28 +99,28 @@ other_rooms k l log other (e ∷ events) apart =
 -- ---- the records of a command, where no log is told twice
 
 abbrev pub Others : LogId → List (LogId × List Event) → Type 0
-Others l notices = AllByRecursion (λ n. same_log n.0 l ≡ false) notices
+Others l log_records = AllByRecursion (λ n. same_log n.0 l ≡ false) log_records
 
 abbrev pub Apart : List (LogId × List Event) → Type 0
 Apart [] = Unit {0}
-Apart (n ∷ notices) = Others n.0 notices × Apart notices
+Apart (n ∷ log_records) = Others n.0 log_records × Apart log_records
 
-others_rooms : (past : List Effect) (l : LogId) (log : Log) (notices : List (LogId × List Event)) → Others l notices → HaveRoom l log (told past notices)
+others_rooms : (past : List Effect) (l : LogId) (log : Log) (log_records : List (LogId × List Event)) → Others l log_records → HaveRoom l log (told past log_records)
 others_rooms past l log [] others = tt
-others_rooms past l log (n ∷ notices) others =
-    rooms-append l log (entered_all n.0 (log_of n.0 past) n.1) (told past notices) (other_rooms n.0 l log (log_of n.0 past) n.1 others.0)
-    (others_rooms past l (fold (log_after l) log (entered_all n.0 (log_of n.0 past) n.1)) notices others.1)
+others_rooms past l log (n ∷ log_records) others =
+    rooms-append l log (entered_all n.0 (log_of n.0 past) n.1) (told past log_records) (other_rooms n.0 l log (log_of n.0 past) n.1 others.0)
+    (others_rooms past l (fold (log_after l) log (entered_all n.0 (log_of n.0 past) n.1)) log_records others.1)
 
-told_rooms : (past : List Effect) (l : LogId) (notices : List (LogId × List Event)) → IsHistory (log_of l past) → Apart notices → HaveRoom l (log_of l past) (told past notices)
+told_rooms : (past : List Effect) (l : LogId) (log_records : List (LogId × List Event)) → IsHistory (log_of l past) → Apart log_records → HaveRoom l (log_of l past) (told past log_records)
 told_rooms past l [] is apart = tt
-told_rooms past l (n ∷ notices) is apart = elim (cases_Bool (same_log n.0 l)) [
+told_rooms past l (n ∷ log_records) is apart = elim (cases_Bool (same_log n.0 l)) [
   | inl same ↦ (let it : n.0 ≡ l = one_log n.0 l same in
-      rooms-append l (log_of l past) (entered_all n.0 (log_of n.0 past) n.1) (told past notices)
+      rooms-append l (log_of l past) (entered_all n.0 (log_of n.0 past) n.1) (told past log_records)
       (subst (λ k. HaveRoom l (log_of l past) (entered_all k (log_of k past) n.1)) (sym it) (entered_rooms l (log_of l past) n.1 is))
-      (others_rooms past l (fold (log_after l) (log_of l past) (entered_all n.0 (log_of n.0 past) n.1)) notices (subst (λ k. Others k notices) it apart.0)))
+      (others_rooms past l (fold (log_after l) (log_of l past) (entered_all n.0 (log_of n.0 past) n.1)) log_records (subst (λ k. Others k log_records) it apart.0)))
   | inr other ↦
-      rooms-append l (log_of l past) (entered_all n.0 (log_of n.0 past) n.1) (told past notices) (other_rooms n.0 l (log_of l past) (log_of n.0 past) n.1 other)
-      (subst (λ log. HaveRoom l log (told past notices)) (sym (entered_all-other n.0 l (log_of l past) (log_of n.0 past) n.1 other)) (told_rooms past l notices is apart.1))
+      rooms-append l (log_of l past) (entered_all n.0 (log_of n.0 past) n.1) (told past log_records) (other_rooms n.0 l (log_of l past) (log_of n.0 past) n.1 other)
+      (subst (λ log. HaveRoom l log (told past log_records)) (sym (entered_all-other n.0 l (log_of l past) (log_of n.0 past) n.1 other)) (told_rooms past l log_records is apart.1))
 ]
 
 -- a record for each host
@@ -141,12 +141,12 @@ module _ (c : Configuration) (past : List Effect) (all : (l : LogId) → IsHisto
   still_room : (new : List Effect) → list_all leaves_logs new ≡ true → RoomFor past new
   still_room new left = quiet_room new (all_pass leaves_logs records_none none_left new left)
 
-  outcome_room : (o : Outcome) → list_all leaves_logs o.changes ≡ true → Apart o.notices → RoomFor past (effects_of c past o)
+  outcome_room : (o : Outcome) → list_all leaves_logs o.changes ≡ true → Apart o.log_records → RoomFor past (effects_of c past o)
   outcome_room o left apart l =
       let ends : List Effect = map Effect.TagEnd (ended c past o.changes o.tags) in
       let still : list_all leaves_logs (o.changes ++ ends) ≡ true = both_pass leaves_logs o.changes ends left (map_passes leaves_logs Effect.TagEnd (λ t. refl) (ended c past o.changes o.tags)) in
-      rooms-append l (log_of l past) (o.changes ++ ends) (told past o.notices) (still_room (o.changes ++ ends) still l)
-      (subst (λ log. HaveRoom l log (told past o.notices)) (sym (over-leaving (log_after l) leaves_logs (log-left l) (log_of l past) (o.changes ++ ends) still)) (told_rooms past l o.notices (all l) apart))
+      rooms-append l (log_of l past) (o.changes ++ ends) (told past o.log_records) (still_room (o.changes ++ ends) still l)
+      (subst (λ log. HaveRoom l log (told past o.log_records)) (sym (over-leaving (log_after l) leaves_logs (log-left l) (log_of l past) (o.changes ++ ends) still)) (told_rooms past l o.log_records (all l) apart))
 
   clear_room : (k : LogId) (number : ℕ) (own : Log) (whole : Bool) (handles : List ℕ) → RoomFor past (effects_of c past (clear_outcome k number own whole handles))
   clear_room k number own whole handles =
@@ -165,7 +165,7 @@ module _ (c : Configuration) (past : List Effect) (all : (l : LogId) → IsHisto
       outcome_room (host_outcome c h v (HostRequest.AddResponse false xs)) (respond_passes leaves_logs h (held_leaves h) (lists_leave h) c v.offers v.responses false xs)
       (by (view_after c h v (respond_changes c h v.offers v.responses false xs)) v.offers (v.responses ++ xs))
     where
-      by : (w : View) (offers : List (List Extent)) (taken : List Extent) → Apart (response_notices c h w offers taken)
+      by : (w : View) (offers : List (List Extent)) (taken : List Extent) → Apart (response_records c h w offers taken)
       by w [] taken = tt
       by w (offer ∷ later) [] = (tt, tt)
       by w (offer ∷ later) (x ∷ ys) = (tt, tt)
@@ -181,7 +181,7 @@ module _ (c : Configuration) (past : List Effect) (all : (l : LogId) → IsHisto
   manager_room view_for (FmRequest.GetRegions host count first) = λ l. tt
   manager_room view_for (FmRequest.SetRegion r sanitize size) =
       outcome_room (manager_outcome c past view_for (FmRequest.SetRegion r sanitize size)) refl
-      (each_apart (λ h. record (notice h (view_for h) EventKind.RegionUpdated false no_extent) { region = r }) 0 c.hosts)
+      (each_apart (λ h. record (record_for h (view_for h) EventKind.RegionUpdated false no_extent) { region = r }) 0 c.hosts)
   manager_room view_for (FmRequest.GetExtentLists host count first) = λ l. tt
   manager_room view_for (FmRequest.Add host policy r bytes tag xs) = outcome_room (manager_outcome c past view_for (FmRequest.Add host policy r bytes tag xs)) refl (tt, tt)
   manager_room view_for (FmRequest.Remove host flags r bytes tag xs) =

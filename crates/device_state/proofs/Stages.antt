@@ -5,7 +5,7 @@ use Rattle.host_lists.specs.Lists.{Lists}
 use Rattle.journal_core.specs.declared.outcome.Effect.{Effect}
 use Rattle.device_state.specs.Changes.{AreUnheld}
 use Rattle.device_state.specs.Entered.{lists_by}
-use Rattle.device_state.specs.Kept.{part_of}
+use Rattle.device_state.specs.StateAfter.{part_of}
 use Rattle.device_state.specs.Stages.{UnheldOver}
 use Rattle.device_state.specs.declared.state.State.{State}
 

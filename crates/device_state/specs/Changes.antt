@@ -5,7 +5,7 @@ use Rattle.dcd_base.specs.declared.steps.LogId.{LogId}
 use Rattle.event_log.specs.LogStates.{LogState, with_missed, without_oldest}
 use Rattle.journal_core.specs.declared.outcome.Effect.{Effect}
 use Rattle.device_state.specs.Entered.{log_by, lists_by, put_in}
-use Rattle.device_state.specs.Kept.{part_of}
+use Rattle.device_state.specs.StateAfter.{part_of}
 use Rattle.device_state.specs.Updates.{IsOfLog}
 use Rattle.device_state.specs.declared.state.State.{State}
 

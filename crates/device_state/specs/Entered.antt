@@ -21,9 +21,9 @@ use Rattle.region_config.specs.Configurations.{Configuration}
 use Rattle.device_rules.specs.Logs.{same_log}
 use Rattle.table_laws.specs.TagTable.{told_anew}
 use Rattle.dcd_base.specs.Hosts.{with_host, without_host}
-use Rattle.tag_refs.specs.Tables.{changed, entry_of, opened, still_used, with_reference, set_by}
+use Rattle.tag_refs.specs.Tables.{entries_changed, entry_with, opened, still_used, with_reference, set_by}
 use Rattle.tag_refs.specs.declared.entries.TagEntry.{TagEntry}
-use Rattle.device_state.specs.Kept.{part_of}
+use Rattle.device_state.specs.StateAfter.{part_of}
 use Rattle.device_state.specs.declared.parts.HostPart.{HostPart}
 use Rattle.device_state.specs.declared.state.State.{State}
 use Rattle.device_state.specs.declared.updates.NewLists.{NewLists}
@@ -39,7 +39,7 @@ runs_found None = []
 runs_found (Some e) = e.runs
 
 abbrev pub runs_in : State → Tag → List Run
-runs_in s t = runs_found (entry_of t s.tags.entries)
+runs_in s t = runs_found (entry_with t s.tags.entries)
 
 -- a log after one effect: a full log takes no record
 abbrev pub put_in : LogState → Event → LogState
@@ -86,8 +86,8 @@ tags_put TagChange.Nothing lists entries = entries
 tags_put (TagChange.Begin tag region runs host) lists entries = entries ++ opened tag region runs host ∷ []
 tags_put (TagChange.OfHost host tags) lists entries =
     told_anew host (λ t. has_extent_of t (lists host).accepted) (λ t. list_any (has_extent_of t) (lists host).offers) tags entries
-tags_put (TagChange.Refer tag) lists entries = changed tag (with_reference true) entries
-tags_put (TagChange.Unrefer tag) lists entries = still_used (changed tag (with_reference false) entries)
+tags_put (TagChange.Refer tag) lists entries = entries_changed tag (with_reference true) entries
+tags_put (TagChange.Unrefer tag) lists entries = still_used (entries_changed tag (with_reference false) entries)
 
 -- Each part is changed by the effects, and by what is put in place.
 pub record IsEntered (c : Configuration) (new : List Effect) (u : NewParts) (old now : State) : Type 0 where
@@ -105,7 +105,7 @@ pub record IsEntered (c : Configuration) (new : List Effect) (u : NewParts) (old
 
 -- the open tags once what a host has of one tag, or of some, is told by these lists
 abbrev pub one_told : HostId → Lists → Tag → List TagEntry → List TagEntry
-one_told h l t entries = still_used (changed t (set_by h (has_extent_of t l.accepted) (list_any (has_extent_of t) l.offers)) entries)
+one_told h l t entries = still_used (entries_changed t (set_by h (has_extent_of t l.accepted) (list_any (has_extent_of t) l.offers)) entries)
 
 abbrev pub tags_told : HostId → Lists → List Tag → List TagEntry → List TagEntry
 tags_told h l tags entries = told_anew h (λ t. has_extent_of t l.accepted) (λ t. list_any (has_extent_of t) l.offers) tags entries

@@ -4,7 +4,7 @@ use Rattle.dcd_base.specs.declared.media.Run.{Run}
 use Rattle.region_config.specs.Configurations.{Configuration}
 use Rattle.region_config.specs.Granules.{granule_total}
 use Rattle.table_laws.specs.GranuleCells.{is_sanitizing_run, is_shareable_run, cell_after, cell_over}
-use Rattle.granule_table.specs.Tables.{Cell, Table, cell_at, soiled, given}
+use Rattle.granule_table.specs.Tables.{Cell, CellTable, cell_at, soiled, given}
 use Rattle.dcd_base.specs.declared.ids.HostId.{HostId}
 use Rattle.granule_map.specs.declared.states.GranuleState.{GranuleState}
 use Rattle.journal_core.specs.declared.outcome.Effect.{Effect}
@@ -12,7 +12,7 @@ use Rattle.device_state.specs.Entered.{oldest_in, runs_in}
 use Rattle.device_state.specs.declared.state.State.{State}
 
 -- Each granule of the table becomes what the change makes of it.
-pub record AreChanged (change : ℕ → Cell → Cell) (old new : Table) : Type 0 where
+pub record AreChanged (change : ℕ → Cell → Cell) (old new : CellTable) : Type 0 where
   pub granules : length new.states ≡ length old.states
   pub each : (g : ℕ) → g < length old.states → cell_at new g ≡ change g (cell_at old g)
 
@@ -29,8 +29,8 @@ abbrev pub held_by_taking : Configuration → HostId → Run → Cell → Cell
 held_by_taking c h run cell = if is_shareable_run c run then cell else given (GranuleState.Held h) cell
 
 -- The granules are changed by an effect, or by more of them, from the offers and the runs of open tags that are kept.
-abbrev pub CellsAfter : Configuration → Effect → State → Table → Type 0
+abbrev pub CellsAfter : Configuration → Effect → State → CellTable → Type 0
 CellsAfter c e old new = AreChanged (λ g cell. cell_after c (oldest_in old) (runs_in old) g cell e) old.granules new
 
-abbrev pub CellsOver : Configuration → List Effect → State → Table → Type 0
+abbrev pub CellsOver : Configuration → List Effect → State → CellTable → Type 0
 CellsOver c es old new = AreChanged (λ g cell. cell_over c (oldest_in old) (runs_in old) g cell es) old.granules new

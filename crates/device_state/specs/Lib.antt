@@ -1,7 +1,7 @@
 pub mod Changes
 pub mod Entered
 pub mod Granules
-pub mod Kept
+pub mod StateAfter
 pub mod Placing
 pub mod Rooms
 pub mod Stages

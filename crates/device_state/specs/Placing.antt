@@ -4,6 +4,6 @@ use Rattle.device_state.specs.declared.updates.NewParts.{NewParts}
 use Rattle.device_state.specs.declared.updates.TagChange.{TagChange}
 
 -- the new parts, where there are some; else no lists, and no change of the tags
-abbrev pub parts_in : Option NewParts → NewParts
-parts_in None = record { lists = None; tags = TagChange.Nothing }
-parts_in (Some parts) = parts
+abbrev pub update_parts : Option NewParts → NewParts
+update_parts None = record { lists = None; tags = TagChange.Nothing }
+update_parts (Some parts) = parts

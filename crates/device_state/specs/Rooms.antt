@@ -7,13 +7,13 @@ use Rattle.journal_core.specs.declared.outcome.Effect.{Effect}
 use Rattle.device_rules.specs.Logs.{log_after, log_of, same_log}
 
 -- The log has room for the record, which has the next handle.
-pub record IsNext (l : LogId) (log : Log) (event : Event) : Type 0 where
+pub record IsNextRecord (l : LogId) (log : Log) (event : Event) : Type 0 where
   pub told : IsHistory log
   pub room : length (records_in log) < places_in l
   pub handle : event.handle ≡ next_handle log
 
 abbrev pub HasRoom : LogId → Log → Effect → Type 0
-HasRoom l log (Effect.Logged k event) = same_log k l ≡ true → IsNext l log event
+HasRoom l log (Effect.Logged k event) = same_log k l ≡ true → IsNextRecord l log event
 HasRoom l log e = Unit {0}
 
 -- So it is of each record when its turn comes.

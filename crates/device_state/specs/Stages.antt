@@ -4,7 +4,7 @@ use Rattle.dcd_base.specs.declared.ids.HostId.{HostId}
 use Rattle.dcd_base.specs.declared.steps.LogId.{LogId}
 use Rattle.journal_core.specs.declared.outcome.Effect.{Effect}
 use Rattle.device_state.specs.Entered.{lists_by, lists_put, log_by}
-use Rattle.device_state.specs.Kept.{part_of}
+use Rattle.device_state.specs.StateAfter.{part_of}
 use Rattle.device_state.specs.declared.state.State.{State}
 use Rattle.device_state.specs.declared.updates.NewLists.{NewLists}
 

@@ -7,11 +7,11 @@ use Rattle.region_config.specs.Granules.{is_supported, region_spec}
 use Rattle.journal_core.specs.Entries.{effects}
 use Rattle.journal_core.specs.declared.entries.Entry.{Entry}
 use Rattle.journal_core.specs.declared.outcome.Effect.{Effect}
-use Rattle.device_state.specs.Kept.{lists_in, part_of, IsKept}
+use Rattle.device_state.specs.StateAfter.{lists_in, part_of, IsStateAfter}
 use Rattle.host_lists.specs.Lists.{Lists}
 use Rattle.device_rules.specs.Views.{view_after, view_of}
 use Rattle.table_laws.specs.TagTable.{IsTable}
-use Rattle.tag_refs.specs.Tables.{is_live}
+use Rattle.tag_refs.specs.Tables.{has_entry}
 use Rattle.tag_refs.specs.declared.entries.TagEntry.{TagEntry}
 use Rattle.device_state.specs.Entered.{lists_by, lists_put, tags_put, IsEntered}
 use Rattle.event_log.specs.LogStates.{LogState}
@@ -31,7 +31,7 @@ IsOfHosts hosts (Some new) = new.host < hosts
 
 -- A tag is opened that is not open, for a host of the device.
 abbrev pub CanChange : ℕ → TagChange → List TagEntry → Type 0
-CanChange hosts (TagChange.Begin tag region runs host) entries = (host < hosts) × (is_live tag entries ≡ false)
+CanChange hosts (TagChange.Begin tag region runs host) entries = (host < hosts) × (has_entry tag entries ≡ false)
 CanChange hosts (TagChange.OfHost host tags) entries = host < hosts
 CanChange hosts change entries = Unit {0}
 
@@ -69,5 +69,5 @@ log_in s LogId.Manager = s.manager
 
 -- Where what is kept is what the entries say, and one more is entered with the update that its effects ask for, it is so after it.
 abbrev pub KeepsEntered : Configuration → List Entry → Entry → Type 0
-KeepsEntered c before e = (u : NewParts) → (old now : State) → IsKept c before old → IsUpdate c before e.effects u →
-    IsEntered c e.effects u old now → IsKept c (before ++ e ∷ []) now
+KeepsEntered c before e = (u : NewParts) → (old now : State) → IsStateAfter c before old → IsUpdate c before e.effects u →
+    IsEntered c e.effects u old now → IsStateAfter c (before ++ e ∷ []) now

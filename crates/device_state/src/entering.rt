@@ -3,12 +3,12 @@
 ghost use Rattle.device_state.specs.Entered.{one_told, tags_told, IsEntered, holders_by, present_by, tags_put};
 ghost use Rattle.device_state.specs.Granules.{CellsOver};
 ghost use Rattle.device_state.specs.Changes.{IsOfLogs};
-ghost use Rattle.device_state.specs.Kept.{part_of};
+ghost use Rattle.device_state.specs.StateAfter.{part_of};
 ghost use Rattle.device_state.specs.Stages.{ListsPut, LogsOver, UnheldOver};
 ghost use Rattle.device_state.specs.Updates.{CanChange, IsOfDevice, IsOfHosts};
 ghost use Rattle.region_config.specs.Granules.{granule_total, region_spec, with_blocks};
 ghost use Rattle.std.specs.Prelude.{◌≡◌, ◌+◌, ◌<◌, ◌≤◌, All, false, fold, length, true};
-ghost use Rattle.tag_refs.specs.Tables.{changed, still_used, with_reference};
+ghost use Rattle.tag_refs.specs.Tables.{entries_changed, still_used, with_reference};
 
 use crate::state::State;
 use crate::updates::{NewLists, NewParts, TagChange, Update};
@@ -160,7 +160,7 @@ impl State {
 
 /// The Fabric Manager refers to the tag, where it is live.
 fn refer(tags: &mut Tags, tag: &Tag)
-    ensures entries { tags.new.entries ≡ changed tag.now (with_reference true) tags.old.entries }
+    ensures entries { tags.new.entries ≡ entries_changed tag.now (with_reference true) tags.old.entries }
     ensures spare { tags.old.spare ≤ tags.new.spare }
 {
     let _ = tags.add_reference(tag);
@@ -168,7 +168,7 @@ fn refer(tags: &mut Tags, tag: &Tag)
 
 /// The Fabric Manager refers to the tag no longer.
 fn unrefer(tags: &mut Tags, tag: &Tag)
-    ensures entries { tags.new.entries ≡ still_used (changed tag.now (with_reference false) tags.old.entries) }
+    ensures entries { tags.new.entries ≡ still_used (entries_changed tag.now (with_reference false) tags.old.entries) }
     ensures spare { tags.old.spare ≤ tags.new.spare }
 {
     // No two entries have one tag, and each is used.

@@ -3,7 +3,7 @@
 ghost use Rattle.device_state.specs.Entered.{with_lists, with_log, holders_by, log_by, present_by, put_in, unheld};
 ghost use Rattle.device_rules.specs.Logs.{same_log};
 ghost use Rattle.device_state.specs.Changes.{AreLogged, AreUnheld, IsOfLogs, log_changed, log_told};
-ghost use Rattle.device_state.specs.Kept.{part_of};
+ghost use Rattle.device_state.specs.StateAfter.{part_of};
 ghost use Rattle.device_state.specs.Updates.{IsOfDevice, IsOfLog};
 ghost use Rattle.region_config.specs.Blocks.{with_block};
 ghost use Rattle.region_config.specs.Granules.{is_supported, region_spec};

@@ -1,6 +1,6 @@
 //! What the device keeps at a time.
 
-ghost use Rattle.device_state.specs.Kept.{IsKept, no_part, part_of};
+ghost use Rattle.device_state.specs.StateAfter.{IsStateAfter, no_part, part_of};
 ghost use Rattle.device_state.specs.Updates.{IsOfLog, log_in};
 ghost use Rattle.std.specs.Prelude.{◌≡◌, ◌<◌, [], IfOk, length, replicate};
 
@@ -35,7 +35,7 @@ pub struct State {
 impl State {
     /// The state of a fresh device.
     pub fn new(alloc: Global, config: &Config) -> Result<State, NoMemory>
-        ensures { IfOk result (λ state. IsKept config.now [] state) }
+        ensures { IfOk result (λ state. IsStateAfter config.now [] state) }
     {
         Ok(State {
             present: config.copy()?,

@@ -17,11 +17,11 @@ pub struct Update {
 
 impl Model for Update {
     ghost use Rattle.device_state.specs.declared.updates.NewParts.{NewParts};
-    ghost use Rattle.device_state.specs.Placing.{parts_in};
+    ghost use Rattle.device_state.specs.Placing.{update_parts};
 
     ghost Value = { NewParts };
 
-    ghost view = { λ update. parts_in update.parts };
+    ghost view = { λ update. update_parts update.parts };
 }
 
 /// The new lists of a host, and what changes of the open tags.

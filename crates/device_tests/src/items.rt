@@ -3,12 +3,15 @@
 ghost use Rattle.std.specs.Prelude.{◌≡◌, IfOk};
 
 use cci_codec::{Payload, Request};
-use dcd_base::{AccessFault, Actor, Extent, Extents, HostId, LogId, RegionId, Stamp, Tag};
+use dcd_base::{
+    AccessFault, Actor, Bytes, Extent, Extents, HostId, LogId, NoMemory, RegionId, Stamp, Tag,
+};
 use event_records::{Event, EventKind};
 use isolation_laws::{Item, Items, SoloFault, SoloReply, own_items, solo_replies};
-use journal_core::{Act, Effect, Effects, Entry, EntryEffects, Reply};
+use journal_core::{Act, Effect, Effects, Entry, EntryEffects, Journal, Reply};
 use region_config::{Config, ConfigFault, RegionSpec};
 use std::alloc::Global;
+use std::process::Abort;
 use std::test::Fail;
 
 const MIB: u64 = 0x10_0000;
@@ -54,18 +57,22 @@ fn told(host: HostId) -> Effect {
     )
 }
 
-/// The manager offers each host a block and sets a block size; host 0 stores; host 1 loads.
-fn journal(alloc: Global) -> Result<Vec<Entry>, Fail> {
-    let mut journal = Vec::new(alloc);
+/// The manager offers each host a block and sets a block size.
+fn offers(alloc: Global) -> Result<EntryEffects, NoMemory> {
     let mut effects = Effects::new(alloc);
     effects.push(told(HostId(1)))?;
     effects.push(told(HostId(0)))?;
     effects.push(Effect::Block(RegionId(0), MIB))?;
-    let effects = EntryEffects::of(effects)?;
-    journal.push(entry(Actor::Manager, Act::Scrub(0), effects))?;
-    let store = Act::Store(2 * MIB, 7);
+    EntryEffects::of(effects)
+}
+
+/// The manager offers and sets; host 0 stores; host 1 loads.
+fn journal(alloc: Global) -> Result<Journal, NoMemory> {
+    let mut journal = Journal::new(alloc);
+    journal.push(entry(Actor::Manager, Act::Scrub(0), offers(alloc)?))?;
+    let (store, load) = (Act::Store(2 * MIB, 7), Act::Load(0));
     journal.push(entry(Actor::Host(HostId(0)), store, EntryEffects::none()))?;
-    journal.push(entry(Actor::Host(HostId(1)), Act::Load(0), EntryEffects::none()))?;
+    journal.push(entry(Actor::Host(HostId(1)), load, EntryEffects::none()))?;
     Ok(journal)
 }
 
@@ -82,18 +89,22 @@ fn letter_of(item: &Item) -> u8 {
     }
 }
 
+/// The letters of the items of a host.
+fn letters_of(alloc: Global, journal: &[Entry], host: u8) -> Result<Bytes, NoMemory> {
+    let mut letters = Bytes::new(alloc);
+    for item in own_items(alloc, journal, HostId(host))?.iter() {
+        letters.push(letter_of(item))?;
+    }
+    Ok(letters)
+}
+
 #[test]
 fn a_host_has_its_acts_and_what_is_told_to_it(rt: HostRuntime) -> Result<(), Fail> {
-    let alloc = rt.alloc();
-    let journal = journal(alloc)?;
-    for (host, letters) in [(0, b"gbs"), (1, b"gbl")] {
-        let items = own_items(alloc, journal.as_slice(), HostId(host))?;
-        let mut own = Vec::new(alloc);
-        for item in items.iter() {
-            own.push(letter_of(item))?;
-        }
-        assert_eq!(rt; own.as_slice(), letters.as_slice());
-    }
+    let journal = journal(rt.alloc())?;
+    let first = letters_of(rt.alloc(), journal.as_slice(), 0)?;
+    assert_eq!(rt; first.as_slice(), b"gbs".as_slice());
+    let second = letters_of(rt.alloc(), journal.as_slice(), 1)?;
+    assert_eq!(rt; second.as_slice(), b"gbl".as_slice());
     Ok(())
 }
 
@@ -151,36 +162,67 @@ fn sign_of(reply: &SoloReply) -> u8 {
     }
 }
 
-/// Whether the region is sanitized, the items, the replies, and the fault where there is one.
-const ALONE: [(bool, &[u8], &[u8], Option<SoloFault>); 4] = [
-    (true, b"gcsltlgcl", b"cs7nc0", None),
-    (false, b"gcl", b"cu", None),
-    (true, &[b'g'; 64], b"", None),
-    (true, &[b'g'; 65], b"", Some(SoloFault::Unlawful(64))),
+/// The items of the letters.
+fn items_of(alloc: Global, letters: &[u8]) -> Result<Items, Fail> {
+    let mut items = Items::new(alloc);
+    for letter in letters {
+        items.push(item_of(alloc, *letter)?)?;
+    }
+    Ok(items)
+}
+
+/// The characters of replies.
+fn signs_of(alloc: Global, replies: &[SoloReply]) -> Result<Bytes, NoMemory> {
+    let mut signs = Bytes::new(alloc);
+    for reply in replies {
+        signs.push(sign_of(reply))?;
+    }
+    Ok(signs)
+}
+
+/// What host 0 is replied to the items of the letters, as characters.
+fn replied(alloc: Global, config: &Config, letters: &[u8]) -> Result<Result<Bytes, SoloFault>, Fail>
+    requires { config.now.hosts ≡ 2 }
+{
+    let items = items_of(alloc, letters)?;
+    match solo_replies(alloc, config, HostId(0), items.as_slice()) {
+        Ok(replies) => Ok(Ok(signs_of(alloc, replies.as_slice())?)),
+        Err(fault) => Ok(Err(fault)),
+    }
+}
+
+/// Sees what a host alone is replied, or the fault.
+fn see_alone(
+    rt: &impl Abort,
+    alloc: Global,
+    sanitize: bool,
+    letters: &[u8],
+    expected: Result<&[u8], SoloFault>,
+) -> Result<(), Fail> {
+    let config = two_hosts(alloc, sanitize)?;
+    let found = replied(alloc, &config, letters)?;
+    let found = match &found {
+        Ok(signs) => Ok(signs.as_slice()),
+        Err(fault) => Err(*fault),
+    };
+    assert_eq!(rt; found, expected);
+    Ok(())
+}
+
+/// Whether the region is sanitized, the items, and the replies or the fault.
+const ALONE: [(bool, &[u8], Result<&[u8], SoloFault>); 4] = [
+    (true, b"gcsltlgcl", Ok(b"cs7nc0")),
+    (false, b"gcl", Ok(b"cu")),
+    (true, &[b'g'; 64], Ok(b"")),
+    (true, &[b'g'; 65], Err(SoloFault::Unlawful(64))),
 ];
 
 #[test]
 fn a_host_alone_is_replied_what_it_stored_and_nothing_of_others(
     rt: HostRuntime,
 ) -> Result<(), Fail> {
-    let alloc = rt.alloc();
-    for (sanitize, letters, expected, fault) in ALONE {
-        let config = two_hosts(alloc, sanitize)?;
-        let mut items = Items::new(alloc);
-        for letter in letters {
-            items.push(item_of(alloc, *letter)?)?;
-        }
-        match solo_replies(alloc, &config, HostId(0), items.as_slice()) {
-            Ok(replies) => {
-                let mut signs = Vec::new(alloc);
-                for reply in replies.iter() {
-                    signs.push(sign_of(reply))?;
-                }
-                assert_eq!(rt; signs.as_slice(), expected);
-                assert_eq!(rt; fault, None);
-            }
-            Err(found) => assert_eq!(rt; Some(found), fault),
-        }
+    for (sanitize, letters, expected) in ALONE {
+        see_alone(&rt, rt.alloc(), sanitize, letters, expected)?;
     }
     Ok(())
 }

@@ -1,13 +1,13 @@
 //! Journals that are merged, acts that fit, who holds a granule, and copies.
 
 use cci_codec::{Payload, Request, Response};
-use dcd_base::{AccessFault, Actor, Bytes, Extents, Granule, HostId, Run, Stamp};
+use dcd_base::{AccessFault, Actor, Bytes, Extents, Granule, HostId, NoMemory, Run, Stamp};
 use journal_core::{Act, Effect, Effects, Entry, EntryEffects, Journal, Reply, fits, holds, merge};
 use std::alloc::Global;
 use std::test::Fail;
 
 /// A load of the host with this stamp.
-fn entry(alloc: Global, host: u8, number: u64, count: u64) -> Entry {
+fn entry(host: u8, number: u64, count: u64) -> Entry {
     Entry {
         pass: u32::from(host),
         line: 1,
@@ -24,7 +24,7 @@ fn journal(alloc: Global, host: u8, stamps: &[(u64, u64)]) -> Result<Journal, Fa
     let mut journal = Journal::new(alloc);
     for (number, count) in stamps {
         journal
-            .push(entry(alloc, host, *number, *count))
+            .push(entry(host, *number, *count))
             .ok()
             .ok_or("memory")?;
     }
@@ -40,30 +40,51 @@ fn order(alloc: Global, journal: &Journal) -> Result<Vec<(u32, u64, u64)>, Fail>
     Ok(order)
 }
 
+/// The journals of two shards.
+fn two_shards(alloc: Global) -> Result<Vec<Journal>, Fail> {
+    let mut shards = Vec::new(alloc);
+    shards.push(journal(alloc, 0, &[(0, 1), (1, 0), (1, 2)])?)?;
+    shards.push(journal(alloc, 1, &[(1, 1), (1, 2)])?)?;
+    Ok(shards)
+}
+
+/// The order of the merged journal of the control and two shards.
+fn merged(alloc: Global) -> Result<Vec<(u32, u64, u64)>, Fail> {
+    let control = journal(alloc, 9, &[(1, 0), (2, 0)])?;
+    let shards = two_shards(alloc)?;
+    let merged = merge(alloc, &control, shards.as_slice())
+        .ok()
+        .ok_or("memory")?;
+    order(alloc, &merged)
+}
+
+/// The pass, the number and the count of each entry of the merged journal.
+const MERGED: [(u32, u64, u64); 7] = [
+    (0, 0, 1),
+    (9, 1, 0),
+    (0, 1, 0),
+    (1, 1, 1),
+    (0, 1, 2),
+    (1, 1, 2),
+    (9, 2, 0),
+];
+
 #[test]
 fn a_merge_is_in_the_order_of_the_stamps_and_the_control_first(
     rt: HostRuntime,
 ) -> Result<(), Fail> {
-    let alloc = rt.alloc();
-    let control = journal(alloc, 9, &[(1, 0), (2, 0)])?;
-    let mut shards = Vec::new(alloc);
-    shards.push(journal(alloc, 0, &[(0, 1), (1, 0), (1, 2)])?)?;
-    shards.push(journal(alloc, 1, &[(1, 1), (1, 2)])?)?;
-    let merged = merge(alloc, &control, shards.as_slice())
-        .ok()
-        .ok_or("memory")?;
-    let expected = [
-        (0, 0, 1),
-        (9, 1, 0),
-        (0, 1, 0),
-        (1, 1, 1),
-        (0, 1, 2),
-        (1, 1, 2),
-        (9, 2, 0),
-    ];
-    assert_eq!(rt; order(alloc, &merged)?.as_slice(), expected.as_slice());
+    assert_eq!(rt; merged(rt.alloc())?.as_slice(), MERGED.as_slice());
     Ok(())
 }
+
+/// Whether a command, a load, a store and a scrub fit an actor of two hosts.
+const FITS: [(Actor, [bool; 4]); 5] = [
+    (Actor::Host(HostId(0)), [true, true, true, false]),
+    (Actor::Host(HostId(1)), [true, true, true, false]),
+    (Actor::Host(HostId(2)), [false, false, false, false]),
+    (Actor::Manager, [true, false, false, false]),
+    (Actor::Sanitizer, [false, false, false, true]),
+];
 
 #[test]
 fn hosts_command_and_access_the_manager_commands_and_the_sanitizer_scrubs(
@@ -74,25 +95,14 @@ fn hosts_command_and_access_the_manager_commands_and_the_sanitizer_scrubs(
         opcode: 0x4800,
         payload: Payload::from_slice(rt.alloc(), &[]).ok().ok_or("memory")?,
     });
-    let acts = [command, Act::Load(0), Act::Store(0, 1), Act::Scrub(1)];
-    let actors = [
-        Actor::Host(HostId(0)),
-        Actor::Host(HostId(1)),
-        Actor::Host(HostId(2)),
-        Actor::Manager,
-        Actor::Sanitizer,
-    ];
-    let table = [
-        [true, true, true, false],
-        [true, true, true, false],
-        [false, false, false, false],
-        [true, false, false, false],
-        [false, false, false, true],
-    ];
-    for (actor, row) in actors.as_slice().iter().zip(table.as_slice()) {
-        for (act, expected) in acts.as_slice().iter().zip(row.as_slice()) {
-            assert_eq!(rt; fits(2, actor, act), *expected);
-        }
+    for (actor, expected) in FITS {
+        let found = [
+            fits(2, &actor, &command),
+            fits(2, &actor, &Act::Load(0)),
+            fits(2, &actor, &Act::Store(0, 1)),
+            fits(2, &actor, &Act::Scrub(1)),
+        ];
+        assert_eq!(rt; found, expected);
     }
     Ok(())
 }
@@ -105,48 +115,65 @@ fn two_granules() -> Run {
     }
 }
 
+/// Whether host 0 holds granule 5 and granule 6, and host 1 granule 5, after one more effect.
+fn holding(effects: &mut Effects, effect: Effect) -> Result<[bool; 3], NoMemory> {
+    effects.push(effect)?;
+    let effects = effects.as_slice();
+    Ok([
+        holds(effects, HostId(0), Granule(5)),
+        holds(effects, HostId(0), Granule(6)),
+        holds(effects, HostId(1), Granule(5)),
+    ])
+}
+
+/// The same after each of four effects.
+fn held(alloc: Global) -> Result<[[bool; 3]; 4], NoMemory> {
+    let mut effects = Effects::new(alloc);
+    Ok([
+        holding(&mut effects, Effect::Zero(two_granules()))?,
+        holding(&mut effects, Effect::Take(HostId(0), two_granules()))?,
+        holding(&mut effects, Effect::Zero(two_granules()))?,
+        holding(&mut effects, Effect::Leave(HostId(0), two_granules()))?,
+    ])
+}
+
 #[test]
 fn the_last_take_or_leave_says_who_holds(rt: HostRuntime) -> Result<(), Fail> {
-    let alloc = rt.alloc();
-    let mut effects = Effects::new(alloc);
-    for (effect, holding) in [
-        (Effect::Zero(two_granules()), [false, false, false]),
-        (
-            Effect::Take(HostId(0), two_granules()),
-            [true, false, false],
-        ),
-        (Effect::Zero(two_granules()), [true, false, false]),
-        (
-            Effect::Leave(HostId(0), two_granules()),
-            [false, false, false],
-        ),
-    ] {
-        effects.push(effect).ok().ok_or("memory")?;
-        for ((host, granule), expected) in [(0, 5), (0, 6), (1, 5)].iter().zip(holding.iter()) {
-            let found = holds(effects.as_slice(), HostId(*host), Granule(*granule));
-            assert_eq!(rt; found, *expected);
-        }
-    }
+    let (none, taken) = ([false, false, false], [true, false, false]);
+    assert_eq!(rt; held(rt.alloc())?, [none, taken, taken, none]);
     Ok(())
+}
+
+/// A response with two bytes.
+fn response(alloc: Global) -> Result<Reply, NoMemory> {
+    Ok(Reply::Answer(Response {
+        tag: 7,
+        opcode: 0x4802,
+        code: 0,
+        payload: Bytes::from_slice(alloc, &[1, 2])?,
+    }))
+}
+
+/// The effects of an offer.
+fn offered(alloc: Global) -> Result<EntryEffects, NoMemory> {
+    let mut effects = Effects::new(alloc);
+    effects.push(Effect::Offer(HostId(3), Extents::new(alloc)))?;
+    EntryEffects::of(effects)
+}
+
+/// An entry with a response and an effect.
+fn whole(alloc: Global) -> Result<Entry, NoMemory> {
+    Ok(Entry {
+        reply: response(alloc)?,
+        effects: offered(alloc)?,
+        ..entry(3, 1, 2)
+    })
 }
 
 #[test]
 fn a_copied_entry_has_all_parts(rt: HostRuntime) -> Result<(), Fail> {
-    let alloc = rt.alloc();
-    let mut whole = entry(alloc, 3, 1, 2);
-    whole.reply = Reply::Answer(Response {
-        tag: 7,
-        opcode: 0x4802,
-        code: 0,
-        payload: Bytes::from_slice(alloc, &[1, 2]).ok().ok_or("memory")?,
-    });
-    let offered = Effect::Offer(HostId(3), Extents::new(alloc));
-    let mut effects = Effects::new(alloc);
-    effects.push(offered).ok().ok_or("memory")?;
-    whole.effects = EntryEffects::of(effects).ok().ok_or("memory")?;
-    let copy = whole.copy().ok().ok_or("memory")?;
-    assert_eq!(rt; copy.pass, 3);
-    assert_eq!(rt; copy.effects.as_slice().len(), 1);
+    let copy = whole(rt.alloc())?.copy()?;
+    assert_eq!(rt; (copy.pass, copy.effects.as_slice().len()), (3, 1));
     let Reply::Answer(response) = &copy.reply else {
         return Err("the reply is a response".into());
     };

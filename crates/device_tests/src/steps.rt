@@ -7,9 +7,10 @@ use control_core::Control;
 use dcd_base::{AccessFault, Actor, HostId, LogId};
 use device_plain::Device;
 use event_records::EventKind;
-use journal_core::{Act, Reply};
+use journal_core::{Act, Entry, Reply, copies};
 use region_config::{Config, RegionSpec};
 use std::alloc::Global;
+use std::process::Abort;
 use std::test::Fail;
 
 const MIB: u64 = 0x10_0000;
@@ -50,15 +51,37 @@ fn device(alloc: Global) -> Result<Device, Fail>
     Ok(Device::new(alloc, Config::new(alloc, 1, &[REGION], &[0])?)?)
 }
 
-/// A step of the device, whose journal has the line and what the step replied.
-fn step(device: &mut Device, line: u32, actor: Actor, act: &Act) -> Result<Reply, Fail>
+/// What a step replies: a response of success, the word 0, a refusal for want of a grant, or another reply.
+#[derive(Clone, Copy, Debug, PartialEq, Eq)]
+enum Told {
+    Success,
+    Zero,
+    NotGranted,
+    Other,
+}
+
+fn kind_of(reply: &Reply) -> Told {
+    match reply {
+        Reply::Answer(response) => if response.code == 0 {
+            Told::Success
+        } else {
+            Told::Other
+        },
+        Reply::Word(0) => Told::Zero,
+        Reply::Refused(AccessFault::NotGranted) => Told::NotGranted,
+        _ => Told::Other,
+    }
+}
+
+/// A step of the device of pass 4, whose journal has the line and what the step replied.
+fn step(device: &mut Device, line: u32, actor: Actor, act: Act) -> Result<Told, Fail>
     requires { device.old.config.hosts ≡ 1 }
     ensures { device.new.config ≡ device.old.config }
 {
-    if !journal_core::fits(1, &actor, act) {
+    if !journal_core::fits(1, &actor, &act) {
         return Err("the actor may not do the act".into());
     }
-    Ok(device.step(4, line, actor, act)?)
+    Ok(kind_of(&device.step(4, line, actor, &act)?))
 }
 
 /// A command with this payload.
@@ -68,14 +91,6 @@ fn command(alloc: Global, opcode: u16, payload: &[u8]) -> Result<Act, Fail> {
         opcode,
         payload: Payload::from_slice(alloc, payload)?,
     }))
-}
-
-/// Whether a command succeeded, by the code of its response.
-fn is_success(reply: &Reply) -> bool {
-    match reply {
-        Reply::Answer(response) => response.code == 0,
-        _ => false,
-    }
 }
 
 /// How many extents the oldest offer to the host has.
@@ -89,36 +104,49 @@ fn offered_to(control: &Control) -> usize
 }
 
 /// The block is offered and accepted, zero granules are scrubbed, a word of it is loaded, and one beside it stored.
-fn five_steps(alloc: Global, device: &mut Device) -> Result<bool, Fail>
+fn five_steps(alloc: Global, device: &mut Device) -> Result<[Told; 4], Fail>
     requires { device.old.config.hosts ≡ 1 }
     ensures { device.new.config ≡ device.old.config }
 {
     let host = Actor::Host(HOST);
-    let offered = step(device, 1, Actor::Manager, &command(alloc, 0x5604, &OFFER)?)?;
-    let accepted = step(device, 2, host, &command(alloc, 0x4802, &RESPONSE)?)?;
+    let offered = step(device, 1, Actor::Manager, command(alloc, 0x5604, &OFFER)?)?;
+    let accepted = step(device, 2, host, command(alloc, 0x4802, &RESPONSE)?)?;
     device.enter(4, 3, Actor::Sanitizer, Act::Scrub(2))?;
-    let loaded = step(device, 4, host, &Act::Load(2 * MIB))?;
-    let stored = step(device, 5, host, &Act::Store(8, 7))?;
-    Ok(
-        is_success(&offered)
-            && is_success(&accepted)
-            && matches!(loaded, Reply::Word(0))
-            && matches!(stored, Reply::Refused(AccessFault::NotGranted)),
-    )
+    let loaded = step(device, 4, host, Act::Load(2 * MIB))?;
+    let stored = step(device, 5, host, Act::Store(8, 7))?;
+    Ok([offered, accepted, loaded, stored])
+}
+
+/// A device after the five steps.
+fn stepped(rt: &impl Abort, alloc: Global) -> Result<Device, Fail>
+    ensures { IfOk result (λ device. device.config.hosts ≡ 1) }
+{
+    let mut device = device(alloc)?;
+    let told = five_steps(alloc, &mut device)?;
+    let expected = [Told::Success, Told::Success, Told::Zero, Told::NotGranted];
+    assert_eq!(rt; told, expected);
+    Ok(device)
+}
+
+/// The stamps of five entries, each a number and a count.
+const STAMPS: [(u64, u64); 5] = [(1, 0), (2, 0), (3, 0), (3, 1), (3, 2)];
+
+/// Sees that the entries of pass 4 have the lines from 1 on and these stamps.
+fn see_stamps(rt: &impl Abort, journal: &[Entry]) {
+    assert_eq!(rt; journal.len(), STAMPS.len());
+    for (i, (entry, stamp)) in journal.iter().zip(STAMPS.iter()).enumerate() {
+        let place = (entry.pass, entry.line as usize);
+        let found = (entry.stamp.number, entry.stamp.count);
+        assert_eq!(rt; (place, found), ((4, i + 1), *stamp));
+    }
 }
 
 #[test]
 fn steps_are_entered_in_the_journal_with_their_stamps(rt: HostRuntime) -> Result<(), Fail> {
     let alloc = rt.alloc();
-    let mut device = device(alloc)?;
-    assert!(rt; five_steps(alloc, &mut device)?);
-    let stamps = [(1, 0), (2, 0), (3, 0), (3, 1), (3, 2)];
-    let journal = device.journal();
-    assert_eq!(rt; journal.len(), 5);
-    for (i, (entry, stamp)) in journal.iter().zip(stamps.iter()).enumerate() {
-        assert_eq!(rt; (entry.pass, entry.line as usize), (4, i + 1));
-        assert_eq!(rt; (entry.stamp.number, entry.stamp.count), *stamp);
-    }
+    let device = stepped(&rt, alloc)?;
+    let journal = copies(alloc, &mut device.journal())?;
+    see_stamps(&rt, journal.as_slice());
     assert_eq!(rt; device.control().entries().len(), 3);
     Ok(())
 }
@@ -151,22 +179,23 @@ fn lengths(control: &Control) -> [usize; 6]
     ]
 }
 
+/// The kind of the oldest record of the manager's log, its host and the start of its extent, if there is one.
+fn oldest(control: &Control) -> Option<(EventKind, u16, u64)> {
+    if control.records(LogId::Manager) == 0 {
+        return None;
+    }
+    let record = control.record(LogId::Manager, 0);
+    Some((record.kind, record.host, record.extent.start))
+}
+
 #[test]
 fn an_accepted_block_is_counted_and_told(rt: HostRuntime) -> Result<(), Fail> {
-    let alloc = rt.alloc();
-    let mut device = device(alloc)?;
-    let _right = five_steps(alloc, &mut device)?;
+    let device = stepped(&rt, rt.alloc())?;
     let control = device.control();
     assert_eq!(rt; counts(control), [15, 0, 1, 1, 1, 1]);
     assert_eq!(rt; lengths(control), [1, 0, 0, 0, 1, 16]);
-    assert_eq!(rt;
-        (control.present().hosts(), control.missed(LogId::Manager)),
-        (1, 0)
-    );
-    if control.records(LogId::Manager) > 0 {
-        let record = control.record(LogId::Manager, 0);
-        assert_eq!(rt; record.kind, EventKind::AddResponse);
-        assert_eq!(rt; (record.host, record.extent.start), (0, 2 * MIB));
-    }
+    let hosts = (control.present().hosts(), control.missed(LogId::Manager));
+    assert_eq!(rt; hosts, (1, 0));
+    assert_eq!(rt; oldest(control), Some((EventKind::AddResponse, 0, 2 * MIB)));
     Ok(())
 }

@@ -5,13 +5,13 @@ use Rattle.std.proofs.lemmas.List.{drop_more, drop_all}
 use Rattle.std.proofs.lemmas.Option.{slice_get_within, slice_get_cases, get_or_from_slice_get}
 use Rattle.event_records.specs.declared.events.Event.{Event}
 use Rattle.event_log.specs.declared.faults.ClearFault.TheVariants.{UnknownHandle}
-use Rattle.event_log.specs.LogStates.{clear_fault, misplaced}
+use Rattle.event_log.specs.LogStates.{clear_fault, handle_fault}
 
 -- a place where there is a record
 at_record : (handles : List ℕ) (records : List Event) (i : ℕ) (e : Event) → i < length handles → slice_get records i ≡ Some e
     → clear_fault (drop i handles) (drop i records)
     ≡ (if get_or handles i 0 == e.handle then clear_fault (drop (i + 1) handles) (drop (i + 1) records)
-    else Some (misplaced (get_or handles i 0) e.handle (drop i records)))
+    else Some (handle_fault (get_or handles i 0) e.handle (drop i records)))
 at_record handles records i e lt is =
     let within = slice_get_within records i e is in
     rw (drop_more handles i 0 lt, drop_more records i e within, get_or_from_slice_get records i e e is) refl
@@ -25,7 +25,7 @@ in_place handles records i e lt is same = rw (at_record handles records i e lt i
 -- it has another handle
 pub out_of_place : (handles : List ℕ) (records : List Event) (i : ℕ) (e : Event) → i < length handles → slice_get records i ≡ Some e
     → (get_or handles i 0 ≡ e.handle → ⊥)
-    → Some (misplaced (get_or handles i 0) e.handle (drop i records)) ≡ clear_fault (drop i handles) (drop i records)
+    → Some (handle_fault (get_or handles i 0) e.handle (drop i records)) ≡ clear_fault (drop i handles) (drop i records)
 out_of_place handles records i e lt is other = rw (at_record handles records i e lt is, ne_eqb _ _ other) refl
 
 -- a place past the last record

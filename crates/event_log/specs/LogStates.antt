@@ -53,12 +53,12 @@ abbrev pub has_handle : ℕ → List Event → Bool
 has_handle handle records = list_any (λ event. event.handle == handle) records
 
 -- why a handle cannot be cleared that is not the oldest record's: it is a later record's, or no record's
-abbrev pub misplaced : ℕ → ℕ → List Event → ClearFault
-misplaced handle oldest records = if has_handle handle records then OlderLeft oldest else UnknownHandle handle
+abbrev pub handle_fault : ℕ → ℕ → List Event → ClearFault
+handle_fault handle oldest records = if has_handle handle records then OlderLeft oldest else UnknownHandle handle
 
 -- why the handles cannot be cleared: the first that is not that of the record in its place, counted from the oldest
 abbrev pub clear_fault : List ℕ → List Event → Option ClearFault
 clear_fault [] records = None
 clear_fault (h ∷ handles) [] = Some (UnknownHandle h)
 clear_fault (h ∷ handles) (e ∷ records) =
-    if h == e.handle then clear_fault handles records else Some (misplaced h e.handle (e ∷ records))
+    if h == e.handle then clear_fault handles records else Some (handle_fault h e.handle (e ∷ records))

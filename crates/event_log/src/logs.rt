@@ -1,6 +1,6 @@
 //! The log.
 
-ghost use Rattle.event_log.specs.LogStates.{IsLog, clear_fault, emptied, handle_after, has_handle, misplaced, new_log, with_missed, with_record, without_oldest};
+ghost use Rattle.event_log.specs.LogStates.{IsLog, clear_fault, emptied, handle_after, has_handle, handle_fault, new_log, with_missed, with_record, without_oldest};
 ghost use Rattle.std.specs.Prelude.{◌≡◌, ◌==◌, ◌-◌, ◌<◌, ◌≤◌, IfErr, IfNone, IfOk, IfSome, None, OnErr, OnOk, Some, drop, length, slice_get};
 
 use crate::faults::{ClearFault, LogFull};
@@ -184,8 +184,8 @@ impl EventLog {
     }
 
     /// Why a handle cannot be cleared that is not `oldest`, the handle of the record at the index.
-    fn misplaced(&self, index: usize, handle: u16, oldest: u16) -> ClearFault
-        ensures { result ≡ misplaced handle oldest (drop index self.now.records) }
+    fn handle_fault(&self, index: usize, handle: u16, oldest: u16) -> ClearFault
+        ensures { result ≡ handle_fault handle oldest (drop index self.now.records) }
     {
         if self.has_handle_from(index, handle) {
             ClearFault::OlderLeft(oldest)
@@ -205,7 +205,7 @@ impl EventLog {
                 None => return Some(ClearFault::UnknownHandle(handle)),
                 Some(oldest) => {
                     if handle != oldest.handle {
-                        return Some(self.misplaced(i, handle, oldest.handle));
+                        return Some(self.handle_fault(i, handle, oldest.handle));
                     }
                 }
             }

@@ -7,7 +7,7 @@ use Rattle.std.specs.Int.{w16, w32, w64}
 use Rattle.event_records.specs.declared.events.Event.{Event}
 use Rattle.event_records.specs.declared.events.EventKind.{EventKind}
 use Rattle.event_records.specs.declared.faults.RecordFault.{RecordFault}
-use Rattle.event_records.specs.Records.{record_uuid, record_fault, kind_number, head_bytes, end_bytes, record_bytes, head_fields, end_fields, record_fields, IsEventIn, ReadsRecord, WritesRecord}
+use Rattle.event_records.specs.Records.{record_uuid, record_fault, kind_number, head_bytes, end_bytes, record_bytes, record_head, end_fields, record_fields, IsEventIn, ReadsRecord, WritesRecord}
 use Rattle.field_bytes.specs.Extents.{extent_bytes, extent_fields}
 use Rattle.field_bytes.specs.Layouts.{spell, spelling, is_byte}
 use Rattle.field_bytes.proofs.Fields.{IsBytes, spelled_reads}
@@ -17,8 +17,8 @@ use Rattle.field_bytes.proofs.Places.{Reads-from, all_from, byte_found, byte_onl
 pub record_in_parts : (e : Event) → record_bytes e ≡ head_bytes e ++ extent_bytes e.extent ++ end_bytes e
 unfolding record_bytes head_bytes extent_bytes end_bytes
 record_in_parts e =
-    flat_map-append spell (head_fields e) (extent_fields e.extent ++ end_fields e)
-    ∙ ap (λ (ys : List ℕ). spelling (head_fields e) ++ ys) (flat_map-append spell (extent_fields e.extent) (end_fields e))
+    flat_map-append spell (record_head e) (extent_fields e.extent ++ end_fields e)
+    ∙ ap (λ (ys : List ℕ). spelling (record_head e) ++ ys) (flat_map-append spell (extent_fields e.extent) (end_fields e))
 
 -- what the absence of the three faults says
 record HasNoFault (bytes : List ℕ) : Type 0 where

@@ -32,18 +32,18 @@ what_fields e =
     ∷ Number w16 e.host ∷ Number w8 e.region ∷ flag e.more ∷ Reserved 2 ∷ []
 
 -- bytes 0 to 55
-abbrev pub head_fields : Event → List Field
-head_fields e = Raw 16 record_uuid ∷ header_fields e.handle ++ what_fields e
+abbrev pub record_head : Event → List Field
+record_head e = Raw 16 record_uuid ∷ header_fields e.handle ++ what_fields e
 
 -- bytes 96 to 127
 abbrev pub end_fields : Event → List Field
 end_fields e = Reserved 24 ∷ Number w32 e.extents_available ∷ Number w32 e.tags_available ∷ []
 
 abbrev pub record_fields : Event → List Field
-record_fields e = head_fields e ++ extent_fields e.extent ++ end_fields e
+record_fields e = record_head e ++ extent_fields e.extent ++ end_fields e
 
 unfoldable pub head_bytes : Event → List ℕ
-head_bytes e = spelling (head_fields e)
+head_bytes e = spelling (record_head e)
 
 unfoldable pub end_bytes : Event → List ℕ
 end_bytes e = spelling (end_fields e)
@@ -84,6 +84,6 @@ pub record IsEventIn (bytes : List ℕ) (e : Event) : Type 0 where
   pub tags_available : e.tags_available ≡ number_at w32 bytes 124
 
 -- What decoding the bytes answers: the event that they are, or the first fault.
-abbrev pub Decodes : List ℕ → Result Event RecordFault → Type 0
-Decodes bytes (Ok event) = (record_fault bytes ≡ None) × IsEventIn bytes event
-Decodes bytes (Err fault) = record_fault bytes ≡ Some fault
+abbrev pub DecodesRecord : List ℕ → Result Event RecordFault → Type 0
+DecodesRecord bytes (Ok event) = (record_fault bytes ≡ None) × IsEventIn bytes event
+DecodesRecord bytes (Err fault) = record_fault bytes ≡ Some fault

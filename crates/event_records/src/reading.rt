@@ -1,6 +1,6 @@
 //! Records to events.
 
-ghost use Rattle.event_records.specs.Records.{Decodes, ReadsRecord};
+ghost use Rattle.event_records.specs.Records.{DecodesRecord, ReadsRecord};
 ghost use Rattle.event_records.specs.declared.events.Event.{Event};
 ghost use Rattle.std.specs.Prelude.{◌≡◌, IfOk, Ok};
 
@@ -16,7 +16,7 @@ use field_bytes::{tag_at, u16_at, u32_at, u64_at};
 /// Each fault comes exactly in its place. Bytes 17 to 19, 22 to 47, 49, 54, 55 and 90 to 119 and bits 7:1 of byte
 /// 53 are ignored.
 pub fn decode(bytes: &[u8; 128]) -> Result<Event, RecordFault>
-    ensures cases { Decodes bytes.now result }
+    ensures cases { DecodesRecord bytes.now result }
     ensures reads { IfOk result (λ event. ReadsRecord bytes.now event) }
     ensures only { (event : Event) → ReadsRecord bytes.now event → result ≡ Ok event }
 {

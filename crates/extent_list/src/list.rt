@@ -1,9 +1,9 @@
 //! The list, and the calls that change it.
 
-ghost use Rattle.extent_list.specs.ExtentLists.{cut, cut_all, has_range, holder_of, shares_range, without};
+ghost use Rattle.extent_list.specs.ExtentLists.{cut, cut_all, holder_of, shares_range};
 ghost use Rattle.extent_list.specs.Rooms.{IsCutInAddresses};
 ghost use Rattle.std.specs.List.{list_any};
-ghost use Rattle.std.specs.Prelude.{◌≡◌, ◌==◌, ◌++◌, ◌∷◌, ◌+◌, ◌^◌, ◌<◌, ◌≤◌, [], All, IfErr, IfOk, IsSome, OnErr, OnOk, Some, drop, length, option_to_list, slice_get, slice_index_or, suc, take, vec_capacity, vec_len};
+ghost use Rattle.std.specs.Prelude.{◌≡◌, ◌==◌, ◌++◌, ◌∷◌, ◌+◌, ◌^◌, ◌<◌, ◌≤◌, [], All, IfErr, IfOk, IsSome, OnErr, OnOk, Some, drop, length, option_to_list, slice_get, take, vec_capacity, vec_len};
 
 use crate::pieces::{count_of, has_range_in, lower_piece, shares_range_with, upper_piece};
 use dcd_base::{Extent, Extents, NoMemory};

@@ -22,55 +22,55 @@ use Rattle.field_bytes.proofs.Places.{FieldsAt, Reads-from, all_from, byte_found
 use Rattle.field_bytes.specs.declared.faults.PayloadFault.{PayloadFault}
 use Rattle.fm_payloads.specs.declared.placing.Placed.{Placed}
 use Rattle.fm_payloads.specs.declared.requests.FmRequest.{FmRequest}
-use Rattle.fm_payloads.specs.ManagerPayloads.{IsAsked, clear_asked, events_asked, info_asked, lists_asked, made_of, manager_fields, manager_opcode, manager_request, placed_fields, placed_in, placed_length, regions_asked, setting_asked, tag_in, tags_asked, to_add, to_remove, whole_extents}
+use Rattle.fm_payloads.specs.ManagerPayloads.{IsManagerRequest, manager_clear_asked, manager_events_asked, info_asked, lists_asked, made_of, manager_fields, manager_opcode, manager_request, placed_fields, placed_in, placed_length, regions_asked, setting_asked, tag_in, tags_asked, to_add, to_remove, whole_extents}
 
 -- ---- what is read is asked
 
-events_found : (payload : List ℕ) (q : FmRequest) → IsBytes payload → events_asked payload ≡ Ok q → IsAsked 0x0100 payload q
-unfolding events_asked
+events_found : (payload : List ℕ) (q : FmRequest) → IsBytes payload → manager_events_asked payload ≡ Ok q → IsManagerRequest 0x0100 payload q
+unfolding manager_events_asked
 events_found payload q small e =
     let at = sized_is 1 payload (FmRequest.GetEvents (get_or payload 0 0)) q e in
-    subst (IsAsked 0x0100 payload) at.1 (refl, Reads-from payload _ small (byte_found payload 0 1 _ small refl (end_found payload 1 at.0)))
+    subst (IsManagerRequest 0x0100 payload) at.1 (refl, Reads-from payload _ small (byte_found payload 0 1 _ small refl (end_found payload 1 at.0)))
 
-clear_found : (payload : List ℕ) (q : FmRequest) → IsBytes payload → clear_asked payload ≡ Ok q → IsAsked 0x0101 payload q
-unfolding clear_asked
+clear_found : (payload : List ℕ) (q : FmRequest) → IsBytes payload → manager_clear_asked payload ≡ Ok q → IsManagerRequest 0x0101 payload q
+unfolding manager_clear_asked
 clear_found payload q small e =
     let at = sized_is (clear_length payload) payload (FmRequest.ClearEvents (get_or payload 0 0) (has_flag payload 1) (handles_in payload)) q e in
-    subst (IsAsked 0x0101 payload) at.1 (refl, Reads-from payload _ small (clear_agrees payload small at.0))
+    subst (IsManagerRequest 0x0101 payload) at.1 (refl, Reads-from payload _ small (clear_agrees payload small at.0))
 
-info_found : (payload : List ℕ) (q : FmRequest) → IsBytes payload → info_asked payload ≡ Ok q → IsAsked 0x5600 payload q
+info_found : (payload : List ℕ) (q : FmRequest) → IsBytes payload → info_asked payload ≡ Ok q → IsManagerRequest 0x5600 payload q
 unfolding info_asked
 info_found payload q small e =
     let at = sized_is 0 payload FmRequest.GetInfo q e in
-    subst (IsAsked 0x5600 payload) at.1 (refl, Reads-from payload _ small (end_found payload 0 at.0))
+    subst (IsManagerRequest 0x5600 payload) at.1 (refl, Reads-from payload _ small (end_found payload 0 at.0))
 
-regions_found : (payload : List ℕ) (q : FmRequest) → IsBytes payload → regions_asked payload ≡ Ok q → IsAsked 0x5601 payload q
+regions_found : (payload : List ℕ) (q : FmRequest) → IsBytes payload → regions_asked payload ≡ Ok q → IsManagerRequest 0x5601 payload q
 unfolding regions_asked
 regions_found payload q small e =
     let at = sized_is 4 payload (FmRequest.GetRegions (number_at w16 payload 0) (get_or payload 2 0) (get_or payload 3 0)) q e in
     let bytes = byte_found payload 2 3 _ small refl (byte_found payload 3 4 _ small refl (end_found payload 4 at.0)) in
-    subst (IsAsked 0x5601 payload) at.1 (refl, Reads-from payload _ small (number_found w16 wide_16 payload 0 2 _ small refl bytes))
+    subst (IsManagerRequest 0x5601 payload) at.1 (refl, Reads-from payload _ small (number_found w16 wide_16 payload 0 2 _ small refl bytes))
 
-setting_found : (payload : List ℕ) (q : FmRequest) → IsBytes payload → setting_asked payload ≡ Ok q → IsAsked 0x5602 payload q
+setting_found : (payload : List ℕ) (q : FmRequest) → IsBytes payload → setting_asked payload ≡ Ok q → IsManagerRequest 0x5602 payload q
 unfolding setting_asked
 setting_found payload q small e =
     let at = sized_is 16 payload (FmRequest.SetRegion (get_or payload 0 0) (has_flag payload 12) (number_at w64 payload 4)) q e in
     let flag = flag_found payload 12 13 _ refl (reserved_found payload 13 16 3 _ refl (end_found payload 16 at.0)) in
     let block = reserved_found payload 1 4 3 _ refl (number_found w64 wide_64 payload 4 12 _ small refl flag) in
-    subst (IsAsked 0x5602 payload) at.1 (refl, Reads-from payload _ small (byte_found payload 0 1 _ small refl block))
+    subst (IsManagerRequest 0x5602 payload) at.1 (refl, Reads-from payload _ small (byte_found payload 0 1 _ small refl block))
 
-lists_found : (payload : List ℕ) (q : FmRequest) → IsBytes payload → lists_asked payload ≡ Ok q → IsAsked 0x5603 payload q
+lists_found : (payload : List ℕ) (q : FmRequest) → IsBytes payload → lists_asked payload ≡ Ok q → IsManagerRequest 0x5603 payload q
 unfolding lists_asked
 lists_found payload q small e =
     let at = sized_is 12 payload (FmRequest.GetExtentLists (number_at w16 payload 0) (number_at w32 payload 4) (number_at w32 payload 8)) q e in
     let counts = number_found w32 wide_32 payload 4 8 _ small refl (number_found w32 wide_32 payload 8 12 _ small refl (end_found payload 12 at.0)) in
-    subst (IsAsked 0x5603 payload) at.1 (refl, Reads-from payload _ small (number_found w16 wide_16 payload 0 2 _ small refl (reserved_found payload 2 4 2 _ refl counts)))
+    subst (IsManagerRequest 0x5603 payload) at.1 (refl, Reads-from payload _ small (number_found w16 wide_16 payload 0 2 _ small refl (reserved_found payload 2 4 2 _ refl counts)))
 
-tags_found : (payload : List ℕ) (q : FmRequest) → IsBytes payload → tags_asked payload ≡ Ok q → IsAsked 0x5608 payload q
+tags_found : (payload : List ℕ) (q : FmRequest) → IsBytes payload → tags_asked payload ≡ Ok q → IsManagerRequest 0x5608 payload q
 unfolding tags_asked
 tags_found payload q small e =
     let at = sized_is 8 payload (FmRequest.ListTags (number_at w32 payload 0) (number_at w32 payload 4)) q e in
-    subst (IsAsked 0x5608 payload) at.1 (refl, Reads-from payload _ small (number_found w32 wide_32 payload 0 4 _ small refl (number_found w32 wide_32 payload 4 8 _ small refl (end_found payload 8 at.0))))
+    subst (IsManagerRequest 0x5608 payload) at.1 (refl, Reads-from payload _ small (number_found w32 wide_32 payload 0 4 _ small refl (number_found w32 wide_32 payload 4 8 _ small refl (end_found payload 8 at.0))))
 
 -- the fields that an add and a release have in common
 abbrev PlacedReads : List ℕ → Placed → Type 0
@@ -101,35 +101,35 @@ made_of_is : {X : Type 0} (make : X → FmRequest) (r : Result X PayloadFault) (
 made_of_is make (Ok x) q e = (x, refl, cc e)
 made_of_is make (Err fault) q e = absurd (cc e)
 
-add_found : (payload : List ℕ) (q : FmRequest) → IsBytes payload → made_of to_add (placed_in payload) ≡ Ok q → IsAsked 0x5604 payload q
+add_found : (payload : List ℕ) (q : FmRequest) → IsBytes payload → made_of to_add (placed_in payload) ≡ Ok q → IsManagerRequest 0x5604 payload q
 add_found payload q small e =
     let at = made_of_is to_add (placed_in payload) q e in
-    subst (IsAsked 0x5604 payload) at.2 (refl, placed_found payload at.0 small at.1)
+    subst (IsManagerRequest 0x5604 payload) at.2 (refl, placed_found payload at.0 small at.1)
 
-remove_found : (payload : List ℕ) (q : FmRequest) → IsBytes payload → made_of to_remove (placed_in payload) ≡ Ok q → IsAsked 0x5605 payload q
+remove_found : (payload : List ℕ) (q : FmRequest) → IsBytes payload → made_of to_remove (placed_in payload) ≡ Ok q → IsManagerRequest 0x5605 payload q
 remove_found payload q small e =
     let at = made_of_is to_remove (placed_in payload) q e in
-    subst (IsAsked 0x5605 payload) at.2 (refl, placed_found payload at.0 small at.1)
+    subst (IsManagerRequest 0x5605 payload) at.2 (refl, placed_found payload at.0 small at.1)
 
-reference_found : (payload : List ℕ) (q : FmRequest) → IsBytes payload → made_of (λ t. FmRequest.AddReference t) (tag_in payload) ≡ Ok q → IsAsked 0x5606 payload q
+reference_found : (payload : List ℕ) (q : FmRequest) → IsBytes payload → made_of (λ t. FmRequest.AddReference t) (tag_in payload) ≡ Ok q → IsManagerRequest 0x5606 payload q
 reference_found payload q small e =
     let at = made_of_is (λ t. FmRequest.AddReference t) (tag_in payload) q e in
-    subst (IsAsked 0x5606 payload) at.2 (refl, tag_found payload at.0 small at.1)
+    subst (IsManagerRequest 0x5606 payload) at.2 (refl, tag_found payload at.0 small at.1)
 
-dereference_found : (payload : List ℕ) (q : FmRequest) → IsBytes payload → made_of (λ t. FmRequest.RemoveReference t) (tag_in payload) ≡ Ok q → IsAsked 0x5607 payload q
+dereference_found : (payload : List ℕ) (q : FmRequest) → IsBytes payload → made_of (λ t. FmRequest.RemoveReference t) (tag_in payload) ≡ Ok q → IsManagerRequest 0x5607 payload q
 dereference_found payload q small e =
     let at = made_of_is (λ t. FmRequest.RemoveReference t) (tag_in payload) q e in
-    subst (IsAsked 0x5607 payload) at.2 (refl, tag_found payload at.0 small at.1)
+    subst (IsManagerRequest 0x5607 payload) at.2 (refl, tag_found payload at.0 small at.1)
 
-if_found : (opcode n : ℕ) (payload : List ℕ) (r rest : Result FmRequest PayloadFault) (q : FmRequest) → (r ≡ Ok q → IsAsked n payload q) → (rest ≡ Ok q → IsAsked opcode payload q) → cond (eqb opcode n) r rest ≡ Ok q → IsAsked opcode payload q
+if_found : (opcode n : ℕ) (payload : List ℕ) (r rest : Result FmRequest PayloadFault) (q : FmRequest) → (r ≡ Ok q → IsManagerRequest n payload q) → (rest ≡ Ok q → IsManagerRequest opcode payload q) → cond (eqb opcode n) r rest ≡ Ok q → IsManagerRequest opcode payload q
 if_found opcode n payload r rest q here there e =
-    elim (eqb opcode n) as (λ b. eqb opcode n ≡ b → cond b r rest ≡ Ok q → IsAsked opcode payload q) [
-      | true ↦ λ same at. subst (λ o. IsAsked o payload q) (sym (eqb-true opcode n same)) (here at)
+    elim (eqb opcode n) as (λ b. eqb opcode n ≡ b → cond b r rest ≡ Ok q → IsManagerRequest opcode payload q) [
+      | true ↦ λ same at. subst (λ o. IsManagerRequest o payload q) (sym (eqb-true opcode n same)) (here at)
       | false ↦ λ other at. there at
     ] refl e
 
 -- What is read is a request as which the payload reads, under its opcode.
-pub manager_found : (opcode : ℕ) (payload : List ℕ) (q : FmRequest) → IsBytes payload → manager_request opcode payload ≡ Ok q → IsAsked opcode payload q
+pub manager_found : (opcode : ℕ) (payload : List ℕ) (q : FmRequest) → IsBytes payload → manager_request opcode payload ≡ Ok q → IsManagerRequest opcode payload q
 unfolding manager_request
 manager_found opcode payload q small e =
     if_found opcode 0x0100 payload _ _ q (events_found payload q small) (
@@ -177,7 +177,7 @@ tag_only payload t a =
 
 -- A payload that agrees with a request's fields is that request.
 pub manager_only : (payload : List ℕ) (q : FmRequest) → Agrees payload (manager_fields q) → manager_request (manager_opcode q) payload ≡ Ok q
-unfolding manager_request events_asked clear_asked info_asked regions_asked setting_asked lists_asked tags_asked
+unfolding manager_request manager_events_asked manager_clear_asked info_asked regions_asked setting_asked lists_asked tags_asked
 manager_only payload (FmRequest.GetEvents log) a =
     let only = byte_only payload 0 1 log [] refl (all_from payload _ a) in
     sized_at 1 payload _ _ (end_only payload 1 only.1) (ap (λ n. FmRequest.GetEvents n) only.0)
@@ -214,11 +214,11 @@ manager_only payload (FmRequest.ListTags first count) a =
 
 -- ---- of what a call gives
 
-pub asked_of : (opcode : ℕ) (payload : List ℕ) (r : Result FmRequest PayloadFault) → IsBytes payload → Gives r (manager_request opcode payload) → IfOk r (λ q. IsAsked opcode payload q)
+pub asked_of : (opcode : ℕ) (payload : List ℕ) (r : Result FmRequest PayloadFault) → IsBytes payload → Gives r (manager_request opcode payload) → IfOk r (λ q. IsManagerRequest opcode payload q)
 asked_of opcode payload (Ok q) small given = manager_found opcode payload q small given
 asked_of opcode payload (Err fault) small given = tt
 
-pub given_of : (opcode : ℕ) (payload : List ℕ) (r : Result FmRequest PayloadFault) → Gives r (manager_request opcode payload) → (q : FmRequest) → IsAsked opcode payload q → Gives r (Ok q)
+pub given_of : (opcode : ℕ) (payload : List ℕ) (r : Result FmRequest PayloadFault) → Gives r (manager_request opcode payload) → (q : FmRequest) → IsManagerRequest opcode payload q → Gives r (Ok q)
 given_of opcode payload r given q asked =
     let here : Agrees payload (manager_fields q) = record { fits = asked.1.fits; agrees = asked.1.agrees } in
     let read : manager_request opcode payload ≡ Ok q = subst (λ o. manager_request o payload ≡ Ok q) (sym asked.0) (manager_only payload q here) in

@@ -59,12 +59,12 @@ abbrev pub placed_length : List ℕ → ℕ
 placed_length payload = counted 32 40 (number_at w32 payload 28) payload
 
 -- 0100h: a log
-unfoldable pub events_asked : List ℕ → Result FmRequest PayloadFault
-events_asked payload = sized 1 payload (FmRequest.GetEvents (slice_index payload 0))
+unfoldable pub manager_events_asked : List ℕ → Result FmRequest PayloadFault
+manager_events_asked payload = sized 1 payload (FmRequest.GetEvents (slice_index payload 0))
 
 -- 0101h: a log, a flag, a count, three reserved bytes, handles
-unfoldable pub clear_asked : List ℕ → Result FmRequest PayloadFault
-clear_asked payload = sized (clear_length payload) payload (FmRequest.ClearEvents (slice_index payload 0) (has_flag payload 1) (handles_in payload))
+unfoldable pub manager_clear_asked : List ℕ → Result FmRequest PayloadFault
+manager_clear_asked payload = sized (clear_length payload) payload (FmRequest.ClearEvents (slice_index payload 0) (has_flag payload 1) (handles_in payload))
 
 -- 5600h: nothing
 unfoldable pub info_asked : List ℕ → Result FmRequest PayloadFault
@@ -111,8 +111,8 @@ to_remove p = FmRequest.Remove p.host p.choice p.region p.length p.tag p.extents
 -- the request that a payload is under an opcode, or why it is none
 unfoldable pub manager_request : ℕ → List ℕ → Result FmRequest PayloadFault
 manager_request opcode payload =
-    if opcode == 0x0100 then events_asked payload
-    else if opcode == 0x0101 then clear_asked payload
+    if opcode == 0x0100 then manager_events_asked payload
+    else if opcode == 0x0101 then manager_clear_asked payload
     else if opcode == 0x5600 then info_asked payload
     else if opcode == 0x5601 then regions_asked payload
     else if opcode == 0x5602 then setting_asked payload
@@ -125,17 +125,17 @@ manager_request opcode payload =
     else Err (PayloadFault.UnknownOpcode opcode)
 
 -- The payload reads as the request, whose opcode this is.
-abbrev pub IsAsked : ℕ → List ℕ → FmRequest → Type 0
-IsAsked opcode payload q = (opcode ≡ manager_opcode q) × Reads payload (manager_fields q)
+abbrev pub IsManagerRequest : ℕ → List ℕ → FmRequest → Type 0
+IsManagerRequest opcode payload q = (opcode ≡ manager_opcode q) × Reads payload (manager_fields q)
 
 -- ---- requests as they are written
 
 -- The counts of the request's lists can be written: at most 255 handles, at most 65,535 extents.
-abbrev pub CountsFit : FmRequest → Type 0
-CountsFit (FmRequest.ClearEvents log all handles) = length handles ≤ 255
-CountsFit (FmRequest.Add host policy region bytes tag xs) = length xs ≤ 65535
-CountsFit (FmRequest.Remove host flags region bytes tag xs) = length xs ≤ 65535
-CountsFit q = Unit {0}
+abbrev pub ManagerCountsFit : FmRequest → Type 0
+ManagerCountsFit (FmRequest.ClearEvents log all handles) = length handles ≤ 255
+ManagerCountsFit (FmRequest.Add host policy region bytes tag xs) = length xs ≤ 65535
+ManagerCountsFit (FmRequest.Remove host flags region bytes tag xs) = length xs ≤ 65535
+ManagerCountsFit q = Unit {0}
 
 -- what stands before the extents of a payload that places them
 abbrev pub placed_head_fields : ℕ → ℕ → ℕ → ℕ → Tag → ℕ → List Field

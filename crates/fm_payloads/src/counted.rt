@@ -1,7 +1,7 @@
 //! How long a payload has to be.
 
 ghost use Rattle.fm_payloads.specs.ManagerPayloads.{placed_length};
-ghost use Rattle.std.specs.Prelude.{◌≡◌, ◌+◌, ◌*◌, length};
+ghost use Rattle.std.specs.Prelude.{◌≡◌, ◌+◌, ◌*◌};
 
 use field_bytes::u32_at;
 

@@ -1,6 +1,6 @@
 //! From a payload to the request of the manager.
 
-ghost use Rattle.fm_payloads.specs.ManagerPayloads.{IsAsked, clear_asked, events_asked, info_asked, lists_asked, manager_request, regions_asked, setting_asked, tag_in, tags_asked};
+ghost use Rattle.fm_payloads.specs.ManagerPayloads.{IsManagerRequest, manager_clear_asked, manager_events_asked, info_asked, lists_asked, manager_request, regions_asked, setting_asked, tag_in, tags_asked};
 ghost use Rattle.field_bytes.specs.Payloads.{Gives};
 ghost use Rattle.fm_payloads.specs.declared.requests.FmRequest.{FmRequest};
 ghost use Rattle.std.specs.Prelude.{IfOk, Ok};
@@ -13,17 +13,17 @@ use field_bytes::{
 };
 use std::alloc::Global;
 
-#[tactic(auto, unfolding(crate::specs::ManagerPayloads::events_asked))]
+#[tactic(auto, unfolding(crate::specs::ManagerPayloads::manager_events_asked))]
 fn get_events(payload: &[u8]) -> Result<FmRequest, PayloadFault>
-    ensures { Gives result (events_asked payload.now) }
+    ensures { Gives result (manager_events_asked payload.now) }
 {
     expect_length(payload, 1)?;
     Ok(FmRequest::GetEvents { log: payload[0] })
 }
 
-#[tactic(auto, unfolding(crate::specs::ManagerPayloads::clear_asked))]
+#[tactic(auto, unfolding(crate::specs::ManagerPayloads::manager_clear_asked))]
 fn clear_events(alloc: Global, payload: &[u8]) -> Result<FmRequest, PayloadFault>
-    ensures { Gives result (clear_asked payload.now) }
+    ensures { Gives result (manager_clear_asked payload.now) }
 {
     expect_length(payload, clear_length(payload))?;
     let (_, rest) = payload.split_at(6);
@@ -154,9 +154,9 @@ pub fn decode(alloc: Global, opcode: u16, payload: &[u8]) -> Result<FmRequest, P
     // Which request or fault it is.
     ensures exact { Gives result (manager_request opcode payload.now) }
     // What is read is a request of this opcode, as which the payload reads.
-    ensures found { IfOk result (λ q. IsAsked opcode payload.now q) }
+    ensures found { IfOk result (λ q. IsManagerRequest opcode payload.now q) }
     // A payload that reads as a request of this opcode is read as that one, unless memory runs out.
-    ensures only { (q : FmRequest) → IsAsked opcode payload.now q → Gives result (Ok q) }
+    ensures only { (q : FmRequest) → IsManagerRequest opcode payload.now q → Gives result (Ok q) }
 {
     request_of(alloc, opcode, payload)
 }

@@ -1,7 +1,7 @@
 //! From a request of the manager to its payload.
 
 ghost use Rattle.field_bytes.specs.Layouts.{FitsField, Number, Reserved, flag, is_byte, spelling};
-ghost use Rattle.fm_payloads.specs.ManagerPayloads.{CountsFit, manager_fields, manager_opcode, manager_request};
+ghost use Rattle.fm_payloads.specs.ManagerPayloads.{ManagerCountsFit, manager_fields, manager_opcode, manager_request};
 ghost use Rattle.std.specs.Int.{w8, w16, w32, w64};
 ghost use Rattle.std.specs.List.{AllByRecursion, list_all};
 ghost use Rattle.std.specs.Prelude.{◌≡◌, ◌++◌, [], ◌∷◌, IfOk, IsTrue, Ok, OnErr, OnOk, length};
@@ -87,7 +87,7 @@ fn lists_wanted(alloc: Global, host: u16, count: u32, first: u32) -> Result<Byte
 }
 
 fn payload_of(alloc: Global, request: &FmRequest) -> Result<Bytes, NoMemory>
-    requires { CountsFit request.now }
+    requires { ManagerCountsFit request.now }
     ensures spelled { IfOk result (λ bytes. bytes ≡ spelling (manager_fields request.now)) }
     ensures fits { OnOk result (AllByRecursion FitsField (manager_fields request.now)) }
 {
@@ -155,7 +155,7 @@ fn payload_of(alloc: Global, request: &FmRequest) -> Result<Bytes, NoMemory>
 /// The request has at most 255 handles and at most 65,535 extents. Reserved bytes and bits are written as 0, and
 /// each field as it stands. Without memory `out` is as it was.
 pub fn encode(request: &FmRequest, out: &mut Bytes) -> Result<(), NoMemory>
-    requires { CountsFit request.now }
+    requires { ManagerCountsFit request.now }
     ensures appended { OnOk result (out.new ≡ out.old ++ spelling (manager_fields request.now)) }
     ensures kept { OnErr result (out.new ≡ out.old) }
     // What was appended is read as the request.

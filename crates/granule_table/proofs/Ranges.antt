@@ -9,10 +9,10 @@ use Rattle.dcd_base.specs.Words.{has_granule}
 use Rattle.dcd_base.specs.declared.media.Run.{Run}
 use Rattle.granule_map.specs.declared.states.GranuleState.{GranuleState}
 use Rattle.granule_table.specs.Changes.{between}
-use Rattle.granule_table.specs.Tables.{Cell, IsChanged, Table, cell_at}
+use Rattle.granule_table.specs.Tables.{Cell, IsChanged, CellTable, cell_at}
 
 -- a granule as it was read
-pub cell_read : (t : Table) (g : ℕ) (s : GranuleState) (u : Bool) → length t.unclean ≡ length t.states → slice_get t.states g ≡ Some s → u ≡ get_or t.unclean g u
+pub cell_read : (t : CellTable) (g : ℕ) (s : GranuleState) (u : Bool) → length t.unclean ≡ length t.states → slice_get t.states g ≡ Some s → u ≡ get_or t.unclean g u
     → record { state = s; unclean = u } ≡ cell_at t g
 cell_read t g s u each state unclean =
     let below : g < length t.unclean = omega (arith, each, slice_get_within t.states g s state) in
@@ -31,7 +31,7 @@ behind : (first end g : ℕ) → first ≤ end → end ≤ g → has_granule (be
 behind first end g rises past = rw (le-ltb g (first + (end - first)) (omega (arith, rises, past)), and_right (leb first g) false refl) refl
 
 -- no granule is changed yet
-pub none_changed : (f : Cell → Cell) (first : ℕ) (t : Table) → IsChanged f (between first first) t t
+pub none_changed : (f : Cell → Cell) (first : ℕ) (t : CellTable) → IsChanged f (between first first) t t
 none_changed f first t = record {
   granules = refl;
   each = λ g below. elim (cases_lt g first) [
@@ -40,11 +40,11 @@ none_changed f first t = record {
   ];
 }
 
-cell_of : (t : Table) (g : ℕ) (cell : Cell) → get_or t.states g GranuleState.Dirty ≡ cell.state → get_or t.unclean g true ≡ cell.unclean → cell_at t g ≡ cell
+cell_of : (t : CellTable) (g : ℕ) (cell : Cell) → get_or t.states g GranuleState.Dirty ≡ cell.state → get_or t.unclean g true ≡ cell.unclean → cell_at t g ≡ cell
 cell_of t g cell state unclean = λ i. record { state = state i; unclean = unclean i }
 
 -- one granule more is changed
-pub one_more : (f : Cell → Cell) (first k : ℕ) (old mid new : Table) → length old.unclean ≡ length old.states → length mid.unclean ≡ length mid.states
+pub one_more : (f : Cell → Cell) (first k : ℕ) (old mid new : CellTable) → length old.unclean ≡ length old.states → length mid.unclean ≡ length mid.states
     → first ≤ k → k < length mid.states
     → IsChanged f (between first k) old mid
     → new.states ≡ set mid.states k (f (cell_at mid k)).state → new.unclean ≡ set mid.unclean k (f (cell_at mid k)).unclean
@@ -99,7 +99,7 @@ same_run run n end g ends few below = elim (cases_lt g run.first) [
   ]
 ]
 
-pub whole_run : (f : Cell → Cell) (run : Run) (end : ℕ) (old new : Table) → length old.states < 2 ^ 32
+pub whole_run : (f : Cell → Cell) (run : Run) (end : ℕ) (old new : CellTable) → length old.states < 2 ^ 32
     → end ≡ min (min (run.first + run.count) (2 ^ 32 - 1)) (length old.states)
     → IsChanged f (between run.first end) old new → IsChanged f run old new
 whole_run f run end old new few ends changed = record {

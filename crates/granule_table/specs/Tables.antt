@@ -10,11 +10,11 @@ pub record Cell : Type 0 where
   pub unclean : Bool
 
 -- both by number, in the order of the granules
-pub record Table : Type 0 where
+pub record CellTable : Type 0 where
   pub states : List GranuleState
   pub unclean : List Bool
 
-abbrev pub cell_at : Table → ℕ → Cell
+abbrev pub cell_at : CellTable → ℕ → Cell
 cell_at t g = record { state = slice_index_or t.states g GranuleState.Dirty; unclean = slice_index_or t.unclean g true }
 
 -- ---- what a change makes of a granule
@@ -32,6 +32,6 @@ abbrev pub zeroed : Cell → Cell
 zeroed cell = record { state = GranuleState.Free; unclean = false }
 
 -- Each granule of the run that is in the table is changed so, and each other one is as it was.
-pub record IsChanged (change : Cell → Cell) (run : Run) (old new : Table) : Type 0 where
+pub record IsChanged (change : Cell → Cell) (run : Run) (old new : CellTable) : Type 0 where
   pub granules : length new.states ≡ length old.states
   pub each : (g : ℕ) → g < length old.states → cell_at new g ≡ (if has_granule run g then change (cell_at old g) else cell_at old g)

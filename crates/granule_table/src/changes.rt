@@ -1,6 +1,6 @@
 //! What can change of a granule.
 
-ghost use Rattle.granule_table.specs.Changes.{applied};
+ghost use Rattle.granule_table.specs.Changes.{cell_changed};
 ghost use Rattle.std.specs.Prelude.{◌≡◌, if◌then◌else◌};
 
 use granule_map::GranuleState;
@@ -21,7 +21,7 @@ pub(crate) enum Change {
 impl Change {
     /// The state of a granule once it is changed.
     pub(crate) fn state(&self, state: GranuleState, unclean: bool) -> GranuleState
-        ensures { result ≡ (applied self.now (record { state = state; unclean = unclean })).state }
+        ensures { result ≡ (cell_changed self.now (record { state = state; unclean = unclean })).state }
     {
         match self {
             Change::Give(given) => *given,
@@ -33,7 +33,7 @@ impl Change {
 
     /// Whether a granule has to be zeroed once it is changed.
     pub(crate) fn unclean(&self, state: GranuleState, unclean: bool) -> bool
-        ensures { result ≡ (applied self.now (record { state = state; unclean = unclean })).unclean }
+        ensures { result ≡ (cell_changed self.now (record { state = state; unclean = unclean })).unclean }
     {
         match self {
             Change::Give(_) | Change::Settle => unclean,

@@ -1,7 +1,7 @@
 //! The table of the granules.
 
 ghost use Rattle.granule_map.specs.StateLists.{count_of};
-ghost use Rattle.granule_table.specs.Changes.{applied, between, one};
+ghost use Rattle.granule_table.specs.Changes.{cell_changed, between, count_one};
 ghost use Rattle.granule_table.specs.Tables.{IsChanged, cell_at, given, settled, soiled, zeroed};
 ghost use Rattle.std.specs.Prelude.{◌≡◌, ◌+◌, ◌^◌, ◌<◌, ◌≤◌, IfOk, false, length, replicate, slice_set};
 
@@ -21,14 +21,14 @@ pub struct GranuleTable {
 }
 
 impl Model for GranuleTable {
-    ghost use Rattle.granule_table.specs.Counts.{IsCounted};
-    ghost use Rattle.granule_table.specs.Tables.{Table};
+    ghost use Rattle.granule_table.specs.Counts.{IsCountOf};
+    ghost use Rattle.granule_table.specs.Tables.{CellTable};
 
-    ghost Value = { Table };
+    ghost Value = { CellTable };
 
     ghost view = { λ table. record { states = table.map.states; unclean = table.unclean.items } };
 
-    ghost invariant = { λ table. IsCounted table.map table.unclean.items table.free table.dirty };
+    ghost invariant = { λ table. IsCountOf table.map table.unclean.items table.free table.dirty };
 }
 
 impl GranuleTable {
@@ -106,7 +106,7 @@ impl GranuleTable {
 
     /// Changes each granule of the run that is in the table.
     fn change(&mut self, run: Run, change: &Change)
-        ensures { IsChanged (applied change.now) run self.old self.new }
+        ensures { IsChanged (cell_changed change.now) run self.old self.new }
     {
         let end = run.first.0.saturating_add(run.count).min(self.len());
         self.change_each(run.first.0, end, change);
@@ -116,7 +116,7 @@ impl GranuleTable {
     fn change_each(&mut self, first: u32, end: u32, change: &Change)
         requires within { end ≤ length self.old.states }
         requires each { length self.old.unclean ≡ length self.old.states }
-        ensures { IsChanged (applied change.now) (between first end) self.old self.new }
+        ensures { IsChanged (cell_changed change.now) (between first end) self.old self.new }
     {
         for granule in first..end {
             self.change_at(granule, change);
@@ -126,8 +126,8 @@ impl GranuleTable {
     /// Changes one granule of the table.
     fn change_at(&mut self, granule: u32, change: &Change)
         requires { granule < length self.old.states }
-        ensures states { self.new.states ≡ slice_set self.old.states granule (applied change.now (cell_at self.old granule)).state }
-        ensures unclean { self.new.unclean ≡ slice_set self.old.unclean granule (applied change.now (cell_at self.old granule)).unclean }
+        ensures states { self.new.states ≡ slice_set self.old.states granule (cell_changed change.now (cell_at self.old granule)).state }
+        ensures unclean { self.new.unclean ≡ slice_set self.old.unclean granule (cell_changed change.now (cell_at self.old granule)).unclean }
     {
         let was = self.map.at(Granule(granule));
         let unclean = self.unclean[granule as usize];
@@ -147,9 +147,9 @@ impl GranuleTable {
 
 /// A count once one of those that are counted was taken out, or one more is counted.
 fn recounted(count: u32, was: bool, is: bool) -> u32
-    requires counted { one was ≤ count }
-    requires fits { count + one is < 2 ^ 32 + one was }
-    ensures { result + one was ≡ count + one is }
+    requires counted { count_one was ≤ count }
+    requires fits { count + count_one is < 2 ^ 32 + count_one was }
+    ensures { result + count_one was ≡ count + count_one is }
 {
     count - was as u32 + is as u32
 }

@@ -13,18 +13,18 @@ use Rattle.dcd_codes.specs.declared.rules.Rule.{Rule}
 use Rattle.dcd_codes.specs.Rules.{◌breaks◌, each_in}
 use Rattle.region_config.specs.Configurations.{Configuration}
 use Rattle.region_config.specs.Soundness.{IsSound}
-use Rattle.region_config.specs.Granules.{first_granule, granule_size, granules_in, is_supported, region_spec, with_blocks}
+use Rattle.region_config.specs.Granules.{first_granule, granule_size, region_granules, is_supported, region_spec, with_blocks}
 use Rattle.region_config.proofs.PresentBlocks.{granules_in-with_blocks, region_spec-with_blocks}
 use Rattle.media_map.specs.Places.{extent_of, region_at, run_of}
 use Rattle.granule_map.specs.Blocks.{block_count, run_of_blocks}
 use Rattle.granule_map.specs.Choices.{lowest_run}
 use Rattle.granule_map.proofs.RunSteps.{below_from_none}
 use Rattle.list_rules.specs.Listing.{too_many_listed}
-use Rattle.selection.specs.Selections.{all_free, are_free, contiguous_runs, extent_rule, free_runs, is_free_block, prescribed_rule}
+use Rattle.selection.specs.Selections.{all_free, are_free, contiguous_runs, free_extent_rule, free_runs, is_free_block, prescribed_rule}
 use Rattle.selection.proofs.Chosen.{contiguous_are_free, free_are_free, free_some}
 use Rattle.selection.proofs.Prescribed.{kept}
-use Rattle.device_rules.specs.Adding.{area_of, extents_of, per_block, tagged}
-use Rattle.device_rules.specs.Adding.{free_blocks as blocks_free, longest_free as blocks_together}
+use Rattle.device_rules.specs.Adding.{area_of, extents_of, per_block, with_tag}
+use Rattle.device_rules.specs.Adding.{region_free_blocks as blocks_free, region_longest_free as blocks_together}
 use Rattle.holding_laws.specs.Pictures.{count_on}
 use Rattle.holding_laws.specs.Standing.{IsMade}
 use Rattle.holding_laws.proofs.BlockRuns.{IsBlockRun, apart_count, contiguous_apart, contiguous_block_runs, extent_made, extent_run, free_apart, free_block_runs}
@@ -74,10 +74,10 @@ pub record IsChosen (c : Configuration) (size : ℕ) (h : HostId) (r : ℕ) (xs 
 pub made_marked : (c : Configuration) (size : ℕ) (h : HostId) (r : ℕ) (x : Extent) (t : Tag) (m : ℕ) → IsMade c size h r x → IsMade c size h r (record x { tag = t; sequence = m })
 made_marked c size h r x t m a = record { known = a.known; some = a.some; from = a.from; within = a.within; begins = a.begins; ends = a.ends }
 
-pub marked_chosen : (c : Configuration) (size : ℕ) (h : HostId) (r : ℕ) (shareable : Bool) (t : Tag) (xs : List Extent) → IsChosen c size h r xs → IsChosen c size h r (tagged shareable t xs)
+pub marked_chosen : (c : Configuration) (size : ℕ) (h : HostId) (r : ℕ) (shareable : Bool) (t : Tag) (xs : List Extent) → IsChosen c size h r xs → IsChosen c size h r (with_tag shareable t xs)
 marked_chosen c size h r shareable t xs a = record {
   made = marked_each shareable t (IsMade c size h r) (λ x m b. made_marked c size h r x t m b) 1 xs a.made;
-  apart = λ g. omega (arith, a.apart g, count_runs c h g xs, count_runs c h g (tagged shareable t xs), ap (many (λ run. has_granule run g)) (marked_runs shareable t c h 1 xs));
+  apart = λ g. omega (arith, a.apart g, count_runs c h g xs, count_runs c h g (with_tag shareable t xs), ap (many (λ run. has_granule run g)) (marked_runs shareable t c h 1 xs));
   some = omega (arith, a.some, marked_length shareable t 1 xs);
 }
 
@@ -129,7 +129,7 @@ module _ (c : Configuration) (sound : IsSound c) (b : ℕ → ℕ) (h : HostId) 
   area_first : (area_of (with_blocks c b) r).first ≡ first_granule c r
   area_first = first_same c b r
 
-  area_count : (area_of (with_blocks c b) r).count ≡ granules_in c r
+  area_count : (area_of (with_blocks c b) r).count ≡ region_granules c r
   area_count = granules_in-with_blocks c b r
 
   block_is : (region_spec (with_blocks c b) r).block ≡ b r
@@ -199,7 +199,7 @@ module _ (c : Configuration) (sound : IsSound c) (b : ℕ → ℕ) (h : HostId) 
     abbrev IsPrescribed : Extent → Type 0
     IsPrescribed x = IsMade c (b r) h r x × (all_free free (run_of c h x) ≡ true)
 
-    prescribed_each : (before : List Extent) (x : Extent) → extent_rule (with_blocks c b) h free r before x ≡ None → IsPrescribed x
+    prescribed_each : (before : List Extent) (x : Extent) → free_extent_rule (with_blocks c b) h free r before x ≡ None → IsPrescribed x
     prescribed_each before x e = let k = kept (with_blocks c b) h free r before x e in
         (placed_made c b h r x k.place, ap (all_free free) (sym (run_same c b h x)) ∙ k.is_free)
 
@@ -215,11 +215,11 @@ module _ (c : Configuration) (sound : IsSound c) (b : ℕ → ℕ) (h : HostId) 
     ]
 
     module _ (list : List Extent) (row : prescribed_rule (with_blocks c b) h free r list ≡ None) where
-      last : ((is_empty list breaks Rule.EmptyList or too_many_listed list) ≡ None) × (each_in list (extent_rule (with_blocks c b) h free r) ≡ None)
-      last = neither (is_empty list breaks Rule.EmptyList or too_many_listed list) (each_in list (extent_rule (with_blocks c b) h free r)) row
+      last : ((is_empty list breaks Rule.EmptyList or too_many_listed list) ≡ None) × (each_in list (free_extent_rule (with_blocks c b) h free r) ≡ None)
+      last = neither (is_empty list breaks Rule.EmptyList or too_many_listed list) (each_in list (free_extent_rule (with_blocks c b) h free r)) row
 
       each_one : AllByRecursion IsPrescribed list
-      each_one = row_each (extent_rule (with_blocks c b) h free r) IsPrescribed prescribed_each [] list last.1
+      each_one = row_each (free_extent_rule (with_blocks c b) h free r) IsPrescribed prescribed_each [] list last.1
 
       pub prescribed_reached : (g : ℕ) → reaches c h list g ≡ true → free g ≡ true
       prescribed_reached g has = reached_free list g each_one has
@@ -231,7 +231,7 @@ module _ (c : Configuration) (sound : IsSound c) (b : ℕ → ℕ) (h : HostId) 
       at_home x a = subst (λ k. IsMade c (b k) h k x) (sym (made_region c h sound host (b r) r x block_whole a.0)) a.0
 
       spread : Spread [] list
-      spread = row_spread (extent_rule (with_blocks c b) h free r) (λ before x e. (kept (with_blocks c b) h free r before x e).no_overlap) [] list last.1
+      spread = row_spread (free_extent_rule (with_blocks c b) h free r) (λ before x e. (kept (with_blocks c b) h free r before x e).no_overlap) [] list last.1
 
       pub prescribed_chosen : IsChosen c (b r) h r list
       prescribed_chosen = record {

@@ -22,8 +22,8 @@ use Rattle.journal_core.specs.declared.outcome.Effect.{Effect}
 use Rattle.journal_core.specs.Entries.{effects}
 use Rattle.list_rules.specs.Listing.{too_many_extents}
 use Rattle.selection.specs.Selections.{contiguous_runs, free_runs, prescribed_rule, too_few_free}
-use Rattle.device_rules.specs.Adding.{add_outcome, add_rule, area_of, by_length_rule, extents_of, is_free_now, is_open_in, offered, per_block, present, tagged, too_many_tags}
-use Rattle.device_rules.specs.Adding.{free_blocks as blocks_free, longest_free as blocks_together}
+use Rattle.device_rules.specs.Adding.{add_outcome, add_rule, area_of, by_length_rule, extents_of, is_free_now, is_open_in, offered, per_block, present, with_tag, too_many_tags}
+use Rattle.device_rules.specs.Adding.{region_free_blocks as blocks_free, region_longest_free as blocks_together}
 use Rattle.device_rules.specs.Outcomes.{effects_of, log_full}
 use Rattle.device_rules.specs.Tags.{is_free, is_live, last_offer, open_tags, region_of_offer, status, tag_region, tag_runs}
 use Rattle.device_rules.specs.Views.{View, extents_in, view_of}
@@ -115,12 +115,12 @@ module _ (c : Configuration) (sound : IsSound c) (past : List Effect) (before : 
   -- extents of free granules, each with the tag
   fresh : h < c.hosts → is_live c t past ≡ false → (is_zero_tag t && (region_spec c r).shareable) ≡ false → (xs : List Extent) → IsChosen c (p.block r) h r xs
       → ((g : ℕ) → reaches c h xs g ≡ true → is_free (status c g past) ≡ true)
-      → length (extents_at p h) + length (tagged (region_spec c r).shareable t xs) ≤ extents_supported → IsAdded c p h r t (tagged (region_spec c r).shareable t xs)
+      → length (extents_at p h) + length (with_tag (region_spec c r).shareable t xs) ≤ extents_supported → IsAdded c p h r t (with_tag (region_spec c r).shareable t xs)
   fresh host dead zero_tags xs chosen free few =
-      let new : List Extent = tagged (region_spec c r).shareable t xs in
+      let new : List Extent = with_tag (region_spec c r).shareable t xs in
       let all = marked_chosen c (p.block r) h r (region_spec c r).shareable t xs chosen in
-      let same : (g : ℕ) → reaches c h (tagged (region_spec c r).shareable t xs) g ≡ reaches c h xs g = λ g.
-      sym (reach_runs c h g (tagged (region_spec c r).shareable t xs)) ∙ ap (λ runs. has_in_runs runs g) (marked_runs (region_spec c r).shareable t c h 1 xs) ∙ reach_runs c h g xs in
+      let same : (g : ℕ) → reaches c h (with_tag (region_spec c r).shareable t xs) g ≡ reaches c h xs g = λ g.
+      sym (reach_runs c h g (with_tag (region_spec c r).shareable t xs)) ∙ ap (λ runs. has_in_runs runs g) (marked_runs (region_spec c r).shareable t c h 1 xs) ∙ reach_runs c h g xs in
       record {
         some = all.some;
         offer = record {
@@ -141,8 +141,8 @@ module _ (c : Configuration) (sound : IsSound c) (past : List Effect) (before : 
 
   -- the granules of an open tag
   shared : h < c.hosts → r < length c.regions → (region_spec c r).shareable ≡ true → is_open_in c past r t ≡ true → has_extent_of t (extents_at p h) ≡ false
-      → length (extents_at p h) + length (tagged (region_spec c r).shareable t (extents_of (present c past) h (tag_runs c (last_offer t past)))) ≤ extents_supported
-      → IsAdded c p h r t (tagged (region_spec c r).shareable t (extents_of (present c past) h (tag_runs c (last_offer t past))))
+      → length (extents_at p h) + length (with_tag (region_spec c r).shareable t (extents_of (present c past) h (tag_runs c (last_offer t past)))) ≤ extents_supported
+      → IsAdded c p h r t (with_tag (region_spec c r).shareable t (extents_of (present c past) h (tag_runs c (last_offer t past))))
   shared host known shareable open_in no_extent few =
       let parts = and_parts (has_tag (open_tags c past) t) (eqb (unwrap_or (tag_region c (last_offer t past)) 0) r) open_in in
       let a = s.opened t parts.0 in
@@ -155,7 +155,7 @@ module _ (c : Configuration) (sound : IsSound c) (past : List Effect) (before : 
       let once : (g : ℕ) → many (λ run. has_granule run g) runs ≤ 1 = λ g. omega (arith, a.apart g, ap (many (λ run. has_granule run g)) runs_are, count_runs c a.host g a.extents) in
       let some : 0 < length runs = omega (arith, a.some, ap length runs_are, length-map a.extents (run_of c a.host)) in
       let xs : List Extent = extents_of (present c past) h runs in
-      let new : List Extent = tagged (region_spec c r).shareable t xs in
+      let new : List Extent = with_tag (region_spec c r).shareable t xs in
       let chosen = runs_chosen c sound p.block h host r known s.blocks runs blocks once some in
       let all = marked_chosen c (p.block r) h r (region_spec c r).shareable t xs chosen in
       let back : map (run_of c h) new ≡ runs = marked_runs (region_spec c r).shareable t c h 1 xs ∙ runs_back c sound p.block h host r known s.blocks runs blocks in

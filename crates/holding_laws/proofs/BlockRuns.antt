@@ -13,15 +13,15 @@ use Rattle.dcd_base.specs.declared.ids.HostId.{HostId}
 use Rattle.dcd_base.specs.declared.media.Run.{Run}
 use Rattle.dcd_base.specs.Words.{has_granule, zero_tag}
 use Rattle.region_config.specs.Configurations.{Configuration}
-use Rattle.region_config.specs.Granules.{base_of, first_granule, granule_size, granules_in, region_of}
+use Rattle.region_config.specs.Granules.{base_of, first_granule, granule_size, region_granules, region_of}
 use Rattle.region_config.specs.Soundness.{IsSound}
 use Rattle.region_config.proofs.Faultless.{granule_from, granules_rise}
 use Rattle.region_config.proofs.GranuleLemmas.{region_is}
-use Rattle.media_map.specs.Places.{IsRun, bytes_in, extent_of, is_granular, run_of, start_of}
+use Rattle.media_map.specs.Places.{IsRun, bytes_of_run, extent_of, is_granular, run_of, start_of}
 use Rattle.media_map.proofs.RunLemmas.{ends_within, range_back, run_fits, run_some}
 use Rattle.granule_map.specs.Blocks.{block_count, run_of_blocks}
 use Rattle.granule_map.specs.Choices.{joined, lowest_run, passing, run_from}
-use Rattle.selection.specs.Selections.{AreApart, AreBetween, always_together, contiguous_runs, free_runs, granules_of, is_free_block}
+use Rattle.selection.specs.Selections.{AreApart, AreBetween, always_together, contiguous_runs, free_runs, granules_of_blocks, is_free_block}
 use Rattle.selection.proofs.Chosen.{NumbersBetween, PairsBetween, blocks_between, between_apart, filter_between, joined_between, take_between}
 use Rattle.granule_map.proofs.Joining.{lowest_found}
 use Rattle.holding_laws.specs.Standing.{IsMade}
@@ -51,7 +51,7 @@ module _ (c : Configuration) (h : HostId) (s : IsSound c) (host : h < c.hosts) (
   starts : start_of c h run ≡ base_of c h r + (run.first - first_granule c r) * granule_size c r
   starts = rw at refl
 
-  long : bytes_in c run ≡ run.count * granule_size c r
+  long : bytes_of_run c run ≡ run.count * granule_size c r
   long = rw at refl
 
   offset : start_of c h run - base_of c h r ≡ (run.first - first_granule c r) * granule_size c r
@@ -70,7 +70,7 @@ module _ (c : Configuration) (h : HostId) (s : IsSound c) (host : h < c.hosts) (
 
   -- and its run is the run
   pub extent_run : (t : Tag) (n : ℕ) → run_of c h (extent_of c h run t n) ≡ run
-  extent_run t n = elim (cases_Bool (is_granular c h (start_of c h run) (bytes_in c run))) [
+  extent_run t n = elim (cases_Bool (is_granular c h (start_of c h run) (bytes_of_run c run))) [
     | inl holds ↦ same_Some _ _ (sym (ap (λ t. if t then Some (run_of c h (extent_of c h run zero_tag 0)) else None) holds) ∙ range_back c h s host run r b.known at b.from is)
     | inr fails ↦ absurd (none-some run (sym (ap (λ t. if t then Some (run_of c h (extent_of c h run zero_tag 0)) else None) fails) ∙ range_back c h s host run r b.known at b.from is))
   ]
@@ -120,7 +120,7 @@ each_within less from to (run ∷ runs) low rises = (
 )
 
 module _ (c : Configuration) (size r : ℕ) (known : r < length c.regions) (free : ℕ → Bool) (area : Run) (per : ℕ)
-    (first : area.first ≡ first_granule c r) (count : area.count ≡ granules_in c r) (some : 0 < per) (block : per * granule_size c r ≡ size) where
+    (first : area.first ≡ first_granule c r) (count : area.count ≡ region_granules c r) (some : 0 < per) (block : per * granule_size c r ≡ size) where
   -- the last block ends with the region or before
   last_block : area.first + block_count area per * per ≤ first_granule c (suc r)
   last_block = omega (arith, first, count, div-add-mod' area.count per)
@@ -168,7 +168,7 @@ module _ (c : Configuration) (size r : ℕ) (known : r < length c.regions) (free
       let n : ℕ = block_count area per in
       let chosen : List (ℕ × ℕ) = joined always_together (take need (passing (is_free_block free area per) n)) in
       each-both IsWhole (IsWithin area.first (area.first + n * per)) (IsBlockRun c size r) block_run_from (free_runs free area per need)
-      (each-map (λ _. Unit {0}) IsWhole (granules_of area per) (λ blocks _. of_blocks blocks.0 blocks.1) chosen (each-all (λ _. Unit {0}) (λ _. tt) chosen))
+      (each-map (λ _. Unit {0}) IsWhole (granules_of_blocks area per) (λ blocks _. of_blocks blocks.0 blocks.1) chosen (each-all (λ _. Unit {0}) (λ _. tt) chosen))
       (each_within area.first area.first (area.first + n * per) (free_runs free area per need) (omega arith) (free_rise need))
 
   pub free_apart : (need : ℕ) → AreApart (free_runs free area per need)

@@ -14,7 +14,7 @@ use Rattle.dcd_codes.specs.declared.rules.Rule.{Rule}
 use Rattle.dcd_codes.specs.Rules.{◌breaks◌, each_in}
 use Rattle.region_config.specs.Configurations.{Configuration}
 use Rattle.region_config.specs.Soundness.{IsSound}
-use Rattle.region_config.specs.Granules.{first_granule, granules_in, hosts_of, is_supported, region_spec}
+use Rattle.region_config.specs.Granules.{first_granule, region_granules, hosts_of, is_supported, region_spec}
 use Rattle.media_map.specs.Places.{run_of}
 use Rattle.journal_core.specs.declared.outcome.Effect.{Effect}
 use Rattle.device_rules.specs.Outcomes.{effects_of, log_full}
@@ -72,13 +72,13 @@ module _ (c : Configuration) (sound : IsSound c) (past : List Effect) (before : 
 
   -- every granule of the region is free
   abbrev InRegion : ℕ → Type 0
-  InRegion g = (first_granule c r ≤ g) × (g < first_granule c r + granules_in c r)
+  InRegion g = (first_granule c r ≤ g) × (g < first_granule c r + region_granules c r)
 
   all_free : (g : ℕ) → InRegion g → is_free (status c g past) ≡ true
   all_free g i =
       let used : ℕ → Bool = λ k. not (is_free (status c k past)) in
-      let count : many used (range_with_len (first_granule c r) (granules_in c r)) ≡ 0 = length-filter used (range_with_len (first_granule c r) (granules_in c r)) ∙ unused in
-      not-false (is_free (status c g past)) (none_many used (first_granule c r) (granules_in c r) g count i.0 i.1)
+      let count : many used (range_with_len (first_granule c r) (region_granules c r)) ≡ 0 = length-filter used (range_with_len (first_granule c r) (region_granules c r)) ∙ unused in
+      not-false (is_free (status c g past)) (none_many used (first_granule c r) (region_granules c r) g count i.0 i.1)
 
   -- so no extent is made of it
   first_has : (h : HostId) → h < c.hosts → (x : Extent) → IsMade c (p.block r) h r x → (g : ℕ) × InRegion g × (has_granule (run_of c h x) g ≡ true)

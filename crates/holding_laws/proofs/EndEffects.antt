@@ -78,13 +78,13 @@ module _ (c : Configuration) (past : List Effect) (o : Outcome) (none : list_all
   over = ended c past o.changes o.tags
 
   abbrev records : List Effect
-  records = flat_map (λ n. entered_all n.0 (log_of n.0 past) n.1) o.notices
+  records = flat_map (λ n. entered_all n.0 (log_of n.0 past) n.1) o.log_records
 
   abbrev then_open : List Tag
   then_open = fold (tags_after c) (open_tags c past) o.changes
 
-  records_end_none : list_all ends_none (flat_map (λ n. entered_all n.0 (log_of n.0 past) n.1) o.notices) ≡ true
-  records_end_none = told_passes ends_none any_log (λ l is. record { logged = λ event. refl; missed = refl }) past o.notices (tells_any o.notices)
+  records_end_none : list_all ends_none (flat_map (λ n. entered_all n.0 (log_of n.0 past) n.1) o.log_records) ≡ true
+  records_end_none = told_passes ends_none any_log (λ l is. record { logged = λ event. refl; missed = refl }) past o.log_records (tells_any o.log_records)
 
   -- its effects end the tags that end
   ends_are : (t : Tag) → list_any (is_end_of t) (effects_of c past o) ≡ has_tag (ended c past o.changes o.tags) t

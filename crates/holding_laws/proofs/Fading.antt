@@ -9,7 +9,7 @@ use Rattle.dcd_base.specs.declared.media.Run.{Run}
 use Rattle.dcd_base.specs.Words.{same_tag}
 use Rattle.extent_list.specs.ExtentLists.{cut, has_extent_of}
 use Rattle.region_config.specs.Configurations.{Configuration}
-use Rattle.media_map.specs.Places.{bytes_in, start_of}
+use Rattle.media_map.specs.Places.{bytes_of_run, start_of}
 use Rattle.journal_core.specs.declared.outcome.Effect.{Effect}
 use Rattle.device_rules.specs.Tags.{is_in_shareable, is_live_shareable, tag_region}
 use Rattle.holding_laws.specs.Pictures.{Picture, lives, picture_after, picture_of}
@@ -37,10 +37,10 @@ module _ (c : Configuration) (t : Tag) (p : Picture) where
       let parts = and_parts (lives c q t) (is_in_shareable c (tag_region c (p.last t))) alive in
       and_from (lives c p t) (is_in_shareable c (tag_region c (p.last t))) (lives_less c p q t (λ k has. less k (h == k) has) (λ e. e) parts.0) parts.1
     where
-      less : (k : HostId) (b : Bool) → (has_extent_of t (if b then cut (start_of c k run) (bytes_in c run) (p.accepted k) else p.accepted k) || list_any (has_extent_of t) (p.offers k)) ≡ true → keeps p t k ≡ true
+      less : (k : HostId) (b : Bool) → (has_extent_of t (if b then cut (start_of c k run) (bytes_of_run c run) (p.accepted k) else p.accepted k) || list_any (has_extent_of t) (p.offers k)) ≡ true → keeps p t k ≡ true
       less k false has = has
-      less k true has = elim (cases_Bool (has_extent_of t (cut (start_of c k run) (bytes_in c run) (p.accepted k)))) [
-        | inl held ↦ or_left (has_extent_of t (p.accepted k)) (list_any (has_extent_of t) (p.offers k)) (has_cut t (start_of c k run) (bytes_in c run) (p.accepted k) held)
+      less k true has = elim (cases_Bool (has_extent_of t (cut (start_of c k run) (bytes_of_run c run) (p.accepted k)))) [
+        | inl held ↦ or_left (has_extent_of t (p.accepted k)) (list_any (has_extent_of t) (p.offers k)) (has_cut t (start_of c k run) (bytes_of_run c run) (p.accepted k) held)
         | inr not_held ↦ or_right (has_extent_of t (p.accepted k)) (list_any (has_extent_of t) (p.offers k)) (rw not_held at has)
       ]
 

@@ -23,7 +23,7 @@ use Rattle.journal_core.specs.declared.outcome.HeldKind.{HeldKind}
 use Rattle.journal_core.specs.Entries.{effects}
 use Rattle.release_core.specs.Leaving.{count_after}
 use Rattle.release_core.specs.Releases.{give_back_rule}
-use Rattle.release_core.specs.Removals.{by_tag_rule, listed_rule, tagged}
+use Rattle.release_core.specs.Removals.{by_tag_rule, prescribed_removal_rule, extents_of_tag}
 use Rattle.device_rules.specs.Outcomes.{effects_of, log_full}
 use Rattle.device_rules.specs.ReleaseOutcomes.{give_back_outcome, is_cleaning, is_forced, leaves, policy_in, removals, remove_outcome, remove_rule, removed, soils}
 use Rattle.device_rules.specs.ResponseOutcomes.{unhold}
@@ -117,7 +117,7 @@ record IsForced (c : Configuration) (p : Picture) (h : HostId) (all : List Exten
 
 module _ (c : Configuration) (sound : IsSound c) (p : Picture) (before : Sound c p) (h : HostId) (host : h < c.hosts) (clean : Bool) where
   -- by tag
-  forced_by_tag : (tag : Tag) → IsForced c p h (tagged tag (p.accepted h)) (removals c h clean (tagged tag (p.accepted h)))
+  forced_by_tag : (tag : Tag) → IsForced c p h (extents_of_tag tag (p.accepted h)) (removals c h clean (extents_of_tag tag (p.accepted h)))
   forced_by_tag tag =
       let test : Extent → Bool = λ x. same_tag x.tag tag in
       let ys : List Extent = filter test (p.accepted h) in
@@ -138,7 +138,7 @@ module _ (c : Configuration) (sound : IsSound c) (p : Picture) (before : Sound c
       ]
 
   -- prescriptive
-  forced_listed : (r : ℕ) (list : List Extent) → listed_rule (with_blocks c p.block) h (p.accepted h) (count_in (p.offers h)) r list true ≡ None
+  forced_listed : (r : ℕ) (list : List Extent) → prescribed_removal_rule (with_blocks c p.block) h (p.accepted h) (count_in (p.offers h)) r list true ≡ None
       → IsForced c p h (map (marked (p.accepted h)) list) (removals c h clean (map (marked (p.accepted h)) list))
   forced_listed r list row =
       let w : Configuration = with_blocks c p.block in
@@ -159,8 +159,8 @@ module _ (c : Configuration) (sound : IsSound c) (p : Picture) (before : Sound c
       }
 
   forced : (by_tag : Bool) (r : ℕ) (tag : Tag) (list : List Extent)
-      → (if by_tag then by_tag_rule (p.accepted h) tag else listed_rule (with_blocks c p.block) h (p.accepted h) (count_in (p.offers h)) r list true) ≡ None
-      → IsForced c p h (if by_tag then tagged tag (p.accepted h) else map (marked (p.accepted h)) list) (removals c h clean (if by_tag then tagged tag (p.accepted h) else map (marked (p.accepted h)) list))
+      → (if by_tag then by_tag_rule (p.accepted h) tag else prescribed_removal_rule (with_blocks c p.block) h (p.accepted h) (count_in (p.offers h)) r list true) ≡ None
+      → IsForced c p h (if by_tag then extents_of_tag tag (p.accepted h) else map (marked (p.accepted h)) list) (removals c h clean (if by_tag then extents_of_tag tag (p.accepted h) else map (marked (p.accepted h)) list))
   forced true r tag list row = forced_by_tag tag
   forced false r tag list row = forced_listed r list row
 
@@ -172,7 +172,7 @@ remove_keeps c sound journal before h flags r bytes tag list row =
     let v : View = view_of c h journal in
     let p : Picture = picture_of c (effects journal) in
     let by_tag : Bool = policy_in flags == 0 in
-    let by_row = if policy_in flags == 0 then by_tag_rule v.accepted tag else listed_rule (with_blocks c v.block) h v.accepted (count_in v.offers) r list (is_forced flags) in
+    let by_row = if policy_in flags == 0 then by_tag_rule v.accepted tag else prescribed_removal_rule (with_blocks c v.block) h v.accepted (count_in v.offers) r list (is_forced flags) in
     let p5 = neither _ (log_full h v.log (length (removed v.accepted flags tag list))) row in
     let p4 = neither _ by_row p5.0 in
     let p3 = neither _ (ltb 1 (policy_in flags) breaks Rule.NoSuchPolicy (policy_in flags)) p4.0 in
@@ -180,7 +180,7 @@ remove_keeps c sound journal before h flags r bytes tag list row =
     let host = leb-false _ _ (not_broken (leb c.hosts h) (Rule.NoSuchHost h) p2.0) in
     by_force (is_forced flags) refl host p4.1
   where
-    by_force : (force : Bool) → is_forced flags ≡ force → h < c.hosts → (if policy_in flags == 0 then by_tag_rule (view_of c h journal).accepted tag else listed_rule (with_blocks c (view_of c h journal).block) h (view_of c h journal).accepted (count_in (view_of c h journal).offers) r list (is_forced flags)) ≡ None
+    by_force : (force : Bool) → is_forced flags ≡ force → h < c.hosts → (if policy_in flags == 0 then by_tag_rule (view_of c h journal).accepted tag else prescribed_removal_rule (with_blocks c (view_of c h journal).block) h (view_of c h journal).accepted (count_in (view_of c h journal).offers) r list (is_forced flags)) ≡ None
         → Sound c (picture_of c (effects journal ++ effects_of c (effects journal) (remove_outcome c (λ k. view_of c k journal) h flags tag list)))
     by_force false is host inner =
         let none_changed : (remove_outcome c (λ k. view_of c k journal) h flags tag list).changes ≡ [] = ap (λ b. if b then removals c h (is_cleaning flags) (removed (view_of c h journal).accepted flags tag list) else []) is in
@@ -191,7 +191,7 @@ remove_keeps c sound journal before h flags r bytes tag list row =
         let changed : (remove_outcome c (λ k. view_of c k journal) h flags tag list).changes ≡ removals c h (is_cleaning flags) (removed (view_of c h journal).accepted flags tag list) =
         ap (λ b. if b then removals c h (is_cleaning flags) (removed (view_of c h journal).accepted flags tag list) else []) is in
         let f = forced c sound p before h host (is_cleaning flags) (policy_in flags == 0) r tag list
-        (ap (λ b. if policy_in flags == 0 then by_tag_rule (view_of c h journal).accepted tag else listed_rule (with_blocks c (view_of c h journal).block) h (view_of c h journal).accepted (count_in (view_of c h journal).offers) r list b) (sym is) ∙ inner) in
+        (ap (λ b. if policy_in flags == 0 then by_tag_rule (view_of c h journal).accepted tag else prescribed_removal_rule (with_blocks c (view_of c h journal).block) h (view_of c h journal).accepted (count_in (view_of c h journal).offers) r list b) (sym is) ∙ inner) in
         let told : picture_after c p (remove_outcome c (λ k. view_of c k journal) h flags tag list).changes ≡ picture_after c p (removals c h (is_cleaning flags) (removed (view_of c h journal).accepted flags tag list)) = ap (picture_after c p) changed in
         outcome_keeps c (effects journal) (remove_outcome c (λ k. view_of c k journal) h flags tag list) (subst (Stands c) (sym told) f.stands)
         (λ t e. elim (f.alive t (ap (λ q. has_tag q.tags t) (sym told) ∙ e)) [

@@ -22,7 +22,7 @@ use Rattle.region_config.specs.Granules.{base_of, first_granule, granule_size, i
 use Rattle.region_config.specs.Soundness.{IsSound}
 use Rattle.region_config.proofs.PresentBlocks.{first_granule-with_blocks, region_spec-with_blocks}
 use Rattle.region_config.proofs.GranuleLemmas.{region_is}
-use Rattle.media_map.specs.Places.{IsRun, bytes_in, extent_of, has_address, region_at, run_of, start_of}
+use Rattle.media_map.specs.Places.{IsRun, bytes_of_run, extent_of, has_address, region_at, run_of, start_of}
 use Rattle.media_map.proofs.PlaceLemmas.{has}
 use Rattle.media_map.proofs.RunLemmas.{IsGranular, is_run, region_at_is, run_bytes, run_fits, run_starts}
 use Rattle.selection.proofs.Placed.{IsPlaced}
@@ -68,8 +68,8 @@ module _ (c : Configuration) (h : HostId) (s : IsSound c) (host : h < c.hosts) (
   pub made_starts : start_of c h (run_of c h x) ≡ x.start
   made_starts = ap (start_of c h) made_run ∙ run_starts c h s host x.start x.length r m.known made_granular
 
-  pub made_bytes : bytes_in c (run_of c h x) ≡ x.length
-  made_bytes = ap (bytes_in c) made_run ∙ run_bytes c h s host x.start x.length r m.known made_granular
+  pub made_bytes : bytes_of_run c (run_of c h x) ≡ x.length
+  made_bytes = ap (bytes_of_run c) made_run ∙ run_bytes c h s host x.start x.length r m.known made_granular
 
   pub made_begins : (x.start - base_of c h r) / granule_size c r * granule_size c r ≡ x.start - base_of c h r
   made_begins = omega (arith, div-add-mod' (x.start - base_of c h r) (granule_size c r), made_granular.begins)
@@ -130,7 +130,7 @@ module _ (c : Configuration) (b : ℕ → ℕ) where
   pub start_same : (h : HostId) (run : Run) → start_of (with_blocks c b) h run ≡ start_of c h run
   start_same h run = λ i. let r = region_of_same run.first i in base_same h r i + (run.first - first_same r i) * size_same r i
 
-  pub bytes_same : (run : Run) → bytes_in (with_blocks c b) run ≡ bytes_in c run
+  pub bytes_same : (run : Run) → bytes_of_run (with_blocks c b) run ≡ bytes_of_run c run
   bytes_same run = λ i. run.count * size_same (region_of_same run.first i) i
 
   pub extent_same : (h : HostId) (run : Run) (t : Tag) (n : ℕ) → extent_of (with_blocks c b) h run t n ≡ extent_of c h run t n

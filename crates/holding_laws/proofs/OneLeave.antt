@@ -12,7 +12,7 @@ use Rattle.dcd_base.specs.Words.{has_granule, has_in_runs, has_tag}
 use Rattle.region_config.specs.Configurations.{Configuration}
 use Rattle.region_config.specs.Soundness.{IsSound}
 use Rattle.region_config.specs.Granules.{granule_size, is_supported, region_of, region_spec}
-use Rattle.media_map.specs.Places.{bytes_in, region_at, run_of, start_of}
+use Rattle.media_map.specs.Places.{bytes_of_run, region_at, run_of, start_of}
 use Rattle.extent_list.specs.ExtentLists.{cut, is_in, lies_in}
 use Rattle.journal_core.specs.declared.outcome.Effect.{Effect}
 use Rattle.device_rules.specs.Tags.{tag_runs}
@@ -97,11 +97,11 @@ module _ (c : Configuration) (sound : IsSound c) (p : Picture) (s : Loose c p) (
   pub accepted_now : q.accepted h ≡ cut x.start x.length (p.accepted h)
   accepted_now =
       let r : ℕ = region_at c h x.start in
-      ap (λ b. if b then cut (start_of c h (run_of c h x)) (bytes_in c (run_of c h x)) (p.accepted h) else p.accepted h) (eq-eqb h h refl)
+      ap (λ b. if b then cut (start_of c h (run_of c h x)) (bytes_of_run c (run_of c h x)) (p.accepted h) else p.accepted h) (eq-eqb h h refl)
       ∙ (λ i. cut (made_starts c h sound host (p.block r) r x (whole r made.known) made i) (made_bytes c h sound host (p.block r) r x (whole r made.known) made i) (p.accepted h))
 
   pub accepted_other : (k : HostId) → (h == k) ≡ false → q.accepted k ≡ p.accepted k
-  accepted_other k other = ap (λ b. if b then cut (start_of c k (run_of c h x)) (bytes_in c (run_of c h x)) (p.accepted k) else p.accepted k) other
+  accepted_other k other = ap (λ b. if b then cut (start_of c k (run_of c h x)) (bytes_of_run c (run_of c h x)) (p.accepted k) else p.accepted k) other
 
   at_host : extents_at q h ≡ cut x.start x.length (p.accepted h) ++ flat_map (λ xs. xs) (p.offers h)
   at_host = ap (λ ys. ys ++ flat_map (λ xs. xs) (p.offers h)) accepted_now

@@ -12,7 +12,7 @@ use Rattle.dcd_base.specs.Words.{has_tag, is_zero_tag, same_tag}
 use Rattle.extent_list.specs.ExtentLists.{cut, has_extent_of, has_range, is_in, lies_in, marked, owner_of, piece, without}
 use Rattle.region_config.specs.Configurations.{Configuration}
 use Rattle.region_config.specs.Granules.{hosts_of, region_spec}
-use Rattle.media_map.specs.Places.{bytes_in, region_at, run_of, start_of}
+use Rattle.media_map.specs.Places.{bytes_of_run, region_at, run_of, start_of}
 use Rattle.journal_core.specs.declared.outcome.Effect.{Effect}
 use Rattle.device_rules.specs.Outcomes.{Outcome, effects_of, ended}
 use Rattle.device_rules.specs.ReleaseOutcomes.{removals, soils}
@@ -87,10 +87,10 @@ leave_opened c p h run opened =
     let q : Picture = picture_after c p (Effect.Leave h run ∷ []) in
     fewer_opened c p q (λ t alive. lives_less c p q t (λ k has. less t k (h == k) has) (λ e. e) alive) (λ t. refl) refl opened
   where
-    less : (t : Tag) (k : HostId) (b : Bool) → (has_extent_of t (if b then cut (start_of c k run) (bytes_in c run) (p.accepted k) else p.accepted k) || list_any (has_extent_of t) (p.offers k)) ≡ true → keeps p t k ≡ true
+    less : (t : Tag) (k : HostId) (b : Bool) → (has_extent_of t (if b then cut (start_of c k run) (bytes_of_run c run) (p.accepted k) else p.accepted k) || list_any (has_extent_of t) (p.offers k)) ≡ true → keeps p t k ≡ true
     less t k false has = has
-    less t k true has = elim (cases_Bool (has_extent_of t (cut (start_of c k run) (bytes_in c run) (p.accepted k)))) [
-      | inl held ↦ or_left (has_extent_of t (p.accepted k)) (list_any (has_extent_of t) (p.offers k)) (has_cut t (start_of c k run) (bytes_in c run) (p.accepted k) held)
+    less t k true has = elim (cases_Bool (has_extent_of t (cut (start_of c k run) (bytes_of_run c run) (p.accepted k)))) [
+      | inl held ↦ or_left (has_extent_of t (p.accepted k)) (list_any (has_extent_of t) (p.offers k)) (has_cut t (start_of c k run) (bytes_of_run c run) (p.accepted k) held)
       | inr not_held ↦ or_right (has_extent_of t (p.accepted k)) (list_any (has_extent_of t) (p.offers k)) (rw not_held at has)
     ]
 

@@ -11,7 +11,7 @@ use Rattle.dcd_base.specs.Words.{has_tag, same_tag}
 use Rattle.extent_list.specs.ExtentLists.{has_extent_of, marked}
 use Rattle.list_rules.specs.Listing.{too_many_listed}
 use Rattle.media_map.specs.Places.{run_of}
-use Rattle.offer_core.specs.Responses.{list_rule, respond_rule}
+use Rattle.offer_core.specs.Responses.{response_list_rule, respond_rule}
 use Rattle.region_config.specs.Configurations.{Configuration}
 use Rattle.region_config.specs.Granules.{with_blocks}
 use Rattle.region_config.specs.Soundness.{IsSound}
@@ -74,7 +74,7 @@ responded_opened c sound p before h host [] is held list row opened =
     subst (IsOpened c) (sym (quiet_front c p (unhold h HeldKind.Responses held) [] (unhold_quiet h HeldKind.Responses held))) opened
 responded_opened c sound p before h host (offer ∷ later) is held list row opened =
     let all : List Extent = held ++ list in
-    let rules = neither (too_many_listed all) (list_rule (with_blocks c p.block) h (length (p.accepted h)) (offer ∷ later) all) row in
+    let rules = neither (too_many_listed all) (response_list_rule (with_blocks c p.block) h (length (p.accepted h)) (offer ∷ later) all) row in
     let a = answer_of c sound p before.stands h host offer later (held ++ list) rules.1 in
     subst (IsOpened c) (sym (quiet_front c p (unhold h HeldKind.Responses held) (Effect.Answer h (map (marked offer) (held ++ list)) ∷ map (λ x. Effect.Take h (run_of c h x)) (held ++ list)) (unhold_quiet h HeldKind.Responses held)))
     (answer_opened c sound p before h host offer later is (held ++ list) a opened)

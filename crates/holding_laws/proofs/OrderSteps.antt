@@ -46,7 +46,7 @@ module _ (c : Configuration) (past : List Effect) (before : OpenLive c past) (or
   -- a command whose changes are so
   by_outcome : (p : Effect → Bool) → ((t : Tag) → p (Effect.TagEnd t) ≡ true) → ((l : LogId) (event : Event) → p (Effect.Logged l event) ≡ true) → ((l : LogId) → p (Effect.Missed l) ≡ true) →
       (o : Outcome) → list_all p o.changes ≡ true → list_all p (effects_of c past o) ≡ true
-  by_outcome p end logged missed o changes = outcome_passes p any_log (λ l is. record { logged = logged l; missed = missed l }) end c past o changes (tells_any o.notices)
+  by_outcome p end logged missed o changes = outcome_passes p any_log (λ l is. record { logged = logged l; missed = missed l }) end c past o changes (tells_any o.log_records)
 
   fading_outcome : (o : Outcome) → list_all fades o.changes ≡ true → list_all no_offer o.changes ≡ true → Keeps c past (effects_of c past o)
   fading_outcome o fade none = fading (effects_of c past o)
@@ -59,17 +59,17 @@ module _ (c : Configuration) (past : List Effect) (before : OpenLive c past) (or
       order_kept c past (effects_of c past o) single (by_outcome no_offer (λ t. refl) (λ l event. refl) (λ l. refl) o none) before after order
 
   -- ends of tags and records follow the changes
-  told_fades : (notices : List (LogId × List Event)) → list_all fades (flat_map (λ n. entered_all n.0 (log_of n.0 past) n.1) notices) ≡ true
-  told_fades notices = told_passes fades any_log (λ l is. record { logged = λ event. refl; missed = refl }) past notices (tells_any notices)
+  told_fades : (log_records : List (LogId × List Event)) → list_all fades (flat_map (λ n. entered_all n.0 (log_of n.0 past) n.1) log_records) ≡ true
+  told_fades log_records = told_passes fades any_log (λ l is. record { logged = λ event. refl; missed = refl }) past log_records (tells_any log_records)
 
-  told_leaves : (notices : List (LogId × List Event)) → list_all leaves_tags (flat_map (λ n. entered_all n.0 (log_of n.0 past) n.1) notices) ≡ true
-  told_leaves notices = told_passes leaves_tags any_log (λ l is. record { logged = λ event. refl; missed = refl }) past notices (tells_any notices)
+  told_leaves : (log_records : List (LogId × List Event)) → list_all leaves_tags (flat_map (λ n. entered_all n.0 (log_of n.0 past) n.1) log_records) ≡ true
+  told_leaves log_records = told_passes leaves_tags any_log (λ l is. record { logged = λ event. refl; missed = refl }) past log_records (tells_any log_records)
 
-  after_fades : (changes : List Effect) (tags : List Tag) (notices : List (LogId × List Event)) → list_all fades changes ≡ true →
-      list_all fades ((changes ++ map Effect.TagEnd tags) ++ flat_map (λ n. entered_all n.0 (log_of n.0 past) n.1) notices) ≡ true
-  after_fades changes tags notices fade =
-      both_pass fades (changes ++ map Effect.TagEnd tags) (flat_map (λ n. entered_all n.0 (log_of n.0 past) n.1) notices)
-      (both_pass fades changes (map Effect.TagEnd tags) fade (map_passes fades Effect.TagEnd (λ t. refl) tags)) (told_fades notices)
+  after_fades : (changes : List Effect) (tags : List Tag) (log_records : List (LogId × List Event)) → list_all fades changes ≡ true →
+      list_all fades ((changes ++ map Effect.TagEnd tags) ++ flat_map (λ n. entered_all n.0 (log_of n.0 past) n.1) log_records) ≡ true
+  after_fades changes tags log_records fade =
+      both_pass fades (changes ++ map Effect.TagEnd tags) (flat_map (λ n. entered_all n.0 (log_of n.0 past) n.1) log_records)
+      (both_pass fades changes (map Effect.TagEnd tags) fade (map_passes fades Effect.TagEnd (λ t. refl) tags)) (told_fades log_records)
 
   -- ---- a host's command
 
@@ -77,12 +77,12 @@ module _ (c : Configuration) (past : List Effect) (before : OpenLive c past) (or
     takes_fade : (xs : List Extent) → list_all fades (map (λ x. Effect.Take h (run_of c h x)) xs) ≡ true
     takes_fade xs = map_passes fades (λ x. Effect.Take h (run_of c h x)) (λ x. refl) xs
 
-    answer_single : (held : List Extent) (offers : List (List Extent)) (all : List Extent) (tags : List Tag) (notices : List (LogId × List Event)) →
-        is_single (((unhold h HeldKind.Responses held ++ answered c h offers all) ++ map Effect.TagEnd tags) ++ flat_map (λ n. entered_all n.0 (log_of n.0 past) n.1) notices) ≡ true
-    answer_single [] [] all tags notices = single_fading (map Effect.TagEnd tags ++ flat_map (λ n. entered_all n.0 (log_of n.0 past) n.1) notices) (after_fades [] tags notices refl)
-    answer_single (y ∷ held) [] all tags notices = single_fading (map Effect.TagEnd tags ++ flat_map (λ n. entered_all n.0 (log_of n.0 past) n.1) notices) (after_fades [] tags notices refl)
-    answer_single [] (offer ∷ later) all tags notices = after_fades (map (λ x. Effect.Take h (run_of c h x)) all) tags notices (takes_fade all)
-    answer_single (y ∷ held) (offer ∷ later) all tags notices = after_fades (map (λ x. Effect.Take h (run_of c h x)) all) tags notices (takes_fade all)
+    answer_single : (held : List Extent) (offers : List (List Extent)) (all : List Extent) (tags : List Tag) (log_records : List (LogId × List Event)) →
+        is_single (((unhold h HeldKind.Responses held ++ answered c h offers all) ++ map Effect.TagEnd tags) ++ flat_map (λ n. entered_all n.0 (log_of n.0 past) n.1) log_records) ≡ true
+    answer_single [] [] all tags log_records = single_fading (map Effect.TagEnd tags ++ flat_map (λ n. entered_all n.0 (log_of n.0 past) n.1) log_records) (after_fades [] tags log_records refl)
+    answer_single (y ∷ held) [] all tags log_records = single_fading (map Effect.TagEnd tags ++ flat_map (λ n. entered_all n.0 (log_of n.0 past) n.1) log_records) (after_fades [] tags log_records refl)
+    answer_single [] (offer ∷ later) all tags log_records = after_fades (map (λ x. Effect.Take h (run_of c h x)) all) tags log_records (takes_fade all)
+    answer_single (y ∷ held) (offer ∷ later) all tags log_records = after_fades (map (λ x. Effect.Take h (run_of c h x)) all) tags log_records (takes_fade all)
 
     host_keeps : (q : HostRequest) → Keeps c past (effects_of c past (host_outcome c h v q))
     host_keeps (HostRequest.GetEvents log) = fading_outcome (host_outcome c h v (HostRequest.GetEvents log)) refl refl
@@ -97,7 +97,7 @@ module _ (c : Configuration) (past : List Effect) (before : OpenLive c past) (or
     host_keeps (HostRequest.AddResponse false list) =
         let o : Outcome = respond_outcome c h v false list in
         single_outcome (respond_outcome c h v false list)
-        (answer_single v.responses v.offers (v.responses ++ list) (ended c past o.changes o.tags) o.notices)
+        (answer_single v.responses v.offers (v.responses ++ list) (ended c past o.changes o.tags) o.log_records)
         (respond_passes no_offer h (record { hold = λ kind xs. refl; unhold = λ kind. refl }) (record { answer = λ xs. refl; take = λ run. refl; leave = λ run. refl }) c v.offers v.responses false list)
     host_keeps (HostRequest.GiveBack more list) = fading_outcome (host_outcome c h v (HostRequest.GiveBack more list)) (gives more)
         (give_back_passes no_offer h (record { hold = λ kind xs. refl; unhold = λ kind. refl }) (record { answer = λ xs. refl; take = λ run. refl; leave = λ run. refl }) c v.releases more list)
@@ -110,10 +110,10 @@ module _ (c : Configuration) (past : List Effect) (before : OpenLive c past) (or
 
   -- ---- a command of the manager
 
-  reference_single : (tag : Tag) (known : Bool) (tags : List Tag) (notices : List (LogId × List Event)) →
-      is_single (((if known then [] else Effect.Ref tag true ∷ []) ++ map Effect.TagEnd tags) ++ flat_map (λ n. entered_all n.0 (log_of n.0 past) n.1) notices) ≡ true
-  reference_single tag true tags notices = single_fading (map Effect.TagEnd tags ++ flat_map (λ n. entered_all n.0 (log_of n.0 past) n.1) notices) (after_fades [] tags notices refl)
-  reference_single tag false tags notices = after_fades [] tags notices refl
+  reference_single : (tag : Tag) (known : Bool) (tags : List Tag) (log_records : List (LogId × List Event)) →
+      is_single (((if known then [] else Effect.Ref tag true ∷ []) ++ map Effect.TagEnd tags) ++ flat_map (λ n. entered_all n.0 (log_of n.0 past) n.1) log_records) ≡ true
+  reference_single tag true tags log_records = single_fading (map Effect.TagEnd tags ++ flat_map (λ n. entered_all n.0 (log_of n.0 past) n.1) log_records) (after_fades [] tags log_records refl)
+  reference_single tag false tags log_records = after_fades [] tags log_records refl
 
   manager_keeps : (views : HostId → View) (q : FmRequest) → Keeps c past (effects_of c past (manager_outcome c past views q))
   manager_keeps views (FmRequest.GetEvents log) = fading_outcome (manager_outcome c past views (FmRequest.GetEvents log)) refl refl
@@ -126,7 +126,7 @@ module _ (c : Configuration) (past : List Effect) (before : OpenLive c past) (or
   manager_keeps views (FmRequest.GetExtentLists host count first) = fading_outcome (manager_outcome c past views (FmRequest.GetExtentLists host count first)) refl refl
   manager_keeps views (FmRequest.Add host policy r bytes tag list) =
       let o : Outcome = manager_outcome c past views (FmRequest.Add host policy r bytes tag list) in
-      λ after. order_offered c past host _ _ (told_fades o.notices) (told_leaves o.notices) before after order
+      λ after. order_offered c past host _ _ (told_fades o.log_records) (told_leaves o.log_records) before after order
   manager_keeps views (FmRequest.Remove host flags r bytes tag list) = fading_outcome (manager_outcome c past views (FmRequest.Remove host flags r bytes tag list))
       (removals_pass fades host (λ run. refl) (λ run. refl) c (is_forced flags) (is_cleaning flags) (removed (views host).accepted flags tag list))
       (removals_pass no_offer host (λ run. refl) (λ run. refl) c (is_forced flags) (is_cleaning flags) (removed (views host).accepted flags tag list))

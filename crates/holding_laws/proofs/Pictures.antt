@@ -31,12 +31,12 @@ module _ {B : Type 0} (f : B → Effect → B)
       ap (λ a. fold f a (entered_all l (log_after l log (entered l log e)) events)) (over-entered b _ l _)
       ∙ over-records b l (log_after l log (entered l log e)) events
 
-  over-notices : (b : B) (past : List Effect) (notices : List (LogId × List Event)) → fold f b (flat_map (λ n. entered_all n.0 (log_of n.0 past) n.1) notices) ≡ b
-  over-notices b past [] = refl
-  over-notices b past (n ∷ notices) =
-      fold-append f b (entered_all n.0 (log_of n.0 past) n.1) (flat_map (λ n. entered_all n.0 (log_of n.0 past) n.1) notices)
-      ∙ ap (λ a. fold f a (flat_map (λ n. entered_all n.0 (log_of n.0 past) n.1) notices)) (over-records b n.0 (log_of n.0 past) n.1)
-      ∙ over-notices b past notices
+  over-log_records : (b : B) (past : List Effect) (log_records : List (LogId × List Event)) → fold f b (flat_map (λ n. entered_all n.0 (log_of n.0 past) n.1) log_records) ≡ b
+  over-log_records b past [] = refl
+  over-log_records b past (n ∷ log_records) =
+      fold-append f b (entered_all n.0 (log_of n.0 past) n.1) (flat_map (λ n. entered_all n.0 (log_of n.0 past) n.1) log_records)
+      ∙ ap (λ a. fold f a (flat_map (λ n. entered_all n.0 (log_of n.0 past) n.1) log_records)) (over-records b n.0 (log_of n.0 past) n.1)
+      ∙ over-log_records b past log_records
 
 -- one step from the picture before
 pub picture-append : (c : Configuration) (past new : List Effect) → picture_of c (past ++ new) ≡ picture_after c (picture_of c past) new
@@ -55,11 +55,11 @@ pub picture-outcome : (c : Configuration) (past : List Effect) (o : Outcome) →
     ≡ record (picture_after c (picture_of c past) o.changes) { tags = without_tags (picture_after c (picture_of c past) o.changes).tags (ended c past o.changes o.tags) }
 picture-outcome c past o =
     let ends : List Effect = map Effect.TagEnd (ended c past o.changes o.tags) in
-    let records : List Effect = flat_map (λ n. entered_all n.0 (log_of n.0 past) n.1) o.notices in
+    let records : List Effect = flat_map (λ n. entered_all n.0 (log_of n.0 past) n.1) o.log_records in
     let tags =
     fold-append (tags_after c) [] past (effects_of c past o)
     ∙ fold-append (tags_after c) (picture_of c past).tags (o.changes ++ ends) records
-    ∙ over-notices (tags_after c) (λ b l e. refl) (λ b l. refl) (fold (tags_after c) (picture_of c past).tags (o.changes ++ ends)) past o.notices
+    ∙ over-log_records (tags_after c) (λ b l e. refl) (λ b l. refl) (fold (tags_after c) (picture_of c past).tags (o.changes ++ ends)) past o.log_records
     ∙ fold-append (tags_after c) (picture_of c past).tags o.changes ends
     ∙ tags-ends c (picture_after c (picture_of c past) o.changes).tags (ended c past o.changes o.tags) in
     λ i. record {

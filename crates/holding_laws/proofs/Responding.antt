@@ -20,7 +20,7 @@ use Rattle.journal_core.specs.declared.outcome.HeldKind.{HeldKind}
 use Rattle.journal_core.specs.Entries.{effects}
 use Rattle.list_rules.specs.Listing.{incomplete, is_shareable_at, misplaced, not_whole, overlapping, too_many_extents, too_many_listed}
 use Rattle.offer_core.specs.Offerings.{oldest_of}
-use Rattle.offer_core.specs.Responses.{extent_rule, list_rule, respond_rule}
+use Rattle.offer_core.specs.Responses.{extent_rule, response_list_rule, respond_rule}
 use Rattle.selection.proofs.Placed.{IsPlaced, placed}
 use Rattle.device_rules.specs.Outcomes.{effects_of}
 use Rattle.device_rules.specs.ResponseOutcomes.{respond_changes, respond_outcome, unhold}
@@ -72,7 +72,7 @@ module _ (c : Configuration) (sound : IsSound c) (p : Picture) (s : Stands c p) 
       (neither _ (overlapping before x) (neither _ (not_whole w h offer (length before) x) row).0).1
 
   -- so the row gives an answer
-  pub answer_of : (later : List (List Extent)) (all : List Extent) → list_rule (with_blocks c p.block) h (length (p.accepted h)) (offer ∷ later) all ≡ None → IsAnswer c p h offer later all
+  pub answer_of : (later : List (List Extent)) (all : List Extent) → response_list_rule (with_blocks c p.block) h (length (p.accepted h)) (offer ∷ later) all ≡ None → IsAnswer c p h offer later all
   answer_of later all row =
       let w : Configuration = with_blocks c p.block in
       let check = extent_rule (with_blocks c p.block) h offer in
@@ -104,7 +104,7 @@ responded c sound p before h host [] is held list row =
     }
 responded c sound p before h host (offer ∷ later) is held list row =
     let all : List Extent = held ++ list in
-    let rules = neither (too_many_listed all) (list_rule (with_blocks c p.block) h (length (p.accepted h)) (offer ∷ later) all) row in
+    let rules = neither (too_many_listed all) (response_list_rule (with_blocks c p.block) h (length (p.accepted h)) (offer ∷ later) all) row in
     let a = answer_of c sound p before.stands h host offer later (held ++ list) rules.1 in
     let told : picture_after c p (unhold h HeldKind.Responses held ++ (Effect.Answer h (map (marked offer) (held ++ list)) ∷ map (λ x. Effect.Take h (run_of c h x)) (held ++ list))) ≡ q c sound p before h host offer later is (held ++ list) a =
     quiet_front c p (unhold h HeldKind.Responses held) (Effect.Answer h (map (marked offer) (held ++ list)) ∷ map (λ x. Effect.Take h (run_of c h x)) (held ++ list)) (unhold_quiet h HeldKind.Responses held)

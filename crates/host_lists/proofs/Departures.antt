@@ -16,7 +16,7 @@ use Rattle.release_core.proofs.Members.{neither}
 use Rattle.release_core.proofs.FreeToLeave.{all_can_leave}
 use Rattle.release_core.specs.Leaving.{AllCanLeave, CanLeave, count_after}
 use Rattle.release_core.specs.Releases.{give_back_rule}
-use Rattle.release_core.specs.Removals.{listed_rule}
+use Rattle.release_core.specs.Removals.{prescribed_removal_rule}
 
 -- ---- with other tags
 
@@ -61,7 +61,7 @@ gives-back c h accepted offered whole more sound host last none =
 
 -- the extents that a prescriptive removal lists
 pub leaves-listed : (c : Configuration) (h : HostId) (accepted : List Extent) (offered r : ℕ) (list : List Extent) (forced : Bool) → IsSound c → h < c.hosts
-    → listed_rule c h accepted offered r list forced ≡ None → AllCanLeave accepted list × AllCanLeave accepted (map (marked accepted) list)
+    → prescribed_removal_rule c h accepted offered r list forced ≡ None → AllCanLeave accepted list × AllCanLeave accepted (map (marked accepted) list)
 leaves-listed c h accepted offered r list forced sound host none =
     let front = neither _ (where_true forced (too_many_extents (count_after accepted offered list))) none in
     let breaks_none = neither (nat_le (length c.regions) r breaks Rule.NoSuchRegion r or is_empty list breaks Rule.EmptyList or too_many_listed list) _ front.0 in

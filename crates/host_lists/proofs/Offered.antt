@@ -9,7 +9,7 @@ use Rattle.dcd_base.specs.declared.capacity.Extent.{Extent}
 use Rattle.dcd_base.specs.declared.capacity.Tag.{Tag}
 use Rattle.dcd_base.specs.Words.{same_tag}
 use Rattle.extent_list.specs.ExtentLists.{count_in, has_extent_of}
-use Rattle.host_lists.specs.Lists.{Lists, extent_total, extents_in}
+use Rattle.host_lists.specs.Lists.{Lists, extent_total, extents_of_lists}
 use Rattle.offer_core.specs.declared.offer.Offer.{Offer}
 use Rattle.offer_core.specs.Offerings.{lists_of, oldest_of}
 use Rattle.host_lists.specs.Tags.{extents_before}
@@ -48,7 +48,7 @@ has_extent_before t accepted offers n before =
     ∙ or_swap (has_extent_of t accepted) (list_any (has_extent_of t) (take n offers)) (has_extent_of t before)
 
 -- how many extents a host has
-pub length_extents : (l : Lists) → length (extents_in l) ≡ extent_total l
+pub length_extents : (l : Lists) → length (extents_of_lists l) ≡ extent_total l
 length_extents l = length-append l.accepted (flat_map (λ xs. xs) l.offers) ∙ ap (λ n. length l.accepted + n) (count_flat l.offers)
 
 -- with all offers

@@ -1,11 +1,16 @@
 -- What a response and a release do to a host's lists.
 use Rattle.std.specs.declared.result.Result.{Result}
 use Rattle.std.specs.declared.result.Result.TheVariants.{Ok, Err}
-use Rattle.std.specs.Prelude.{◌≡◌, ◌≢◌, ℕ, Bool, true, false, if◌then◌else◌, List, [], ◌∷◌, ◌++◌, map}
+use Rattle.std.specs.Prelude.{◌≡◌, ◌≢◌, ℕ, Bool, true, false, if◌then◌else◌, List, [], ◌∷◌, ◌++◌, length, map}
 use Rattle.dcd_base.specs.declared.capacity.Extent.{Extent}
+use Rattle.dcd_base.specs.declared.ids.HostId.{HostId}
 use Rattle.dcd_base.specs.Words.{is_empty}
 use Rattle.dcd_codes.specs.declared.refusals.Refusal.{Refusal}
-use Rattle.extent_list.specs.ExtentLists.{cut_all, marked}
+use Rattle.dcd_codes.specs.Rules.{ByRow}
+use Rattle.extent_list.specs.ExtentLists.{count_in, cut_all, marked}
+use Rattle.offer_core.specs.Responses.{respond_rule}
+use Rattle.region_config.specs.Configurations.{Configuration}
+use Rattle.release_core.specs.Releases.{give_back_rule}
 use Rattle.release_core.specs.declared.releases.GivenBack.{GivenBack}
 use Rattle.host_lists.specs.declared.responded.Responded.{Responded}
 use Rattle.host_lists.specs.Lists.{Lists, next_generation}
@@ -29,11 +34,16 @@ pub record IsAccepted (old : Lists) (list : List Extent) (new : Lists) (accepted
   }
 
 -- What was there, whether more is to come, the message's list, what is there then, and what was answered.
-abbrev pub Responds : Lists → Bool → List Extent → Lists → Responded → Type 0
-Responds old more list new Responded.Held = (more ≡ true) × (new ≡ record old { responses = old.responses ++ list })
-Responds old more list new Responded.Nothing =
+abbrev pub HostResponds : Lists → Bool → List Extent → Lists → Responded → Type 0
+HostResponds old more list new Responded.Held = (more ≡ true) × (new ≡ record old { responses = old.responses ++ list })
+HostResponds old more list new Responded.Nothing =
     (more ≡ false) × (old.offers ≡ []) × (old.responses ++ list ≡ []) × (new ≡ record old { responses = [] })
-Responds old more list new (Responded.Done accepted) = (more ≡ false) × IsAccepted old list new accepted
+HostResponds old more list new (Responded.Done accepted) = (more ≡ false) × IsAccepted old list new accepted
+
+-- A response of the host: the first rule that it breaks, or what it does.
+abbrev pub ListsAnswerResponse : Configuration → HostId → Lists → Bool → List Extent → Lists → Result Responded Refusal → Type 0
+ListsAnswerResponse c h old more list new result =
+    ByRow (respond_rule c h (length old.accepted) old.offers old.responses more list) (HostResponds old more list new) result
 
 -- What a refused response leaves: a broken rule lets go what is held of responses, and want of memory changes nothing.
 abbrev pub LeavesResponses : Lists → Lists → Result Responded Refusal → Type 0
@@ -56,8 +66,21 @@ GivesUp old more list new (GivenBack.Done leaving) =
     × (leaving ≡ map (marked old.accepted) (old.releases ++ list))
     × (new ≡ given_up old (old.releases ++ list))
 
+-- A release of the host: the first rule that it breaks, or what it does.
+abbrev pub ListsAnswerRelease : Configuration → HostId → Lists → Bool → List Extent → Lists → Result GivenBack Refusal → Type 0
+ListsAnswerRelease c h old more list new result =
+    ByRow (give_back_rule c h old.accepted (count_in old.offers) (old.releases ++ list) more) (GivesUp old more list new) result
+
 -- What a refused release leaves: a broken rule lets go what is held of releases, and want of memory changes nothing.
 abbrev pub LeavesReleases : Lists → Lists → Result GivenBack Refusal → Type 0
 LeavesReleases old new (Ok given) = Unit {0}
 LeavesReleases old new (Err (Refusal.Broken rule)) = new ≡ record old { releases = [] }
 LeavesReleases old new (Err Refusal.NoMemory) = new ≡ old
+
+-- the lists without the extents of a removal; where there are none nothing changes
+abbrev pub lists_without : List Extent → Lists → Lists
+lists_without leaving old = record old { accepted = cut_all leaving old.accepted; generation = generation_after leaving old.generation }
+
+-- the lists without extents that are taken out
+abbrev pub lists_less : List Extent → Lists → Lists
+lists_less extents old = record old { accepted = cut_all extents old.accepted; generation = next_generation old.generation }

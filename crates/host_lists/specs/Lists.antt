@@ -17,8 +17,8 @@ abbrev pub no_lists : Lists
 no_lists = record { accepted = []; offers = []; responses = []; releases = []; generation = 0 }
 
 -- all extents that the host has accepted or is offered
-abbrev pub extents_in : Lists → List Extent
-extents_in l = l.accepted ++ flat_map (λ xs. xs) l.offers
+abbrev pub extents_of_lists : Lists → List Extent
+extents_of_lists l = l.accepted ++ flat_map (λ xs. xs) l.offers
 
 -- once more changed
 abbrev pub next_generation : ℕ → ℕ

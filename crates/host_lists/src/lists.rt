@@ -2,9 +2,9 @@
 
 ghost use Rattle.dcd_base.specs.Limits.{extents_supported, tags_supported};
 ghost use Rattle.extent_list.specs.ExtentLists.{count_in, has_extent_of, real_tags};
-ghost use Rattle.host_lists.specs.Lists.{extent_total, extents_in, no_lists};
+ghost use Rattle.host_lists.specs.Lists.{extent_total, extents_of_lists, no_lists};
 ghost use Rattle.host_lists.specs.Tags.{capped, tag_count};
-ghost use Rattle.offer_core.specs.Offerings.{oldest_of};
+ghost use Rattle.offer_core.specs.Offerings.{lists_of, oldest_of};
 ghost use Rattle.std.specs.List.{list_any};
 ghost use Rattle.std.specs.Prelude.{◌≡◌, ◌++◌, ◌+◌, ◌-◌, ◌^◌, ◌<◌, ◌≤◌, [], IfOk, Some, length, slice_get};
 
@@ -91,6 +91,14 @@ impl HostLists {
         self.offers.extents()
     }
 
+    /// The unanswered offers, and what responses with More hold of the oldest.
+    pub fn offers(&self) -> &Offers
+        ensures offers { lists_of result.now.offers ≡ self.now.offers }
+        ensures held { result.now.held ≡ self.now.responses }
+    {
+        &self.offers
+    }
+
     /// What responses with More hold so far.
     pub fn responses(&self) -> &Extents
         ensures { result.now ≡ self.now.responses }
@@ -144,14 +152,14 @@ impl HostLists {
     /// How many more extents the host may get.
     pub fn extents_available(&self) -> u32
         requires few { extent_total self.now ≤ 64 }
-        ensures { result ≡ extents_supported - length (extents_in self.now) }
+        ensures { result ≡ extents_supported - length (extents_of_lists self.now) }
     {
         (EXTENTS - (self.accepted.len() + self.offers.extents())) as u32
     }
 
     /// How many tags the extents have that the host has accepted or is offered, up to the end of 32 bits.
     fn tags(&self) -> u32
-        ensures { result ≡ capped (tag_count (extents_in self.now)) }
+        ensures { result ≡ capped (tag_count (extents_of_lists self.now)) }
     {
         let accepted = self.accepted.as_slice();
         let mut tags = more_tags(0, &[], &self.offers, 0, accepted);
@@ -164,7 +172,7 @@ impl HostLists {
 
     /// How many more tags the host may get; none where it has more than it may.
     pub fn tags_available(&self) -> u32
-        ensures { result ≡ tags_supported - length (real_tags (extents_in self.now)) }
+        ensures { result ≡ tags_supported - length (real_tags (extents_of_lists self.now)) }
     {
         TAGS.saturating_sub(self.tags())
     }
@@ -172,7 +180,7 @@ impl HostLists {
     /// How many tags there would be with these extents behind those that the host has accepted or is offered.
     pub fn tags_with(&self, more: &[Extent]) -> u32
         requires few { extent_total self.now + length more.now < 2 ^ 32 }
-        ensures { result ≡ length (real_tags (extents_in self.now ++ more.now)) }
+        ensures { result ≡ length (real_tags (extents_of_lists self.now ++ more.now)) }
     {
         let accepted = self.accepted.as_slice();
         more_tags(self.tags(), accepted, &self.offers, self.offers.len(), more)

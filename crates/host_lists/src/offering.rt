@@ -1,18 +1,15 @@
 //! Offers to a host, and its responses to them.
 
-ghost use Rattle.dcd_codes.specs.Rules.{ByRow};
-ghost use Rattle.host_lists.specs.Answers.{LeavesResponses, Responds};
+ghost use Rattle.host_lists.specs.Answers.{ListsAnswerResponse, LeavesResponses, HostResponds};
 ghost use Rattle.host_lists.specs.Lists.{extent_total};
-ghost use Rattle.offer_core.specs.Responses.{respond_rule};
-ghost use Rattle.std.specs.Prelude.{◌≡◌, ◌++◌, ◌∷◌, ◌<◌, ◌≤◌, [], OnErr, OnOk, length};
+ghost use Rattle.std.specs.Prelude.{◌≡◌, ◌++◌, ◌∷◌, ◌<◌, ◌≤◌, [], IfOk, OnErr, OnOk, false};
 
 use crate::changes::{add_all, generation_after};
 use crate::lists::HostLists;
 use crate::responded::Responded;
-use dcd_base::limits::LISTED_EXTENTS;
 use dcd_base::{Extents, HostId, NoMemory, RegionId};
 use dcd_codes::Refusal;
-use offer_core::{Answered, Offer};
+use offer_core::{Answered, Offer, broken_rule};
 use region_config::Config;
 
 impl HostLists {
@@ -31,6 +28,8 @@ impl HostLists {
     /// The list is of the host's addresses, in bytes; the tags and sequences in it are not read. `Broken(rule)` names
     /// the first broken rule of the row: what is held of responses is let go then, and nothing else changes. At
     /// `NoMemory` nothing changes.
+    ///
+    /// It is `offer_core::broken_rule` and then `answer`, for callers that need no more than both.
     pub fn respond(
         &mut self,
         config: &Config,
@@ -40,19 +39,34 @@ impl HostLists {
     ) -> Result<Responded, Refusal>
         requires host { host < config.now.hosts }
         requires few { extent_total self.old ≤ 64 }
-        ensures answer { ByRow
-            (respond_rule config.now host (length self.old.accepted) self.old.offers self.old.responses more list.now)
-            (Responds self.old more list.now self.new)
-            result }
+        ensures answer { ListsAnswerResponse config.now host self.old more list.now self.new result }
         ensures left { LeavesResponses self.old self.new result }
     {
-        self.accepted.reserve(LISTED_EXTENTS)?;
         let accepted = self.accepted.len();
-        match self.offers.respond(config, host, accepted, list, more) {
-            Err(refusal) => Err(refusal),
-            Ok(Answered::Held) => Ok(Responded::Held),
-            Ok(Answered::Nothing) => Ok(Responded::Nothing),
-            Ok(Answered::Done { offer: _, accepted }) => {
+        match broken_rule(config, host, accepted, &self.offers, list.as_slice(), more)? {
+            Some(rule) => {
+                self.drop_responses();
+                Err(Refusal::Broken(rule))
+            }
+            None => Ok(self.answer(list, more)?),
+        }
+    }
+
+    /// Does what a response says that breaks no rule, with this list of a message behind the held one: holds the whole
+    /// list where more messages are to follow, and else answers the oldest offer. Without memory nothing changes.
+    ///
+    /// Where there is no offer, nothing is listed.
+    pub fn answer(&mut self, list: &Extents, more: bool) -> Result<Responded, NoMemory>
+        requires offered { more ≡ false → self.old.offers ≡ [] → self.old.responses ++ list.now ≡ [] }
+        ensures done { IfOk result (HostResponds self.old more list.now self.new) }
+        ensures kept { OnErr result (self.new ≡ self.old) }
+    {
+        let listed = self.offers.held().as_slice().len() + list.as_slice().len();
+        self.accepted.reserve(listed)?;
+        match self.offers.answer(list, more)? {
+            Answered::Held => Ok(Responded::Held),
+            Answered::Nothing => Ok(Responded::Nothing),
+            Answered::Done { offer: _, accepted } => {
                 add_all(&mut self.accepted, accepted.as_slice());
                 self.generation = generation_after(accepted.as_slice(), self.generation);
                 Ok(Responded::Done(accepted))

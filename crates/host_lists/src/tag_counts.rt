@@ -1,6 +1,5 @@
 //! Tags among the extents that a host has accepted and is offered.
 
-ghost use Rattle.dcd_base.specs.Words.{is_zero_tag};
 ghost use Rattle.extent_list.specs.ExtentLists.{has_extent_of};
 ghost use Rattle.host_lists.specs.Tags.{capped, extents_before, is_new, tag_count};
 ghost use Rattle.offer_core.specs.Offerings.{lists_of};

@@ -8,7 +8,7 @@ use Rattle.std.specs.List.{list_all}
 use Rattle.std.specs.Prelude.{IfOk}
 use Rattle.field_bytes.specs.declared.faults.PayloadFault.{PayloadFault}
 use Rattle.host_payloads.specs.declared.requests.HostRequest.{HostRequest}
-use Rattle.host_payloads.specs.HostPayloads.{list_fields, list_length, listed_extent, listed_extents, is_untagged, host_opcode, host_fields, lists_untagged, IsAsked, events_asked, clear_asked, configuration_asked, extents_asked, listed_in, of_list, host_request}
+use Rattle.host_payloads.specs.HostPayloads.{list_fields, list_length, listed_extent, listed_extents, is_untagged, host_opcode, host_fields, lists_untagged, IsHostRequest, events_asked, clear_asked, configuration_asked, extents_asked, listed_in, of_list, host_request}
 use Rattle.field_bytes.specs.Payloads.{has_flag, Gives}
 use Rattle.field_bytes.specs.EventCommands.{handles_in, clear_length}
 use Rattle.field_bytes.proofs.Agreement.{Agrees}
@@ -19,31 +19,31 @@ use Rattle.field_bytes.proofs.EventCommands.{clear_agrees, clear_is}
 use Rattle.field_bytes.proofs.PayloadLengths.{sized_at, sized_is}
 use Rattle.host_payloads.proofs.Asked.{list_agrees, list_is}
 
-events_found : (payload : List ℕ) (q : HostRequest) → IsBytes payload → events_asked payload ≡ Ok q → IsAsked 0x0100 payload q
+events_found : (payload : List ℕ) (q : HostRequest) → IsBytes payload → events_asked payload ≡ Ok q → IsHostRequest 0x0100 payload q
 unfolding events_asked
 events_found payload q small e =
     let at = sized_is 1 payload (HostRequest.GetEvents (get_or payload 0 0)) q e in
-    subst (IsAsked 0x0100 payload) at.1 (refl, record { untagged = refl; reads = Reads-from payload _ small (byte_found payload 0 1 _ small refl (end_found payload 1 at.0)) })
+    subst (IsHostRequest 0x0100 payload) at.1 (refl, record { untagged = refl; reads = Reads-from payload _ small (byte_found payload 0 1 _ small refl (end_found payload 1 at.0)) })
 
-clear_found : (payload : List ℕ) (q : HostRequest) → IsBytes payload → clear_asked payload ≡ Ok q → IsAsked 0x0101 payload q
+clear_found : (payload : List ℕ) (q : HostRequest) → IsBytes payload → clear_asked payload ≡ Ok q → IsHostRequest 0x0101 payload q
 unfolding clear_asked
 clear_found payload q small e =
     let at = sized_is (clear_length payload) payload (HostRequest.ClearEvents (get_or payload 0 0) (has_flag payload 1) (handles_in payload)) q e in
-    subst (IsAsked 0x0101 payload) at.1 (refl, record { untagged = refl; reads = Reads-from payload _ small (clear_agrees payload small at.0) })
+    subst (IsHostRequest 0x0101 payload) at.1 (refl, record { untagged = refl; reads = Reads-from payload _ small (clear_agrees payload small at.0) })
 
-configuration_found : (payload : List ℕ) (q : HostRequest) → IsBytes payload → configuration_asked payload ≡ Ok q → IsAsked 0x4800 payload q
+configuration_found : (payload : List ℕ) (q : HostRequest) → IsBytes payload → configuration_asked payload ≡ Ok q → IsHostRequest 0x4800 payload q
 unfolding configuration_asked
 configuration_found payload q small e =
     let at = sized_is 2 payload (HostRequest.GetConfiguration (get_or payload 0 0) (get_or payload 1 0)) q e in
     let second = byte_found payload 1 2 _ small refl (end_found payload 2 at.0) in
-    subst (IsAsked 0x4800 payload) at.1 (refl, record { untagged = refl; reads = Reads-from payload _ small (byte_found payload 0 1 _ small refl second) })
+    subst (IsHostRequest 0x4800 payload) at.1 (refl, record { untagged = refl; reads = Reads-from payload _ small (byte_found payload 0 1 _ small refl second) })
 
-extents_found : (payload : List ℕ) (q : HostRequest) → IsBytes payload → extents_asked payload ≡ Ok q → IsAsked 0x4801 payload q
+extents_found : (payload : List ℕ) (q : HostRequest) → IsBytes payload → extents_asked payload ≡ Ok q → IsHostRequest 0x4801 payload q
 unfolding extents_asked
 extents_found payload q small e =
     let at = sized_is 8 payload (HostRequest.GetExtents (number_at w32 payload 0) (number_at w32 payload 4)) q e in
     let second = number_found w32 wide_32 payload 4 8 _ small refl (end_found payload 8 at.0) in
-    subst (IsAsked 0x4801 payload) at.1 (refl, record { untagged = refl; reads = Reads-from payload _ small (number_found w32 wide_32 payload 0 4 _ small refl second) })
+    subst (IsHostRequest 0x4801 payload) at.1 (refl, record { untagged = refl; reads = Reads-from payload _ small (number_found w32 wide_32 payload 0 4 _ small refl second) })
 
 of_list_is : (make : Bool → List Extent → HostRequest) (r : Result (Bool × List Extent) PayloadFault) (q : HostRequest) → of_list make r ≡ Ok q → (x : Bool × List Extent) × (r ≡ Ok x) × (make x.0 x.1 ≡ q)
 of_list_is make (Ok x) q e = (x, refl, cc e)
@@ -61,27 +61,27 @@ list_found payload x small e =
     let P : Bool × List Extent → Type 0 = λ y. (list_all is_untagged y.1 ≡ true) × Reads payload (list_fields y.0 y.1) in
     subst P at.1 (untagged_pieces (pieces 24 ((length payload - 8) / 24) (drop 8 payload)), Reads-from payload _ small (list_agrees payload small at.0))
 
-response_found : (payload : List ℕ) (q : HostRequest) → IsBytes payload → of_list (λ more xs. HostRequest.AddResponse more xs) (listed_in payload) ≡ Ok q → IsAsked 0x4802 payload q
+response_found : (payload : List ℕ) (q : HostRequest) → IsBytes payload → of_list (λ more xs. HostRequest.AddResponse more xs) (listed_in payload) ≡ Ok q → IsHostRequest 0x4802 payload q
 response_found payload q small e =
     let at = of_list_is _ (listed_in payload) q e in
     let list = list_found payload at.0 small at.1 in
-    subst (IsAsked 0x4802 payload) at.2 (refl, record { untagged = list.0; reads = list.1 })
+    subst (IsHostRequest 0x4802 payload) at.2 (refl, record { untagged = list.0; reads = list.1 })
 
-return_found : (payload : List ℕ) (q : HostRequest) → IsBytes payload → of_list (λ more xs. HostRequest.GiveBack more xs) (listed_in payload) ≡ Ok q → IsAsked 0x4803 payload q
+return_found : (payload : List ℕ) (q : HostRequest) → IsBytes payload → of_list (λ more xs. HostRequest.GiveBack more xs) (listed_in payload) ≡ Ok q → IsHostRequest 0x4803 payload q
 return_found payload q small e =
     let at = of_list_is _ (listed_in payload) q e in
     let list = list_found payload at.0 small at.1 in
-    subst (IsAsked 0x4803 payload) at.2 (refl, record { untagged = list.0; reads = list.1 })
+    subst (IsHostRequest 0x4803 payload) at.2 (refl, record { untagged = list.0; reads = list.1 })
 
-if_found : (opcode n : ℕ) (payload : List ℕ) (r rest : Result HostRequest PayloadFault) (q : HostRequest) → (r ≡ Ok q → IsAsked n payload q) → (rest ≡ Ok q → IsAsked opcode payload q) → cond (eqb opcode n) r rest ≡ Ok q → IsAsked opcode payload q
+if_found : (opcode n : ℕ) (payload : List ℕ) (r rest : Result HostRequest PayloadFault) (q : HostRequest) → (r ≡ Ok q → IsHostRequest n payload q) → (rest ≡ Ok q → IsHostRequest opcode payload q) → cond (eqb opcode n) r rest ≡ Ok q → IsHostRequest opcode payload q
 if_found opcode n payload r rest q here there e =
-    elim (eqb opcode n) as (λ b. eqb opcode n ≡ b → cond b r rest ≡ Ok q → IsAsked opcode payload q) [
-      | true ↦ λ same at. subst (λ o. IsAsked o payload q) (sym (eqb-true opcode n same)) (here at)
+    elim (eqb opcode n) as (λ b. eqb opcode n ≡ b → cond b r rest ≡ Ok q → IsHostRequest opcode payload q) [
+      | true ↦ λ same at. subst (λ o. IsHostRequest o payload q) (sym (eqb-true opcode n same)) (here at)
       | false ↦ λ other at. there at
     ] refl e
 
 -- What is read is a request as which the payload reads, under its opcode.
-pub host_found : (opcode : ℕ) (payload : List ℕ) (q : HostRequest) → IsBytes payload → host_request opcode payload ≡ Ok q → IsAsked opcode payload q
+pub host_found : (opcode : ℕ) (payload : List ℕ) (q : HostRequest) → IsBytes payload → host_request opcode payload ≡ Ok q → IsHostRequest opcode payload q
 unfolding host_request
 host_found opcode payload q small e =
     if_found opcode 0x0100 payload _ _ q (events_found payload q small) (
@@ -119,11 +119,11 @@ host_only payload (HostRequest.GiveBack more xs) untagged a =
 
 -- ---- of what a call gives
 
-pub asked_of : (opcode : ℕ) (payload : List ℕ) (r : Result HostRequest PayloadFault) → IsBytes payload → Gives r (host_request opcode payload) → IfOk r (λ q. IsAsked opcode payload q)
+pub asked_of : (opcode : ℕ) (payload : List ℕ) (r : Result HostRequest PayloadFault) → IsBytes payload → Gives r (host_request opcode payload) → IfOk r (λ q. IsHostRequest opcode payload q)
 asked_of opcode payload (Ok q) small given = host_found opcode payload q small given
 asked_of opcode payload (Err fault) small given = tt
 
-pub given_of : (opcode : ℕ) (payload : List ℕ) (r : Result HostRequest PayloadFault) → Gives r (host_request opcode payload) → (q : HostRequest) → IsAsked opcode payload q → Gives r (Ok q)
+pub given_of : (opcode : ℕ) (payload : List ℕ) (r : Result HostRequest PayloadFault) → Gives r (host_request opcode payload) → (q : HostRequest) → IsHostRequest opcode payload q → Gives r (Ok q)
 given_of opcode payload r given q asked =
     let here : Agrees payload (host_fields q) = record { fits = asked.1.reads.fits; agrees = asked.1.reads.agrees } in
     let read : host_request opcode payload ≡ Ok q = subst (λ o. host_request o payload ≡ Ok q) (sym asked.0) (host_only payload q asked.1.untagged here) in

@@ -8,7 +8,7 @@ use Rattle.dcd_base.specs.declared.capacity.Extent.{Extent}
 use Rattle.field_bytes.specs.Layouts.{Number, Reserved, FitsField, number_at, pieces, spelling}
 use Rattle.field_bytes.specs.declared.faults.PayloadFault.{PayloadFault}
 use Rattle.host_payloads.specs.declared.pages.ExtentsPage.{ExtentsPage}
-use Rattle.host_payloads.specs.HostPayloads.{IsPage, extents_payload, page_extents, page_fields, page_head, page_in, page_length}
+use Rattle.host_payloads.specs.HostPayloads.{IsPage, extents_payload, extents_in_page, page_fields, page_head, page_in, page_length}
 use Rattle.field_bytes.specs.Payloads.{Gives}
 use Rattle.field_bytes.specs.Extents.{FitsExtent, extent_bytes, whole_extent, extent_fields}
 use Rattle.field_bytes.proofs.Agreement.{Agrees, Agrees-spelled}
@@ -26,14 +26,14 @@ unfolding page_in
 page_found payload page small e =
     let n = number_at w32 payload 0 in
     let k = (length payload - 16) / 40 in
-    let at = sized_is (page_length payload) payload (record { total = number_at w32 payload 4; generation = number_at w32 payload 8; extents = page_extents payload }) page e in
+    let at = sized_is (page_length payload) payload (record { total = number_at w32 payload 4; generation = number_at w32 payload 8; extents = extents_in_page payload }) page e in
     let all : length payload ≡ 16 + 40 * n = counted_is 16 40 n payload at.0 in
     let same : k ≡ n = omega (arith, all) in
-    let count : n ≡ length (page_extents payload) = sym (length-map (pieces 40 k (drop 16 payload)) whole_extent ∙ length-pieces 40 k (drop 16 payload) ∙ same) in
+    let count : n ≡ length (extents_in_page payload) = sym (length-map (pieces 40 k (drop 16 payload)) whole_extent ∙ length-pieces 40 k (drop 16 payload) ∙ same) in
     let extents = extents_agree payload 16 k small (omega (arith, all, same)) in
     let rest = number_found w32 wide_32 payload 4 8 _ small refl (number_found w32 wide_32 payload 8 12 _ small refl (reserved_found payload 12 16 4 _ refl extents)) in
     let counted = number_found w32 wide_32 payload 0 4 _ small refl rest in
-    let named = subst (λ c. FieldsAt payload 0 (Number w32 c ∷ Number w32 (number_at w32 payload 4) ∷ Number w32 (number_at w32 payload 8) ∷ Reserved 4 ∷ flat_map extent_fields (page_extents payload))) count counted in
+    let named = subst (λ c. FieldsAt payload 0 (Number w32 c ∷ Number w32 (number_at w32 payload 4) ∷ Number w32 (number_at w32 payload 8) ∷ Reserved 4 ∷ flat_map extent_fields (extents_in_page payload))) count counted in
     subst (IsPage payload) at.1 (Reads-from payload _ small named)
 
 page_only : (payload : List ℕ) (page : ExtentsPage) → Agrees payload (page_fields page.total page.generation page.extents) → page_in payload ≡ Ok page
@@ -46,8 +46,8 @@ page_only payload page a =
     let list = extents_are payload 16 xs (reserved_only payload 12 16 4 _ refl generation.1) in
     let k : (length payload - 16) / 40 ≡ length xs = omega (arith, list.0) in
     let made : ℕ → ℕ → List Extent → ExtentsPage = λ t g ys. record { total = t; generation = g; extents = ys } in
-    let is : made (number_at w32 payload 4) (number_at w32 payload 8) (page_extents payload) ≡ page =
-    ap (λ t. made t (number_at w32 payload 8) (page_extents payload)) total.0 ∙ ap (λ g. made page.total g (page_extents payload)) generation.0
+    let is : made (number_at w32 payload 4) (number_at w32 payload 8) (extents_in_page payload) ≡ page =
+    ap (λ t. made t (number_at w32 payload 8) (extents_in_page payload)) total.0 ∙ ap (λ g. made page.total g (extents_in_page payload)) generation.0
     ∙ ap (λ ys. made page.total page.generation ys) (ap (λ n. map whole_extent (pieces 40 n (drop 16 payload))) k ∙ list.1) in
     sized_at (page_length payload) payload _ _ (counted_at 16 40 (number_at w32 payload 0) payload (rw first.0 list.0)) is
 

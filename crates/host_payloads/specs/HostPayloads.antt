@@ -110,8 +110,8 @@ host_request opcode payload =
     else Err (PayloadFault.UnknownOpcode opcode)
 
 -- The payload reads as the request, whose opcode this is.
-abbrev pub IsAsked : ℕ → List ℕ → HostRequest → Type 0
-IsAsked opcode payload q = (opcode ≡ host_opcode q) × ReadsHost payload q
+abbrev pub IsHostRequest : ℕ → List ℕ → HostRequest → Type 0
+IsHostRequest opcode payload q = (opcode ≡ host_opcode q) × ReadsHost payload q
 
 -- ---- requests as they are written
 
@@ -128,11 +128,11 @@ abbrev pub FitsListed : Extent → Type 0
 FitsListed x = (x.start < 2 ^ 64) × (x.length < 2 ^ 64)
 
 -- The counts of the request's lists can be written: at most 255 handles, at most 65,535 extents.
-abbrev pub CountsFit : HostRequest → Type 0
-CountsFit (HostRequest.ClearEvents log all handles) = length handles ≤ 255
-CountsFit (HostRequest.AddResponse more xs) = length xs ≤ 65535
-CountsFit (HostRequest.GiveBack more xs) = length xs ≤ 65535
-CountsFit q = Unit {0}
+abbrev pub HostCountsFit : HostRequest → Type 0
+HostCountsFit (HostRequest.ClearEvents log all handles) = length handles ≤ 255
+HostCountsFit (HostRequest.AddResponse more xs) = length xs ≤ 65535
+HostCountsFit (HostRequest.GiveBack more xs) = length xs ≤ 65535
+HostCountsFit q = Unit {0}
 
 -- ---- replies
 
@@ -206,12 +206,16 @@ abbrev pub page_length : List ℕ → ℕ
 page_length payload = counted 16 40 (number_at w32 payload 0) payload
 
 -- the extents of a page
-abbrev pub page_extents : List ℕ → List Extent
-page_extents payload = map whole_extent (pieces 40 ((length payload - 16) / 40) (drop 16 payload))
+abbrev pub extents_in_page : List ℕ → List Extent
+extents_in_page payload = map whole_extent (pieces 40 ((length payload - 16) / 40) (drop 16 payload))
+
+-- the page of these extents
+abbrev pub page_of : ℕ → ℕ → List Extent → ExtentsPage
+page_of total generation extents = record { total = total; generation = generation; extents = extents }
 
 -- the page that a payload is
 unfoldable pub page_in : List ℕ → Result ExtentsPage PayloadFault
-page_in payload = sized (page_length payload) payload (record { total = number_at w32 payload 4; generation = number_at w32 payload 8; extents = page_extents payload })
+page_in payload = sized (page_length payload) payload (record { total = number_at w32 payload 4; generation = number_at w32 payload 8; extents = extents_in_page payload })
 
 -- The payload reads as the page.
 abbrev pub IsPage : List ℕ → ExtentsPage → Type 0

@@ -1,6 +1,6 @@
 //! From a payload to the request of a host.
 
-ghost use Rattle.host_payloads.specs.HostPayloads.{IsAsked, clear_asked, configuration_asked, events_asked, extents_asked, host_request, listed_in};
+ghost use Rattle.host_payloads.specs.HostPayloads.{IsHostRequest, clear_asked, configuration_asked, events_asked, extents_asked, host_request, listed_in};
 ghost use Rattle.field_bytes.specs.Payloads.{Gives};
 ghost use Rattle.host_payloads.specs.declared.requests.HostRequest.{HostRequest};
 ghost use Rattle.std.specs.Prelude.{IfOk};
@@ -98,9 +98,9 @@ pub fn decode(alloc: Global, opcode: u16, payload: &[u8]) -> Result<HostRequest,
     // Which request or fault it is.
     ensures exact { Gives result (host_request opcode payload.now) }
     // What is read is a request of this opcode, as which the payload reads.
-    ensures found { IfOk result (λ q. IsAsked opcode payload.now q) }
+    ensures found { IfOk result (λ q. IsHostRequest opcode payload.now q) }
     // A payload that reads as a request of this opcode is read as that one, unless memory runs out.
-    ensures only { (q : HostRequest) → IsAsked opcode payload.now q → Gives result (Ok q) }
+    ensures only { (q : HostRequest) → IsHostRequest opcode payload.now q → Gives result (Ok q) }
 {
     request_of(alloc, opcode, payload)
 }

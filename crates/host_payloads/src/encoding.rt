@@ -1,10 +1,9 @@
 //! From a request of a host to its payload.
 
-ghost use Rattle.field_bytes.specs.Layouts.{FitsField, Number, spelling};
-ghost use Rattle.host_payloads.specs.HostPayloads.{CountsFit, host_fields, host_opcode, host_request, list_fields, list_head, lists_untagged};
+ghost use Rattle.field_bytes.specs.Layouts.{FitsField, spelling};
+ghost use Rattle.host_payloads.specs.HostPayloads.{HostCountsFit, host_fields, host_opcode, host_request, list_fields, list_head, lists_untagged};
 ghost use Rattle.std.specs.List.{AllByRecursion};
-ghost use Rattle.std.specs.Int.{w32};
-ghost use Rattle.std.specs.Prelude.{[], ◌∷◌, ◌≡◌, ◌+◌, ◌*◌, ◌++◌, ◌<◌, ◌≤◌, ◌^◌, IfOk, IsTrue, Ok, OnErr, OnOk, length, take};
+ghost use Rattle.std.specs.Prelude.{◌≡◌, ◌+◌, ◌*◌, ◌++◌, ◌<◌, ◌≤◌, ◌^◌, IfOk, IsTrue, Ok, OnErr, OnOk, length, take};
 
 use crate::list_writing::put_all_listed;
 use crate::requests::HostRequest;
@@ -46,7 +45,7 @@ fn list_payload(alloc: Global, more: bool, extents: &[Extent]) -> Result<Bytes, 
 }
 
 fn payload_of(alloc: Global, request: &HostRequest) -> Result<Bytes, NoMemory>
-    requires { CountsFit request.now }
+    requires { HostCountsFit request.now }
     ensures spelled { IfOk result (λ bytes. bytes ≡ spelling (host_fields request.now)) }
     ensures fits { OnOk result (AllByRecursion FitsField (host_fields request.now)) }
 {
@@ -74,7 +73,7 @@ fn payload_of(alloc: Global, request: &HostRequest) -> Result<Bytes, NoMemory>
 /// The request has at most 255 handles and at most 65,535 extents, and its extents have neither a tag nor a
 /// sequence number. Reserved bytes and bits are written as 0. Without memory `out` is as it was.
 pub fn encode(request: &HostRequest, out: &mut Bytes) -> Result<(), NoMemory>
-    requires counts { CountsFit request.now }
+    requires counts { HostCountsFit request.now }
     requires untagged { IsTrue (lists_untagged request.now) }
     ensures appended { OnOk result (out.new ≡ out.old ++ spelling (host_fields request.now)) }
     ensures kept { OnErr result (out.new ≡ out.old) }

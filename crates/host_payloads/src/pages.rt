@@ -1,7 +1,7 @@
 //! A page of extents, read and written.
 
 ghost use Rattle.field_bytes.specs.Layouts.{FitsField};
-ghost use Rattle.host_payloads.specs.HostPayloads.{IsPage, extents_payload, page_fields, page_head, page_in};
+ghost use Rattle.host_payloads.specs.HostPayloads.{IsPage, extents_payload, page_fields, page_head, page_in, page_of};
 ghost use Rattle.field_bytes.specs.Payloads.{Gives};
 ghost use Rattle.host_payloads.specs.declared.pages.ExtentsPage.{ExtentsPage};
 ghost use Rattle.std.specs.List.{AllByRecursion};
@@ -103,8 +103,7 @@ pub fn write_extents(
     ensures appended { OnOk result (out.new ≡ out.old ++ extents_payload total generation extents.now) }
     ensures kept { OnErr result (out.new ≡ out.old) }
     // What was appended is read as the page.
-    ensures again { OnOk result (page_in (extents_payload total generation extents.now)
-        ≡ Ok (record { total = total; generation = generation; extents = extents.now })) }
+    ensures again { OnOk result (page_in (extents_payload total generation extents.now) ≡ Ok (page_of total generation extents.now)) }
 {
     let payload = page_payload(out.allocator(), total, generation, extents)?;
     out.append(payload)

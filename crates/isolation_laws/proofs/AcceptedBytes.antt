@@ -9,13 +9,13 @@ use Rattle.dcd_base.specs.declared.ids.HostId.{HostId}
 use Rattle.event_records.specs.declared.events.EventKind.{EventKind}
 use Rattle.extent_list.specs.ExtentLists.{cut, cut_all, has_range, lies_in, piece, without}
 use Rattle.journal_core.specs.declared.outcome.Effect.{Effect}
-use Rattle.media_map.specs.Places.{bytes_in, start_of}
+use Rattle.media_map.specs.Places.{bytes_of_run, start_of}
 use Rattle.region_config.specs.Configurations.{Configuration}
 use Rattle.region_config.specs.Granules.{is_supported, region_spec}
 use Rattle.device_rules.specs.Hosts.{accepted_after}
-use Rattle.device_rules.specs.Outcomes.{no_extent, notice}
+use Rattle.device_rules.specs.Outcomes.{no_extent, record_for}
 use Rattle.device_rules.specs.Views.{View}
-use Rattle.isolation_laws.specs.Solo.{accepts_byte, has_byte, solo_after, with_notices}
+use Rattle.isolation_laws.specs.Solo.{accepts_byte, has_byte, solo_after, with_log_records}
 use Rattle.isolation_laws.specs.declared.items.Item.{Item}
 use Rattle.isolation_laws.proofs.BroughtItems.{is_brought}
 
@@ -91,7 +91,7 @@ module _ (d : ℕ) where
   one_brought c h v (Item.Taken xs) brought some = has_cuts xs v.accepted some
   one_brought c h v (Item.Block r size) brought some = by (nat_lt r (length c.regions) && is_supported (region_spec c r) size) some
     where
-      by : (b : Bool) → list_any (has_byte d) (if b then with_notices (record v { block = λ s. if s == r then size else v.block s }) (record (notice h v EventKind.RegionUpdated false no_extent) { region = r } ∷ []) else v).accepted ≡ true → list_any (has_byte d) v.accepted ≡ true
+      by : (b : Bool) → list_any (has_byte d) (if b then with_log_records (record v { block = λ s. if s == r then size else v.block s }) (record (record_for h v EventKind.RegionUpdated false no_extent) { region = r } ∷ []) else v).accepted ≡ true → list_any (has_byte d) v.accepted ≡ true
       by true some = some
       by false some = some
 
@@ -111,8 +111,8 @@ module _ (d : ℕ) where
       by false some = inl some
   one_change c h xs (Effect.Leave k run) some = by (k == h) some
     where
-      by : (b : Bool) → list_any (has_byte d) (if b then cut (start_of c h run) (bytes_in c run) xs else xs) ≡ true → (list_any (has_byte d) xs ≡ true) ⊎ (false ≡ true)
-      by true some = inl (has_cut (start_of c h run) (bytes_in c run) xs some)
+      by : (b : Bool) → list_any (has_byte d) (if b then cut (start_of c h run) (bytes_of_run c run) xs else xs) ≡ true → (list_any (has_byte d) xs ≡ true) ⊎ (false ≡ true)
+      by true some = inl (has_cut (start_of c h run) (bytes_of_run c run) xs some)
       by false some = inl some
   one_change c h xs e some = inl some
 

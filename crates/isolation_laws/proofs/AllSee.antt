@@ -26,7 +26,7 @@ use Rattle.step_laws.proofs.LogSteps.{IsSound as IsSoundLog}
 use Rattle.step_laws.proofs.ViewOthers.{answer-leaves}
 use Rattle.step_laws.proofs.ViewsLeft.{leaves_view}
 use Rattle.isolation_laws.specs.Laws.{AllSeeAlone}
-use Rattle.isolation_laws.specs.Solo.{delivered, is_of}
+use Rattle.isolation_laws.specs.Solo.{delivered, acts_for}
 use Rattle.isolation_laws.specs.declared.items.Item.{Item}
 use Rattle.isolation_laws.proofs.ManagerSteps.{manager_brings}
 use Rattle.isolation_laws.proofs.OneItem.{BringsItems}
@@ -36,7 +36,7 @@ use Rattle.isolation_laws.proofs.OwnSteps.{own_step}
 
 -- the items of a step of this actor, with these effects
 abbrev items_by : HostId → Actor → Act → List Effect → List Item
-items_by h actor act new = if is_of h actor then Item.Own act ∷ [] else delivered h new
+items_by h actor act new = if acts_for h actor then Item.Own act ∷ [] else delivered h new
 
 module _ (c : Configuration) (sound : IsSound c) (before : List Entry) (now : Sound c (picture_of c (effects before))) (h : HostId) (known : h < c.hosts)
     (history : IsSoundLog (log_of (LogId.Host h) (effects before))) where

@@ -11,7 +11,7 @@ use Rattle.dcd_codes.specs.declared.codes.Code.{Code}
 use Rattle.dcd_codes.specs.declared.rules.Rule.{Rule}
 use Rattle.device_commands.specs.HostMessages.{IsDraft}
 use Rattle.device_commands.specs.Drafts.{AreAfter}
-use Rattle.device_state.specs.Kept.{IsLogOf, lists_in}
+use Rattle.device_state.specs.StateAfter.{IsLogOf, lists_in}
 use Rattle.device_commands.specs.declared.draft.DraftParts.{DraftParts}
 use Rattle.host_lists.specs.Lists.{Lists, extent_total}
 use Rattle.journal_core.specs.declared.acts.Act.{Act}
@@ -23,8 +23,8 @@ use Rattle.device_rules.specs.Outcomes.{Outcome}
 use Rattle.device_rules.specs.ResponseOutcomes.{unhold}
 use Rattle.device_rules.specs.Views.{View, view_after}
 use Rattle.step_laws.proofs.ViewCommands.{after_refusal, view_after-dropped}
-use Rattle.isolation_laws.specs.Acting.{IsChanged, without_held}
-use Rattle.isolation_laws.specs.Alone.{Does, IsAlone}
+use Rattle.isolation_laws.specs.Acting.{ChangesAlone, without_held}
+use Rattle.isolation_laws.specs.Alone.{DoesAlone, IsAlone}
 use Rattle.isolation_laws.specs.Solo.{accepts_byte, changes_with}
 use Rattle.isolation_laws.specs.declared.alone.Alone.{Alone}
 use Rattle.isolation_laws.specs.declared.items.SoloReply.{SoloReply}
@@ -37,7 +37,7 @@ module _ (c : Configuration) (h : HostId) (q : Request) (old new : Alone) where
       × IsAlone c h (view_after c h v (changes_with h v q result)) (λ d. if list_any (accepts_byte d) (changes_with h v q result) then 0 else word d) new
 
   -- what a command does that breaks no rule
-  module _ (draft : DraftParts) (few : IfSome draft.lists (λ lists. extent_total lists ≤ 64)) (is : IsChanged h draft.changes draft.lists old new) where
+  module _ (draft : DraftParts) (few : IfSome draft.lists (λ lists. extent_total lists ≤ 64)) (is : ChangesAlone h draft.changes draft.lists old new) where
     few_after : (lists : Option Lists) → IfSome lists (λ l. extent_total l ≤ 64) → extent_total old.lists ≤ 64 → extent_total (unwrap_or lists old.lists) ≤ 64
     few_after None fits was = was
     few_after (Some l) fits was = fits
@@ -46,12 +46,12 @@ module _ (c : Configuration) (h : HostId) (q : Request) (old new : Alone) where
     lists_after v o was None same = was ∙ sym same
     lists_after v o was (Some l) new_ones = new_ones
 
-    pub command_done : ((v : View) (word : ℕ → ℕ) → IsAlone c h v word old → IsDraft c h v q draft) → Does c h (Act.Command q) old new (SoloReply.Said (response q Code.Success draft.payload))
+    pub command_done : ((v : View) (word : ℕ → ℕ) → IsAlone c h v word old → IsDraft c h v q draft) → DoesAlone c h (Act.Command q) old new (SoloReply.Said (response q Code.Success draft.payload))
     command_done drafted v word was =
         let d : IsDraft c h v q draft = drafted v word was in
         let o : Outcome = host_outcome c h v d.request in
         let own = own_changes c h v d.request in
-        let by : IsChanged h o.changes draft.lists old new = subst (λ es. IsChanged h es draft.lists old new) d.drafts.changes is in
+        let by : ChangesAlone h o.changes draft.lists old new = subst (λ es. ChangesAlone h es draft.lists old new) d.drafts.changes is in
         let fine : host_result_in c h v q ≡ Ok o = ap (host_result c h v) d.asked ∙ ap (λ rule. unless rule o) d.row in
         subst (Did v word (response q Code.Success draft.payload)) (sym fine) (
           ap (λ bytes. SoloReply.Said (response q Code.Success bytes)) d.drafts.payload,
@@ -91,7 +91,7 @@ module _ (c : Configuration) (h : HostId) (q : Request) (old new : Alone) where
   without v word was false false = was
 
   pub command_refused : new ≡ record old { lists = without_held q.opcode old.lists } → (rule : Rule) →
-      ((v : View) (word : ℕ → ℕ) → IsAlone c h v word old → host_result_in c h v q ≡ Err rule) → Does c h (Act.Command q) old new (SoloReply.Said (response q (code_of rule) []))
+      ((v : View) (word : ℕ → ℕ) → IsAlone c h v word old → host_result_in c h v q ≡ Err rule) → DoesAlone c h (Act.Command q) old new (SoloReply.Said (response q (code_of rule) []))
   command_refused is rule broken v word was =
       let words : ℕ → ℕ = λ d. if list_any (accepts_byte d) (dropped h v q.opcode) then 0 else word d in
       let kept : IsAlone c h (after_refusal q.opcode v) words (record old { lists = without_held q.opcode old.lists }) = without v word was (q.opcode == 0x4802) (q.opcode == 0x4803) in

@@ -16,13 +16,13 @@ use Rattle.region_config.specs.Configurations.{Configuration}
 use Rattle.region_config.specs.Granules.{hosts_of, is_supported, region_spec}
 use Rattle.holding_laws.proofs.Overlaps.{neither}
 use Rattle.device_rules.specs.Logs.{log_after, log_of}
-use Rattle.device_rules.specs.Outcomes.{Outcome, effects_of, entered, entered_all, log_full, no_extent, notice}
+use Rattle.device_rules.specs.Outcomes.{Outcome, effects_of, entered, entered_all, log_full, no_extent, record_for}
 use Rattle.device_rules.specs.Settings.{set_outcome}
 use Rattle.device_rules.specs.Views.{View, view_after}
 use Rattle.step_laws.proofs.LogHistories.{entered_all-other, told as records_for}
 use Rattle.step_laws.proofs.LogOutcomes.{room_for}
 use Rattle.step_laws.proofs.LogSteps.{IsSound, entered_all-room}
-use Rattle.isolation_laws.specs.Solo.{told, told_by, with_notices}
+use Rattle.isolation_laws.specs.Solo.{extents_recorded, told_by, with_log_records}
 use Rattle.isolation_laws.specs.declared.items.Item.{Item}
 use Rattle.isolation_laws.proofs.JoinedViews.{view_after-told}
 use Rattle.isolation_laws.proofs.OneItem.{BringsItems}
@@ -83,10 +83,10 @@ module _ (past : List Effect) (event : HostId → Event) (h : HostId) where
       by (LogId.Host k) false = with_kind (k == h)
       by LogId.Manager false = refl
 
-  tells_none : (kind : EventKind) → ((k : HostId) → (kind_number (event k).kind == kind_number kind) ≡ false) → (a n : ℕ) → told h kind (each_told past event a n) ≡ []
+  tells_none : (kind : EventKind) → ((k : HostId) → (kind_number (event k).kind == kind_number kind) ≡ false) → (a n : ℕ) → extents_recorded h kind (each_told past event a n) ≡ []
   tells_none kind other a zero = refl
   tells_none kind other a (suc n) =
-      ap (λ o. cons_option o (told h kind (each_told past event (a + 1) n))) (other_kind kind (LogId.Host a) (log_of (LogId.Host a) past) (event a) (other a))
+      ap (λ o. cons_option o (extents_recorded h kind (each_told past event (a + 1) n))) (other_kind kind (LogId.Host a) (log_of (LogId.Host a) past) (event a) (other a))
       ∙ tells_none kind other (a + 1) n
 
 -- ---- the command
@@ -103,7 +103,7 @@ module _ (c : Configuration) (h : HostId) (view_for : HostId → View) (past : L
 
   -- what each host is told
   abbrev updated : ℕ → HostId → Event
-  updated r k = record (notice k (view_for k) EventKind.RegionUpdated false no_extent) { region = r }
+  updated r k = record (record_for k (view_for k) EventKind.RegionUpdated false no_extent) { region = r }
 
   set_view : (r size : ℕ) → view_after c h v (Effect.Block r size ∷ []) ≡ record v { block = λ s. if s == r then size else v.block s }
   set_view r size = λ i. record v { block = λ s. if same_either_way r s i then size else v.block s }
@@ -113,18 +113,18 @@ module _ (c : Configuration) (h : HostId) (view_for : HostId → View) (past : L
   brings_block r size known fine room =
       let o : Outcome = set_outcome c view_for r size in
       let e : Event = updated r h in
-      let joined : fold (log_after (LogId.Host h)) v.log (records_for past o.notices) ≡ recorded v.log e =
-      ap (λ own. fold (log_after (LogId.Host h)) own (records_for past o.notices)) (sym log)
+      let joined : fold (log_after (LogId.Host h)) v.log (records_for past o.log_records) ≡ recorded v.log e =
+      ap (λ own. fold (log_after (LogId.Host h)) own (records_for past o.log_records)) (sym log)
       ∙ joins_one past (updated r) h sound [] 0 c.hosts room (omega arith) (omega (arith, known))
       ∙ ap (λ own. recorded own e) log in
-      let tells : (kind : EventKind) → (3 == kind_number kind) ≡ false → told h kind (effects_of c past o) ≡ [] = λ kind other.
+      let tells : (kind : EventKind) → (3 == kind_number kind) ≡ false → extents_recorded h kind (effects_of c past o) ≡ [] = λ kind other.
       told_outcome h kind c past o refl ∙ tells_none past (updated r) h kind (λ k. other) 0 c.hosts in
       subst (BringsItems c h v (effects_of c past o))
       (sym (delivered_is h (effects_of c past o) [] [] [] (Item.Block r size ∷ []) (tells EventKind.Add refl) (tells EventKind.Release refl) (tells EventKind.Forced refl) (blocks_outcome c past o)))
       (record {
         alone =
             view_after-told c h v past o (e ∷ []) refl joined
-            ∙ ap {A = View} (λ u. with_notices u (e ∷ [])) (set_view r size)
-            ∙ sym (ap (λ b. if b then with_notices (record v { block = λ s. if s == r then size else v.block s }) (e ∷ []) else v) fine);
+            ∙ ap {A = View} (λ u. with_log_records u (e ∷ [])) (set_view r size)
+            ∙ sym (ap (λ b. if b then with_log_records (record v { block = λ s. if s == r then size else v.block s }) (e ∷ []) else v) fine);
         few = λ beyond. beyond;
       })

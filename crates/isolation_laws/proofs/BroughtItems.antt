@@ -9,11 +9,11 @@ use Rattle.dcd_base.specs.declared.ids.HostId.{HostId}
 use Rattle.dcd_base.specs.declared.steps.Actor.{Actor}
 use Rattle.event_records.specs.declared.events.EventKind.{EventKind}
 use Rattle.journal_core.specs.declared.outcome.Effect.{Effect}
-use Rattle.isolation_laws.specs.Solo.{block_item, delivered, is_of, item_of, told}
+use Rattle.isolation_laws.specs.Solo.{block_item, delivered, acts_for, item_of, extents_recorded}
 use Rattle.isolation_laws.specs.declared.items.Item.{Item}
 
 -- whoever is the host
-pub actor_is : (h : HostId) (actor : Actor) → is_of h actor ≡ true → actor ≡ Actor.Host h
+pub actor_is : (h : HostId) (actor : Actor) → acts_for h actor ≡ true → actor ≡ Actor.Host h
 actor_is h (Actor.Host k) own = ap Actor.Host (eqb-true k h own)
 actor_is h Actor.Manager own = absurd (false≢true own)
 actor_is h Actor.Sanitizer own = absurd (false≢true own)
@@ -36,12 +36,12 @@ both xs ys first second = list_all-append is_brought xs ys ∙ (λ i. first i &&
 
 pub all_brought : (h : HostId) (new : List Effect) → list_all is_brought (delivered h new) ≡ true
 all_brought h new =
-    let given : List Item = item_of Item.Given (told h EventKind.Add new) in
-    let asked : List Item = item_of Item.Asked (told h EventKind.Release new) in
-    let taken : List Item = item_of Item.Taken (told h EventKind.Forced new) in
+    let given : List Item = item_of Item.Given (extents_recorded h EventKind.Add new) in
+    let asked : List Item = item_of Item.Asked (extents_recorded h EventKind.Release new) in
+    let taken : List Item = item_of Item.Taken (extents_recorded h EventKind.Forced new) in
     let blocks : List Item = filter_map block_item new in
     both (given ++ asked ++ taken) blocks
     (both (given ++ asked) taken
-    (both given asked (all_one Item.Given (λ xs. refl) (told h EventKind.Add new)) (all_one Item.Asked (λ xs. refl) (told h EventKind.Release new)))
-    (all_one Item.Taken (λ xs. refl) (told h EventKind.Forced new)))
+    (both given asked (all_one Item.Given (λ xs. refl) (extents_recorded h EventKind.Add new)) (all_one Item.Asked (λ xs. refl) (extents_recorded h EventKind.Release new)))
+    (all_one Item.Taken (λ xs. refl) (extents_recorded h EventKind.Forced new)))
     (all_blocks new)

@@ -7,7 +7,7 @@ use Rattle.dcd_base.specs.declared.capacity.Extent.{Extent}
 use Rattle.dcd_base.specs.declared.ids.HostId.{HostId}
 use Rattle.device_rules.specs.Views.{View, extents_in}
 use Rattle.extent_list.specs.ExtentLists.{count_in, cut_all}
-use Rattle.device_state.specs.Kept.{lists_in}
+use Rattle.device_state.specs.StateAfter.{lists_in}
 use Rattle.host_lists.specs.Lists.{Lists, extent_total, next_generation}
 use Rattle.region_config.specs.Configurations.{Configuration}
 use Rattle.isolation_laws.specs.Alone.{IsAlone}

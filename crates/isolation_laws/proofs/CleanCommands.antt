@@ -17,7 +17,7 @@ use Rattle.journal_core.specs.declared.outcome.HeldKind.{HeldKind}
 use Rattle.list_rules.specs.Listing.{too_many_listed}
 use Rattle.media_map.specs.Places.{region_at, run_of}
 use Rattle.offer_core.specs.Offerings.{oldest_of}
-use Rattle.offer_core.specs.Responses.{list_rule, respond_rule}
+use Rattle.offer_core.specs.Responses.{response_list_rule, respond_rule}
 use Rattle.region_config.specs.Configurations.{Configuration}
 use Rattle.region_config.specs.Granules.{granule_size, region_of, region_spec, with_blocks}
 use Rattle.region_config.specs.Soundness.{IsSound}
@@ -101,7 +101,7 @@ module _ (c : Configuration) (sound : IsSound c) (before : List Entry) (now : So
     responded (offer ∷ later) is list row =
         let v : View = view_of c h before in
         let all : List Extent = v.responses ++ list in
-        let rules = neither (too_many_listed all) (list_rule (with_blocks c v.block) h (length v.accepted) (offer ∷ later) all) row in
+        let rules = neither (too_many_listed all) (response_list_rule (with_blocks c v.block) h (length v.accepted) (offer ∷ later) all) row in
         let a = answer_of c sound p s h host offer later all rules.1 in
         let offer_made : AllByRecursion IsMadeHere offer = each-front IsMadeHere offer (flat_map (λ xs. xs) later) (subst (λ offers. AllByRecursion IsMadeHere (flat_map (λ xs. xs) offers)) is offers_made) in
         keeps_answer c before kept g (unhold h HeldKind.Responses v.responses) (unhold-quiet h HeldKind.Responses v.responses) (unhold_passes is_calm h (calm_lists h) HeldKind.Responses v.responses)

@@ -27,7 +27,7 @@ use Rattle.device_rules.specs.Answers.{scrubbed, zeroes}
 use Rattle.device_rules.specs.Hosts.{offers_after, offers_of}
 use Rattle.device_rules.specs.Invariants.{Holdings}
 use Rattle.device_rules.specs.Outcomes.{Outcome, effects_of}
-use Rattle.device_rules.specs.Tags.{dirty_granules, granules_of, is_dirty, is_held, is_offered, is_tagged, open_tags, status}
+use Rattle.device_rules.specs.Tags.{dirty_granules, all_granules, is_dirty, is_held, is_offered, is_tagged, open_tags, status}
 use Rattle.step_laws.specs.GranuleStates.{is_granule_offered, stands_for}
 use Rattle.device_rules.proofs.HostSearches.{any_at, or_false}
 use Rattle.step_laws.proofs.JoinedRuns.{any_taken, joined_has, passes_there}
@@ -227,7 +227,7 @@ module _ (c : Configuration) (sound : IsSound c) (past : List Effect) (s : Stand
     -- it zeroes dirty granules alone
     not_zeroed : (h : HostId) → holds h g past ≡ true → has_in_runs (map run_from (joined (same_region c) (scrubbed c past n))) g ≡ false
     not_zeroed h held = false_from_ne_true _ (λ here. absurd (false≢true (sym (not_dirty h (held_known h held) held)
-        ∙ passes_there (λ m. is_dirty (status c m past)) g (granules_of c) (any_taken (λ m. m == g) n (dirty_granules c past) (sym (joined_has (same_region c) (scrubbed c past n) g) ∙ here)))))
+        ∙ passes_there (λ m. is_dirty (status c m past)) g (all_granules c) (any_taken (λ m. m == g) n (dirty_granules c past) (sym (joined_has (same_region c) (scrubbed c past n) g) ∙ here)))))
 
     pub keeps_scrub : KeepsClean c g past (zeroes c (scrubbed c past n))
     keeps_scrub = record {

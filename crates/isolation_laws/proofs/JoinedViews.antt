@@ -22,7 +22,7 @@ use Rattle.device_rules.proofs.Leaving.{map_passes, over-leaving}
 use Rattle.step_laws.proofs.LogHistories.{leaves_logs, log-left, told}
 use Rattle.step_laws.proofs.ViewCommands.{only_logs, view_after-logs}
 use Rattle.step_laws.proofs.ViewsLeft.{is_other_log, leaves_view, others_records, view_after-left}
-use Rattle.isolation_laws.specs.Solo.{with_notices}
+use Rattle.isolation_laws.specs.Solo.{with_log_records}
 
 -- ---- two lists of effects
 
@@ -85,19 +85,19 @@ view_after-ends c h v past o =
     view_after-behind c h v o.changes (map Effect.TagEnd (ended c past o.changes o.tags)) (map_passes (leaves_view h) Effect.TagEnd (λ t. refl) (ended c past o.changes o.tags))
 
 -- Where nothing is told to the host, the changes alone count.
-pub view_after-outcome : (c : Configuration) (h : HostId) (v : View) (past : List Effect) (o : Outcome) → tells (is_other_log h) o.notices ≡ true → view_after c h v (effects_of c past o) ≡ view_after c h v o.changes
+pub view_after-outcome : (c : Configuration) (h : HostId) (v : View) (past : List Effect) (o : Outcome) → tells (is_other_log h) o.log_records ≡ true → view_after c h v (effects_of c past o) ≡ view_after c h v o.changes
 view_after-outcome c h v past o others =
-    view_after-behind c h v (o.changes ++ map Effect.TagEnd (ended c past o.changes o.tags)) (told past o.notices) (told_passes (leaves_view h) (is_other_log h) (others_records h) past o.notices others)
+    view_after-behind c h v (o.changes ++ map Effect.TagEnd (ended c past o.changes o.tags)) (told past o.log_records) (told_passes (leaves_view h) (is_other_log h) (others_records h) past o.log_records others)
     ∙ view_after-ends c h v past o
 
 -- And where these records come into its log, they join it.
 pub view_after-told : (c : Configuration) (h : HostId) (v : View) (past : List Effect) (o : Outcome) (events : List Event) → list_all leaves_logs o.changes ≡ true →
-    fold (log_after (LogId.Host h)) v.log (told past o.notices) ≡ logged v.log events → view_after c h v (effects_of c past o) ≡ with_notices (view_after c h v o.changes) events
+    fold (log_after (LogId.Host h)) v.log (told past o.log_records) ≡ logged v.log events → view_after c h v (effects_of c past o) ≡ with_log_records (view_after c h v o.changes) events
 view_after-told c h v past o events left joined =
     let front : List Effect = o.changes ++ map Effect.TagEnd (ended c past o.changes o.tags) in
-    let records : List Effect = told past o.notices in
+    let records : List Effect = told past o.log_records in
     let w : View = view_after c h v o.changes in
     let quiet : fold (log_after (LogId.Host h)) v.log o.changes ≡ v.log = over-leaving (log_after (LogId.Host h)) leaves_logs (log-left (LogId.Host h)) v.log o.changes left in
-    view_after-records c h v front records (told_passes only_logs any_log (λ l any. record { logged = λ event. refl; missed = refl }) past o.notices (tells_any o.notices))
+    view_after-records c h v front records (told_passes only_logs any_log (λ l any. record { logged = λ event. refl; missed = refl }) past o.log_records (tells_any o.log_records))
     ∙ ap {A = View} (λ u. record u { log = fold (log_after (LogId.Host h)) u.log records }) (view_after-ends c h v past o)
     ∙ ap {A = Log} (λ log. record w { log = log }) (ap (λ log. fold (log_after (LogId.Host h)) log records) quiet ∙ joined ∙ ap (λ log. logged log events) (sym quiet))

@@ -14,7 +14,7 @@ use Rattle.region_config.specs.Configurations.{Configuration}
 use Rattle.device_rules.specs.Legal.{Legal}
 use Rattle.device_rules.specs.Logs.{log_after, log_of, same_log}
 use Rattle.device_state.proofs.Rooms.{room_for}
-use Rattle.device_state.specs.Rooms.{HasRoom, HaveRoom, IsNext}
+use Rattle.device_state.specs.Rooms.{HasRoom, HaveRoom, IsNextRecord}
 use Rattle.device_rules.proofs.LegalSteps.{by_steps}
 
 -- it has no more records than places
@@ -23,9 +23,9 @@ IsWithin l log = length (records_in log) ≤ places_in l
 
 module _ (l : LogId) where
   -- one record more, where there is room
-  one_more : (log : Log) (event : Event) (own : Bool) → (own ≡ true → IsNext l log event) → IsWithin l log → IsWithin l (if own then record log { ever = log.ever ++ event ∷ [] } else log)
+  one_more : (log : Log) (event : Event) (own : Bool) → (own ≡ true → IsNextRecord l log event) → IsWithin l log → IsWithin l (if own then record log { ever = log.ever ++ event ∷ [] } else log)
   one_more log event true room within =
-      let next : IsNext l log event = room refl in
+      let next : IsNextRecord l log event = room refl in
       omega (arith, next.room, next.told.sound, length-drop log.cleared log.ever, length-drop log.cleared (log.ever ++ event ∷ []), length-append log.ever (event ∷ []))
   one_more log event false room within = within
 

@@ -22,7 +22,7 @@ use Rattle.journal_core.specs.declared.outcome.Effect.{Effect}
 use Rattle.region_config.specs.Configurations.{Configuration}
 use Rattle.region_config.specs.Granules.{hosts_of, is_supported, region_spec, with_blocks}
 use Rattle.region_config.specs.Soundness.{IsSound}
-use Rattle.release_core.specs.Removals.{by_tag_rule, listed_rule}
+use Rattle.release_core.specs.Removals.{by_tag_rule, prescribed_removal_rule}
 use Rattle.holding_laws.specs.Pictures.{picture_of}
 use Rattle.holding_laws.specs.Standing.{Sound}
 use Rattle.holding_laws.proofs.Adding.{added, row_of}
@@ -88,7 +88,7 @@ module _ (c : Configuration) (sound : IsSound c) (before : List Entry) (now : So
       Brings (effects_of c (effects before) (remove_outcome c (λ k. view_of c k before) h flags tag list))
   remove_own flags r tag list row =
       let all : List Extent = removed v.accepted flags tag list in
-      let by_row : Bool → Option Rule = λ forced. if policy_in flags == 0 then by_tag_rule v.accepted tag else listed_rule (with_blocks c v.block) h v.accepted (count_in v.offers) r list forced in
+      let by_row : Bool → Option Rule = λ forced. if policy_in flags == 0 then by_tag_rule v.accepted tag else prescribed_removal_rule (with_blocks c v.block) h v.accepted (count_in v.offers) r list forced in
       let front = neither _ (log_full h v.log (length all)) row in
       let rules = neither _ (by_row (is_forced flags)) front.0 in
       by_force (is_forced flags) (is_cleaning flags) all

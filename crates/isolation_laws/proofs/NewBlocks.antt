@@ -15,7 +15,7 @@ use Rattle.region_config.specs.Granules.{is_supported, region_spec, sizes_in}
 use Rattle.region_config.specs.declared.faults.BlockFault.{BlockFault}
 use Rattle.region_config.specs.declared.region_spec.RegionSpec.{RegionSpec}
 use Rattle.isolation_laws.specs.Alone.{IsAlone}
-use Rattle.isolation_laws.specs.Solo.{block_set, with_notices}
+use Rattle.isolation_laws.specs.Solo.{block_set, with_log_records}
 use Rattle.isolation_laws.specs.Telling.{resized}
 use Rattle.isolation_laws.specs.declared.alone.Alone.{Alone}
 
@@ -57,8 +57,8 @@ module _ (c : Configuration) (h : HostId) (v : View) (word : ℕ → ℕ) (old :
       ∙ sizes_stay (region_spec c r) (v.block r) size
 
   by_test : (b : Bool) → (nat_lt r (length c.regions) && is_supported (region_spec c r) size) ≡ b →
-      block_set c h v r size ≡ (if b then with_notices (with_size r size v) (resized h r v) else v)
-  by_test b is = ap (λ t. if t then with_notices (with_size r size v) (resized h r v) else v) is
+      block_set c h v r size ≡ (if b then with_log_records (with_size r size v) (resized h r v) else v)
+  by_test b is = ap (λ t. if t then with_log_records (with_size r size v) (resized h r v) else v) is
 
   -- no such region, or no such size
   pub past_regions : length old.present.regions ≤ r → block_set c h v r size ≡ v
@@ -69,7 +69,7 @@ module _ (c : Configuration) (h : HostId) (v : View) (word : ℕ → ℕ) (old :
       by_test false (λ i. here i && (sym (supported known) ∙ not) i)
 
   pub is_set : r < length old.present.regions → is_supported (region_spec old.present r) size ≡ true →
-      block_set c h v r size ≡ with_notices (with_size r size v) (resized h r v)
+      block_set c h v r size ≡ with_log_records (with_size r size v) (resized h r v)
   is_set known is = let here : nat_lt r (length c.regions) ≡ true = lt-ltb r (length c.regions) (omega (arith, known, long)) in
       by_test true (λ i. here i && (sym (supported known) ∙ is) i)
 

@@ -10,13 +10,13 @@ use Rattle.event_records.specs.declared.events.EventKind.{EventKind}
 use Rattle.journal_core.specs.declared.outcome.Effect.{Effect}
 use Rattle.region_config.specs.Configurations.{Configuration}
 use Rattle.device_rules.specs.Logs.{log_of}
-use Rattle.device_rules.specs.Outcomes.{Outcome, effects_of, notices_of}
+use Rattle.device_rules.specs.Outcomes.{Outcome, effects_of, records_of_extents}
 use Rattle.device_rules.specs.Views.{View, view_after}
 use Rattle.step_laws.proofs.LogSteps.{IsSound}
-use Rattle.isolation_laws.specs.Solo.{with_notices}
+use Rattle.isolation_laws.specs.Solo.{with_log_records}
 use Rattle.isolation_laws.proofs.OneItem.{BringsItems}
 use Rattle.isolation_laws.proofs.OtherSteps.{BringsAlone}
-use Rattle.isolation_laws.proofs.OwnRecords.{told_notices, view_after-notices}
+use Rattle.isolation_laws.proofs.OwnRecords.{told_log_records, view_after-log_records}
 use Rattle.isolation_laws.proofs.RecordItems.{blocks_outcome, delivered_is}
 
 -- what an offer of these extents does
@@ -25,7 +25,7 @@ offering c h v new = record {
   payload = [];
   changes = Effect.Offer h new ∷ [];
   tags = [];
-  notices = (LogId.Host h, notices_of h (view_after c h v (Effect.Offer h new ∷ [])) EventKind.Add new) ∷ [];
+  log_records = (LogId.Host h, records_of_extents h (view_after c h v (Effect.Offer h new ∷ [])) EventKind.Add new) ∷ [];
 }
 
 module _ (c : Configuration) (h : HostId) (v : View) (past : List Effect) (log : log_of (LogId.Host h) past ≡ v.log) (sound : IsSound v.log) where
@@ -38,12 +38,12 @@ module _ (c : Configuration) (h : HostId) (v : View) (past : List Effect) (log :
       let new : List Extent = x ∷ xs in
       let o : Outcome = offering c h v (x ∷ xs) in
       let w : View = view_after c h v (Effect.Offer h (x ∷ xs) ∷ []) in
-      let tells : (asked : EventKind) → _ = told_notices c h v past log sound w EventKind.Add (x ∷ xs) room o refl refl in
+      let tells : (asked : EventKind) → _ = told_log_records c h v past log sound w EventKind.Add (x ∷ xs) room o refl refl in
       subst (BringsItems c h v (effects_of c past o))
       (sym (delivered_is h (effects_of c past o) (x ∷ xs) [] [] [] (tells EventKind.Add) (tells EventKind.Release) (tells EventKind.Forced) (blocks_outcome c past o)))
       (record {
         alone =
-            view_after-notices c h v past log sound w EventKind.Add (x ∷ xs) room o refl refl
-            ∙ ap {A = View} (λ u. with_notices u (notices_of h u EventKind.Add (x ∷ xs))) (offered_view (x ∷ xs));
+            view_after-log_records c h v past log sound w EventKind.Add (x ∷ xs) room o refl refl
+            ∙ ap {A = View} (λ u. with_log_records u (records_of_extents h u EventKind.Add (x ∷ xs))) (offered_view (x ∷ xs));
         few = λ beyond. beyond;
       })

@@ -20,16 +20,16 @@ use Rattle.holding_laws.proofs.AddChoices.{contiguous_reached, free_reached, mar
 use Rattle.holding_laws.proofs.Adding.{IsRow}
 use Rattle.holding_laws.proofs.OneOffer.{reaches}
 use Rattle.holding_laws.proofs.Overlaps.{neither, not_broken}
-use Rattle.device_rules.specs.Adding.{is_free_now, offered, present, tagged}
-use Rattle.device_rules.specs.Adding.{longest_free as blocks_together}
+use Rattle.device_rules.specs.Adding.{is_free_now, offered, present, with_tag}
+use Rattle.device_rules.specs.Adding.{region_longest_free as blocks_together}
 use Rattle.device_rules.specs.Tags.{Dirty, Free, Held, Offered, Tagged, is_free, is_held, is_offered, is_tagged, status}
 
 -- ---- a free granule was not taken since it was zeroed
 
-untaken_free : (private held offered tagged sanitize taken soiled : Bool) → sanitize ≡ true →
-    is_free (if private && held then Held else if private && offered then Offered else if tagged then Tagged else if (sanitize && taken) || soiled then Dirty else Free) ≡ true → taken ≡ false
-untaken_free true true offered tagged sanitize taken soiled is free = absurd (false≢true free)
-untaken_free true false true tagged sanitize taken soiled is free = absurd (false≢true free)
+untaken_free : (private held offered with_tag sanitize taken soiled : Bool) → sanitize ≡ true →
+    is_free (if private && held then Held else if private && offered then Offered else if with_tag then Tagged else if (sanitize && taken) || soiled then Dirty else Free) ≡ true → taken ≡ false
+untaken_free true true offered with_tag sanitize taken soiled is free = absurd (false≢true free)
+untaken_free true false true with_tag sanitize taken soiled is free = absurd (false≢true free)
 untaken_free true false false true sanitize taken soiled is free = absurd (false≢true free)
 untaken_free true false false false false taken soiled is free = absurd (false≢true is)
 untaken_free true false false false true true soiled is free = absurd (false≢true free)
@@ -56,8 +56,8 @@ module _ (c : Configuration) (sound : IsSound c) (past : List Effect) (before : 
   size = (region_spec (present c past) r).block
 
   -- marks change no granule
-  marked_reach : (shareable : Bool) (xs : List Extent) (g : ℕ) → reaches c h (tagged shareable t xs) g ≡ reaches c h xs g
-  marked_reach shareable xs g = sym (reach_runs c h g (tagged shareable t xs)) ∙ ap (λ runs. has_in_runs runs g) (marked_runs shareable t c h 1 xs) ∙ reach_runs c h g xs
+  marked_reach : (shareable : Bool) (xs : List Extent) (g : ℕ) → reaches c h (with_tag shareable t xs) g ≡ reaches c h xs g
+  marked_reach shareable xs g = sym (reach_runs c h g (with_tag shareable t xs)) ∙ ap (λ runs. has_in_runs runs g) (marked_runs shareable t c h 1 xs) ∙ reach_runs c h g xs
 
   -- some blocks are needed
   need_some : ((bytes == 0) || not (bytes % (region_spec (present c past) r).block == 0)) ≡ false → 0 < bytes / (region_spec (present c past) r).block
@@ -73,7 +73,7 @@ module _ (c : Configuration) (sound : IsSound c) (past : List Effect) (before : 
   abbrev AreFree : List Extent → Type 0
   AreFree xs = (g : ℕ) → reaches c h xs g ≡ true → is_free (status c g past) ≡ true
 
-  marked_free : (shareable : Bool) (xs : List Extent) → AreFree xs → AreFree (tagged shareable t xs)
+  marked_free : (shareable : Bool) (xs : List Extent) → AreFree xs → AreFree (with_tag shareable t xs)
   marked_free shareable xs free g has = free g (sym (marked_reach shareable xs g) ∙ has)
 
   by_free : IsRow c past p h 0 r bytes t list → AreFree (offered c past h 0 r bytes t list)

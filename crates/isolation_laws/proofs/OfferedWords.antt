@@ -25,7 +25,7 @@ use Rattle.journal_core.specs.declared.outcome.Effect.{Effect}
 use Rattle.journal_core.specs.declared.outcome.HeldKind.{HeldKind}
 use Rattle.list_rules.specs.Listing.{too_many_listed}
 use Rattle.media_map.specs.Places.{IsPlace, run_of}
-use Rattle.offer_core.specs.Responses.{list_rule}
+use Rattle.offer_core.specs.Responses.{response_list_rule}
 use Rattle.region_config.specs.Configurations.{Configuration}
 use Rattle.region_config.specs.Granules.{hosts_of, region_of, region_spec, with_blocks}
 use Rattle.region_config.specs.Soundness.{IsSound}
@@ -147,7 +147,7 @@ module _ (c : Configuration) (sound : IsSound c) (before : List Entry) (legal : 
   never new all some = absurd (false≢true (sym (none_accepted d new all) ∙ some))
 
   responding : (offers : List (List Extent)) → offers_of h (effects before) ≡ offers → (all : List Extent)
-      → list_rule (with_blocks c (view_of c h before).block) h (length (view_of c h before).accepted) offers all ≡ None
+      → response_list_rule (with_blocks c (view_of c h before).block) h (length (view_of c h before).accepted) offers all ≡ None
       → list_any (accepts_byte d) (answered c h offers all) ≡ true → word_of c before p.granule p.word ≡ 0
   responding [] is all row some = absurd (false≢true some)
   responding (offer ∷ later) is all row some =
@@ -172,7 +172,7 @@ module _ (c : Configuration) (sound : IsSound c) (before : List Entry) (legal : 
   by_request (HostRequest.AddResponse false list) row some =
       let v : View = view_of c h before in
       let all : List Extent = v.responses ++ list in
-      let rules = neither (too_many_listed all) (list_rule (with_blocks c v.block) h (length v.accepted) v.offers all) row in
+      let rules = neither (too_many_listed all) (response_list_rule (with_blocks c v.block) h (length v.accepted) v.offers all) row in
       elim (or_either (list_any (accepts_byte d) (unhold h HeldKind.Responses v.responses)) (list_any (accepts_byte d) (answered c h v.offers all))
       (sym (list_any-append (accepts_byte d) (unhold h HeldKind.Responses v.responses) (answered c h v.offers all)) ∙ some)) [
         | inl first ↦ never (unhold h HeldKind.Responses v.responses) (unhold_passes is_no_answer h (held h) HeldKind.Responses v.responses) first

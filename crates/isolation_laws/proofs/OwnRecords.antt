@@ -11,35 +11,35 @@ use Rattle.event_records.specs.declared.events.EventKind.{EventKind}
 use Rattle.journal_core.specs.declared.outcome.Effect.{Effect}
 use Rattle.region_config.specs.Configurations.{Configuration}
 use Rattle.device_rules.specs.Logs.{log_after, log_of}
-use Rattle.device_rules.specs.Outcomes.{Outcome, effects_of, entered_all, notices_of}
+use Rattle.device_rules.specs.Outcomes.{Outcome, effects_of, entered_all, records_of_extents}
 use Rattle.device_rules.specs.Views.{View, view_after}
 use Rattle.step_laws.proofs.LogHistories.{leaves_logs, told as records_for, told_one}
-use Rattle.step_laws.proofs.LogOutcomes.{length-notices}
+use Rattle.step_laws.proofs.LogOutcomes.{length-log_records}
 use Rattle.step_laws.proofs.LogSteps.{IsSound, entered_all-room}
-use Rattle.isolation_laws.specs.Solo.{told, with_notices}
+use Rattle.isolation_laws.specs.Solo.{extents_recorded, with_log_records}
 use Rattle.isolation_laws.proofs.JoinedViews.{view_after-told}
 use Rattle.isolation_laws.proofs.RecordItems.{told_outcome, told_records}
 
 module _ (c : Configuration) (h : HostId) (v : View) (past : List Effect) (log : log_of (LogId.Host h) past ≡ v.log) (sound : IsSound v.log)
     (w : View) (kind : EventKind) (xs : List Extent) (room : length xs ≤ room_in (LogId.Host h) v.log) where
   -- all records of these extents
-  entries : records_for past ((LogId.Host h, notices_of h w kind xs) ∷ []) ≡ entered_all (LogId.Host h) v.log (notices_of h w kind xs)
-  entries = told_one past (LogId.Host h) (notices_of h w kind xs) ∙ ap (λ own. entered_all (LogId.Host h) own (notices_of h w kind xs)) log
+  entries : records_for past ((LogId.Host h, records_of_extents h w kind xs) ∷ []) ≡ entered_all (LogId.Host h) v.log (records_of_extents h w kind xs)
+  entries = told_one past (LogId.Host h) (records_of_extents h w kind xs) ∙ ap (λ own. entered_all (LogId.Host h) own (records_of_extents h w kind xs)) log
 
-  joins_log : fold (log_after (LogId.Host h)) v.log (records_for past ((LogId.Host h, notices_of h w kind xs) ∷ [])) ≡ logged v.log (notices_of h w kind xs)
+  joins_log : fold (log_after (LogId.Host h)) v.log (records_for past ((LogId.Host h, records_of_extents h w kind xs) ∷ [])) ≡ logged v.log (records_of_extents h w kind xs)
   joins_log =
       ap (fold (log_after (LogId.Host h)) v.log) entries
-      ∙ entered_all-room (LogId.Host h) v.log (notices_of h w kind xs) sound (omega (arith, length-notices h w kind xs, room))
+      ∙ entered_all-room (LogId.Host h) v.log (records_of_extents h w kind xs) sound (omega (arith, length-log_records h w kind xs, room))
 
   -- a command that tells them, and no others
-  module _ (o : Outcome) (notices : o.notices ≡ (LogId.Host h, notices_of h w kind xs) ∷ []) (left : list_all leaves_logs o.changes ≡ true) where
-    pub view_after-notices : view_after c h v (effects_of c past o) ≡ with_notices (view_after c h v o.changes) (notices_of h w kind xs)
-    view_after-notices =
-        view_after-told c h v past o (notices_of h w kind xs) left
-        (ap (λ ns. fold (log_after (LogId.Host h)) v.log (records_for past ns)) notices ∙ joins_log)
+  module _ (o : Outcome) (log_records : o.log_records ≡ (LogId.Host h, records_of_extents h w kind xs) ∷ []) (left : list_all leaves_logs o.changes ≡ true) where
+    pub view_after-log_records : view_after c h v (effects_of c past o) ≡ with_log_records (view_after c h v o.changes) (records_of_extents h w kind xs)
+    view_after-log_records =
+        view_after-told c h v past o (records_of_extents h w kind xs) left
+        (ap (λ ns. fold (log_after (LogId.Host h)) v.log (records_for past ns)) log_records ∙ joins_log)
 
-    pub told_notices : (asked : EventKind) → told h asked (effects_of c past o) ≡ (if kind_number kind == kind_number asked then xs else [])
-    told_notices asked =
+    pub told_log_records : (asked : EventKind) → extents_recorded h asked (effects_of c past o) ≡ (if kind_number kind == kind_number asked then xs else [])
+    told_log_records asked =
         told_outcome h asked c past o left
-        ∙ ap (told h asked) (ap (records_for past) notices ∙ entries)
+        ∙ ap (extents_recorded h asked) (ap (records_for past) log_records ∙ entries)
         ∙ told_records h asked kind w v.log xs sound room

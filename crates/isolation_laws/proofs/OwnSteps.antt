@@ -18,7 +18,7 @@ use Rattle.region_config.specs.Configurations.{Configuration}
 use Rattle.device_rules.specs.Answers.{dropped, effects_with, host_outcome, host_result, host_rule, unless}
 use Rattle.device_rules.specs.Legal.{right_answer}
 use Rattle.device_rules.specs.Outcomes.{Outcome}
-use Rattle.device_rules.specs.ResponseOutcomes.{respond_changes, response_notices}
+use Rattle.device_rules.specs.ResponseOutcomes.{respond_changes, response_records}
 use Rattle.device_rules.specs.Views.{View, view_after, view_of}
 use Rattle.device_rules.proofs.EffectKinds.{tells}
 use Rattle.step_laws.proofs.ViewsLeft.{is_other_log}
@@ -29,12 +29,12 @@ use Rattle.isolation_laws.proofs.JoinedViews.{view_after-outcome}
 module _ (c : Configuration) (h : HostId) where
   -- ---- what a host does is told to the manager
 
-  response_tells : (v : View) (offers : List (List Extent)) (taken : List Extent) → tells (is_other_log h) (response_notices c h v offers taken) ≡ true
+  response_tells : (v : View) (offers : List (List Extent)) (taken : List Extent) → tells (is_other_log h) (response_records c h v offers taken) ≡ true
   response_tells v [] taken = refl
   response_tells v (offer ∷ later) [] = refl
   response_tells v (offer ∷ later) (x ∷ xs) = refl
 
-  host_tells : (v : View) (q : HostRequest) → tells (is_other_log h) (host_outcome c h v q).notices ≡ true
+  host_tells : (v : View) (q : HostRequest) → tells (is_other_log h) (host_outcome c h v q).log_records ≡ true
   host_tells v (HostRequest.GetEvents log) = refl
   host_tells v (HostRequest.ClearEvents log all handles) = refl
   host_tells v (HostRequest.GetConfiguration count first) = refl
@@ -46,7 +46,7 @@ module _ (c : Configuration) (h : HostId) where
 
   -- ---- so its changes alone count for it
 
-  by_rule : (v : View) (past : List Effect) (q : Request) (rule : Option Rule) (o : Outcome) → tells (is_other_log h) o.notices ≡ true →
+  by_rule : (v : View) (past : List Effect) (q : Request) (rule : Option Rule) (o : Outcome) → tells (is_other_log h) o.log_records ≡ true →
       view_after c h v (effects_with c past (dropped h v q.opcode) (unless rule o)) ≡ view_after c h v (changes_with h v q (unless rule o))
   by_rule v past q None o others = view_after-outcome c h v past o others
   by_rule v past q (Some rule) o others = refl

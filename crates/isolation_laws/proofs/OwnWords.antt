@@ -26,7 +26,7 @@ use Rattle.device_rules.specs.Legal.{Legal, Meets, access_at, access_reply, is_z
 use Rattle.device_rules.specs.Views.{View, first_view, view_of}
 use Rattle.device_rules.proofs.LegalSteps.{by_steps}
 use Rattle.isolation_laws.specs.Laws.{Clean}
-use Rattle.isolation_laws.specs.Solo.{accepts_byte, delivered, has_byte, is_of, items_of, own_changes, own_items, solo_after, solo_view, solo_word, solo_word_after}
+use Rattle.isolation_laws.specs.Solo.{accepts_byte, delivered, has_byte, acts_for, items_of, own_changes, own_items, solo_after, solo_view, solo_word, solo_word_after}
 use Rattle.isolation_laws.specs.declared.items.Item.{Item}
 use Rattle.isolation_laws.proofs.AcceptedBytes.{brought_has, changes_have}
 use Rattle.isolation_laws.proofs.AllSee.{all_see_alone}
@@ -148,7 +148,7 @@ module _ (c : Configuration) (sound : IsSound c) (cleaned : (journal : List Entr
           absurd (eqb-false k h other ((sound_apart c sound (effects before) (legal_is_sound c sound before legal)).alone p.granule k h alone_in (ap (λ g. holds k g (effects before)) (sym granule) ∙ theirs) held)))
     ])
 
-    others_leave : (actor : Actor) (act : Act) → is_of h actor ≡ false → holds h p.granule (effects before) ≡ true →
+    others_leave : (actor : Actor) (act : Act) → acts_for h actor ≡ false → holds h p.granule (effects before) ≡ true →
         word_by c p.granule p.word (word_of c before p.granule p.word) actor act (right_answer c before actor act).0 ≡ word_of c before p.granule p.word
     others_leave (Actor.Host k) act other held = others_write k act other held
     others_leave Actor.Manager act other held = refl
@@ -197,7 +197,7 @@ module _ (c : Configuration) (sound : IsSound c) (cleaned : (journal : List Entr
           sym (held_by_view (before ++ e ∷ []) longer ∙ ap (λ u. list_any (has_byte d) u.accepted) (all_see_alone c sound (before ++ e ∷ []) longer h host ∙ solo_view-push c h before e))
           ∙ held_now
 
-      of_another : is_of h e.actor ≡ false → word_of c (before ++ e ∷ []) p.granule p.word ≡ solo_word c h d (own_items h (before ++ e ∷ []))
+      of_another : acts_for h e.actor ≡ false → word_of c (before ++ e ∷ []) p.granule p.word ≡ solo_word c h d (own_items h (before ++ e ∷ []))
       of_another other =
           let brought : items_of h e ≡ delivered h e.effects = ap (λ b. if b then Item.Own e.act ∷ [] else delivered h e.effects) other in
           let held : holds h p.granule (effects before) ≡ true =
@@ -208,7 +208,7 @@ module _ (c : Configuration) (sound : IsSound c) (cleaned : (journal : List Entr
           ∙ same held
           ∙ sym (solo_now ∙ ap (λ new. (fold (solo_step c h d) (v, n) new).1) brought ∙ brought_word c h d (v, n) (delivered h e.effects) (all_brought h e.effects))
 
-      of_its_own : is_of h e.actor ≡ true → word_of c (before ++ e ∷ []) p.granule p.word ≡ solo_word c h d (own_items h (before ++ e ∷ []))
+      of_its_own : acts_for h e.actor ≡ true → word_of c (before ++ e ∷ []) p.granule p.word ≡ solo_word c h d (own_items h (before ++ e ∷ []))
       of_its_own own =
           let mine : items_of h e ≡ Item.Own e.act ∷ [] = ap (λ b. if b then Item.Own e.act ∷ [] else delivered h e.effects) own in
           word_now
@@ -218,7 +218,7 @@ module _ (c : Configuration) (sound : IsSound c) (cleaned : (journal : List Entr
           ∙ sym (solo_now ∙ ap (λ new. (fold (solo_step c h d) (v, n) new).1) mine)
 
       same_now : word_of c (before ++ e ∷ []) p.granule p.word ≡ solo_word c h d (own_items h (before ++ e ∷ []))
-      same_now = elim (cases_Bool (is_of h e.actor)) [
+      same_now = elim (cases_Bool (acts_for h e.actor)) [
         | inl own ↦ of_its_own own
         | inr other ↦ of_another other
       ]

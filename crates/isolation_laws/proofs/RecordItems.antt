@@ -15,7 +15,7 @@ use Rattle.journal_core.specs.declared.outcome.Effect.{Effect}
 use Rattle.region_config.specs.Configurations.{Configuration}
 use Rattle.dcd_base.specs.Words.{is_empty}
 use Rattle.device_rules.specs.Logs.{log_after}
-use Rattle.device_rules.specs.Outcomes.{Outcome, effects_of, ended, entered, entered_all, notice, notices_of}
+use Rattle.device_rules.specs.Outcomes.{Outcome, effects_of, ended, entered, entered_all, record_for, records_of_extents}
 use Rattle.device_rules.specs.Views.{View}
 use Rattle.device_rules.proofs.EffectKinds.{any_log, tells_any, told_passes}
 use Rattle.device_rules.proofs.Leaving.{both_pass, map_passes}
@@ -23,7 +23,7 @@ use Rattle.step_laws.proofs.LogHistories.{leaves_logs, told as records_for}
 use Rattle.step_laws.proofs.LogSteps.{IsSound, IsSound-recorded, after-entered, entered-room, room-recorded}
 use Rattle.step_laws.proofs.ViewCommands.{only_logs}
 use Rattle.step_laws.proofs.ViewsLeft.{leaves_view}
-use Rattle.isolation_laws.specs.Solo.{block_item, delivered, item_of, told, told_by}
+use Rattle.isolation_laws.specs.Solo.{block_item, delivered, item_of, extents_recorded, told_by}
 use Rattle.isolation_laws.specs.declared.items.Item.{Item}
 
 -- ---- effects that bring nothing
@@ -54,13 +54,13 @@ block-left : (h : HostId) (e : Effect) → leaves_view h e ≡ true → block_it
 block-left h (Effect.Block r size) left = absurd (false≢true left)
 block-left h e left = refl
 
-pub told_passing : (h : HostId) (kind : EventKind) (new : List Effect) → list_all (leaves_view h) new ≡ true → told h kind new ≡ []
+pub told_passing : (h : HostId) (kind : EventKind) (new : List Effect) → list_all (leaves_view h) new ≡ true → extents_recorded h kind new ≡ []
 told_passing h kind new all = none_found (told_by h kind) (leaves_view h) (told-left h kind) new all
 
 -- ---- the items, from the parts
 
 pub delivered_is : (h : HostId) (new : List Effect) (given asked taken : List Extent) (blocks : List Item) →
-    told h EventKind.Add new ≡ given → told h EventKind.Release new ≡ asked → told h EventKind.Forced new ≡ taken → filter_map block_item new ≡ blocks →
+    extents_recorded h EventKind.Add new ≡ given → extents_recorded h EventKind.Release new ≡ asked → extents_recorded h EventKind.Forced new ≡ taken → filter_map block_item new ≡ blocks →
     delivered h new ≡ item_of Item.Given given ++ item_of Item.Asked asked ++ item_of Item.Taken taken ++ blocks
 delivered_is h new given asked taken blocks a b t s = λ i. item_of Item.Given (a i) ++ item_of Item.Asked (b i) ++ item_of Item.Taken (t i) ++ s i
 
@@ -73,11 +73,11 @@ delivered-left h new all = delivered_is h new [] [] [] []
 -- ---- of a command the records tell, and the changes set blocks
 
 pub told_outcome : (h : HostId) (kind : EventKind) (c : Configuration) (past : List Effect) (o : Outcome) → list_all leaves_logs o.changes ≡ true →
-    told h kind (effects_of c past o) ≡ told h kind (records_for past o.notices)
+    extents_recorded h kind (effects_of c past o) ≡ extents_recorded h kind (records_for past o.log_records)
 told_outcome h kind c past o left =
     let ends : List Effect = map Effect.TagEnd (ended c past o.changes o.tags) in
-    filter_map-append (told_by h kind) (o.changes ++ ends) (records_for past o.notices)
-    ∙ ap (λ front. front ++ told h kind (records_for past o.notices))
+    filter_map-append (told_by h kind) (o.changes ++ ends) (records_for past o.log_records)
+    ∙ ap (λ front. front ++ extents_recorded h kind (records_for past o.log_records))
     (none_found (told_by h kind) leaves_logs (told-quiet h kind) (o.changes ++ ends) (both_pass leaves_logs o.changes ends left (map_passes leaves_logs Effect.TagEnd (λ t. refl) (ended c past o.changes o.tags))))
 
 abbrev is_end : Effect → Bool
@@ -95,11 +95,11 @@ nil_behind (x ∷ xs) ys zs a b = ap (λ more. x ∷ more) (nil_behind xs ys zs 
 pub blocks_outcome : (c : Configuration) (past : List Effect) (o : Outcome) → filter_map block_item (effects_of c past o) ≡ filter_map block_item o.changes
 blocks_outcome c past o =
     let ends : List Effect = map Effect.TagEnd (ended c past o.changes o.tags) in
-    filter_map-append block_item (o.changes ++ ends) (records_for past o.notices)
-    ∙ ap (λ front. front ++ filter_map block_item (records_for past o.notices)) (filter_map-append block_item o.changes ends)
-    ∙ nil_behind (filter_map block_item o.changes) (filter_map block_item ends) (filter_map block_item (records_for past o.notices))
+    filter_map-append block_item (o.changes ++ ends) (records_for past o.log_records)
+    ∙ ap (λ front. front ++ filter_map block_item (records_for past o.log_records)) (filter_map-append block_item o.changes ends)
+    ∙ nil_behind (filter_map block_item o.changes) (filter_map block_item ends) (filter_map block_item (records_for past o.log_records))
     (none_found block_item is_end block-end ends (map_passes is_end Effect.TagEnd (λ t. refl) (ended c past o.changes o.tags)))
-    (none_found block_item only_logs block-quiet (records_for past o.notices) (told_passes only_logs any_log (λ l any. record { logged = λ event. refl; missed = refl }) past o.notices (tells_any o.notices)))
+    (none_found block_item only_logs block-quiet (records_for past o.log_records) (told_passes only_logs any_log (λ l any. record { logged = λ event. refl; missed = refl }) past o.log_records (tells_any o.log_records)))
 
 -- ---- the records of one kind
 
@@ -119,15 +119,15 @@ told_entered h kind log e room =
 
 -- A log with room tells the host these extents, where they are asked for by their kind.
 pub told_records : (h : HostId) (kind own : EventKind) (v : View) (log : Log) (xs : List Extent) → IsSound log → length xs ≤ room_in (LogId.Host h) log →
-    told h kind (entered_all (LogId.Host h) log (notices_of h v own xs)) ≡ (if kind_number own == kind_number kind then xs else [])
+    extents_recorded h kind (entered_all (LogId.Host h) log (records_of_extents h v own xs)) ≡ (if kind_number own == kind_number kind then xs else [])
 told_records h kind own v log [] sound room = sym (nothing_if (kind_number own == kind_number kind) [])
 told_records h kind own v log (x ∷ xs) sound room =
     let l : LogId = LogId.Host h in
-    let e : Event = notice h v own (not (is_empty xs)) x in
+    let e : Event = record_for h v own (not (is_empty xs)) x in
     let some : 0 < room_in l log = omega (arith, room) in
     let left : length xs ≤ room_in l (recorded log e) = rw (room-recorded l log e sound) (omega (arith, room)) in
     let asked : Bool = kind_number own == kind_number kind in
-    ap (λ o. cons_option o (told h kind (entered_all l (log_after l log (entered l log e)) (notices_of h v own xs)))) (told_entered h kind log e some)
-    ∙ ap (λ u. cons_option (if asked then Some x else None) (told h kind (entered_all l u (notices_of h v own xs)))) (after-entered l log e some)
+    ap (λ o. cons_option o (extents_recorded h kind (entered_all l (log_after l log (entered l log e)) (records_of_extents h v own xs)))) (told_entered h kind log e some)
+    ∙ ap (λ u. cons_option (if asked then Some x else None) (extents_recorded h kind (entered_all l u (records_of_extents h v own xs)))) (after-entered l log e some)
     ∙ ap (cons_option (if asked then Some x else None)) (told_records h kind own v (recorded log e) xs (IsSound-recorded log e sound) left)
     ∙ joined_if asked x xs

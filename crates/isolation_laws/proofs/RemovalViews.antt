@@ -13,21 +13,21 @@ use Rattle.event_records.specs.declared.events.EventKind.{EventKind}
 use Rattle.extent_list.specs.ExtentLists.{cut, cut_all, tags_of}
 use Rattle.journal_core.specs.declared.outcome.Effect.{Effect}
 use Rattle.journal_core.specs.declared.outcome.HeldKind.{HeldKind}
-use Rattle.media_map.specs.Places.{bytes_in, run_of, start_of}
+use Rattle.media_map.specs.Places.{bytes_of_run, run_of, start_of}
 use Rattle.region_config.specs.Configurations.{Configuration}
 use Rattle.device_rules.specs.Hosts.{accepted_after, block_after, held_after, moves, offers_after}
 use Rattle.device_rules.specs.Logs.{log_after, log_of}
-use Rattle.device_rules.specs.Outcomes.{Outcome, effects_of, notices_of}
+use Rattle.device_rules.specs.Outcomes.{Outcome, effects_of, records_of_extents}
 use Rattle.device_rules.specs.ReleaseOutcomes.{removals, soils}
 use Rattle.device_rules.specs.Views.{View, view_after}
 use Rattle.device_rules.proofs.EffectKinds.{removals_pass}
 use Rattle.step_laws.proofs.LogHistories.{leaves_logs}
 use Rattle.step_laws.proofs.LogSteps.{IsSound}
-use Rattle.isolation_laws.specs.Solo.{block_item, item_of, solo_after, with_notices}
+use Rattle.isolation_laws.specs.Solo.{block_item, item_of, solo_after, with_log_records}
 use Rattle.isolation_laws.specs.declared.items.Item.{Item}
 use Rattle.isolation_laws.proofs.OneItem.{BringsItems, IsOneAtMost}
 use Rattle.isolation_laws.proofs.OtherSteps.{BringsAlone}
-use Rattle.isolation_laws.proofs.OwnRecords.{told_notices, view_after-notices}
+use Rattle.isolation_laws.proofs.OwnRecords.{told_log_records, view_after-log_records}
 use Rattle.isolation_laws.proofs.RecordItems.{blocks_outcome, delivered_is, none_found}
 
 -- what a removal of these extents does
@@ -36,13 +36,13 @@ removing c h v forced clean all = let changes : List Effect = if forced then rem
   payload = [];
   changes = changes;
   tags = tags_of all;
-  notices = (LogId.Host h, notices_of h (view_after c h v changes) (if forced then EventKind.Forced else EventKind.Release) all) ∷ [];
+  log_records = (LogId.Host h, records_of_extents h (view_after c h v changes) (if forced then EventKind.Forced else EventKind.Release) all) ∷ [];
 }
 
 -- the run of its granules begins where the extent does, and is as long; the extent ends within the addresses
 pub record IsOwnRun (c : Configuration) (h : HostId) (x : Extent) : Type 0 where
   pub starts : start_of c h (run_of c h x) ≡ x.start
-  pub bytes : bytes_in c (run_of c h x) ≡ x.length
+  pub bytes : bytes_of_run c (run_of c h x) ≡ x.length
   pub ends : x.start + x.length < 2 ^ 64
 
 -- ---- the changes
@@ -108,16 +108,16 @@ module _ (c : Configuration) (h : HostId) (v : View) (past : List Effect) (log :
   pub brings_request : (clean : Bool) (all : List Extent) → length all ≤ room_in (LogId.Host h) v.log → BringsAlone c h v (effects_of c past (removing c h v false clean all))
   brings_request clean all room =
       let o : Outcome = removing c h v false clean all in
-      let tells : (asked : EventKind) → _ = told_notices c h v past log sound v EventKind.Release all room o refl refl in
+      let tells : (asked : EventKind) → _ = told_log_records c h v past log sound v EventKind.Release all room o refl refl in
       subst (BringsItems c h v (effects_of c past o))
       (sym (delivered_is h (effects_of c past o) [] all [] [] (tells EventKind.Add) (tells EventKind.Release) (tells EventKind.Forced) (no_blocks false clean all)))
-      (record { alone = view_after-notices c h v past log sound v EventKind.Release all room o refl refl ∙ by all; few = few all })
+      (record { alone = view_after-log_records c h v past log sound v EventKind.Release all room o refl refl ∙ by all; few = few all })
     where
       few : (all : List Extent) → IsOneAtMost (item_of Item.Asked all ++ [] ++ [])
       few [] = tt
       few (x ∷ xs) = λ beyond. beyond
 
-      by : (all : List Extent) → with_notices v (notices_of h v EventKind.Release all) ≡ fold (solo_after c h) v (item_of Item.Asked all ++ [] ++ [])
+      by : (all : List Extent) → with_log_records v (records_of_extents h v EventKind.Release all) ≡ fold (solo_after c h) v (item_of Item.Asked all ++ [] ++ [])
       by [] = refl
       by (x ∷ xs) = refl
 
@@ -126,16 +126,16 @@ module _ (c : Configuration) (h : HostId) (v : View) (past : List Effect) (log :
   brings_removal clean all own room =
       let o : Outcome = removing c h v true clean all in
       let w : View = view_after c h v (removals c h clean all) in
-      let tells : (asked : EventKind) → _ = told_notices c h v past log sound w EventKind.Forced all room o refl (quiet_logs true clean all) in
+      let tells : (asked : EventKind) → _ = told_log_records c h v past log sound w EventKind.Forced all room o refl (quiet_logs true clean all) in
       subst (BringsItems c h v (effects_of c past o))
       (sym (delivered_is h (effects_of c past o) [] [] all [] (tells EventKind.Add) (tells EventKind.Release) (tells EventKind.Forced) (no_blocks true clean all)))
-      (record { alone = view_after-notices c h v past log sound w EventKind.Forced all room o refl (quiet_logs true clean all) ∙ by all own; few = few all own })
+      (record { alone = view_after-log_records c h v past log sound w EventKind.Forced all room o refl (quiet_logs true clean all) ∙ by all own; few = few all own })
     where
       few : (all : List Extent) → AllByRecursion (IsOwnRun c h) all → IsOneAtMost (item_of Item.Taken all ++ [])
       few [] own = tt
       few (x ∷ xs) own = λ beyond. beyond (ends_within c h (x ∷ xs) own)
 
       by : (all : List Extent) → AllByRecursion (IsOwnRun c h) all →
-          with_notices (view_after c h v (removals c h clean all)) (notices_of h (view_after c h v (removals c h clean all)) EventKind.Forced all) ≡ fold (solo_after c h) v (item_of Item.Taken all ++ [])
+          with_log_records (view_after c h v (removals c h clean all)) (records_of_extents h (view_after c h v (removals c h clean all)) EventKind.Forced all) ≡ fold (solo_after c h) v (item_of Item.Taken all ++ [])
       by [] own = refl
-      by (x ∷ xs) own = ap {A = View} (λ u. with_notices u (notices_of h u EventKind.Forced (x ∷ xs))) (view_after-removals c h v clean x xs own)
+      by (x ∷ xs) own = ap {A = View} (λ u. with_log_records u (records_of_extents h u EventKind.Forced (x ∷ xs))) (view_after-removals c h v clean x xs own)

@@ -15,7 +15,7 @@ use Rattle.region_config.specs.Configurations.{Configuration}
 use Rattle.region_config.specs.Granules.{with_blocks}
 use Rattle.region_config.specs.Soundness.{IsSound}
 use Rattle.release_core.specs.Leaving.{count_after}
-use Rattle.release_core.specs.Removals.{by_tag_rule, listed_rule, tagged}
+use Rattle.release_core.specs.Removals.{by_tag_rule, prescribed_removal_rule, extents_of_tag}
 use Rattle.holding_laws.specs.Pictures.{Picture}
 use Rattle.holding_laws.specs.Standing.{IsMade, Stands}
 use Rattle.holding_laws.proofs.Going.{IsGoing, some_going}
@@ -41,9 +41,9 @@ module _ (c : Configuration) (sound : IsSound c) (p : Picture) (s : Stands c p) 
 
   -- by tag, or listed
   pub removed_runs : (by_tag : Bool) (r : ℕ) (tag : Tag) (list : List Extent)
-      → (if by_tag then by_tag_rule (p.accepted h) tag else listed_rule (with_blocks c p.block) h (p.accepted h) (count_in (p.offers h)) r list true) ≡ None
-      → AllByRecursion (IsOwnRun c h) (if by_tag then tagged tag (p.accepted h) else map (marked (p.accepted h)) list)
-  removed_runs true r tag list row = going_runs (tagged tag (p.accepted h)) (some_going c sound p (loose c p s) h known (λ x. same_tag x.tag tag))
+      → (if by_tag then by_tag_rule (p.accepted h) tag else prescribed_removal_rule (with_blocks c p.block) h (p.accepted h) (count_in (p.offers h)) r list true) ≡ None
+      → AllByRecursion (IsOwnRun c h) (if by_tag then extents_of_tag tag (p.accepted h) else map (marked (p.accepted h)) list)
+  removed_runs true r tag list row = going_runs (extents_of_tag tag (p.accepted h)) (some_going c sound p (loose c p s) h known (λ x. same_tag x.tag tag))
   removed_runs false r tag list row =
       let w : Configuration = with_blocks c p.block in
       let front = neither _ (too_many_extents (count_after (p.accepted h) (count_in (p.offers h)) list)) row in

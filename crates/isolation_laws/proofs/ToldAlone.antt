@@ -12,11 +12,11 @@ use Rattle.device_rules.specs.Views.{View, extents_in}
 use Rattle.event_log.specs.LogStates.{LogState, with_record}
 use Rattle.event_log.specs.Logs.{logged, records_in}
 use Rattle.event_records.specs.declared.events.Event.{Event}
-use Rattle.device_state.specs.Kept.{IsLogOf, lists_in}
+use Rattle.device_state.specs.StateAfter.{IsLogOf, lists_in}
 use Rattle.host_lists.specs.Lists.{extent_total}
 use Rattle.region_config.specs.Configurations.{Configuration}
-use Rattle.isolation_laws.specs.Alone.{IsAlone, Takes}
-use Rattle.isolation_laws.specs.Solo.{solo_after, solo_word_after, with_notices}
+use Rattle.isolation_laws.specs.Alone.{IsAlone, TakesItem}
+use Rattle.isolation_laws.specs.Solo.{solo_after, solo_word_after, with_log_records}
 use Rattle.isolation_laws.specs.Telling.{Logs}
 use Rattle.isolation_laws.specs.declared.alone.Alone.{Alone}
 use Rattle.isolation_laws.specs.declared.alone.Stop.{Stop}
@@ -54,9 +54,9 @@ module _ (c : Configuration) (h : HostId) (events : View → List Event) (old : 
 -- An item is taken by a change of what is kept, and records then.
 module _ (c : Configuration) (h : HostId) (item : Item) (events : View → List Event) (change : View → View) (old mid new : Alone)
     (changed : (v : View) (word : ℕ → ℕ) → IsAlone c h v word old → IsAlone c h (change v) word mid)
-    (is : (v : View) (word : ℕ → ℕ) → IsAlone c h v word old → solo_after c h v item ≡ with_notices (change v) (events (change v)))
+    (is : (v : View) (word : ℕ → ℕ) → IsAlone c h v word old → solo_after c h v item ≡ with_log_records (change v) (events (change v)))
     (leaves : (d : ℕ) (v : View) (n : ℕ) → solo_word_after c h d v n item ≡ n) where
-  pub takes_told : (r : Result Unit Stop) → Logs c h events mid new r → Takes c h item old new r
+  pub takes_told : (r : Result Unit Stop) → Logs c h events mid new r → TakesItem c h item old new r
   takes_told (Ok done) logs = λ v word alone.
       subst (λ (w : ℕ → ℕ). IsAlone c h (solo_after c h v item) w new) (λ i d. sym (leaves d v (word d)) i)
       (subst (λ (u : View). IsAlone c h u word new) (sym (is v word alone)) (logs (change v) word (changed v word alone)))

@@ -10,7 +10,7 @@ use Rattle.journal_core.specs.declared.entries.Entry.{Entry}
 use Rattle.region_config.specs.Configurations.{Configuration}
 use Rattle.device_rules.specs.Legal.{Legal}
 use Rattle.isolation_laws.specs.Laws.{SameReplies, hushed, replies_with}
-use Rattle.isolation_laws.specs.Solo.{Agrees, AgreesAlone, Isolated, delivered, is_of, items_of, own_items, solo}
+use Rattle.isolation_laws.specs.Solo.{Agrees, AgreesAlone, Isolated, delivered, acts_for, items_of, own_items, solo}
 use Rattle.isolation_laws.specs.declared.items.Item.{Item}
 use Rattle.isolation_laws.specs.declared.items.SoloReply.{SoloReply}
 use Rattle.isolation_laws.proofs.BroughtItems.{actor_is, all_brought, is_brought}
@@ -44,9 +44,9 @@ module _ (c : Configuration) (h : HostId) where
   none_replied before (item ∷ xs) all = none_replied (before ++ item ∷ []) xs all
 
   -- what an entry replies to the host
-  first_replies : (items : List Item) (e : Entry) → (is_of h e.actor ≡ true → Agrees (solo c h items e.act) e.reply) →
-      (if is_of h e.actor then hushed (solo c h items e.act) e.reply ∷ [] else []) ≡ alone_replies items (items_of h e)
-  first_replies items e agrees = elim (cases_Bool (is_of h e.actor)) [
+  first_replies : (items : List Item) (e : Entry) → (acts_for h e.actor ≡ true → Agrees (solo c h items e.act) e.reply) →
+      (if acts_for h e.actor then hushed (solo c h items e.act) e.reply ∷ [] else []) ≡ alone_replies items (items_of h e)
+  first_replies items e agrees = elim (cases_Bool (acts_for h e.actor)) [
     | inl own ↦ (λ i. if own i then hushed (solo c h items e.act) e.reply ∷ [] else [])
         ∙ ap (λ s. s ∷ []) (hushed_is (solo c h items e.act) e.reply (agrees own))
         ∙ sym (ap (λ b. alone_replies items (if b then Item.Own e.act ∷ [] else delivered h e.effects)) own)

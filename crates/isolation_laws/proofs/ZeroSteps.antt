@@ -30,7 +30,7 @@ use Rattle.device_rules.specs.Legal.{is_zeroing, right_answer}
 use Rattle.device_rules.specs.Logs.{log_of}
 use Rattle.device_rules.specs.Outcomes.{Outcome, effects_of}
 use Rattle.device_rules.specs.ReleaseOutcomes.{is_cleaning, is_forced, removed}
-use Rattle.device_rules.specs.Tags.{dirty_granules, granules_of, is_dirty, is_referenced, status}
+use Rattle.device_rules.specs.Tags.{dirty_granules, all_granules, is_dirty, is_referenced, status}
 use Rattle.device_rules.specs.Views.{view_of}
 use Rattle.device_rules.proofs.EffectKinds.{PassClearing, PassHeld, PassLists, PassRecords, any_log, clear_passes, dropped_passes, host_passes, outcome_passes, reference_passes, removals_pass, tells_any}
 use Rattle.step_laws.proofs.JoinedRuns.{any_taken, joined_has, passes_there}
@@ -72,7 +72,7 @@ any_host p a (suc n) k low high is = elim (cases_eq a k) [
 
 module _ (c : Configuration) (before : List Entry) where
   outcome : (o : Outcome) → list_all is_no_zero o.changes ≡ true → list_all is_no_zero (effects_of c (effects before) o) ≡ true
-  outcome o changes = outcome_passes is_no_zero any_log (λ l is. records l) (λ t. refl) c (effects before) o changes (tells_any o.notices)
+  outcome o changes = outcome_passes is_no_zero any_log (λ l is. records l) (λ t. refl) c (effects before) o changes (tells_any o.log_records)
 
   by_rule : (rule : Option Rule) (o : Outcome) (refused : List Effect) → list_all is_no_zero (effects_of c (effects before) o) ≡ true → list_all is_no_zero refused ≡ true →
       list_all is_no_zero (effects_with c (effects before) refused (unless rule o)) ≡ true
@@ -130,7 +130,7 @@ module _ (c : Configuration) (before : List Entry) where
         ∙ joined_has (same_region c) (scrubbed c (effects before) n) g
         ∙ elim (cases_Bool (list_any (λ m. m == g) (scrubbed c (effects before) n))) [
           | inr out ↦ out
-          | inl here ↦ absurd (false≢true (sym clean ∙ passes_there (λ m. is_dirty (status c m (effects before))) g (granules_of c) (any_taken (λ m. m == g) n (dirty_granules c (effects before)) here)))
+          | inl here ↦ absurd (false≢true (sym clean ∙ passes_there (λ m. is_dirty (status c m (effects before))) g (all_granules c) (any_taken (λ m. m == g) n (dirty_granules c (effects before)) here)))
         ]
 
     pub none_zeroed : (actor : Actor) (act : Act) → list_any (is_zeroing g) (right_answer c before actor act).1 ≡ false

@@ -11,7 +11,7 @@ use Rattle.isolation_laws.specs.Solo.{accepts_byte}
 use Rattle.isolation_laws.specs.declared.alone.Alone.{Alone}
 
 -- The log and the words are changed by these effects, and these lists take the place of the others, where there are any.
-pub record IsChanged (h : HostId) (changes : List Effect) (lists : Option Lists) (old new : Alone) : Type 0 where
+pub record ChangesAlone (h : HostId) (changes : List Effect) (lists : Option Lists) (old new : Alone) : Type 0 where
   pub present_stays : new.present ≡ old.present
   pub lists_by : new.lists ≡ unwrap_or lists old.lists
   pub log_by_all : new.log ≡ fold (log_by (LogId.Host h)) old.log changes

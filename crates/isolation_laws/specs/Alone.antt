@@ -12,7 +12,7 @@ use Rattle.device_rules.specs.Answers.{host_result_in, reply_with}
 use Rattle.device_rules.specs.Views.{View, extents_in}
 use Rattle.event_log.specs.Logs.{records_in}
 use Rattle.granule_mem.specs.Contents.{word_among}
-use Rattle.device_state.specs.Kept.{IsLogOf, lists_in}
+use Rattle.device_state.specs.StateAfter.{IsLogOf, lists_in}
 use Rattle.host_lists.specs.Lists.{extent_total}
 use Rattle.journal_core.specs.declared.acts.Act.{Act}
 use Rattle.journal_core.specs.declared.acts.Reply.{Reply}
@@ -67,21 +67,21 @@ pub record IsAlone (c : Configuration) (h : HostId) (v : View) (word : ℕ → �
   pub words_are : (d : ℕ) → word_among a.words.entries d ≡ word d
 
 -- An item is taken, whatever the host saw before; or no legal journal brings it.
-abbrev pub Takes : Configuration → HostId → Item → Alone → Alone → Result Unit Stop → Type 0
-Takes c h item old new (Ok _) = (v : View) (word : ℕ → ℕ) → IsAlone c h v word old → IsAlone c h (solo_after c h v item) (λ d. solo_word_after c h d v (word d) item) new
-Takes c h item old new (Err Stop.Unlawful) = (v : View) (word : ℕ → ℕ) → IsAlone c h v word old → IsUnlawful c h v item
-Takes c h item old new (Err Stop.NoMemory) = Unit {0}
+abbrev pub TakesItem : Configuration → HostId → Item → Alone → Alone → Result Unit Stop → Type 0
+TakesItem c h item old new (Ok _) = (v : View) (word : ℕ → ℕ) → IsAlone c h v word old → IsAlone c h (solo_after c h v item) (λ d. solo_word_after c h d v (word d) item) new
+TakesItem c h item old new (Err Stop.Unlawful) = (v : View) (word : ℕ → ℕ) → IsAlone c h v word old → IsUnlawful c h v item
+TakesItem c h item old new (Err Stop.NoMemory) = Unit {0}
 
 -- ---- what is replied to an act, by what the host sees and its words
 
-abbrev pub granted_in : Act → (ℕ → ℕ) → ℕ → RegionSpec → SoloReply
-granted_in (Act.Load e) word d spec = if not spec.shareable && spec.sanitize then SoloReply.Said (Reply.Word (word d)) else SoloReply.Unsaid
-granted_in act word d spec = SoloReply.Said Reply.Stored
+abbrev pub access_alone : Act → (ℕ → ℕ) → ℕ → RegionSpec → SoloReply
+access_alone (Act.Load e) word d spec = if not spec.shareable && spec.sanitize then SoloReply.Said (Reply.Word (word d)) else SoloReply.Unsaid
+access_alone act word d spec = SoloReply.Said Reply.Stored
 
 abbrev pub access_in : Configuration → View → (ℕ → ℕ) → Act → ℕ → Result Place AccessFault → SoloReply
 access_in c v word act d (Err fault) = SoloReply.Said (Reply.Refused fault)
 access_in c v word act d (Ok p) =
-    if list_any (has_byte d) v.accepted then granted_in act word d (region_spec c p.region)
+    if list_any (has_byte d) v.accepted then access_alone act word d (region_spec c p.region)
     else SoloReply.Said (Reply.Refused AccessFault.NotGranted)
 
 abbrev pub reply_in : Configuration → HostId → View → (ℕ → ℕ) → Act → SoloReply
@@ -91,6 +91,6 @@ reply_in c h v word (Act.Store d value) = access_in c v word (Act.Store d value)
 reply_in c h v word (Act.Scrub n) = SoloReply.Unsaid
 
 -- An act is done and replied, whatever the host saw before.
-abbrev pub Does : Configuration → HostId → Act → Alone → Alone → SoloReply → Type 0
-Does c h act old new reply = (v : View) (word : ℕ → ℕ) → IsAlone c h v word old →
+abbrev pub DoesAlone : Configuration → HostId → Act → Alone → Alone → SoloReply → Type 0
+DoesAlone c h act old new reply = (v : View) (word : ℕ → ℕ) → IsAlone c h v word old →
     (reply ≡ reply_in c h v word act) × IsAlone c h (solo_after c h v (Item.Own act)) (λ d. solo_word_after c h d v (word d) (Item.Own act)) new

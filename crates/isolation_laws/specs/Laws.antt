@@ -23,7 +23,7 @@ use Rattle.device_rules.specs.Views.{view_of}
 use Rattle.device_rules.specs.Tags.{Status, status, is_free}
 use Rattle.device_rules.specs.Legal.{word_of}
 use Rattle.isolation_laws.specs.Alone.{IsUnlawful}
-use Rattle.isolation_laws.specs.Solo.{is_of, items_of, own_items, solo_view, solo}
+use Rattle.isolation_laws.specs.Solo.{acts_for, items_of, own_items, solo_view, solo}
 
 -- who has stored into the granule since it was zeroed, before it was last taken and after that
 pub record Writers : Type 0 where
@@ -84,7 +84,7 @@ hushed SoloReply.Unsaid reply = SoloReply.Unsaid
 abbrev pub replies_with : Configuration → HostId → List Item → List Entry → List SoloReply
 replies_with c h items [] = []
 replies_with c h items (e ∷ journal) =
-    (if is_of h e.actor then hushed (solo c h items e.act) e.reply ∷ [] else []) ++ replies_with c h (items ++ items_of h e) journal
+    (if acts_for h e.actor then hushed (solo c h items e.act) e.reply ∷ [] else []) ++ replies_with c h (items ++ items_of h e) journal
 
 -- the replies to the host, in order, where a granted load in a shareable or unsanitized region is left out
 abbrev pub told_to : Configuration → HostId → List Entry → List SoloReply

@@ -27,7 +27,7 @@ use Rattle.media_map.specs.Places.{locate}
 use Rattle.event_log.specs.Logs.{logged}
 use Rattle.device_rules.specs.Views.{View, view_after, first_view}
 use Rattle.event_records.specs.Records.{kind_number}
-use Rattle.device_rules.specs.Outcomes.{Outcome, notice, notices_of, no_extent}
+use Rattle.device_rules.specs.Outcomes.{Outcome, record_for, records_of_extents, no_extent}
 use Rattle.extent_list.specs.ExtentLists.{cut_all}
 use Rattle.device_rules.specs.Answers.{dropped, reply_with, host_result_in}
 use Rattle.journal_core.specs.Entries.{Each}
@@ -39,8 +39,8 @@ abbrev pub told_by : HostId → EventKind → Effect → Option Extent
 told_by h kind (Effect.Logged (LogId.Host k) e) = if (k == h) && (kind_number e.kind == kind_number kind) then Some e.extent else None
 told_by h kind e = None
 
-abbrev pub told : HostId → EventKind → List Effect → List Extent
-told h kind new = filter_map (told_by h kind) new
+abbrev pub extents_recorded : HostId → EventKind → List Effect → List Extent
+extents_recorded h kind new = filter_map (told_by h kind) new
 
 abbrev pub item_of : (List Extent → Item) → List Extent → List Item
 item_of make [] = []
@@ -53,16 +53,16 @@ block_item e = None
 -- offers, requests to release, removals by force, and new block sizes
 abbrev pub delivered : HostId → List Effect → List Item
 delivered h new =
-    item_of Item.Given (told h EventKind.Add new) ++ item_of Item.Asked (told h EventKind.Release new)
-    ++ item_of Item.Taken (told h EventKind.Forced new) ++ filter_map block_item new
+    item_of Item.Given (extents_recorded h EventKind.Add new) ++ item_of Item.Asked (extents_recorded h EventKind.Release new)
+    ++ item_of Item.Taken (extents_recorded h EventKind.Forced new) ++ filter_map block_item new
 
-abbrev pub is_of : HostId → Actor → Bool
-is_of h (Actor.Host k) = k == h
-is_of h Actor.Manager = false
-is_of h Actor.Sanitizer = false
+abbrev pub acts_for : HostId → Actor → Bool
+acts_for h (Actor.Host k) = k == h
+acts_for h Actor.Manager = false
+acts_for h Actor.Sanitizer = false
 
 abbrev pub items_of : HostId → Entry → List Item
-items_of h e = if is_of h e.actor then Item.Own e.act ∷ [] else delivered h e.effects
+items_of h e = if acts_for h e.actor then Item.Own e.act ∷ [] else delivered h e.effects
 
 -- the host's items, in order
 abbrev pub own_items : HostId → List Entry → List Item
@@ -79,13 +79,13 @@ abbrev pub own_changes : Configuration → HostId → View → Act → List Effe
 own_changes c h v (Act.Command q) = changes_with h v q (host_result_in c h v q)
 own_changes c h v act = []
 
-abbrev pub with_notices : View → List Event → View
-with_notices v events = record v { log = logged v.log events }
+abbrev pub with_log_records : View → List Event → View
+with_log_records v events = record v { log = logged v.log events }
 
 abbrev pub block_set : Configuration → HostId → View → ℕ → ℕ → View
 block_set c h v r size =
     if nat_lt r (length c.regions) && is_supported (region_spec c r) size
-    then with_notices (record v { block = λ s. if s == r then size else v.block s }) (record (notice h v EventKind.RegionUpdated false no_extent) { region = r } ∷ [])
+    then with_log_records (record v { block = λ s. if s == r then size else v.block s }) (record (record_for h v EventKind.RegionUpdated false no_extent) { region = r } ∷ [])
     else v
 
 -- the view after an item
@@ -93,10 +93,10 @@ abbrev pub solo_after : Configuration → HostId → View → Item → View
 solo_after c h v (Item.Own (Act.Command q)) = view_after c h v (own_changes c h v (Act.Command q))
 solo_after c h v (Item.Own act) = v
 solo_after c h v (Item.Given xs) = let w = record v { offers = v.offers ++ xs ∷ [] } in
-    with_notices w (notices_of h w EventKind.Add xs)
-solo_after c h v (Item.Asked xs) = with_notices v (notices_of h v EventKind.Release xs)
+    with_log_records w (records_of_extents h w EventKind.Add xs)
+solo_after c h v (Item.Asked xs) = with_log_records v (records_of_extents h v EventKind.Release xs)
 solo_after c h v (Item.Taken xs) = let w = record v { accepted = cut_all xs v.accepted; changes = v.changes + 1 } in
-    with_notices w (notices_of h w EventKind.Forced xs)
+    with_log_records w (records_of_extents h w EventKind.Forced xs)
 solo_after c h v (Item.Block r size) = block_set c h v r size
 
 abbrev pub solo_view : Configuration → HostId → List Item → View

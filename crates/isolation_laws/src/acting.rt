@@ -2,8 +2,8 @@
 
 ghost use Rattle.device_rules.specs.Answers.{response};
 ghost use Rattle.host_lists.specs.Lists.{extent_total};
-ghost use Rattle.isolation_laws.specs.Acting.{IsChanged, without_held};
-ghost use Rattle.isolation_laws.specs.Alone.{Does};
+ghost use Rattle.isolation_laws.specs.Acting.{ChangesAlone, without_held};
+ghost use Rattle.isolation_laws.specs.Alone.{DoesAlone};
 ghost use Rattle.isolation_laws.specs.Solo.{has_byte as has_byte_in};
 ghost use Rattle.std.specs.List.{list_any};
 ghost use Rattle.std.specs.Prelude.{◌≡◌, ◌<◌, ◌≤◌, IfOk, None};
@@ -38,7 +38,7 @@ impl Alone {
         requires host { host < config.now.hosts }
         requires hosts { self.old.present.hosts ≡ config.now.hosts }
         requires few { extent_total self.old.lists ≤ 64 }
-        ensures { IfOk result (Does config.now host act.now self.old self.new) }
+        ensures { IfOk result (DoesAlone config.now host act.now self.old self.new) }
     {
         match act {
             Act::Command(request) => {
@@ -61,7 +61,7 @@ impl Alone {
         requires host { host < config.now.hosts }
         requires hosts { self.old.present.hosts ≡ config.now.hosts }
         requires few { extent_total self.old.lists ≤ 64 }
-        ensures { IfOk result (λ reply. Does config.now host (Act.Command request.now) self.old self.new (SoloReply.Said reply)) }
+        ensures { IfOk result (λ reply. DoesAlone config.now host (Act.Command request.now) self.old self.new (SoloReply.Said reply)) }
     {
         match host_draft(
             alloc,
@@ -84,13 +84,13 @@ impl Alone {
     /// Puts in place what a command changes that breaks no rule.
     fn done(&mut self, alloc: Global, host: HostId, request: &Request, draft: Draft) -> Reply
         ensures reply { result ≡ response request.now Code.Success draft.payload }
-        ensures changed { IsChanged host draft.changes draft.lists self.old self.new }
+        ensures changed { ChangesAlone host draft.changes draft.lists self.old self.new }
     {
         let DraftParts {
             payload,
             changes,
             tags: _,
-            notices: _,
+            log_records: _,
             lists,
         } = draft.into_parts(alloc);
         self.change(host, changes.as_slice());
@@ -102,7 +102,7 @@ impl Alone {
 
     /// Changes the log and the words as the effects say.
     fn change(&mut self, host: HostId, changes: &[Effect])
-        ensures { IsChanged host changes.now None self.old self.new }
+        ensures { ChangesAlone host changes.now None self.old self.new }
     {
         for i in 0..changes.len() {
             change_log_named(&mut self.log, &LogId::Host(host), &changes[i]);
@@ -135,7 +135,7 @@ impl Alone {
     /// The word at the address; nothing is said where hosts can share the region or it is not sanitized.
     fn load(&self, config: &Config, host: HostId, dpa: u64) -> SoloReply
         requires { host < config.now.hosts }
-        ensures { Does config.now host (Act.Load dpa) self.now self.now result }
+        ensures { DoesAlone config.now host (Act.Load dpa) self.now self.now result }
     {
         match locate(config, host, dpa) {
             Err(fault) => SoloReply::Said(Reply::Refused(fault)),
@@ -161,7 +161,7 @@ impl Alone {
         value: u64,
     ) -> Result<Reply, NoMemory>
         requires { host < config.now.hosts }
-        ensures { IfOk result (λ reply. Does config.now host (Act.Store dpa value) self.old self.new (SoloReply.Said reply)) }
+        ensures { IfOk result (λ reply. DoesAlone config.now host (Act.Store dpa value) self.old self.new (SoloReply.Said reply)) }
     {
         match locate(config, host, dpa) {
             Err(fault) => Ok(Reply::Refused(fault)),

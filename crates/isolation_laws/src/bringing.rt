@@ -1,10 +1,10 @@
 //! What others bring a device with one host alone.
 
 ghost use Rattle.dcd_base.specs.declared.ids.HostId.{HostId};
-ghost use Rattle.device_rules.specs.Outcomes.{notices_of};
+ghost use Rattle.device_rules.specs.Outcomes.{records_of_extents};
 ghost use Rattle.event_log.specs.LogStates.{with_record};
 ghost use Rattle.host_lists.specs.Lists.{extent_total};
-ghost use Rattle.isolation_laws.specs.Alone.{IsAlone, Takes};
+ghost use Rattle.isolation_laws.specs.Alone.{TakesItem};
 ghost use Rattle.isolation_laws.specs.Telling.{Logs, resized};
 ghost use Rattle.isolation_laws.specs.declared.items.Item.{Item};
 ghost use Rattle.region_config.specs.Configurations.{Configuration};
@@ -13,7 +13,7 @@ ghost use Rattle.std.specs.Prelude.{◌≡◌, ◌+◌, ◌^◌, ◌<◌, ◌≤
 use crate::alone::{Alone, Stop};
 use dcd_base::limits::EXTENTS;
 use dcd_base::{Extent, Extents, HostId, RegionId};
-use device_commands::{event_for, no_extent, notices_of};
+use device_commands::{event_for, no_extent, records_of_extents};
 use event_log::EventLog;
 use event_records::{Event, EventKind};
 use std::alloc::Global;
@@ -27,7 +27,7 @@ impl Alone {
         extents: &Extents,
     ) -> Result<(), Stop>
         requires { extent_total self.old.lists ≤ 64 }
-        ensures { (c : Configuration) → Takes c host (Item.Given extents.now) self.old self.new result }
+        ensures { (c : Configuration) → TakesItem c host (Item.Given extents.now) self.old self.new result }
     {
         let total = self.lists.accepted().len() + self.lists.offered();
         if extents.len() > EXTENTS - total {
@@ -41,7 +41,7 @@ impl Alone {
     /// A request to give the extents back: a record of each.
     pub(crate) fn ask(&mut self, alloc: Global, host: HostId, extents: &Extents) -> Result<(), Stop>
         requires { extent_total self.old.lists ≤ 64 }
-        ensures { (c : Configuration) → Takes c host (Item.Asked extents.now) self.old self.new result }
+        ensures { (c : Configuration) → TakesItem c host (Item.Asked extents.now) self.old self.new result }
     {
         self.tell(alloc, host, EventKind::Release, extents)
     }
@@ -54,7 +54,7 @@ impl Alone {
         extents: &Extents,
     ) -> Result<(), Stop>
         requires { extent_total self.old.lists ≤ 64 }
-        ensures { (c : Configuration) → Takes c host (Item.Taken extents.now) self.old self.new result }
+        ensures { (c : Configuration) → TakesItem c host (Item.Taken extents.now) self.old self.new result }
     {
         if !all_end(extents.as_slice()) {
             return Err(Stop::Unlawful);
@@ -70,7 +70,7 @@ impl Alone {
     /// A region of the device has blocks of another size that it supports, of which there is a record; else nothing.
     pub(crate) fn resize(&mut self, host: HostId, region: RegionId, size: u64) -> Result<(), Stop>
         requires { extent_total self.old.lists ≤ 64 }
-        ensures { (c : Configuration) → Takes c host (Item.Block region size) self.old self.new result }
+        ensures { (c : Configuration) → TakesItem c host (Item.Block region size) self.old self.new result }
     {
         if region.0 >= self.present.regions() {
             return Ok(());
@@ -107,9 +107,9 @@ impl Alone {
         extents: &Extents,
     ) -> Result<(), Stop>
         requires { extent_total self.old.lists ≤ 64 }
-        ensures { (c : Configuration) → Logs c host (λ v. notices_of host v kind extents.now) self.old self.new result }
+        ensures { (c : Configuration) → Logs c host (λ v. records_of_extents host v kind extents.now) self.old self.new result }
     {
-        let events = notices_of(alloc, host, &self.lists, kind, extents.as_slice())?;
+        let events = records_of_extents(alloc, host, &self.lists, kind, extents.as_slice())?;
         put_all(&mut self.log, events.as_slice())
     }
 }

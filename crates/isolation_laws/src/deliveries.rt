@@ -1,7 +1,7 @@
 //! What a host does, and what others bring it.
 
 ghost use Rattle.event_records.specs.Records.{kind_number};
-ghost use Rattle.isolation_laws.specs.Solo.{block_item, delivered, is_of, item_of, items_of, own_items as own_items_of, told, told_by};
+ghost use Rattle.isolation_laws.specs.Solo.{block_item, delivered, acts_for, item_of, items_of, own_items as own_items_of, extents_recorded, told_by};
 ghost use Rattle.isolation_laws.specs.declared.items.Item.{Item};
 ghost use Rattle.std.specs.Prelude.{◌≡◌, ◌++◌, ◌∷◌, [], IfOk, OnOk, filter_map};
 
@@ -27,15 +27,15 @@ pub fn own_items(alloc: Global, journal: &[Entry], host: HostId) -> Result<Items
 fn put_items(alloc: Global, entry: &Entry, host: &HostId, items: &mut Items) -> Result<(), NoMemory>
     ensures { OnOk result (items.new ≡ items.old ++ items_of host.now entry.now) }
 {
-    if is_of(host, &entry.actor) {
+    if acts_for(host, &entry.actor) {
         return items.push(Item::Own(entry.act.copy()?));
     }
     put_delivered(alloc, entry.effects.as_slice(), host, items)
 }
 
 /// Whether the actor is the host.
-fn is_of(host: &HostId, actor: &Actor) -> bool
-    ensures { result ≡ is_of host.now actor.now }
+fn acts_for(host: &HostId, actor: &Actor) -> bool
+    ensures { result ≡ acts_for host.now actor.now }
 {
     match actor {
         Actor::Host(other) => other.0 == host.0,
@@ -95,7 +95,7 @@ fn told_of(
     host: &HostId,
     kind: &EventKind,
 ) -> Result<Extents, NoMemory>
-    ensures { IfOk result (λ extents. extents ≡ told host.now kind.now effects.now) }
+    ensures { IfOk result (λ extents. extents ≡ extents_recorded host.now kind.now effects.now) }
 {
     let mut extents = Extents::new(alloc);
     for i in 0..effects.len() {
@@ -111,7 +111,7 @@ fn put_told(
     effect: &Effect,
     extents: &mut Extents,
 ) -> Result<(), NoMemory>
-    ensures { OnOk result (extents.new ≡ extents.old ++ told host.now kind.now (effect.now ∷ [])) }
+    ensures { OnOk result (extents.new ≡ extents.old ++ extents_recorded host.now kind.now (effect.now ∷ [])) }
 {
     match told_by(host, kind, effect) {
         Some(extent) => extents.push(extent),

@@ -1,7 +1,7 @@
 //! What a device with one host alone replies.
 
 ghost use Rattle.host_lists.specs.Lists.{extent_total};
-ghost use Rattle.isolation_laws.specs.Alone.{IsFaultOf, Takes, solo_replies as solo_replies_of};
+ghost use Rattle.isolation_laws.specs.Alone.{IsFaultOf, TakesItem, solo_replies as solo_replies_of};
 ghost use Rattle.isolation_laws.specs.Telling.{Replies};
 ghost use Rattle.std.specs.Prelude.{◌≡◌, ◌<◌, ◌≤◌, IfErr, IfOk, OnOk};
 
@@ -83,7 +83,7 @@ fn take_item(
     requires host { host < config.now.hosts }
     requires hosts { alone.old.present.hosts ≡ config.now.hosts }
     requires few { extent_total alone.old.lists ≤ 64 }
-    ensures taken { Takes config.now host item.now alone.old alone.new result }
+    ensures taken { TakesItem config.now host item.now alone.old alone.new result }
     ensures replied { OnOk result (Replies config.now host alone.old item.now replies.old replies.new) }
 {
     match item {

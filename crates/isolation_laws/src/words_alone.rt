@@ -3,7 +3,7 @@
 ghost use Rattle.granule_mem.specs.Contents.{word_among};
 ghost use Rattle.isolation_laws.specs.Solo.{accepts_byte, has_byte};
 ghost use Rattle.std.specs.List.{list_any};
-ghost use Rattle.std.specs.Prelude.{◌≡◌, ◌==◌, OnErr, OnOk, if◌then◌else◌, ℕ};
+ghost use Rattle.std.specs.Prelude.{◌≡◌, ◌==◌, OnOk, if◌then◌else◌, ℕ};
 
 use dcd_base::{Extent, NoMemory};
 use journal_core::Effect;

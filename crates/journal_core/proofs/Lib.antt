@@ -1,5 +1,9 @@
 pub mod EachSteps
 pub mod HoldingSteps
 pub mod JournalSteps
+pub mod Lists
 pub mod Merges
+pub mod Pairs
+pub mod Parts
+pub mod Pushing
 pub mod Sorting

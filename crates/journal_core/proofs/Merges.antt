@@ -2,7 +2,7 @@
 use Rattle.std.proofs.Common.{◌≡◌, ℕ, suc, ◌+◌, get_or, Bool, true, false, cond, take, take_all, length, ◌≤◌, ◌++◌, ◌&&◌, ◌||◌, ◌==◌, not, arith, List, [], ◌∷◌, refl, sym, ap, ◌∙◌, subst}
 use Rattle.std.specs.Prelude.{fold, flat_map, IsFalse}
 use Rattle.std.specs.List.{filter, All}
-use Rattle.std.proofs.lemmas.List.Elements.{All-cons}
+use Rattle.std.proofs.lemmas.List.Elements.{All-cons, filter-append}
 use Rattle.std.proofs.lemmas.List.Kept.{AllPairs-cons}
 use Rattle.std.specs.declared.cmp.Ordering.{Ordering}
 use Rattle.std.specs.declared.cmp.Ordering.TheVariants.{Less, Equal, Greater}
@@ -17,7 +17,7 @@ use Rattle.journal_core.specs.declared.entries.Entry.{Entry}
 use Rattle.dcd_base.specs.declared.steps.Actor.{Actor}
 use Rattle.journal_core.specs.declared.acts.Act.{Act}
 use Rattle.journal_core.specs.declared.acts.Reply.{Reply}
-use Rattle.journal_core.specs.Merging.{is_later, insert_entry, merged, has_stamp, Rising}
+use Rattle.journal_core.specs.Merging.{is_later, insert_entry, in_order, merged, has_stamp, Rising}
 use Rattle.journal_core.proofs.Sorting.{Rises, rises_from_sorted, sorted_once, NoneBelow, insert_all_rises, insert_all_stable, insert_all_length, insert_by, insert_all, stable_sort}
 
 abbrev pub stamp_key : Entry → ℕ × ℕ
@@ -81,9 +81,12 @@ rising (e ∷ journal) up =
     AllPairs-cons (λ (e f : Entry). IsFalse (is_later e.stamp f.stamp)) e journal (none_later e journal up.0) (rising journal up.1)
 
 -- no stamp of it is later than one behind it
+pub in_order-rising : (entries : List Entry) → Rising (in_order entries)
+in_order-rising entries =
+    rising (in_order entries) (subst (Rises comes_before) (sym (insert_all_is [] entries)) (insert_all_rises comes_before ranked [] entries tt))
+
 pub merged-rising : (control : List Entry) (shards : List (List Entry)) → Rising (merged control shards)
-merged-rising control shards =
-    rising (merged control shards) (subst (Rises comes_before) (sym (insert_all_is [] (all_of control shards))) (insert_all_rises comes_before ranked [] (all_of control shards) tt))
+merged-rising control shards = in_order-rising (all_of control shards)
 
 tied_by_stamp : (e f : Entry) → ties comes_before e f ≡ has_stamp e.stamp f
 tied_by_stamp e f = sym (λ i. not (later_is_before e f i) && not (later_is_before f e i)) ∙ apart e.stamp f.stamp
@@ -100,27 +103,44 @@ tied_to_stamp : (s : Stamp) (e : Entry) → ties comes_before (with_stamp s) e �
 tied_to_stamp s e = tied_by_stamp (with_stamp s) e ∙ ap (λ t. has_stamp t e) (with_stamp-stamp s)
 
 -- its entries with one stamp stand in the order of the lists, those of the control first
+pub in_order-ties : (entries : List Entry) (s : Stamp) → filter (has_stamp s) (in_order entries) ≡ filter (has_stamp s) entries
+in_order-ties entries s =
+    sym (λ i. filter (λ f. tied_to_stamp s f i) (in_order entries))
+    ∙ ap (filter (ties comes_before (with_stamp s))) (insert_all_is [] entries)
+    ∙ insert_all_stable comes_before ranked (with_stamp s) [] entries tt
+    ∙ (λ i. filter (λ f. tied_to_stamp s f i) entries)
+
 pub merged-ties : (control : List Entry) (shards : List (List Entry)) (s : Stamp) → filter (has_stamp s) (merged control shards) ≡ filter (has_stamp s) (control ++ flat_map (λ shard. shard) shards)
-merged-ties control shards s =
-    sym (λ i. filter (λ f. tied_to_stamp s f i) (merged control shards))
-    ∙ ap (filter (ties comes_before (with_stamp s))) (insert_all_is [] (all_of control shards))
-    ∙ insert_all_stable comes_before ranked (with_stamp s) [] (all_of control shards) tt
-    ∙ (λ i. filter (λ f. tied_to_stamp s f i) (all_of control shards))
+merged-ties control shards s = in_order-ties (all_of control shards) s
 
 -- it has as many entries as the lists
+pub in_order-length : (entries : List Entry) → length (in_order entries) ≡ length entries
+in_order-length entries = ap length (insert_all_is [] entries) ∙ insert_all_length comes_before [] entries
+
 pub merged-length : (control : List Entry) (shards : List (List Entry)) → length (merged control shards) ≡ length (control ++ flat_map (λ shard. shard) shards)
-merged-length control shards =
-    ap length (insert_all_is [] (all_of control shards)) ∙ insert_all_length comes_before [] (all_of control shards)
+merged-length control shards = in_order-length (all_of control shards)
 
 rises_of : (journal : List Entry) → Rising journal → Rises comes_before journal
 rises_of journal up = rises_from_sorted comes_before ranked journal (λ k d low high. sym (later_is_before (get_or journal (k + 1) d) (get_or journal k d)) ∙ up k (k + 1) d (omega arith) high)
 
 -- The merge is the one journal of which this is so: no stamp is later than one behind it, and those with one
 -- stamp stand in the order of the lists.
+pub in_order-once : (journal entries : List Entry) → Rising journal → ((s : Stamp) → filter (has_stamp s) journal ≡ filter (has_stamp s) entries) → journal ≡ in_order entries
+in_order-once journal entries up same =
+    sorted_once comes_before ranked journal (in_order entries) (rises_of journal up) (rises_of (in_order entries) (in_order-rising entries))
+    (λ x. (λ i. filter (λ f. tied_by_stamp x f i) journal) ∙ same x.stamp ∙ sym (in_order-ties entries x.stamp) ∙ sym (λ i. filter (λ f. tied_by_stamp x f i) (in_order entries)))
+
 pub merged-once : (journal control : List Entry) (shards : List (List Entry)) → Rising journal → ((s : Stamp) → filter (has_stamp s) journal ≡ filter (has_stamp s) (control ++ flat_map (λ shard. shard) shards)) → journal ≡ merged control shards
-merged-once journal control shards up same =
-    sorted_once comes_before ranked journal (merged control shards) (rises_of journal up) (rises_of (merged control shards) (merged-rising control shards))
-    (λ x. (λ i. filter (λ f. tied_by_stamp x f i) journal) ∙ same x.stamp ∙ sym (merged-ties control shards x.stamp) ∙ sym (λ i. filter (λ f. tied_by_stamp x f i) (merged control shards)))
+merged-once journal control shards up same = in_order-once journal (all_of control shards) up same
+
+-- what was put in order in two parts is put in order as one
+pub in_order-twice : (xs ys : List Entry) → in_order (in_order xs ++ in_order ys) ≡ in_order (xs ++ ys)
+in_order-twice xs ys =
+    in_order-once (in_order (in_order xs ++ in_order ys)) (xs ++ ys) (in_order-rising (in_order xs ++ in_order ys)) (λ s.
+    in_order-ties (in_order xs ++ in_order ys) s
+    ∙ filter-append (has_stamp s) (in_order xs) (in_order ys)
+    ∙ (λ i. in_order-ties xs s i ++ in_order-ties ys s i)
+    ∙ sym (filter-append (has_stamp s) xs ys))
 
 -- an entry than which no other is later goes to the end
 pub inserted-last : (e : Entry) (journal : List Entry) → All (λ (f : Entry). IsFalse (is_later f.stamp e.stamp)) journal → insert_entry e journal ≡ journal ++ e ∷ []

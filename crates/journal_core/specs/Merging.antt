@@ -23,10 +23,14 @@ abbrev pub insert_entry : Entry → List Entry → List Entry
 insert_entry e [] = e ∷ []
 insert_entry e (f ∷ journal) = if is_later f.stamp e.stamp then e ∷ f ∷ journal else f ∷ insert_entry e journal
 
+-- the entries in the order of their stamps; those of one stamp stay in their order
+abbrev pub in_order : List Entry → List Entry
+in_order entries = fold (λ journal e. insert_entry e journal) [] entries
+
 -- All entries in the order of their stamps. Of equal stamps those of the control come first,
 -- then those of the shards in the order of the shards.
 abbrev pub merged : List Entry → List (List Entry) → List Entry
-merged control shards = fold (λ journal e. insert_entry e journal) [] (control ++ flat_map (λ entries. entries) shards)
+merged control shards = in_order (control ++ flat_map (λ entries. entries) shards)
 
 abbrev pub commands_in : List Entry → ℕ
 commands_in journal = count_by (λ (e : Entry). is_control e.act) journal

@@ -2,7 +2,7 @@
 
 ghost use Rattle.dcd_base.specs.Words.{has_granule};
 ghost use Rattle.journal_core.specs.Holders.{holding_after, holds as holds_of};
-ghost use Rattle.std.specs.Prelude.{◌≡◌, length};
+ghost use Rattle.std.specs.Prelude.{◌≡◌};
 
 use crate::outcome::Effect;
 use dcd_base::{Granule, HostId, Run};

@@ -24,8 +24,8 @@ fn add_copies(entries: &mut Vec<Entry>, more: &Journal) -> Result<(), NoMemory>
 pub fn merge(alloc: Global, control: &Journal, shards: &[Journal]) -> Result<Journal, NoMemory>
     ensures merged { IfOk result (λ journal. journal ≡ merged control.now shards.now) }
     ensures rising { IfOk result (λ journal. Rising journal) }
-    ensures ties { IfOk result (λ journal. (s : Stamp)
-        → filter (has_stamp s) journal ≡ filter (has_stamp s) (control.now ++ flat_map (λ shard. shard) shards.now)) }
+    ensures ties { IfOk result (λ whole. (s : Stamp)
+        → filter (has_stamp s) whole ≡ filter (has_stamp s) (control.now ++ flat_map (λ shard. shard) shards.now)) }
     ensures length { IfOk result (λ journal.
         length journal ≡ length (control.now ++ flat_map (λ shard. shard) shards.now)) }
 {

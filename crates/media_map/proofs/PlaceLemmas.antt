@@ -9,7 +9,7 @@ use Rattle.std.specs.List.{find, range_with_len}
 use Rattle.dcd_base.specs.declared.ids.HostId.{HostId}
 use Rattle.dcd_base.specs.declared.media.Place.{Place}
 use Rattle.region_config.specs.Configurations.{Configuration}
-use Rattle.region_config.specs.Granules.{base_of, first_granule, granule_size, granules_in, region_spec, regions_of}
+use Rattle.region_config.specs.Granules.{base_of, first_granule, granule_size, region_granules, region_spec, regions_of}
 use Rattle.region_config.specs.Soundness.{IsSound, IsSoundRegion}
 use Rattle.region_config.proofs.Faultless.{granule_from, region_ends}
 use Rattle.region_config.proofs.GranuleLemmas.{find_range}
@@ -115,16 +115,16 @@ whole_rest n size w whole =
 
 module _ (c : Configuration) (h : HostId) (s : IsSound c) (host : h < c.hosts) where
   -- how far the granules of a region reach
-  pub reach : (r : ℕ) → r < length c.regions → granules_in c r * granule_size c r ≡ (region_spec c r).length
+  pub reach : (r : ℕ) → r < length c.regions → region_granules c r * granule_size c r ≡ (region_spec c r).length
   reach r known = omega (arith, div-add-mod' (region_spec c r).length (granule_size c r), (s.each r known).whole)
 
   size_some : (r : ℕ) → r < length c.regions → 0 < granule_size c r
   size_some r known = omega (arith, granule_from c r (s.each r known))
 
   -- an address in a region lies in one of its granules
-  pub granule_below : (d r : ℕ) → r < length c.regions → has_address c h d r ≡ true → (d - base_of c h r) / granule_size c r < granules_in c r
+  pub granule_below : (d r : ℕ) → r < length c.regions → has_address c h d r ≡ true → (d - base_of c h r) / granule_size c r < region_granules c r
   granule_below d r known holds =
-      div_below (d - base_of c h r) (granule_size c r) (granules_in c r) (size_some r known)
+      div_below (d - base_of c h r) (granule_size c r) (region_granules c r) (size_some r known)
       (omega (arith, reach r known, from_base c h d r holds, below_end c h d r holds))
 
   pub is_word : (d : ℕ) (p : Place) → IsPlace c h d p → IsWord c p
@@ -158,13 +158,13 @@ module _ (c : Configuration) (h : HostId) (s : IsSound c) (host : h < c.hosts) w
       let offset : address_of c h p - base_of c h r ≡ behind * size + 8 * p.word = omega arith in
       let words = of_words c r (s.each r w.known) in
       let product : behind * size ≡ behind * words.words * 8 = ap (λ n. behind * n) words.is ∙ sym (mul_assoc behind words.words 8) in
-      let less : behind < granules_in c r = omega (arith, w.from, w.to) in
-      let inside = mul-add-lt behind size (8 * p.word) (granules_in c r) less w.inside in
+      let less : behind < region_granules c r = omega (arith, w.from, w.to) in
+      let inside = mul-add-lt behind size (8 * p.word) (region_granules c r) less w.inside in
       record {
         aligned = omega (arith, product, (s.seats h r host w.known).aligned);
         known = w.known;
         from = omega arith;
-        below = omega (arith, inside, reach r w.known, mul_comm size (granules_in c r));
+        below = omega (arith, inside, reach r w.known, mul_comm size (region_granules c r));
         granule = rw (offset, div-mul-add behind size (8 * p.word) w.inside) (omega (arith, w.from));
         word = rw (offset, mod-mul-add behind size (8 * p.word) w.inside) (omega arith);
       }

@@ -7,11 +7,11 @@ use Rattle.std.specs.List.{find}
 use Rattle.dcd_base.specs.declared.ids.HostId.{HostId}
 use Rattle.dcd_base.specs.declared.media.Run.{Run}
 use Rattle.region_config.specs.Configurations.{Configuration}
-use Rattle.region_config.specs.Granules.{base_of, first_granule, granule_size, granules_in, region_of, region_spec, regions_of}
+use Rattle.region_config.specs.Granules.{base_of, first_granule, granule_size, region_granules, region_of, region_spec, regions_of}
 use Rattle.region_config.specs.Soundness.{IsSound}
 use Rattle.region_config.proofs.Faultless.{granule_from, granules_within, region_ends}
 use Rattle.region_config.proofs.GranuleLemmas.{region_is}
-use Rattle.media_map.specs.Places.{IsRun, IsRunOf, bytes_in, has_address, is_granular, region_at, run_in, start_of}
+use Rattle.media_map.specs.Places.{IsRun, IsRunOf, bytes_of_run, has_address, is_granular, region_at, run_in, start_of}
 use Rattle.media_map.proofs.PlaceLemmas.{find_holds, found_at, has, none_found, reach}
 
 -- a range of whole granules of a region
@@ -77,8 +77,8 @@ module _ (c : Configuration) (h : HostId) (s : IsSound c) (host : h < c.hosts) w
     many = omega (arith, div-add-mod' bytes (granule_size c r), g.ends)
 
     -- the range ends with the region's last granule at most
-    pub run_fits : (start - base_of c h r) / granule_size c r + bytes / granule_size c r ≤ granules_in c r
-    run_fits = elim (cases_lt (granules_in c r) ((start - base_of c h r) / granule_size c r + bytes / granule_size c r)) [
+    pub run_fits : (start - base_of c h r) / granule_size c r + bytes / granule_size c r ≤ region_granules c r
+    run_fits = elim (cases_lt (region_granules c r) ((start - base_of c h r) / granule_size c r + bytes / granule_size c r)) [
       | inl more ↦ absurd (omega (arith, mul-le-mul_right (granule_size c r) more, behind, many, reach c h s host r known, granule_from c r (s.each r known), g.from, g.within))
       | inr fits ↦ fits
     ]
@@ -105,41 +105,41 @@ module _ (c : Configuration) (h : HostId) (s : IsSound c) (host : h < c.hosts) w
         let back : first_granule c r + q - first_granule c r ≡ q = omega arith in
         rw (its_region, back) (omega (arith, behind, g.from))
 
-    pub run_bytes : bytes_in c (record { first = first_granule c r + (start - base_of c h r) / granule_size c r; count = bytes / granule_size c r }) ≡ bytes
+    pub run_bytes : bytes_of_run c (record { first = first_granule c r + (start - base_of c h r) / granule_size c r; count = bytes / granule_size c r }) ≡ bytes
     run_bytes = rw its_region many
 
   -- a run of a region, and the range that it is for the host
   module _ (run : Run) (r : ℕ) (known : r < length c.regions) (at : region_of c run.first ≡ r) (from : first_granule c r ≤ run.first) (is : IsRun c run) where
-    reaches : run.first - first_granule c r + run.count ≤ granules_in c r
+    reaches : run.first - first_granule c r + run.count ≤ region_granules c r
     reaches = omega (arith, from, (subst (λ k. run.first + run.count ≤ first_granule c (suc k)) at is.within))
 
     start_is : start_of c h run ≡ base_of c h r + (run.first - first_granule c r) * granule_size c r
     start_is = rw at refl
 
-    bytes_are : bytes_in c run ≡ run.count * granule_size c r
+    bytes_are : bytes_of_run c run ≡ run.count * granule_size c r
     bytes_are = rw at refl
 
     size_some : 0 < granule_size c r
     size_some = omega (arith, granule_from c r (s.each r known))
 
-    bytes_some : 0 < bytes_in c run
+    bytes_some : 0 < bytes_of_run c run
     bytes_some = omega (arith, bytes_are, mul-le-mul_right (granule_size c r) is.some, size_some)
 
-    pub ends_within : start_of c h run + bytes_in c run ≤ base_of c h r + (region_spec c r).length
+    pub ends_within : start_of c h run + bytes_of_run c run ≤ base_of c h r + (region_spec c r).length
     ends_within = omega (arith, start_is, bytes_are, mul-le-mul_right (granule_size c r) reaches, reach c h s host r known)
 
-    pub ends_below : start_of c h run + bytes_in c run ≤ 2 ^ 52
+    pub ends_below : start_of c h run + bytes_of_run c run ≤ 2 ^ 52
     ends_below = omega (arith, ends_within, region_ends c h r s host known)
 
     offset : start_of c h run - base_of c h r ≡ (run.first - first_granule c r) * granule_size c r
     offset = omega (arith, start_is)
 
-    pub range_back : run_in c h (start_of c h run) (bytes_in c run) ≡ Some run
+    pub range_back : run_in c h (start_of c h run) (bytes_of_run c run) ≡ Some run
     range_back =
         let holds = has c h (start_of c h run) r (omega (arith, start_is)) (omega (arith, ends_within, bytes_some)) in
         let here = region_at_is (start_of c h run) r known holds in
         let size : ℕ = granule_size c r in
-        let g : IsGranular c h (start_of c h run) (bytes_in c run) r = record {
+        let g : IsGranular c h (start_of c h run) (bytes_of_run c run) r = record {
           some = bytes_some;
           from = omega (arith, start_is);
           within = ends_within;
@@ -148,8 +148,8 @@ module _ (c : Configuration) (h : HostId) (s : IsSound c) (host : h < c.hosts) w
         } in
         let quotient : (start_of c h run - base_of c h r) / size ≡ run.first - first_granule c r = ap (λ n. n / size) offset ∙ mul-div_cancel (run.first - first_granule c r) size_some in
         let first : first_granule c r + (start_of c h run - base_of c h r) / size ≡ run.first = omega (arith, quotient, from) in
-        let count : bytes_in c run / size ≡ run.count = ap (λ n. n / size) bytes_are ∙ mul-div_cancel run.count size_some in
-        run_found c h (start_of c h run) (bytes_in c run) r here (granular_from c h (start_of c h run) (bytes_in c run) r here g)
+        let count : bytes_of_run c run / size ≡ run.count = ap (λ n. n / size) bytes_are ∙ mul-div_cancel run.count size_some in
+        run_found c h (start_of c h run) (bytes_of_run c run) r here (granular_from c h (start_of c h run) (bytes_of_run c run) r here g)
         ∙ (λ i. Some (record { first = first i; count = count i }))
 
 -- what the answer for a range tells

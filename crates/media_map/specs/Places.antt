@@ -77,15 +77,15 @@ run_in c h start bytes =
 abbrev pub start_of : Configuration → HostId → Run → ℕ
 start_of c h run = let r = region_of c run.first in base_of c h r + (run.first - first_granule c r) * granule_size c r
 
-abbrev pub bytes_in : Configuration → Run → ℕ
-bytes_in c run = run.count * granule_size c (region_of c run.first)
+abbrev pub bytes_of_run : Configuration → Run → ℕ
+bytes_of_run c run = run.count * granule_size c (region_of c run.first)
 
 -- the address of a place, and the extent of a run
 abbrev pub address_of : Configuration → HostId → Place → ℕ
 address_of c h p = base_of c h p.region + (p.granule - first_granule c p.region) * granule_size c p.region + 8 * p.word
 
 abbrev pub extent_of : Configuration → HostId → Run → Tag → ℕ → Extent
-extent_of c h run tag sequence = record { start = start_of c h run; length = bytes_in c run; tag = tag; sequence = sequence }
+extent_of c h run tag sequence = record { start = start_of c h run; length = bytes_of_run c run; tag = tag; sequence = sequence }
 
 -- Adjacent granules of one region, at least one.
 pub record IsRun (c : Configuration) (run : Run) : Type 0 where
@@ -97,7 +97,7 @@ pub record IsRun (c : Configuration) (run : Run) : Type 0 where
 pub record IsRunOf (c : Configuration) (h : HostId) (from size : ℕ) (of : Run) : Type 0 where
   pub run : IsRun c of
   pub start : start_of c h of ≡ from
-  pub bytes : bytes_in c of ≡ size
+  pub bytes : bytes_of_run c of ≡ size
 
 -- No other word of the device has this address for the host.
 abbrev pub NoOtherWordAt : Configuration → HostId → ℕ → Place → Type 0

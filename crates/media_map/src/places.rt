@@ -1,10 +1,10 @@
 //! An address as a place, and back.
 
 ghost use Rattle.media_map.specs.Places.{EveryHostHas, IsPlace, IsWord, NoOtherWordAt, address_of, has_address, locate, place_in};
-ghost use Rattle.region_config.specs.Granules.{base_of, region_spec, regions_of};
+ghost use Rattle.region_config.specs.Granules.{base_of, regions_of};
 ghost use Rattle.region_config.specs.Soundness.{IsSound};
 ghost use Rattle.std.specs.List.{find};
-ghost use Rattle.std.specs.Prelude.{◌≡◌, ◌+◌, ◌-◌, ◌^◌, ◌<◌, ◌≤◌, IfOk, IfSome, IsTrue, length};
+ghost use Rattle.std.specs.Prelude.{◌≡◌, ◌+◌, ◌-◌, ◌^◌, ◌<◌, IfOk, IfSome, IsTrue, length};
 
 use dcd_base::{AccessFault, Granule, HostId, Place, RegionId};
 use region_config::Config;

@@ -1,6 +1,6 @@
 //! A range of addresses as a run of granules, and back.
 
-ghost use Rattle.media_map.specs.Places.{IsRun, IsRunOf, bytes_in, extent_of, is_granular, region_at, run_in, start_of};
+ghost use Rattle.media_map.specs.Places.{IsRun, IsRunOf, bytes_of_run, extent_of, is_granular, region_at, run_in, start_of};
 ghost use Rattle.region_config.specs.Soundness.{IsSound};
 ghost use Rattle.std.specs.Prelude.{◌≡◌, ◌+◌, ◌^◌, ◌<◌, ◌≤◌, IfSome, length};
 
@@ -78,7 +78,7 @@ fn range_of(config: &Config, host: HostId, run: &Run) -> (u64, u64)
     requires host { host < config.now.hosts }
     requires run { IsRun config.now run.now }
     ensures start { result.0 ≡ start_of config.now host run.now }
-    ensures bytes { result.1 ≡ bytes_in config.now run.now }
+    ensures bytes { result.1 ≡ bytes_of_run config.now run.now }
     ensures sound { IsSound config.now }
 {
     let region = config.region_of(run.first);

@@ -3,3 +3,4 @@ pub mod Counting
 pub mod Missing
 pub mod NoOffer
 pub mod Owners
+pub mod Rows

@@ -1,12 +1,16 @@
 -- What a response does.
 use Rattle.std.specs.declared.result.Result.{Result}
 use Rattle.std.specs.declared.result.Result.TheVariants.{Ok, Err}
-use Rattle.std.specs.Prelude.{◌≡◌, Bool, true, false, List, [], ◌∷◌, ◌++◌, map}
+use Rattle.std.specs.Prelude.{◌≡◌, Bool, true, false, List, [], ◌∷◌, ◌++◌, ℕ, map}
 use Rattle.dcd_base.specs.declared.capacity.Extent.{Extent}
+use Rattle.dcd_base.specs.declared.ids.HostId.{HostId}
 use Rattle.dcd_codes.specs.declared.refusals.Refusal.{Refusal}
+use Rattle.dcd_codes.specs.Rules.{ByRow}
 use Rattle.extent_list.specs.ExtentLists.{marked}
 use Rattle.offer_core.specs.declared.answered.Answered.{Answered}
-use Rattle.offer_core.specs.Offerings.{Offering}
+use Rattle.offer_core.specs.Offerings.{Offering, lists_of}
+use Rattle.offer_core.specs.Responses.{respond_rule}
+use Rattle.region_config.specs.Configurations.{Configuration}
 
 -- What was there, whether more is to come, the message's list, what is there then, and what was answered.
 abbrev pub Responds : Offering → Bool → List Extent → Offering → Answered → Type 0
@@ -16,6 +20,11 @@ Responds old more list new Answered.Nothing =
     (more ≡ false) × (old.offers ≡ []) × (old.held ++ list ≡ []) × (new.offers ≡ []) × (new.held ≡ [])
 Responds old more list new (Answered.Done offer accepted) =
     (more ≡ false) × (old.offers ≡ offer ∷ new.offers) × (new.held ≡ []) × (accepted ≡ map (marked offer.extents) (old.held ++ list))
+
+-- A response of the host that has so many accepted extents: the first rule that it breaks, or what it does.
+abbrev pub AnswersOldest : Configuration → HostId → ℕ → Offering → Bool → List Extent → Offering → Result Answered Refusal → Type 0
+AnswersOldest c h accepted old more list new result =
+    ByRow (respond_rule c h accepted (lists_of old.offers) old.held more list) (Responds old more list new) result
 
 -- What a refusal leaves: a broken rule empties the held list and changes nothing else, and want of memory changes nothing.
 abbrev pub Leaves : Offering → Offering → Result Answered Refusal → Type 0

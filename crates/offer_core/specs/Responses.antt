@@ -20,8 +20,8 @@ extent_rule c h offer before x =
     or not_whole c h offer (length before) x
 
 -- the whole list; the host has accepted so many extents
-abbrev pub list_rule : Configuration → HostId → ℕ → List (List Extent) → List Extent → Option Rule
-list_rule c h accepted offers list =
+abbrev pub response_list_rule : Configuration → HostId → ℕ → List (List Extent) → List Extent → Option Rule
+response_list_rule c h accepted offers list =
     each_in list (extent_rule c h (oldest_of offers))
     or incomplete c h (oldest_of offers) list
     or too_many_extents (accepted + length list + count_in (drop 1 offers))
@@ -29,4 +29,4 @@ list_rule c h accepted offers list =
 -- the row: the whole list is the held one and then the message's, and is tried where no message is to follow
 abbrev pub respond_rule : Configuration → HostId → ℕ → List (List Extent) → List Extent → Bool → List Extent → Option Rule
 respond_rule c h accepted offers held more list =
-    too_many_listed (held ++ list) or where_true (not more) (list_rule c h accepted offers (held ++ list))
+    too_many_listed (held ++ list) or where_true (not more) (response_list_rule c h accepted offers (held ++ list))

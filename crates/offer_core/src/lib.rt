@@ -13,3 +13,4 @@ mod row;
 pub use answered::Answered;
 pub use offer::Offer;
 pub use offers::Offers;
+pub use row::broken_rule;

@@ -1,11 +1,9 @@
 //! What a response does to the offers.
 
-ghost use Rattle.dcd_codes.specs.Rules.{ByRow};
 ghost use Rattle.extent_list.specs.ExtentLists.{count_in, marked};
-ghost use Rattle.offer_core.specs.Answers.{Leaves, NeverBroken, Responds};
+ghost use Rattle.offer_core.specs.Answers.{AnswersOldest, Leaves, NeverBroken, Responds};
 ghost use Rattle.offer_core.specs.InOrder.{IsInOrder};
-ghost use Rattle.offer_core.specs.Offerings.{lists_of, oldest_of};
-ghost use Rattle.offer_core.specs.Responses.{respond_rule};
+ghost use Rattle.offer_core.specs.Offerings.{lists_of};
 ghost use Rattle.std.specs.Prelude.{◌≡◌, ◌++◌, ◌+◌, ◌<◌, ◌≤◌, [], IfOk, OnErr, false, map};
 
 use crate::answered::Answered;
@@ -26,6 +24,8 @@ impl Offers {
     /// the first broken rule of the row: the held list is let go then, and nothing else changes. At `NoMemory`
     /// nothing changes. A response in one message that lists extents of the oldest offer whole, in order and each at
     /// most once, and in a shareable region all of them or none, is never `Broken`.
+    ///
+    /// It is `broken_rule` and then `answer`, for callers that need no more than both.
     pub fn respond(
         &mut self,
         config: &Config,
@@ -36,10 +36,7 @@ impl Offers {
     ) -> Result<Answered, Refusal>
         requires host { host < config.now.hosts }
         requires few { accepted + count_in (lists_of self.old.offers) ≤ 64 }
-        ensures answer { ByRow
-            (respond_rule config.now host accepted (lists_of self.old.offers) self.old.held more list.now)
-            (Responds self.old more list.now self.new)
-            result }
+        ensures answer { AnswersOldest config.now host accepted self.old more list.now self.new result }
         ensures left { Leaves self.old self.new result }
         ensures complete { NeverBroken result (IsInOrder config.now host self.old more list.now) }
         ensures fewer { count_in (lists_of self.new.offers) ≤ count_in (lists_of self.old.offers) }
@@ -52,13 +49,16 @@ impl Offers {
                 self.drop_held();
                 Err(Refusal::Broken(rule))
             }
-            None => Ok(self.take(list, more)?),
+            None => Ok(self.answer(list, more)?),
         }
     }
 
-    /// Does what a response says that breaks no rule: where there is no offer, its whole list is empty.
+    /// Does what a response says that breaks no rule, with this list of a message behind the held one: holds the whole
+    /// list where more messages are to follow, and else answers the oldest offer. Without memory nothing changes.
+    ///
+    /// Where there is no offer, nothing is listed.
     #[tactic(auto, using(crate::proofs::Counting::fewer_behind))]
-    fn take(&mut self, list: &Extents, more: bool) -> Result<Answered, NoMemory>
+    pub fn answer(&mut self, list: &Extents, more: bool) -> Result<Answered, NoMemory>
         requires offered { more ≡ false → self.old.offers ≡ [] → self.old.held ++ list.now ≡ [] }
         ensures done { IfOk result (λ answered. Responds self.old more list.now self.new answered) }
         ensures kept { OnErr result (self.new ≡ self.old) }

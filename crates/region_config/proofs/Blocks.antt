@@ -6,7 +6,7 @@ use Rattle.std.specs.Int.{w64, trailing_zeros}
 use Rattle.region_config.specs.declared.region_spec.RegionSpec.{RegionSpec}
 use Rattle.region_config.specs.Blocks.{with_block}
 use Rattle.region_config.specs.Configurations.{Configuration}
-use Rattle.region_config.specs.Granules.{first_granule, granules_in, is_supported, no_region, region_spec, sizes_in}
+use Rattle.region_config.specs.Granules.{first_granule, region_granules, is_supported, no_region, region_spec, sizes_in}
 use Rattle.region_config.specs.Setups.{bad_base, bad_length, bad_order, bad_sizes, config_fault, largest_size}
 use Rattle.region_config.proofs.Faultless.{faultless, no_fault_in}
 
@@ -43,7 +43,7 @@ module _ (c : Configuration) (r size : ℕ) (known : r < length c.regions) where
   order_test h zero = refl
   order_test h (suc k) = rw (regions_stay, same (λ spec. spec.decode_units) (λ _ _. refl) k) refl
 
-  pub granules_in_stay : (k : ℕ) → granules_in (with_block c r size) k ≡ granules_in c k
+  pub granules_in_stay : (k : ℕ) → region_granules (with_block c r size) k ≡ region_granules c k
   granules_in_stay k = same (λ spec. spec.length / 2 ^ trailing_zeros w64 spec.sizes) (λ _ _. refl) k
 
   pub granules_stay : (k : ℕ) → first_granule (with_block c r size) k ≡ first_granule c k

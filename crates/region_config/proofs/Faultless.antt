@@ -10,7 +10,7 @@ use Rattle.dcd_base.specs.Words.{◌or◌}
 use Rattle.region_config.specs.declared.faults.ConfigFault.{ConfigFault}
 use Rattle.region_config.specs.declared.region_spec.RegionSpec.{RegionSpec}
 use Rattle.region_config.specs.Configurations.{Configuration}
-use Rattle.region_config.specs.Granules.{base_of, first_granule, granule_size, granule_total, granules_in, is_supported, region_spec}
+use Rattle.region_config.specs.Granules.{base_of, first_granule, granule_size, granule_total, region_granules, is_supported, region_spec}
 use Rattle.region_config.specs.Setups.{bad_base, bad_count, bad_length, bad_order, bad_sizes, base_fault, config_fault, count_fault, decode_end, each_region, each_seat, faults, largest_size, length_fault, order_fault, sizes_fault, total_fault, unit}
 use Rattle.region_config.specs.Soundness.{IsSound, IsSoundRegion, IsSoundSeat}
 use Rattle.region_config.proofs.Powers.{largest_is, supported, top_bit}
@@ -196,11 +196,11 @@ sound_region c r g l =
     }
 
 -- a region has at least one granule
-pub some_granules : (c : Configuration) (r : ℕ) → IsSoundRegion c r → 0 < granules_in c r
+pub some_granules : (c : Configuration) (r : ℕ) → IsSoundRegion c r → 0 < region_granules c r
 some_granules c r s =
     let size : ℕ = granule_size c r in
     let split = div-add-mod' (region_spec c r).length size in
-    elim (cases_eq (granules_in c r) 0) [
+    elim (cases_eq (region_granules c r) 0) [
       | inl none ↦ absurd (omega (arith, split, ap (λ n. n * size) none, zero-mul size, s.whole, s.some))
       | inr some ↦ omega (arith, some)
     ]
@@ -235,7 +235,7 @@ sound c none =
     }
 
 -- what a region has of the device's granules
-pub granules_within : (c : Configuration) (r : ℕ) → r < length c.regions → first_granule c r + granules_in c r ≤ granule_total c
+pub granules_within : (c : Configuration) (r : ℕ) → r < length c.regions → first_granule c r + region_granules c r ≤ granule_total c
 granules_within c r known = granules_rise c (suc r) (length c.regions) known
 
 -- where the faults of sizes, lengths and bases are absent, no sum of granules overflows

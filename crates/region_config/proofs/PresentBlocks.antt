@@ -9,7 +9,7 @@ use Rattle.std.specs.List.{enumerate_from}
 use Rattle.region_config.specs.Blocks.{with_block}
 use Rattle.region_config.specs.Configurations.{Configuration}
 use Rattle.region_config.specs.declared.region_spec.RegionSpec.{RegionSpec}
-use Rattle.region_config.specs.Granules.{no_region, region_spec, granules_in, first_granule, with_blocks}
+use Rattle.region_config.specs.Granules.{no_region, region_spec, region_granules, first_granule, with_blocks}
 
 abbrev at_block : (ℕ → ℕ) → ℕ × RegionSpec → RegionSpec
 at_block b spec = record spec.1 { block = b spec.0 }
@@ -32,7 +32,7 @@ region_spec-with_blocks c b r h =
     at_enumerated b 0 c.regions r h ∙ ap (λ k. at_block b (k, region_spec c r)) k
 
 -- so granules stay
-pub granules_in-with_blocks : (c : Configuration) (b : ℕ → ℕ) (r : ℕ) → granules_in (with_blocks c b) r ≡ granules_in c r
+pub granules_in-with_blocks : (c : Configuration) (b : ℕ → ℕ) (r : ℕ) → region_granules (with_blocks c b) r ≡ region_granules c r
 granules_in-with_blocks c b r = elim (cases_lt r (length c.regions)) [
   | inl h ↦ ap (λ (spec : RegionSpec). spec.length / 2 ^ trailing_zeros w64 spec.sizes) (region_spec-with_blocks c b r h)
   | inr h ↦ ap (λ (spec : RegionSpec). spec.length / 2 ^ trailing_zeros w64 spec.sizes) (past_enumerated b 0 c.regions r h)

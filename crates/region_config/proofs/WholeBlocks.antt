@@ -6,7 +6,7 @@ use Rattle.std.proofs.lemmas.Nat.{leading_top, pow-add, pow_pos}
 use Rattle.std.proofs.lemmas.Nat.Bits.{bit_at_above}
 use Rattle.std.proofs.Math.Nat.{mul-div_cancel, mul_assoc, pow-suc, zero-mul}
 use Rattle.region_config.specs.Configurations.{Configuration}
-use Rattle.region_config.specs.Granules.{granule_size, granules_in, region_spec}
+use Rattle.region_config.specs.Granules.{granule_size, region_granules, region_spec}
 use Rattle.region_config.specs.Setups.{config_fault, largest_size}
 use Rattle.region_config.specs.declared.region_spec.RegionSpec.{RegionSpec}
 use Rattle.region_config.proofs.Faultless.{faultless, good_length, good_sizes, lowest}
@@ -18,7 +18,7 @@ pub record IsWhole (c : Configuration) (r : ℕ) : Type 0 where
   pub blocks : ℕ
   pub per_is : (region_spec c r).block / granule_size c r ≡ per
   pub some : 0 < per
-  pub granules : granules_in c r ≡ blocks * per
+  pub granules : region_granules c r ≡ blocks * per
   pub length_is : (region_spec c r).length ≡ blocks * (region_spec c r).block
 
 pub whole_blocks : (c : Configuration) (r : ℕ) → r < length c.regions → config_fault c ≡ None → IsWhole c r
@@ -59,9 +59,9 @@ whole_blocks c r known fine =
     }
 
 -- a block has no more granules than the region
-pub few_in_block : (c : Configuration) (r : ℕ) → 0 < granules_in c r → (w : IsWhole c r) → w.per ≤ granules_in c r
+pub few_in_block : (c : Configuration) (r : ℕ) → 0 < region_granules c r → (w : IsWhole c r) → w.per ≤ region_granules c r
 few_in_block c r some w = by w.blocks w.granules
   where
-    by : (n : ℕ) → granules_in c r ≡ n * w.per → w.per ≤ granules_in c r
+    by : (n : ℕ) → region_granules c r ≡ n * w.per → w.per ≤ region_granules c r
     by zero is = absurd (omega (arith, some, is, zero-mul w.per))
     by (suc n) is = omega (arith, is)

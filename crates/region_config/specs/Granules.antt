@@ -36,13 +36,13 @@ is_supported spec size = list_any (λ n. n == size) (sizes_in spec)
 abbrev pub granule_size : Configuration → ℕ → ℕ
 granule_size c r = 2 ^ trailing_zeros w64 (region_spec c r).sizes
 
-abbrev pub granules_in : Configuration → ℕ → ℕ
-granules_in c r = (region_spec c r).length / granule_size c r
+abbrev pub region_granules : Configuration → ℕ → ℕ
+region_granules c r = (region_spec c r).length / granule_size c r
 
 -- granules are numbered through the device, those of region 0 first
 abbrev pub first_granule : Configuration → ℕ → ℕ
 first_granule c zero = 0
-first_granule c (suc r) = first_granule c r + granules_in c r
+first_granule c (suc r) = first_granule c r + region_granules c r
 
 abbrev pub granule_total : Configuration → ℕ
 granule_total c = first_granule c (length c.regions)

@@ -1,10 +1,10 @@
 //! A configuration without fault.
 
-ghost use Rattle.region_config.specs.Blocks.{block_fault, with_block};
+ghost use Rattle.region_config.specs.Blocks.{RefusesFor, block_fault, with_block};
 ghost use Rattle.region_config.specs.Granules.{region_spec};
 ghost use Rattle.region_config.specs.Setups.{Makes, config_fault, bad_count};
 ghost use Rattle.region_config.specs.Soundness.{IsSound};
-ghost use Rattle.std.specs.Prelude.{◌≡◌, ◌*◌, ◌<◌, IfOk, MatchResult, OnErr, OnOk, length};
+ghost use Rattle.std.specs.Prelude.{◌≡◌, ◌*◌, ◌<◌, IfOk, OnErr, OnOk, length};
 
 use crate::faults::{BlockFault, ConfigFault};
 use crate::layout::Layout;
@@ -87,9 +87,7 @@ impl Config {
         in_use: u32,
     ) -> Result<(), BlockFault>
         requires { region < length self.old.regions }
-        ensures answer { MatchResult result
-            (λ _. block_fault (region_spec self.old region) block sanitize in_use ≡ None)
-            (λ fault. block_fault (region_spec self.old region) block sanitize in_use ≡ Some fault) }
+        ensures answer { RefusesFor (block_fault (region_spec self.old region) block sanitize in_use) result }
         ensures set { OnOk result (self.new ≡ with_block self.old region block) }
         ensures kept { OnErr result (self.new ≡ self.old) }
     {

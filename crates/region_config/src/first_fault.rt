@@ -3,7 +3,7 @@
 ghost use Rattle.dcd_base.specs.Words.{◌or◌};
 ghost use Rattle.region_config.specs.Granules.{first_granule, region_spec};
 ghost use Rattle.region_config.specs.Setups.{bad_base, bad_order, base_fault, decode_end, each_region, faults, length_fault, order_fault, sizes_fault, total_fault};
-ghost use Rattle.std.specs.Prelude.{◌≡◌, ◌^◌, ◌<◌, ◌≤◌, IfNone, length, ℕ};
+ghost use Rattle.std.specs.Prelude.{◌≡◌, ◌^◌, ◌<◌, ◌≤◌, length, ℕ};
 
 use crate::faults::ConfigFault;
 use crate::layout::Layout;

@@ -1,7 +1,7 @@
 //! Hosts, regions and bases that are not yet tried.
 
 ghost use Rattle.region_config.specs.Blocks.{with_block};
-ghost use Rattle.region_config.specs.Granules.{base_of, no_region, region_spec};
+ghost use Rattle.region_config.specs.Granules.{base_of, region_spec};
 ghost use Rattle.std.specs.Prelude.{◌≡◌, ◌*◌, ◌<◌, ◌≤◌, IfOk, length};
 
 use crate::region_spec::RegionSpec;

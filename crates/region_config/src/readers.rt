@@ -1,6 +1,6 @@
 //! What a configuration says.
 
-ghost use Rattle.region_config.specs.Granules.{base_of, first_granule, granule_size, granule_total, granules_in, region_of, region_spec};
+ghost use Rattle.region_config.specs.Granules.{base_of, first_granule, granule_size, granule_total, region_granules, region_of, region_spec};
 ghost use Rattle.region_config.specs.Soundness.{IsSound, IsSoundRegion, IsSoundSeat};
 ghost use Rattle.std.specs.Prelude.{◌≡◌, ◌+◌, ◌/◌, ◌%◌, ◌^◌, ◌<◌, ◌≤◌, length, suc};
 
@@ -64,7 +64,7 @@ impl Config {
     pub fn granules_of(&self, region: RegionId) -> Run
         requires { region < length self.now.regions }
         ensures first { result.first ≡ first_granule self.now region }
-        ensures count { result.count ≡ granules_in self.now region }
+        ensures count { result.count ≡ region_granules self.now region }
         ensures some { 0 < result.count }
         ensures within { result.first + result.count ≤ granule_total self.now }
     {
@@ -79,7 +79,7 @@ impl Config {
         requires { region < length self.now.regions }
         ensures value { result ≡ (region_spec self.now region).block / granule_size self.now region }
         ensures some { 0 < result }
-        ensures whole { granules_in self.now region % result ≡ 0 }
+        ensures whole { region_granules self.now region % result ≡ 0 }
     {
         let spec = self.layout().region(region.0);
         (spec.block / self.granule_size(region)) as u32
@@ -106,7 +106,7 @@ impl Config {
     /// How many granules the region has.
     fn granule_count(&self, region: u8) -> u32
         requires { region < length self.now.regions }
-        ensures value { result ≡ granules_in self.now region }
+        ensures value { result ≡ region_granules self.now region }
         ensures some { 0 < result }
         ensures within { first_granule self.now region + result ≤ granule_total self.now }
         ensures few { granule_total self.now ≤ 4096 }

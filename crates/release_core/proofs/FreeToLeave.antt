@@ -1,5 +1,5 @@
 -- Extents that break no rule can leave.
-use Rattle.std.proofs.Common.{◌≡◌, ℕ, ◌+◌, ◌-◌, ◌<◌, ◌≤◌, Bool, true, not, ltb, leb, List, [], ◌∷◌, length, Option, Some, None, option_map, refl, inl, inr, arith, lt-ltb}
+use Rattle.std.proofs.Common.{◌≡◌, ℕ, ◌+◌, ◌<◌, ◌≤◌, Bool, true, not, ltb, leb, List, [], ◌∷◌, length, Option, Some, None, option_map, refl, inl, inr, arith, lt-ltb}
 use Rattle.std.specs.Prelude.{◌==◌, position}
 use Rattle.std.specs.List.{list_all, position_or_len}
 use Rattle.std.proofs.lemmas.Bool.{and_parts, cases_Bool, cases_lt, leb-true, ltb-true, eqb-false, not-false}

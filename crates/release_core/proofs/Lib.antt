@@ -1,3 +1,4 @@
 pub mod FreeToLeave
 pub mod Lengths
 pub mod Members
+pub mod Rows

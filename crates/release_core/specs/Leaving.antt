@@ -1,12 +1,12 @@
 -- The rules of the extents of a list that are to leave their host. The configuration is the one with the present blocks.
-use Rattle.std.specs.Prelude.{ℕ, ◌+◌, ◌^◌, ◌<◌, IsTrue, not, List, length, take, slice_index_or, Option}
+use Rattle.std.specs.Prelude.{◌≡◌, ℕ, ◌+◌, ◌^◌, ◌<◌, IsTrue, not, List, length, map, take, slice_index_or, Option}
 use Rattle.std.specs.List.{list_all}
 use Rattle.dcd_base.specs.declared.capacity.Extent.{Extent}
 use Rattle.dcd_base.specs.declared.ids.HostId.{HostId}
 use Rattle.dcd_base.specs.Words.{◌or◌}
 use Rattle.dcd_codes.specs.declared.rules.Rule.{Rule}
 use Rattle.dcd_codes.specs.Rules.{◌breaks◌, each_in}
-use Rattle.extent_list.specs.ExtentLists.{cut_all, is_in, overlaps}
+use Rattle.extent_list.specs.ExtentLists.{cut_all, is_in, marked, overlaps}
 use Rattle.list_rules.specs.Listing.{incomplete, misplaced, not_whole, overlapping}
 use Rattle.media_map.specs.Places.{region_at}
 use Rattle.region_config.specs.Configurations.{Configuration}
@@ -26,12 +26,16 @@ leaving_rule c h accepted bounds before x =
     or not_whole c h accepted (length before) x
 
 -- all of the list, extent by extent and then tag by tag
-abbrev pub list_rule : Configuration → HostId → List Extent → Within → List Extent → Option Rule
-list_rule c h accepted bounds list = each_in list (leaving_rule c h accepted bounds) or incomplete c h accepted list
+abbrev pub leaving_list_rule : Configuration → HostId → List Extent → Within → List Extent → Option Rule
+leaving_list_rule c h accepted bounds list = each_in list (leaving_rule c h accepted bounds) or incomplete c h accepted list
 
 -- how many extents the host has, accepted and offered, once those of the list have left
 abbrev pub count_after : List Extent → ℕ → List Extent → ℕ
 count_after accepted offered list = length (cut_all list accepted) + offered
+
+-- The extents that leave are those of the list, each with the tag and the sequence of the accepted one in which it lies.
+abbrev pub AreMarked : List Extent → List Extent → List Extent → Type 0
+AreMarked accepted list leaving = leaving ≡ map (marked accepted) list
 
 -- The extent can leave: it lies in an accepted one, ends at an address, and shares no address with those before it.
 pub record CanLeave (accepted before : List Extent) (x : Extent) : Type 0 where

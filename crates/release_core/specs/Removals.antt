@@ -10,7 +10,7 @@ use Rattle.extent_list.specs.ExtentLists.{has_extent_of}
 use Rattle.list_rules.specs.Listing.{too_many_extents, too_many_listed}
 use Rattle.region_config.specs.Configurations.{Configuration}
 use Rattle.release_core.specs.declared.leaving.Within.{Within}
-use Rattle.release_core.specs.Leaving.{count_after, list_rule}
+use Rattle.release_core.specs.Leaving.{count_after, leaving_list_rule}
 
 -- by tag
 abbrev pub by_tag_rule : List Extent → Tag → Option Rule
@@ -19,14 +19,14 @@ by_tag_rule accepted tag =
     or not (has_extent_of tag accepted) breaks Rule.NoSuchTag
 
 -- the extents that have the tag
-abbrev pub tagged : Tag → List Extent → List Extent
-tagged tag xs = filter (λ x. same_tag x.tag tag) xs
+abbrev pub extents_of_tag : Tag → List Extent → List Extent
+extents_of_tag tag xs = filter (λ x. same_tag x.tag tag) xs
 
 -- prescriptive; so many extents are offered
-abbrev pub listed_rule : Configuration → HostId → List Extent → ℕ → ℕ → List Extent → Bool → Option Rule
-listed_rule c h accepted offered r list forced =
+abbrev pub prescribed_removal_rule : Configuration → HostId → List Extent → ℕ → ℕ → List Extent → Bool → Option Rule
+prescribed_removal_rule c h accepted offered r list forced =
     nat_le (length c.regions) r breaks Rule.NoSuchRegion r
     or is_empty list breaks Rule.EmptyList
     or too_many_listed list
-    or list_rule c h accepted (Within.Region r) list
+    or leaving_list_rule c h accepted (Within.Region r) list
     or where_true forced (too_many_extents (count_after accepted offered list))

@@ -1,14 +1,12 @@
-//! The rules of the extents of a list that are to leave their host.
+//! The rules of an extent that is to leave its host.
 
-ghost use Rattle.dcd_codes.specs.Rules.{each_in};
-ghost use Rattle.release_core.specs.Leaving.{AllCanLeave, leaving_rule, list_rule, region_for};
-ghost use Rattle.std.specs.Prelude.{◌≡◌, ◌^◌, ◌<◌, IfNone, IfOk, length};
+ghost use Rattle.release_core.specs.Leaving.{leaving_rule, region_for};
+ghost use Rattle.std.specs.Prelude.{◌≡◌, ◌^◌, ◌<◌, length};
 
-use dcd_base::{Extent, HostId, NoMemory, RegionId};
+use dcd_base::{Extent, HostId, RegionId};
 use dcd_codes::Rule;
-use list_rules::{incomplete, is_in, misplaced, not_whole, region_at, shares_address};
+use list_rules::{is_in, misplaced, not_whole, region_at, shares_address};
 use region_config::Config;
-use std::alloc::Global;
 
 /// Where the extents of a list have to lie.
 #[derive(Debug, Drop)]
@@ -19,51 +17,8 @@ pub(crate) enum Within {
     Region(RegionId),
 }
 
-/// The first rule that the list breaks, extent by extent, and then tag by tag.
-pub(crate) fn list_rule(
-    alloc: Global,
-    config: &Config,
-    host: HostId,
-    accepted: &[Extent],
-    bounds: &Within,
-    list: &[Extent],
-) -> Result<Option<Rule>, NoMemory>
-    requires host { host < config.now.hosts }
-    requires accepted { length accepted.now < 2 ^ 32 }
-    requires listed { length list.now < 2 ^ 32 }
-    ensures found { IfOk result (λ found. found ≡ list_rule config.now host accepted.now bounds.now list.now) }
-    ensures leaving { IfOk result (λ found. IfNone found (AllCanLeave accepted.now list.now)) }
-{
-    let _sound = config.regions();
-    match first_leaving_rule(config, host, accepted, bounds, list) {
-        Some(rule) => Ok(Some(rule)),
-        None => incomplete(alloc, config, host, accepted, list),
-    }
-}
-
-/// The first rule that an extent of the list breaks.
-fn first_leaving_rule(
-    config: &Config,
-    host: HostId,
-    accepted: &[Extent],
-    bounds: &Within,
-    list: &[Extent],
-) -> Option<Rule>
-    requires host { host < config.now.hosts }
-    requires listed { length list.now < 2 ^ 32 }
-    ensures { result ≡ each_in list.now (leaving_rule config.now host accepted.now bounds.now) }
-{
-    for i in 0..list.len() {
-        let (before, _) = list.split_at(i);
-        if let Some(rule) = leaving_rule(config, host, accepted, bounds, before, &list[i]) {
-            return Some(rule);
-        }
-    }
-    None
-}
-
-/// The first rule that an extent breaks beside those before it, whose number is its index.
-fn leaving_rule(
+/// The first rule that an extent of the list breaks behind those before it, whose number is its index.
+pub(crate) fn broken_extent(
     config: &Config,
     host: HostId,
     accepted: &[Extent],

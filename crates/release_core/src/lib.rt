@@ -12,5 +12,5 @@ mod marking;
 mod releases;
 mod removals;
 
-pub use releases::{GivenBack, Releases};
+pub use releases::{GivenBack, Releases, broken_rule};
 pub use removals::{by_tag, removal};

@@ -1,16 +1,15 @@
 //! What a host gives back, in one message or in several.
 
-ghost use Rattle.dcd_codes.specs.Rules.{ByRow};
-ghost use Rattle.release_core.specs.Releases.{GivesBack, KeepsHeld, give_back_rule};
-ghost use Rattle.std.specs.Prelude.{◌≡◌, ◌++◌, ◌+◌, ◌<◌, ◌≤◌, [], IfOk, Option, length};
+ghost use Rattle.release_core.specs.Releases.{AnswersRelease, GivesBack, KeepsHeld, give_back_rule};
+ghost use Rattle.std.specs.Prelude.{◌≡◌, ◌++◌, ◌+◌, ◌<◌, ◌≤◌, [], IfOk, OnErr, length};
 
 use crate::counting::count_rule;
-use crate::leaving::{Within, list_rule};
+use crate::leaving::{Within, broken_extent};
 use crate::marking::marked_list;
 use dcd_base::{Extent, Extents, HostId, NoMemory};
 use dcd_codes::{Refusal, Rule};
 use extent_list::ExtentList;
-use list_rules::too_many_listed;
+use list_rules::{incomplete, too_many_listed};
 use region_config::Config;
 use std::alloc::Global;
 use std::marker::Model;
@@ -102,43 +101,34 @@ impl Releases {
     ) -> Result<GivenBack, Refusal>
         requires host { host < config.now.hosts }
         requires few { length accepted.now.extents + offered ≤ 64 }
-        ensures answer { ByRow (give_back_rule config.now host accepted.now.extents offered (self.old ++ list.now) more) (GivesBack accepted.now.extents (self.old ++ list.now) more self.new) result }
+        ensures answer { AnswersRelease config.now host accepted.now.extents offered (self.old ++ list.now) more self.new result }
         ensures refused { KeepsHeld self.old self.new result }
     {
-        let whole = self.followed_by(list)?;
-        let rule = give_back_rule(config, host, accepted, offered, &whole, more)?;
-        match rule {
+        match broken_rule(config, host, accepted, offered, &self.listed, list, more)? {
             Some(rule) => {
-                self.listed.clear();
+                self.drop_held();
                 Err(Refusal::Broken(rule))
             }
-            None => self.give_back(accepted.as_slice(), whole, more),
+            None => Ok(self.give_back(accepted.as_slice(), list, more)?),
         }
     }
 
-    /// The held list and then the message's.
-    fn followed_by(&self, list: &Extents) -> Result<Extents, NoMemory>
-        ensures { IfOk result (λ whole. whole ≡ self.now ++ list.now) }
-    {
-        let mut whole = self.listed.copy()?;
-        whole.extend_from_slice(list.as_slice())?;
-        Ok(whole)
-    }
-
-    /// Holds the whole list, or answers it where no more is to come. It breaks no rule.
-    fn give_back(
+    /// Does what a release says that breaks no rule, with this list of a message behind the held one: holds the whole
+    /// list where more is to come, and else answers it. Without memory the held list stays.
+    pub fn give_back(
         &mut self,
         accepted: &[Extent],
-        whole: Extents,
+        list: &Extents,
         more: bool,
-    ) -> Result<GivenBack, Refusal>
-        ensures answer { ByRow Option.None (GivesBack accepted.now whole more self.new) result }
-        ensures refused { KeepsHeld self.old self.new result }
+    ) -> Result<GivenBack, NoMemory>
+        ensures done { IfOk result (GivesBack accepted.now (self.old ++ list.now) more self.new) }
+        ensures kept { OnErr result (self.new ≡ self.old) }
     {
         if more {
-            self.listed = whole;
+            self.listed.extend_from_slice(list.as_slice())?;
             return Ok(GivenBack::Held);
         }
+        let whole = followed_by(&self.listed, list.as_slice())?;
         let leaving = marked_list(whole.allocator(), accepted, whole.as_slice())?;
         self.listed.clear();
         if leaving.is_empty() {
@@ -148,29 +138,52 @@ impl Releases {
     }
 }
 
-/// The first rule that the whole list breaks.
-fn give_back_rule(
+/// The first rule of its row that a release breaks (4803h, CXL 3.1, 8.2.9.9.9.4): this list of a message behind the
+/// held one. The rules stand at `Releases::release`, in order.
+///
+/// `offered` is how many extents the host is offered; with the accepted ones they are at most 64. The list is of the
+/// host's addresses, in bytes; the tags and sequences in it are not read. Where more messages are to follow, only the
+/// length of the list is tried.
+pub fn broken_rule(
     config: &Config,
     host: HostId,
     accepted: &ExtentList,
     offered: usize,
-    whole: &Extents,
+    held: &Extents,
+    list: &Extents,
     more: bool,
 ) -> Result<Option<Rule>, NoMemory>
     requires host { host < config.now.hosts }
     requires few { length accepted.now.extents + offered ≤ 64 }
-    ensures { IfOk result (λ found. found ≡ give_back_rule config.now host accepted.now.extents offered whole.now more) }
+    ensures { IfOk result (λ found. found ≡ give_back_rule config.now host accepted.now.extents offered (held.now ++ list.now) more) }
 {
+    let whole = followed_by(held, list.as_slice())?;
     if let Some(rule) = too_many_listed(whole.as_slice()) {
         return Ok(Some(rule));
     }
     if more {
         return Ok(None);
     }
-    let alloc = whole.allocator();
-    let (extents, list) = (accepted.as_slice(), whole.as_slice());
-    match list_rule(alloc, config, host, extents, &Within::AnyRegion, list)? {
-        Some(rule) => Ok(Some(rule)),
-        None => count_rule(accepted, offered, list),
+    // That extents in regions end at an address, which a configuration says of itself where it is read.
+    let _regions = config.regions();
+    let (alloc, whole, owners) = (whole.allocator(), whole.as_slice(), accepted.as_slice());
+    let bounds = Within::AnyRegion;
+    for i in 0..whole.len() {
+        if let Some(rule) = broken_extent(config, host, owners, &bounds, &whole[..i], &whole[i]) {
+            return Ok(Some(rule));
+        }
     }
+    match incomplete(alloc, config, host, owners, whole)? {
+        Some(rule) => Ok(Some(rule)),
+        None => count_rule(accepted, offered, whole),
+    }
+}
+
+/// The held list and then the message's.
+fn followed_by(held: &Extents, list: &[Extent]) -> Result<Extents, NoMemory>
+    ensures { IfOk result (λ whole. whole ≡ held.now ++ list.now) }
+{
+    let mut whole = held.copy()?;
+    whole.extend_from_slice(list)?;
+    Ok(whole)
 }

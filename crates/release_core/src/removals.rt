@@ -1,17 +1,17 @@
 //! What the Fabric Manager takes from a host, or asks it to give back.
 
 ghost use Rattle.dcd_codes.specs.Rules.{ByRow};
-ghost use Rattle.extent_list.specs.ExtentLists.{marked};
-ghost use Rattle.release_core.specs.Removals.{by_tag_rule, listed_rule, tagged};
-ghost use Rattle.std.specs.Prelude.{◌≡◌, ◌+◌, ◌<◌, ◌≤◌, [], IfOk, OnOk, length, map};
+ghost use Rattle.release_core.specs.Leaving.{AreMarked};
+ghost use Rattle.release_core.specs.Removals.{by_tag_rule, prescribed_removal_rule, extents_of_tag};
+ghost use Rattle.std.specs.Prelude.{◌≡◌, ◌+◌, ◌<◌, ◌≤◌, [], IfOk, OnOk, length};
 
 use crate::counting::count_rule;
-use crate::leaving::{Within, list_rule};
+use crate::leaving::{Within, broken_extent};
 use crate::marking::marked_list;
 use dcd_base::{Extent, Extents, HostId, NoMemory, RegionId, Tag, is_no_tag};
 use dcd_codes::{Refusal, Rule};
 use extent_list::{ExtentList, has_extent_of};
-use list_rules::too_many_listed;
+use list_rules::{incomplete, too_many_listed};
 use region_config::Config;
 use std::alloc::Global;
 
@@ -41,44 +41,32 @@ pub fn removal(
 ) -> Result<Extents, Refusal>
     requires host { host < config.now.hosts }
     requires few { length accepted.now.extents + offered ≤ 64 }
-    ensures { ByRow (listed_rule config.now host accepted.now.extents offered region list.now forced) (λ leaving. leaving ≡ map (marked accepted.now.extents) list.now) result }
-{
-    let list = list.as_slice();
-    match listed_rule(alloc, config, host, accepted, offered, region, list, forced)? {
-        Some(rule) => Err(Refusal::Broken(rule)),
-        None => Ok(marked_list(alloc, accepted.as_slice(), list)?),
-    }
-}
-
-/// The first rule that the list breaks.
-fn listed_rule(
-    alloc: Global,
-    config: &Config,
-    host: HostId,
-    accepted: &ExtentList,
-    offered: usize,
-    region: RegionId,
-    list: &[Extent],
-    forced: bool,
-) -> Result<Option<Rule>, NoMemory>
-    requires host { host < config.now.hosts }
-    requires few { length accepted.now.extents + offered ≤ 64 }
-    ensures { IfOk result (λ found. found ≡ listed_rule config.now host accepted.now.extents offered region list.now forced) }
+    ensures { ByRow (prescribed_removal_rule config.now host accepted.now.extents offered region list.now forced) (AreMarked accepted.now.extents list.now) result }
 {
     if region.0 >= config.regions() {
-        return Ok(Some(Rule::NoSuchRegion(region.0)));
+        return Err(Refusal::Broken(Rule::NoSuchRegion(region.0)));
     }
     if list.is_empty() {
-        return Ok(Some(Rule::EmptyList));
+        return Err(Refusal::Broken(Rule::EmptyList));
     }
-    if let Some(rule) = too_many_listed(list) {
-        return Ok(Some(rule));
+    if let Some(rule) = too_many_listed(list.as_slice()) {
+        return Err(Refusal::Broken(rule));
     }
     let bounds = Within::Region(region);
-    match list_rule(alloc, config, host, accepted.as_slice(), &bounds, list)? {
-        Some(rule) => Ok(Some(rule)),
-        None if forced => count_rule(accepted, offered, list),
-        None => Ok(None),
+    let (listed, owners) = (list.as_slice(), accepted.as_slice());
+    for i in 0..listed.len() {
+        if let Some(rule) = broken_extent(config, host, owners, &bounds, &listed[..i], &listed[i]) {
+            return Err(Refusal::Broken(rule));
+        }
+    }
+    let rule = match incomplete(alloc, config, host, owners, listed)? {
+        Some(rule) => Some(rule),
+        None if forced => count_rule(accepted, offered, listed)?,
+        None => None,
+    };
+    match rule {
+        Some(rule) => Err(Refusal::Broken(rule)),
+        None => Ok(marked_list(alloc, owners, listed)?),
     }
 }
 
@@ -87,7 +75,7 @@ fn listed_rule(
 ///
 /// `ZeroTag` where the tag is sixteen zero bytes, and else `NoSuchTag` where no accepted extent has it.
 pub fn by_tag(alloc: Global, accepted: &ExtentList, tag: &Tag) -> Result<Extents, Refusal>
-    ensures { ByRow (by_tag_rule accepted.now.extents tag.now) (λ leaving. leaving ≡ tagged tag.now accepted.now.extents) result }
+    ensures { ByRow (by_tag_rule accepted.now.extents tag.now) (λ leaving. leaving ≡ extents_of_tag tag.now accepted.now.extents) result }
 {
     if is_no_tag(tag) {
         return Err(Refusal::Broken(Rule::ZeroTag));
@@ -100,7 +88,7 @@ pub fn by_tag(alloc: Global, accepted: &ExtentList, tag: &Tag) -> Result<Extents
 
 /// The extents that have the tag, in their order.
 fn tagged_list(alloc: Global, tag: &Tag, extents: &[Extent]) -> Result<Extents, NoMemory>
-    ensures { IfOk result (λ leaving. leaving ≡ tagged tag.now extents.now) }
+    ensures { IfOk result (λ leaving. leaving ≡ extents_of_tag tag.now extents.now) }
 {
     let mut leaving = Extents::new(alloc);
     put_tagged(tag, extents, &mut leaving)?;
@@ -110,7 +98,7 @@ fn tagged_list(alloc: Global, tag: &Tag, extents: &[Extent]) -> Result<Extents, 
 /// Puts them into an empty list.
 fn put_tagged(tag: &Tag, extents: &[Extent], leaving: &mut Extents) -> Result<(), NoMemory>
     requires { leaving.old ≡ [] }
-    ensures { OnOk result (leaving.new ≡ tagged tag.now extents.now) }
+    ensures { OnOk result (leaving.new ≡ extents_of_tag tag.now extents.now) }
 {
     for extent in extents {
         if extent.tag == *tag {

@@ -202,9 +202,6 @@ response_digits s head payload end e f =
     ∙ ap (λ bytes. encode_lower bytes ++ end) (ap (λ xs. xs ++ payload) e ∙ ap (λ ys. spelling front ++ ys) (f ∙ sym (append-nil s.payload))
     ∙ sym (flat_map-append spell front (Raw (length s.payload) s.payload ∷ [])))
 
-pub entries_push : (journal : List Entry) (i : ℕ) (e : Entry) → take (i + 1) journal ≡ take i journal ++ e ∷ [] → i < length journal
-    → enumerate_from 1 (take (i + 1) journal) ≡ enumerate_from 1 (take i journal) ++ (i + 1, e) ∷ []
-entries_push journal i e more lt =
-    ap (enumerate_from 1) more
-    ∙ enumerate_push 1 (take i journal) e
-    ∙ ap (λ n. enumerate_from 1 (take i journal) ++ (n, e) ∷ []) (omega (arith, length-take-le i journal (omega (arith, lt))))
+-- one more entry behind those whose lines are put
+pub entries_push : (done : List Entry) (e : Entry) → enumerate_from 1 (done ++ e ∷ []) ≡ enumerate_from 1 done ++ (length done + 1, e) ∷ []
+entries_push done e = enumerate_push 1 done e ∙ ap (λ n. enumerate_from 1 done ++ (n, e) ∷ []) (omega arith)

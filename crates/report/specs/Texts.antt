@@ -62,9 +62,13 @@ reply_words Reply.Stored = codes "ok" ∷ []
 reply_words (Reply.Refused fault) = codes "refused" ∷ decimal (fault_number fault) ∷ []
 reply_words (Reply.Scrubbed n) = decimal n ∷ []
 
+-- the line of a step: its number, its line in the script, who did what, and the reply
+unfoldable pub step_line : ℕ → ℕ → Actor → Act → Reply → List ℕ
+step_line n line actor act reply = line_of (decimal n ∷ decimal line ∷ actor_name actor ∷ act_name act ∷ reply_words reply)
+
 -- the line of an entry, and its number
 unfoldable pub entry_line : ℕ × Entry → List ℕ
-entry_line (n, e) = line_of (decimal n ∷ decimal e.line ∷ actor_name e.actor ∷ act_name e.act ∷ reply_words e.reply)
+entry_line (n, e) = step_line n e.line e.actor e.act e.reply
 
 unfoldable pub entry_lines : List Entry → List ℕ
 entry_lines journal = flat_map entry_line (enumerate_from 1 journal)
@@ -82,12 +86,12 @@ unfoldable pub record_lines : List Effect → LogId → List ℕ
 record_lines past l = flat_map (record_line l) (records_of l past)
 
 -- the records of hosts in order, in each log the oldest first
-unfoldable pub host_records : Configuration → List Effect → List ℕ
-host_records c past = flat_map (λ h. record_lines past (LogId.Host h)) (hosts_of c)
+unfoldable pub shown_host_records : Configuration → List Effect → List ℕ
+shown_host_records c past = flat_map (λ h. record_lines past (LogId.Host h)) (hosts_of c)
 
 -- those of hosts, then those of the manager
 unfoldable pub all_records : Configuration → List Effect → List ℕ
-all_records c past = host_records c past ++ record_lines past LogId.Manager
+all_records c past = shown_host_records c past ++ record_lines past LogId.Manager
 
 -- ---- the state
 
@@ -116,9 +120,9 @@ granules_line c past = line_of (
 unfoldable pub end_line : ℕ → List ℕ
 end_line n = line_of (codes "end" ∷ decimal n ∷ [])
 
-unfoldable pub state_lines : Configuration → List Entry → List ℕ
-state_lines c journal = let past = effects journal in
-    host_lines c past ++ manager_line past ++ granules_line c past ++ end_line (length journal)
+-- that these effects leave, behind so many entries
+unfoldable pub state_lines : Configuration → List Effect → ℕ → List ℕ
+state_lines c past count = host_lines c past ++ manager_line past ++ granules_line c past ++ end_line count
 
 -- the version of the form is 1
 unfoldable pub first_line : List ℕ
@@ -126,7 +130,7 @@ first_line = line_of (codes "dcd" ∷ codes "1" ∷ [])
 
 -- The text of a journal, and its summary.
 unfoldable pub text : Configuration → List Entry → List ℕ
-text c journal = first_line ++ entry_lines journal ++ all_records c (effects journal) ++ state_lines c journal
+text c journal = first_line ++ entry_lines journal ++ all_records c (effects journal) ++ state_lines c (effects journal) (length journal)
 
 unfoldable pub summary : Configuration → List Entry → List ℕ
-summary c journal = first_line ++ state_lines c journal
+summary c journal = first_line ++ state_lines c (effects journal) (length journal)

@@ -1,15 +1,16 @@
 //! The lines of entries.
 
 ghost use Rattle.control_core.specs.Deciding.{AreShort, IsShort};
+ghost use Rattle.journal_core.specs.Lending.{lent_entry};
 ghost use Rattle.journal_core.specs.declared.acts.Reply.{Reply};
 ghost use Rattle.report.specs.Printing.{Puts};
-ghost use Rattle.report.specs.Texts.{act_name, entry_line, entry_lines, fault_number, next_word, reply_words, rest_of_line};
-ghost use Rattle.std.specs.Prelude.{◌≡◌, ◌<◌, ◌^◌, ◌++◌, [], ◌∷◌, decimal, length};
+ghost use Rattle.report.specs.Texts.{act_name, entry_line, entry_lines, fault_number, next_word, reply_words, rest_of_line, step_line};
+ghost use Rattle.std.specs.Prelude.{◌≡◌, ◌<◌, ◌^◌, length};
 
 use crate::printing::Printer;
 use cci_codec::{Response, response_head};
-use dcd_base::{AccessFault, Sink};
-use journal_core::{Act, Entry, Reply};
+use dcd_base::{AccessFault, Actor, Sink};
+use journal_core::{Act, Lender, Lent, Reply};
 
 /// The number of a fault of a load or store.
 fn fault_number(fault: AccessFault) -> u64
@@ -102,25 +103,67 @@ fn put_reply<K: Sink>(printer: &mut Printer, sink: &mut K, reply: &Reply)
     }
 }
 
-/// Puts the line of an entry: its number, its line in the script, its actor, and its answer.
-#[tactic(auto, using(crate::proofs::Parts::prints_then), unfolding(crate::specs::Texts::entry_line))]
-fn put_entry<K: Sink>(printer: &mut Printer, sink: &mut K, number: u64, entry: &Entry)
-    requires { IsShort entry.now.reply }
-    ensures { Puts K.taken K.faults sink.old printer.old sink.new printer.new (entry_line (number, entry.now)) }
+/// Puts the line of a step: its number, its line in the script, its actor, and its answer.
+#[tactic(auto, using(crate::proofs::Parts::prints_then), unfolding(crate::specs::Texts::step_line))]
+fn put_step<K: Sink>(
+    printer: &mut Printer,
+    sink: &mut K,
+    number: u64,
+    line: u32,
+    actor: Actor,
+    act: &Act,
+    reply: &Reply,
+)
+    requires { IsShort reply.now }
+    ensures { Puts K.taken K.faults sink.old printer.old sink.new printer.new (step_line number line actor act.now reply.now) }
 {
-    printer.put_numbers(sink, number, u64::from(entry.line));
-    printer.put_actor(sink, entry.actor);
-    put_act(printer, sink, &entry.act);
-    put_reply(printer, sink, &entry.reply);
+    printer.put_numbers(sink, number, u64::from(line));
+    printer.put_actor(sink, actor);
+    put_act(printer, sink, act);
+    put_reply(printer, sink, reply);
 }
 
-/// Puts a line for each entry, numbered from 1.
-#[tactic(auto, using(crate::proofs::Parts::prints_nothing, crate::proofs::Parts::prints_each), unfolding(crate::specs::Texts::entry_lines))]
-pub fn put_entries<K: Sink>(printer: &mut Printer, sink: &mut K, journal: &[Entry])
-    requires { AreShort journal.now }
-    ensures { Puts K.taken K.faults sink.old printer.old sink.new printer.new (entry_lines journal.now) }
+/// Puts the line of an entry, which is lent.
+#[tactic(auto, unfolding(crate::specs::Texts::entry_line))]
+fn put_entry<K: Sink>(printer: &mut Printer, sink: &mut K, number: u64, entry: &Lent<'_>)
+    requires { IsShort (lent_entry entry.now).reply }
+    ensures { Puts K.taken K.faults sink.old printer.old sink.new printer.new (entry_line (number, lent_entry entry.now)) }
 {
-    for (i, entry) in journal.iter().enumerate() {
-        put_entry(printer, sink, i as u64 + 1, entry);
+    match entry {
+        Lent::Full(entry) => put_step(
+            printer,
+            sink,
+            number,
+            entry.line,
+            entry.actor,
+            &entry.act,
+            &entry.reply,
+        ),
+        Lent::Small(access) => put_step(
+            printer,
+            sink,
+            number,
+            access.line(),
+            access.actor(),
+            &access.act(),
+            &access.reply(),
+        ),
     }
+}
+
+/// Puts a line for each entry that is lent, numbered from 1, and answers how many there are. None is left then.
+#[tactic(auto, unfolding(crate::specs::Texts::entry_lines))]
+pub fn put_entries<K: Sink, J: Lender>(printer: &mut Printer, sink: &mut K, journal: &mut J) -> u64
+    requires short { AreShort (J.rest journal.old) }
+    requires few { length (J.rest journal.old) < 2 ^ 64 }
+    ensures count { result ≡ length (J.rest journal.old) }
+    ensures lines { Puts K.taken K.faults sink.old printer.old sink.new printer.new (entry_lines (J.rest journal.old)) }
+{
+    let mut number = 0;
+    while let Some(entry) = journal.peek() {
+        number += 1;
+        put_entry(printer, sink, number, &entry);
+        journal.skip();
+    }
+    number
 }

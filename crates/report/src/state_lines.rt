@@ -3,16 +3,14 @@
 ghost use Rattle.dcd_base.specs.declared.steps.LogId.{LogId};
 ghost use Rattle.device_state.specs.Updates.{IsOfLog};
 ghost use Rattle.journal_core.specs.Entries.{effects};
-ghost use Rattle.region_config.specs.Granules.{hosts_of};
 ghost use Rattle.report.specs.Printing.{Puts};
-ghost use Rattle.report.specs.Texts.{all_records, end_line, granules_line, host_line, host_lines, host_records, manager_line, record_line, record_lines, state_lines};
-ghost use Rattle.std.specs.Prelude.{◌≡◌, ◌<◌, flat_map, length};
+ghost use Rattle.report.specs.Texts.{all_records, end_line, granules_line, host_line, host_lines, shown_host_records, manager_line, record_line, record_lines, state_lines};
+ghost use Rattle.std.specs.Prelude.{◌<◌};
 
 use crate::printing::Printer;
 use control_core::Control;
 use dcd_base::{HostId, LogId, Sink};
 use event_records::{Event, encode};
-use journal_core::Entry;
 
 /// Puts the line of a record: its log and its 256 digits.
 #[tactic(auto, using(crate::proofs::Parts::prints_then), unfolding(crate::specs::Texts::record_line))]
@@ -39,9 +37,9 @@ fn put_log_records<K: Sink>(printer: &mut Printer, sink: &mut K, control: &Contr
 }
 
 /// Puts the records of the hosts' logs.
-#[tactic(auto, using(crate::proofs::Parts::prints_nothing, crate::proofs::Parts::prints_each), unfolding(crate::specs::Texts::host_records))]
+#[tactic(auto, using(crate::proofs::Parts::prints_nothing, crate::proofs::Parts::prints_each), unfolding(crate::specs::Texts::shown_host_records))]
 fn put_host_records<K: Sink>(printer: &mut Printer, sink: &mut K, control: &Control)
-    ensures { Puts K.taken K.faults sink.old printer.old sink.new printer.new (host_records control.now.config (effects control.now.entries)) }
+    ensures { Puts K.taken K.faults sink.old printer.old sink.new printer.new (shown_host_records control.now.config (effects control.now.entries)) }
 {
     for host in 0..control.config().hosts() {
         put_log_records(printer, sink, control, &LogId::Host(HostId(host)));
@@ -113,14 +111,13 @@ fn put_end_line<K: Sink>(printer: &mut Printer, sink: &mut K, count: u64)
     printer.end_line(sink);
 }
 
-/// Puts the lines of the state that the journal leaves.
+/// Puts the lines of the state that the control is in, behind so many entries.
 #[tactic(auto, using(crate::proofs::Parts::prints_then), unfolding(crate::specs::Texts::state_lines))]
-pub fn put_state<K: Sink>(printer: &mut Printer, sink: &mut K, control: &Control, journal: &[Entry])
-    requires { effects control.now.entries ≡ effects journal.now }
-    ensures { Puts K.taken K.faults sink.old printer.old sink.new printer.new (state_lines control.now.config journal.now) }
+pub fn put_state<K: Sink>(printer: &mut Printer, sink: &mut K, control: &Control, count: u64)
+    ensures { Puts K.taken K.faults sink.old printer.old sink.new printer.new (state_lines control.now.config (effects control.now.entries) count) }
 {
     put_host_lines(printer, sink, control);
     put_manager_line(printer, sink, control);
     put_granules_line(printer, sink, control);
-    put_end_line(printer, sink, journal.len() as u64);
+    put_end_line(printer, sink, count);
 }

@@ -8,7 +8,7 @@ use Rattle.ruled_cells.specs.declared.about.About.{About}
 use Rattle.ruled_cells.specs.declared.about.SeatView.{SeatView}
 use Rattle.ruled_cells.specs.declared.cell_value.CellValue.{CellValue}
 use Rattle.ruled_cells.specs.declared.cell_value.CellValue.TheVariants.{First, Rest}
-use Rattle.ruled_cells.specs.Stamps.{IsControlLog, after, pending}
+use Rattle.ruled_cells.specs.Stamps.{IsControlLog, stamps_after, pending}
 use Rattle.ruled_cells.specs.Ruling.{Names, Ruled}
 use Rattle.ruled_cells.specs.Booking.{Fits, Whole}
 use Rattle.ruled_cells.specs.Telling.{values}
@@ -23,7 +23,7 @@ module _ {F S : Type 0} (w : Names F S) (about : About) (first : F) (row : List 
   same = let e : ◌≡◌ {A = CellValue F S} (First r.first) (First first) = at_same (values first row) 0 (First r.first) (First first) r.chief refl in cc
 
   log_is : h.log ≡ w.journal first
-  log_is = r.log_is ∙ (ap (after (w.journal r.first)) (r.at_rest free) ∙ ap w.journal same)
+  log_is = r.log_is ∙ (ap (stamps_after (w.journal r.first)) (r.at_rest free) ∙ ap w.journal same)
 
   pub rests : IsAtRest w about first row
   rests = record {

@@ -11,7 +11,7 @@ use Rattle.ruled_cells.specs.declared.about.SeatView.{SeatView}
 use Rattle.ruled_cells.specs.declared.cell_value.CellValue.{CellValue}
 use Rattle.ruled_cells.specs.Stamps.{Below}
 use Rattle.ruled_cells.specs.Ruling.{Names}
-use Rattle.ruled_cells.specs.Booking.{own, one, total, Fits, Rising, IsKept, IsBooked, Books}
+use Rattle.ruled_cells.specs.Booking.{own, weight_one, total, Fits, IsRisingTo, IsKept, IsBooked, Books}
 use Rattle.ruled_cells.specs.Telling.{next_view, joint_view, spent_view}
 use Rattle.ruled_cells.proofs.Places.{at_below, at_push}
 use Rattle.ruled_cells.proofs.Order.{below_trans, rise_push, never}
@@ -28,14 +28,14 @@ first_or : {A : Type 0} (P : A → Type 0) (x : A) (l : List A) → P x → ((k 
 first_or P x l p q zero a e = subst P (some-injective x a e) p
 first_or P x l p q (suc k) a e = q k a e
 
-pub rising_push : (calls : List Entry) (seen : Stamp) (e : Entry) → Rising calls seen → Below seen e.stamp → Rising (calls ++ e ∷ []) e.stamp
+pub rising_push : (calls : List Entry) (seen : Stamp) (e : Entry) → IsRisingTo calls seen → Below seen e.stamp → IsRisingTo (calls ++ e ∷ []) e.stamp
 rising_push calls seen e r above =
     let each : (k : ℕ) (f : Entry) → get_elem? calls k ≡ some f → Below f.stamp e.stamp = λ k f h. ⊎_elim (λ (b : Below f.stamp seen). below_trans f.stamp seen e.stamp b above) (λ (q : f.stamp ≡ seen). subst (λ (z : Stamp). Below z e.stamp) (sym q) above) (r.last k f h) in record {
       rise = rise_push calls e r.rise each;
       last = λ k f h. ⊎_elim (λ (q : get_elem? calls k ≡ some f). inl (each k f q)) (λ (q : (e ≡ f) × (k ≡ length calls)). inr (ap (λ (z : Entry). z.stamp) (sym q.0))) (at_push calls e f k h);
     }
 
-pub rising_none : (seen : Stamp) → Rising [] seen
+pub rising_none : (seen : Stamp) → IsRisingTo [] seen
 rising_none seen = record { rise = λ i k e f lt p q. absurd (let b = at_below [] i e p in omega (arith, b)); last = λ k e h. absurd (let b = at_below [] k e h in omega (arith, b)) }
 
 module _ {F S : Type 0} (w : Names F S) where
@@ -70,12 +70,12 @@ module _ {F S : Type 0} (w : Names F S) where
           each = each_set (λ j y. y.spent ≡ false → IsBooked w log' vals' (set views id v') j y) views id v'
               (λ _. let o = as_before id v (b.each id v at used) in record {
                 fits = subst (Fits w log' vals' id) (sym calls) o.fits;
-                rising = subst (λ (z : List Entry × Stamp). Rising z.0 z.1) (λ i. (sym calls i, sym seen i)) o.rising;
+                rising = subst (λ (z : List Entry × Stamp). IsRisingTo z.0 z.1) (λ i. (sym calls i, sym seen i)) o.rising;
                 kept = λ c i cs h. o.kept c i cs (ap (λ z. get_elem? z c) (sym kept) ∙ h);
               })
               (λ j y ne f q. as_before j y (b.each j y f q));
           later = λ j le. fits_keeps log log' vals vals' j [] k (b.later j (omega (arith, long, le)));
-          few = λ j. let q = b.few j in let p = k (own j one) in omega (arith, p, q);
+          few = λ j. let q = b.few j in let p = k (own j weight_one) in omega (arith, p, q);
         }
 
     -- an entry of the seat id is added
@@ -92,18 +92,18 @@ module _ {F S : Type 0} (w : Names F S) where
           below = let c = o.below in omega (arith, long, c);
         } in
         let mine = b.each id v at used in
-        let many : total w (own id one) log vals ≡ length v.calls = sym (mine.fits one) ∙ weigh-one v.calls in record {
+        let many : total w (own id weight_one) log vals ≡ length v.calls = sym (mine.fits weight_one) ∙ weigh-one v.calls in record {
           each = each_set (λ j y. y.spent ≡ false → IsBooked w log' vals' (set views id v') j y) views id v'
               (λ _. record {
                 fits = subst (Fits w log' vals' id) (sym calls) (fits_gains log log' vals vals' id v.calls e g pass mine.fits);
-                rising = subst (λ (z : List Entry × Stamp). Rising z.0 z.1) (λ i. (sym calls i, sym seen i)) (rising_push v.calls v.seen e mine.rising above);
+                rising = subst (λ (z : List Entry × Stamp). IsRisingTo z.0 z.1) (λ i. (sym calls i, sym seen i)) (rising_push v.calls v.seen e mine.rising above);
                 kept = λ c i cs h. moved i cs (mine.kept c i cs (ap (λ z. get_elem? z c) (sym kept) ∙ h));
               })
               (λ j y ne f q. let o = b.each j y f q in record { fits = fits_other log log' vals vals' j y.calls e g (λ z. ne (sym z ∙ pass)) o.fits; rising = o.rising; kept = λ c i cs h. moved i cs (o.kept c i cs h) });
           later = λ j le. fits_other log log' vals vals' j [] e g (λ z. let y = sym z ∙ pass in omega (arith, long, le, inside, y)) (b.later j (omega (arith, long, le)));
-          few = λ j. let q = b.few j in let p = g (own j one) in dite (ℕ_discrete j id)
-              (λ (z : j ≡ id). let y = own-same j one e (pass ∙ sym z) in let m : total w (own j one) log vals ≡ length v.calls = ap (λ (i : ℕ). total w (own i one) log vals) z ∙ many in omega (arith, p, y, m, room))
-              (λ ne. let y = own-other j one e (λ z. ne (sym z ∙ pass)) in omega (arith, p, q, y));
+          few = λ j. let q = b.few j in let p = g (own j weight_one) in dite (ℕ_discrete j id)
+              (λ (z : j ≡ id). let y = own-same j weight_one e (pass ∙ sym z) in let m : total w (own j weight_one) log vals ≡ length v.calls = ap (λ (i : ℕ). total w (own i weight_one) log vals) z ∙ many in omega (arith, p, y, m, room))
+              (λ ne. let y = own-other j weight_one e (λ z. ne (sym z ∙ pass)) in omega (arith, p, q, y));
         }
 
     -- a seat is made

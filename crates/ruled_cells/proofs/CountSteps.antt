@@ -10,16 +10,16 @@ use Rattle.ruled_cells.specs.declared.about.SeatView.{SeatView}
 use Rattle.ruled_cells.specs.declared.cell_value.CellValue.{CellValue}
 use Rattle.ruled_cells.specs.declared.cell_value.CellValue.TheVariants.{Rest}
 use Rattle.ruled_cells.specs.Ruling.{Names}
-use Rattle.ruled_cells.specs.Booking.{weigh, own, one, weigh_all, entries_in, total, Books, Counted}
+use Rattle.ruled_cells.specs.Booking.{weigh, own, weight_one, weigh_all, entries_in, total, Books, Counted}
 use Rattle.ruled_cells.specs.Telling.{next_view, joint_view, spent_view}
 use Rattle.ruled_cells.proofs.Places.{at_push}
 use Rattle.ruled_cells.proofs.Weights.{from, below, own-same, total-add}
 use Rattle.ruled_cells.proofs.RuleSteps.{each_set}
 
-split_at : (m : ℕ) (e : Entry) → one e ≡ below m e + from m e
+split_at : (m : ℕ) (e : Entry) → weight_one e ≡ below m e + from m e
 split_at m e = grind (arith, nat_tests)
 
-split_more : (m : ℕ) (e : Entry) → below (suc m) e ≡ below m e + own m one e
+split_more : (m : ℕ) (e : Entry) → below (suc m) e ≡ below m e + own m weight_one e
 split_more m e = grind (arith, nat_tests)
 
 nothing : (e : Entry) → below 0 e ≡ 0
@@ -32,12 +32,12 @@ zero_weigh : (h : Entry → ℕ) → ((e : Entry) → h e ≡ 0) → (es : List 
 zero_weigh h z [] = refl
 zero_weigh h z (e ∷ es) = let a = z e in let b = zero_weigh h z es in omega (arith, a, b)
 
-none_from : (m : ℕ) (es : List Entry) → ((j : ℕ) → m ≤ j → weigh (own j one) es ≡ 0) → weigh (from m) es ≡ 0
+none_from : (m : ℕ) (es : List Entry) → ((j : ℕ) → m ≤ j → weigh (own j weight_one) es ≡ 0) → weigh (from m) es ≡ 0
 none_from m [] none = refl
 none_from m (e ∷ es) none =
     let rest : weigh (from m) es ≡ 0 = none_from m es (λ j le. let q = none j le in omega (arith, q)) in
     dite (dec_lt e.pass m) (λ (lt : e.pass < m). let a = from_below m e lt in omega (arith, a, rest))
-    (λ ge. absurd (let q = none e.pass (omega (arith, ge)) in let a = own-same e.pass one e refl in omega (arith, q, a)))
+    (λ ge. absurd (let q = none e.pass (omega (arith, ge)) in let a = own-same e.pass weight_one e refl in omega (arith, q, a)))
 
 module _ {F S : Type 0} (w : Names F S) where
   abbrev Vals : Type 0
@@ -47,23 +47,23 @@ module _ {F S : Type 0} (w : Names F S) where
   zero_all h z [] = refl
   zero_all h z (x ∷ vals) = let a = zero_weigh h z (entries_in w x) in let b = zero_all h z vals in omega (arith, a, b)
 
-  none_all : (m : ℕ) (vals : Vals) → ((j : ℕ) → m ≤ j → weigh_all w (own j one) vals ≡ 0) → weigh_all w (from m) vals ≡ 0
+  none_all : (m : ℕ) (vals : Vals) → ((j : ℕ) → m ≤ j → weigh_all w (own j weight_one) vals ≡ 0) → weigh_all w (from m) vals ≡ 0
   none_all m [] none = refl
   none_all m (x ∷ vals) none =
       let a = none_from m (entries_in w x) (λ j le. let q = none j le in omega (arith, q)) in
       let b = none_all m vals (λ j le. let q = none j le in omega (arith, q)) in omega (arith, a, b)
 
-  few_below : (log : List Entry) (vals : Vals) → ((j : ℕ) → total w (own j one) log vals ≤ 2 ^ 32) → (m : ℕ) → total w (below m) log vals ≤ m * 2 ^ 32
+  few_below : (log : List Entry) (vals : Vals) → ((j : ℕ) → total w (own j weight_one) log vals ≤ 2 ^ 32) → (m : ℕ) → total w (below m) log vals ≤ m * 2 ^ 32
   few_below log vals few zero = let a = zero_weigh (below 0) nothing log in let b = zero_all (below 0) nothing vals in omega (arith, a, b)
-  few_below log vals few (suc m) = let a = total-add w (below m) (own m one) (below (suc m)) (split_more m) log vals in let b = few_below log vals few m in let c = few m in omega (arith, a, b, c)
+  few_below log vals few (suc m) = let a = total-add w (below m) (own m weight_one) (below (suc m)) (split_more m) log vals in let b = few_below log vals few m in let c = few m in omega (arith, a, b, c)
 
   -- there are at most 2^32 entries for each seat
-  pub few_in_all : (log : List Entry) (vals : Vals) (views : List SeatView) → Books w log vals views → length views < 2 ^ 32 → total w one log vals + 1 < 2 ^ 64
+  pub few_in_all : (log : List Entry) (vals : Vals) (views : List SeatView) → Books w log vals views → length views < 2 ^ 32 → total w weight_one log vals + 1 < 2 ^ 64
   few_in_all log vals views b crowd =
       let m : ℕ = length views in
-      let a = total-add w (below m) (from m) one (split_at m) log vals in
+      let a = total-add w (below m) (from m) weight_one (split_at m) log vals in
       let c = few_below log vals b.few m in
-      let none : (j : ℕ) → m ≤ j → total w (own j one) log vals ≡ 0 = λ j le. sym (b.later j le one) in
+      let none : (j : ℕ) → m ≤ j → total w (own j weight_one) log vals ≡ 0 = λ j le. sym (b.later j le weight_one) in
       let d = none_from m log (λ j le. let q = none j le in omega (arith, q)) in
       let e = none_all m vals (λ j le. let q = none j le in omega (arith, q)) in
       omega (arith, a, c, d, e, crowd)
@@ -71,20 +71,20 @@ module _ {F S : Type 0} (w : Names F S) where
   module _ (log : List Entry) (vals : Vals) (views : List SeatView) (c : Counted w log vals views) where
     -- what a new view has seen is low
     abbrev Low : List Entry → Vals → ℕ → SeatView → Type 0
-    Low log' vals' j u = u.spent ≡ false → u.seen.count ≤ total w one log' vals'
+    Low log' vals' j u = u.spent ≡ false → u.seen.count ≤ total w weight_one log' vals'
 
-    seens_set : (log' : List Entry) (vals' : Vals) → total w one log vals ≤ total w one log' vals' → (id : ℕ) (v' : SeatView) → Low log' vals' id v' → (j : ℕ) (u : SeatView) → get_elem? (set views id v') j ≡ some u → Low log' vals' j u
+    seens_set : (log' : List Entry) (vals' : Vals) → total w weight_one log vals ≤ total w weight_one log' vals' → (id : ℕ) (v' : SeatView) → Low log' vals' id v' → (j : ℕ) (u : SeatView) → get_elem? (set views id v') j ≡ some u → Low log' vals' j u
     seens_set log' vals' more id v' low = each_set (Low log' vals') views id v' low (λ j u _ e q. let a = c.seens j u e q in omega (arith, a, more))
 
     -- the values stay
-    pub counted_views : (log' : List Entry) → total w one log vals ≤ total w one log' vals → (id : ℕ) (v' : SeatView) → (v'.spent ≡ false → v'.seen.count ≤ total w one log' vals) → Counted w log' vals (set views id v')
+    pub counted_views : (log' : List Entry) → total w weight_one log vals ≤ total w weight_one log' vals → (id : ℕ) (v' : SeatView) → (v'.spent ≡ false → v'.seen.count ≤ total w weight_one log' vals) → Counted w log' vals (set views id v')
     counted_views log' more id v' low = record { clocks = λ k s e. let a = c.clocks k s e in omega (arith, a, more); seens = seens_set log' vals more id v' low }
 
     -- one value changes
-    pub counted_put : (k id : ℕ) (y : CellValue F S) (v' : SeatView) → total w one log vals ≤ total w one log (set vals k y) → ((s : S) → y ≡ Rest s → (w.clock s).count ≤ total w one log (set vals k y)) → (v'.spent ≡ false → v'.seen.count ≤ total w one log (set vals k y))
+    pub counted_put : (k id : ℕ) (y : CellValue F S) (v' : SeatView) → total w weight_one log vals ≤ total w weight_one log (set vals k y) → ((s : S) → y ≡ Rest s → (w.clock s).count ≤ total w weight_one log (set vals k y)) → (v'.spent ≡ false → v'.seen.count ≤ total w weight_one log (set vals k y))
         → Counted w log (set vals k y) (set views id v')
     counted_put k id y v' more clock low = record {
-      clocks = λ j s e. each_set (λ (i : ℕ) (x : CellValue F S). (s : S) → x ≡ Rest s → (w.clock s).count ≤ total w one log (set vals k y)) vals k y clock
+      clocks = λ j s e. each_set (λ (i : ℕ) (x : CellValue F S). (s : S) → x ≡ Rest s → (w.clock s).count ≤ total w weight_one log (set vals k y)) vals k y clock
           (λ i x _ f s q. let a = c.clocks i s (f ∙ ap some q) in omega (arith, a, more)) j (Rest s) e s refl;
       seens = seens_set log (set vals k y) more id v' low;
     }
@@ -93,7 +93,7 @@ module _ {F S : Type 0} (w : Names F S) where
     counted_admit v = record {
       clocks = c.clocks;
       seens = λ j u e q. ⊎_elim (λ (p : get_elem? views j ≡ some u). c.seens j u p q)
-          (λ (p : (next_view (length views) v ≡ u) × (j ≡ length views)). subst (λ (z : SeatView). z.seen.count ≤ total w one log vals) p.0 (omega arith)) (at_push views (next_view (length views) v) u j e);
+          (λ (p : (next_view (length views) v ≡ u) × (j ≡ length views)). subst (λ (z : SeatView). z.seen.count ≤ total w weight_one log vals) p.0 (omega arith)) (at_push views (next_view (length views) v) u j e);
     }
 
     pub counted_merge : (id other : ℕ) (v u : SeatView) → get_elem? views id ≡ some v → Counted w log vals (set (set views id (joint_view v u)) other spent_view)

@@ -12,7 +12,7 @@ use Rattle.ruled_cells.specs.declared.cell_value.CellValue.TheVariants.{First, R
 use Rattle.ruled_cells.specs.Turning.{HasTurn, Gives}
 use Rattle.ruled_cells.specs.Stamps.{stamp, pending}
 use Rattle.ruled_cells.specs.Ruling.{Names, IsShard}
-use Rattle.ruled_cells.specs.Booking.{weigh, own, one, weigh_all, total, IsBooked, Whole}
+use Rattle.ruled_cells.specs.Booking.{weigh, own, weight_one, weigh_all, total, IsBooked, Whole}
 use Rattle.ruled_cells.specs.Telling.{fresh_seat, values, MayOpen}
 use Rattle.ruled_cells.specs.Making.{fills}
 use Rattle.ruled_cells.proofs.Places.{at_below, map_at}
@@ -93,11 +93,11 @@ module _ {F S : Type 0} (w : Names F S) where
         each = single (λ j v. v.spent ≡ false → IsBooked w [] (values first rest) views j v) (fresh_seat 0 about)
             (λ _. record { fits = λ h. sym (nothing (own 0 h)); rising = rising_none (stamp 0 0); kept = λ k i cs e. absurd (let l = at_below [] k (i, cs) e in omega (arith, l)) });
         later = λ j _ h. sym (nothing (own j h));
-        few = λ j. let n = nothing (own j one) in omega (arith, n);
+        few = λ j. let n = nothing (own j weight_one) in omega (arith, n);
       };
       counted = record {
         clocks = λ k x e. let o = values_at first rest k x e in let n : (w.clock x).count ≡ 0 = ap (λ (z : Stamp). z.count) (may.bare o.0 x o.2).1 in omega (arith, n);
-        seens = single (λ j v. v.spent ≡ false → v.seen.count ≤ total w one [] (values first rest)) (fresh_seat 0 about) (λ _. omega arith);
+        seens = single (λ j v. v.spent ≡ false → v.seen.count ≤ total w weight_one [] (values first rest)) (fresh_seat 0 about) (λ _. omega arith);
       };
     }
 

@@ -5,7 +5,7 @@ use native.Mathlib.Decide.{ℕ_discrete, dec_lt}
 use lib.ListN.{get_elem?}
 use Rattle.dcd_base.specs.declared.steps.Stamp.{Stamp}
 use Rattle.journal_core.specs.declared.entries.Entry.{Entry}
-use Rattle.ruled_cells.specs.Stamps.{Below, Rise, is_in, pending}
+use Rattle.ruled_cells.specs.Stamps.{Below, Rise, has_index, pending}
 use Rattle.ruled_cells.proofs.Places.{at_below, at_push}
 
 pub two : (b : Bool) → (b ≡ true) ⊎ (b ≡ false)
@@ -59,8 +59,8 @@ rise_push entries e rise above i k f g lt p q = ⊎_elim
 
 -- ---- what is pending
 
-pub is_in_more : (k j : ℕ) (changed : List ℕ) → j ≢ k → is_in j (k ∷ changed) ≡ is_in j changed
-is_in_more k j changed ne = ap (λ b. b || is_in j changed) (ne_eqb j k ne)
+pub is_in_more : (k j : ℕ) (changed : List ℕ) → j ≢ k → has_index j (k ∷ changed) ≡ has_index j changed
+is_in_more k j changed ne = ap (λ b. b || has_index j changed) (ne_eqb j k ne)
 
 pub pending_more : (touches : ℕ → Entry → Bool) (entry : Option Entry) (changed : List ℕ) (k j : ℕ) → j ≢ k → pending touches entry (k ∷ changed) j ≡ pending touches entry changed j
 pending_more touches None changed k j ne = refl
@@ -72,7 +72,7 @@ and_false false = refl
 
 pub pending_done : (touches : ℕ → Entry → Bool) (entry : Option Entry) (changed : List ℕ) (k : ℕ) → pending touches entry (k ∷ changed) k ≡ false
 pending_done touches None changed k = refl
-pending_done touches (Some e) changed k = ap (λ b. touches k e && not (b || is_in k changed)) (eq-eqb k k refl) ∙ and_false (touches k e)
+pending_done touches (Some e) changed k = ap (λ b. touches k e && not (b || has_index k changed)) (eq-eqb k k refl) ∙ and_false (touches k e)
 
 and_true : (b : Bool) → b && true ≡ b
 and_true true = refl

@@ -14,7 +14,7 @@ use Rattle.ruled_cells.specs.declared.about.About.{About}
 use Rattle.ruled_cells.specs.declared.about.SeatView.{SeatView}
 use Rattle.ruled_cells.specs.declared.cell_value.CellValue.{CellValue}
 use Rattle.ruled_cells.specs.declared.cell_value.CellValue.TheVariants.{First, Rest}
-use Rattle.ruled_cells.specs.Stamps.{stamp, Below, Rise, IsControlLog, after, pending}
+use Rattle.ruled_cells.specs.Stamps.{stamp, Below, Rise, IsControlLog, stamps_after, pending}
 use Rattle.ruled_cells.specs.Laws.{Enters, AccessEnters, ChangeIs, Stays, AccessKeeps, ChangeMakes}
 use Rattle.ruled_cells.specs.Ruling.{Names, IsOwn, IsShard, Ruled}
 use Rattle.ruled_cells.specs.Telling.{next_view, begun, noted_view, changed_view, entered_view, joint_view, spent_view, MayNote, MayGiveFirst, Alike, MayEnter}
@@ -69,7 +69,7 @@ module _ {F S : Type 0} (w : Names F S) (about : About) where
           first = r.first;
           entry = None;
           changed = [];
-          log_is = r.log_is ∙ ap (after (w.journal r.first)) (r.at_rest z);
+          log_is = r.log_is ∙ ap (stamps_after (w.journal r.first)) (r.at_rest z);
           wide = length-set words 0 (id + 1) ∙ r.wide;
           chief = r.chief;
           rest = r.rest;
@@ -138,7 +138,7 @@ module _ {F S : Type 0} (w : Names F S) (about : About) where
     pub noted_count : (e : Entry) → r.entry ≡ Some e → e.stamp.count ≡ 0
     noted_count e is =
         let before : List Entry = w.journal r.first in
-        let longer : log ≡ before ++ e ∷ [] = r.log_is ∙ ap (after before) is in
+        let longer : log ≡ before ++ e ∷ [] = r.log_is ∙ ap (stamps_after before) is in
         ap (λ (z : Stamp). z.count) (subst IsControlLog longer r.control (length before) e (at_last before e (length before) refl)).0
 
     pub gave_first_rule : (id : ℕ) (v : SeatView) (f g : F) → get_elem? views id ≡ some v → get_or words 0 0 ≡ id + 1 → get_elem? vals 0 ≡ some (First f) → MayGiveFirst w (length vals) v f g
@@ -146,7 +146,7 @@ module _ {F S : Type 0} (w : Names F S) (about : About) where
     gave_first_rule id v f g at h is may =
         let work = r.at_work id v at h in
         let same : f ≡ r.first = first_same f r.first (at_same vals 0 (First f) (First r.first) is r.chief) in
-        let jg : w.journal g ≡ log = may.journal_is ∙ ((λ i. after (w.journal (same i)) (work.0 i)) ∙ sym r.log_is) in
+        let jg : w.journal g ≡ log = may.journal_is ∙ ((λ i. stamps_after (w.journal (same i)) (work.0 i)) ∙ sym r.log_is) in
         let here : get_or (set words 0 0) 0 0 ≡ 0 = get_or-set_same words 0 0 0 wide_0 in record {
           first = g;
           entry = None;
@@ -269,7 +269,7 @@ module _ {F S : Type 0} (w : Names F S) (about : About) where
         let zero_word : get_or (set words k 0) 0 0 ≡ get_or words 0 0 = get_or-set_other words k 0 0 0 (λ q. omega (arith, q, pos)) in
         let work = r.at_work id v at (sym l.2 ∙ turn) in
         let entry_is : r.entry ≡ Some e = sym work.0 ∙ noted in
-        let longer : log ≡ w.journal r.first ++ e ∷ [] = r.log_is ∙ ap (after (w.journal r.first)) entry_is in
+        let longer : log ≡ w.journal r.first ++ e ∷ [] = r.log_is ∙ ap (stamps_after (w.journal r.first)) entry_is in
         let c = laws.changes e a b does in
         let control : IsControlLog (w.journal r.first ++ e ∷ []) = subst IsControlLog longer r.control in
         let number : e.stamp ≡ stamp (length (w.journal r.first) + 1) 0 = (control (length (w.journal r.first)) e (at_last (w.journal r.first) e (length (w.journal r.first)) refl)).0 in
@@ -330,7 +330,7 @@ module _ {F S : Type 0} (w : Names F S) (about : About) where
         let work = r.at_work id v at turn in
         let none : r.entry ≡ None = sym work.0 ∙ may.not_yet in
         let same : f ≡ r.first = first_same f r.first (at_same vals 0 (First f) (First r.first) is r.chief) in
-        let log_first : log ≡ w.journal r.first = r.log_is ∙ ap (after (w.journal r.first)) none in
+        let log_first : log ≡ w.journal r.first = r.log_is ∙ ap (stamps_after (w.journal r.first)) none in
         let whole_is : w.journal g ≡ log ++ e ∷ [] = may.longer ∙ ((λ i. w.journal (same i) ++ e ∷ []) ∙ ap (λ (l : List Entry). l ++ e ∷ []) (sym log_first)) in
         let long : length (log ++ e ∷ []) ≡ length log + 1 = length_push log e in
         let count_is : m ≡ length log + 1 = ap length whole_is ∙ long in

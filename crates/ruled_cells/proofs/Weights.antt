@@ -5,13 +5,13 @@ use lib.ListN.{get_elem?}
 use Rattle.journal_core.specs.declared.entries.Entry.{Entry}
 use Rattle.ruled_cells.specs.declared.cell_value.CellValue.{CellValue}
 use Rattle.ruled_cells.specs.Ruling.{Names}
-use Rattle.ruled_cells.specs.Booking.{weigh, own, one, entries_in, weigh_all, total}
+use Rattle.ruled_cells.specs.Booking.{weigh, own, weight_one, entries_in, weigh_all, total}
 
 pub weigh-push : (h : Entry → ℕ) (es : List Entry) (e : Entry) → weigh h (es ++ e ∷ []) ≡ weigh h es + h e
 weigh-push h [] e = omega arith
 weigh-push h (x ∷ es) e = let q = weigh-push h es e in omega (arith, q)
 
-pub weigh-one : (es : List Entry) → weigh one es ≡ length es
+pub weigh-one : (es : List Entry) → weigh weight_one es ≡ length es
 weigh-one [] = refl
 weigh-one (e ∷ es) = let q = weigh-one es in omega (arith, q)
 

@@ -11,9 +11,9 @@ use Rattle.ruled_cells.specs.declared.about.SeatView.{SeatView}
 use Rattle.ruled_cells.specs.declared.cell_value.CellValue.{CellValue}
 use Rattle.ruled_cells.specs.declared.cell_value.CellValue.TheVariants.{First, Rest}
 use Rattle.ruled_cells.specs.Turning.{HasTurn, Takes, Gives, Marks, Admits, Merges}
-use Rattle.ruled_cells.specs.Stamps.{stamp, Below, IsControlLog, after, pending}
+use Rattle.ruled_cells.specs.Stamps.{stamp, Below, IsControlLog, stamps_after, pending}
 use Rattle.ruled_cells.specs.Ruling.{Names, Ruled}
-use Rattle.ruled_cells.specs.Booking.{one, total, Whole}
+use Rattle.ruled_cells.specs.Booking.{weight_one, total, Whole}
 use Rattle.ruled_cells.specs.Telling.{next_view, begun, noted_view, changed_view, entered_view, joint_view, spent_view, took_first, took_shard, noted_as, MayNote, MayGiveFirst, gave_first, Alike, MayEnter, MayGive, gave_shard}
 use Rattle.ruled_cells.proofs.Places.{at_below, at_same}
 use Rattle.ruled_cells.proofs.Order.{two, pending_some}
@@ -33,7 +33,7 @@ module _ {F S : Type 0} (w : Names F S) (about : About) where
   takes_first cells id taken v used words vals views x full crowd h has at z is =
       let r = h.ruled in
       let t = r.informed id v at used in
-      let log_first : h.log ≡ w.journal r.first = r.log_is ∙ ap (after (w.journal r.first)) (r.at_rest z) in (
+      let log_first : h.log ≡ w.journal r.first = r.log_is ∙ ap (stamps_after (w.journal r.first)) (r.at_rest z) in (
         begun v,
         record {
           log = h.log;
@@ -64,7 +64,7 @@ module _ {F S : Type 0} (w : Names F S) (about : About) where
       let r = h.ruled in
       let t = has.turn 0 (First f) turn in
       let keeps = keeps_put w h.log vals 0 (First f) (First g) t.1 refl in
-      let same = keeps one in (
+      let same = keeps weight_one in (
         begun v,
         record {
           log = h.log;
@@ -80,7 +80,7 @@ module _ {F S : Type 0} (w : Names F S) (about : About) where
         → pending w.touches h.ruled.entry h.ruled.changed k ≡ false → Alike w a b → Holds (set words k 0) (set vals k (Rest b)) (set views id v)
     alike id k v a b words vals views used h at is free like =
         let keeps = keeps_put w h.log vals k (Rest a) (Rest b) is like.entries_are in
-        let same = keeps one in record {
+        let same = keeps weight_one in record {
           log = h.log;
           ruled = gave_alike_rule w about h.log words vals views h.ruled id k v a b at is free like;
           books = books_keep w h.log vals views h.books h.log (set vals k (Rest b)) keeps id v v at used refl refl refl refl;
@@ -94,11 +94,11 @@ module _ {F S : Type 0} (w : Names F S) (about : About) where
     enters id k v a b words vals views used h at is free m =
         let n = laws.enters k id m.actor a b m.is_access in
         let gains = gains_put w h.log vals k (Rest a) (Rest b) n.entry is n.entries_are in
-        let more = gains one in
+        let more = gains weight_one in
         let c = h.counted.clocks k a is in
         let d = h.counted.seens id v at used in
         let count : (w.clock b).count ≡ n.entry.stamp.count = ap (λ (z : Stamp). z.count) n.clock_is in
-        let low : (w.clock b).count ≤ total w one h.log (set vals k (Rest b)) = ⊎_elim (λ (q : (w.clock b).count ≤ v.seen.count + 1). omega (arith, q, d, more)) (λ (q : (w.clock b).count ≤ (w.clock a).count + 1). omega (arith, q, c, more)) m.counted in record {
+        let low : (w.clock b).count ≤ total w weight_one h.log (set vals k (Rest b)) = ⊎_elim (λ (q : (w.clock b).count ≤ v.seen.count + 1). omega (arith, q, d, more)) (λ (q : (w.clock b).count ≤ (w.clock a).count + 1). omega (arith, q, c, more)) m.counted in record {
           log = h.log;
           ruled = gave_access_rule w about h.log words vals views h.ruled access change laws id k v a b at used is free m n;
           books = books_gain w h.log vals views h.books h.log (set vals k (Rest b)) n.entry gains id v (entered_view n.entry v) at used n.pass (subst (Below v.seen) n.clock_is m.above_seen) m.room refl refl refl used;
@@ -112,7 +112,7 @@ module _ {F S : Type 0} (w : Names F S) (about : About) where
     changes id k v a b e words vals views used h at is turn waits noted does =
         let c = laws.changes e a b does in
         let keeps = keeps_put w h.log vals k (Rest a) (Rest b) is c.entries_are in
-        let same = keeps one in
+        let same = keeps weight_one in
         let r = h.ruled in
         let ruled = gave_change_rule w about h.log words vals views r access change laws id k v a b e at is turn waits noted does in
         let count : e.stamp.count ≡ 0 = noted_count w about h.log words vals views r e (sym ((r.at_work id v at (sym ((r.shard k a is).late waits).2 ∙ turn)).0) ∙ noted) in record {
@@ -155,7 +155,7 @@ module _ {F S : Type 0} (w : Names F S) (about : About) where
         let seen = (h.ruled.informed id v at used).1 in
         let above : Below v.seen e.stamp = inl (omega (arith, number, seen)) in
         let gains = gains_noted w h.log vals e in
-        let more = gains one in (
+        let more = gains weight_one in (
           noted_view e v,
           record {
             log = h.log ++ e ∷ [];

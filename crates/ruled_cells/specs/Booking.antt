@@ -20,11 +20,11 @@ weigh h (e ∷ es) = h e + weigh h es
 abbrev pub own : ℕ → (Entry → ℕ) → Entry → ℕ
 own j h e = if e.pass == j then h e else 0
 
-abbrev pub one : Entry → ℕ
-one e = 1
+abbrev pub weight_one : Entry → ℕ
+weight_one e = 1
 
 -- the stamps rise, and none is above the last one seen
-pub record Rising (calls : List Entry) (seen : Stamp) : Type 0 where
+pub record IsRisingTo (calls : List Entry) (seen : Stamp) : Type 0 where
   pub rise : Rise calls
   pub last : (k : ℕ) (e : Entry) → get_elem? calls k ≡ some e → Below e.stamp seen ⊎ (e.stamp ≡ seen)
 
@@ -48,25 +48,25 @@ module _ {F S : Type 0} (w : Names F S) where
   -- what a seat that was taken in had
   pub record IsKept (log : List Entry) (vals : List (CellValue F S)) (views : List SeatView) (i : ℕ) (calls : List Entry) : Type 0 where
     pub fits : Fits log vals i calls
-    pub rising : (seen : Stamp) × Rising calls seen
+    pub rising : (seen : Stamp) × IsRisingTo calls seen
     pub gone : (u : SeatView) → get_elem? views i ≡ some u → u.spent ≡ true
     pub below : i < length views
 
   pub record IsBooked (log : List Entry) (vals : List (CellValue F S)) (views : List SeatView) (j : ℕ) (v : SeatView) : Type 0 where
     pub fits : Fits log vals j v.calls
-    pub rising : Rising v.calls v.seen
+    pub rising : IsRisingTo v.calls v.seen
     pub kept : (k i : ℕ) (calls : List Entry) → get_elem? v.kept k ≡ some (i, calls) → IsKept log vals views i calls
 
   pub record Books (log : List Entry) (vals : List (CellValue F S)) (views : List SeatView) : Type 0 where
     pub each : (j : ℕ) (v : SeatView) → get_elem? views j ≡ some v → v.spent ≡ false → IsBooked log vals views j v
     -- no entry has the number of a seat that is not made yet
     pub later : (j : ℕ) → length views ≤ j → Fits log vals j []
-    pub few : (j : ℕ) → total (own j one) log vals ≤ 2 ^ 32
+    pub few : (j : ℕ) → total (own j weight_one) log vals ≤ 2 ^ 32
 
   -- no count of a clock or of a seen stamp is above the number of all entries
   pub record Counted (log : List Entry) (vals : List (CellValue F S)) (views : List SeatView) : Type 0 where
-    pub clocks : (k : ℕ) (s : S) → get_elem? vals k ≡ some (Rest s) → (w.clock s).count ≤ total one log vals
-    pub seens : (j : ℕ) (v : SeatView) → get_elem? views j ≡ some v → v.spent ≡ false → v.seen.count ≤ total one log vals
+    pub clocks : (k : ℕ) (s : S) → get_elem? vals k ≡ some (Rest s) → (w.clock s).count ≤ total weight_one log vals
+    pub seens : (j : ℕ) (v : SeatView) → get_elem? views j ≡ some v → v.spent ≡ false → v.seen.count ≤ total weight_one log vals
 
   -- the rule
   pub record Whole (about : About) (words : List ℕ) (vals : List (CellValue F S)) (views : List SeatView) : Type 0 where

@@ -8,7 +8,7 @@ use Rattle.ruled_cells.specs.declared.about.About.{About}
 use Rattle.ruled_cells.specs.Stamps.{Rise, IsControlLog}
 use Rattle.ruled_cells.specs.Laws.{Tidy}
 use Rattle.ruled_cells.specs.Ruling.{Names, IsOwn}
-use Rattle.ruled_cells.specs.Booking.{Fits, Rising}
+use Rattle.ruled_cells.specs.Booking.{Fits, IsRisingTo}
 use Rattle.ruled_cells.specs.Telling.{values}
 
 module _ {F S : Type 0} (w : Names F S) where
@@ -31,4 +31,4 @@ module _ {F S : Type 0} (w : Names F S) where
   -- the calls are the entries of that seat in the journal and in all cells, in the order of their stamps
   pub record Accounts (first : F) (row : List S) (number : ℕ) (calls : List Entry) : Type 0 where
     pub fits : Fits w (w.journal first) (values first row) number calls
-    pub rising : (seen : Stamp) × Rising calls seen
+    pub rising : (seen : Stamp) × IsRisingTo calls seen

@@ -12,7 +12,7 @@ use Rattle.ruled_cells.specs.declared.about.About.{About}
 use Rattle.ruled_cells.specs.declared.about.SeatView.{SeatView}
 use Rattle.ruled_cells.specs.declared.cell_value.CellValue.{CellValue}
 use Rattle.ruled_cells.specs.declared.cell_value.CellValue.TheVariants.{First, Rest}
-use Rattle.ruled_cells.specs.Stamps.{Rise, IsControlLog, after, pending}
+use Rattle.ruled_cells.specs.Stamps.{Rise, IsControlLog, stamps_after, pending}
 use Rattle.ruled_cells.specs.Laws.{Tidy}
 use Rattle.ruled_cells.specs.Reads.{ChiefReads, MemberReads, about_of}
 
@@ -77,7 +77,7 @@ module _ {F S : Type 0} (w : Names F S) (about : About) where
     pub first : F
     pub entry : Option Entry
     pub changed : List ℕ
-    pub log_is : log ≡ after (w.journal first) entry
+    pub log_is : log ≡ stamps_after (w.journal first) entry
     pub wide : length words ≡ length vals + 1
     pub chief : get_elem? vals 0 ≡ some (First first)
     pub rest : (k : ℕ) (x : CellValue F S) → 0 < k → get_elem? vals k ≡ some x → (s : S) × (x ≡ Rest s)

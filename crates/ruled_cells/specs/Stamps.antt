@@ -22,15 +22,15 @@ abbrev pub IsControlLog : List Entry → Type 0
 IsControlLog log = (k : ℕ) (e : Entry) → get_elem? log k ≡ some e → (e.stamp ≡ stamp (k + 1) 0) × (is_control e.act ≡ true)
 
 -- the journal with the entry that was noted
-abbrev pub after : List Entry → Option Entry → List Entry
-after log None = log
-after log (Some e) = log ++ e ∷ []
+abbrev pub stamps_after : List Entry → Option Entry → List Entry
+stamps_after log None = log
+stamps_after log (Some e) = log ++ e ∷ []
 
-abbrev pub is_in : ℕ → List ℕ → Bool
-is_in k [] = false
-is_in k (x ∷ xs) = (k == x) || is_in k xs
+abbrev pub has_index : ℕ → List ℕ → Bool
+has_index k [] = false
+has_index k (x ∷ xs) = (k == x) || has_index k xs
 
 -- the noted entry has still to change the cell k
 abbrev pub pending : (ℕ → Entry → Bool) → Option Entry → List ℕ → ℕ → Bool
 pending touches None changed k = false
-pending touches (Some e) changed k = touches k e && not (is_in k changed)
+pending touches (Some e) changed k = touches k e && not (has_index k changed)

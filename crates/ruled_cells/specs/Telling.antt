@@ -12,7 +12,7 @@ use Rattle.ruled_cells.specs.declared.about.SeatView.{SeatView}
 use Rattle.ruled_cells.specs.declared.cell_value.CellValue.{CellValue}
 use Rattle.ruled_cells.specs.declared.cell_value.CellValue.TheVariants.{First, Rest}
 use Rattle.ruled_cells.specs.Turning.{HasTurn}
-use Rattle.ruled_cells.specs.Stamps.{stamp, Below, IsControlLog, after, pending}
+use Rattle.ruled_cells.specs.Stamps.{stamp, Below, IsControlLog, stamps_after, pending}
 use Rattle.ruled_cells.specs.Laws.{Tidy}
 use Rattle.ruled_cells.specs.Ruling.{Names}
 
@@ -101,7 +101,7 @@ module _ {F S : Type 0} (w : Names F S) where
   pub record MayGiveFirst (cells : ℕ) (v : SeatView) (f g : F) : Type 0 where
     pub about_is : w.about g ≡ w.about f
     pub sound : w.sound g
-    pub journal_is : w.journal g ≡ after (w.journal f) v.entry
+    pub journal_is : w.journal g ≡ stamps_after (w.journal f) v.entry
     pub none_left : (k : ℕ) → 0 < k → k < cells → pending w.touches v.entry v.changed k ≡ false
 
   abbrev pub gave_first : ℕ → SeatView → CellValue F S → CellValue F S → SeatView → Type 0

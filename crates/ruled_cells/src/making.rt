@@ -1,7 +1,6 @@
 //! Making cells and their seats.
 
 ghost use Rattle.std.specs.Prelude.{◌≡◌, ℕ, ◌+◌, ◌<◌, ◌≤◌, [], ◌∷◌, length, vec_capacity, vec_len, IfErr, IfOk};
-ghost use lib.ListN.{get_elem?};
 ghost use Rattle.ruled_cells.specs.Calls.{AreNew, AreOthers, opened_with, row_of, seats_of};
 ghost use Rattle.ruled_cells.specs.Making.{IsFilling, IsMaker};
 ghost use Rattle.ruled_cells.specs.Ruling.{names};

@@ -4,7 +4,7 @@ use crate::talk::Talk;
 use dcd_base::{Actor, HostId};
 use device_plain::Device;
 use isolation_laws::{SoloReply, own_items, solo_replies};
-use journal_core::{Act, Reply};
+use journal_core::{Act, Entry, Reply, copies};
 use region_config::{Config, RegionSpec};
 use script_codec::{Line, Script};
 use script_gen::generate;
@@ -12,34 +12,44 @@ use std::alloc::Global;
 use std::process::Abort;
 use std::test::Fail;
 
-/// How many of the host's replies are said and how many are not. Those that are said are what the device replied, and
-/// the others are words that were loaded.
-fn told_alone<R: Abort>(
-    rt: &R,
+/// Whether a reply is said to the host alone: it is what the device replied then, and else that is a word.
+fn is_said(
+    rt: &impl Abort,
     alloc: Global,
-    device: &Device,
+    alone: Option<&SoloReply>,
+    beside: &Reply,
+) -> Result<bool, Fail> {
+    match alone {
+        Some(SoloReply::Said(reply)) => {
+            let alone = format!(in alloc; "{reply:?}")?;
+            let beside = format!(in alloc; "{beside:?}")?;
+            assert_eq!(rt; alone.as_str(), beside.as_str());
+            Ok(true)
+        }
+        Some(SoloReply::Unsaid) => {
+            assert!(rt; matches!(beside, Reply::Word(_)));
+            Ok(false)
+        }
+        None => Err("an entry that a host alone does not have".into()),
+    }
+}
+
+/// How many of the replies are said and how many are not, beside those of the host in the journal.
+fn told_beside(
+    rt: &impl Abort,
+    alloc: Global,
+    journal: &[Entry],
     host: HostId,
+    replies: &[SoloReply],
 ) -> Result<(u32, u32), Fail> {
-    let config = device.control().config();
-    assert!(rt; host.0 < config.hosts());
-    let items = own_items(alloc, device.journal(), host)?;
-    let replies = solo_replies(alloc, config, host, items.as_slice())?;
     let (mut said, mut unsaid) = (0u32, 0u32);
     let mut next = 0usize;
-    for entry in device.journal() {
+    for entry in journal {
         if entry.actor == Actor::Host(host) {
-            match replies.get(next) {
-                Some(SoloReply::Said(reply)) => {
-                    let alone = format!(in alloc; "{reply:?}")?;
-                    let beside = format!(in alloc; "{:?}", entry.reply)?;
-                    assert_eq!(rt; alone.as_str(), beside.as_str());
-                    said = said.wrapping_add(1);
-                }
-                Some(SoloReply::Unsaid) => {
-                    assert!(rt; matches!(entry.reply, Reply::Word(_)));
-                    unsaid = unsaid.wrapping_add(1);
-                }
-                None => assert!(rt; false),
+            if is_said(rt, alloc, replies.get(next), &entry.reply)? {
+                said = said.wrapping_add(1);
+            } else {
+                unsaid = unsaid.wrapping_add(1);
             }
             next = next.wrapping_add(1);
         }
@@ -48,28 +58,51 @@ fn told_alone<R: Abort>(
     Ok((said, unsaid))
 }
 
+/// How many of the host's replies are said and how many are not. Those that are said are what the device replied, and
+/// the others are words that were loaded.
+fn told_alone(
+    rt: &impl Abort,
+    alloc: Global,
+    device: &Device,
+    host: HostId,
+) -> Result<(u32, u32), Fail> {
+    let config = device.control().config();
+    assert!(rt; host.0 < config.hosts());
+    let kept = copies(alloc, &mut device.journal())?;
+    let journal = kept.as_slice();
+    let items = own_items(alloc, journal, host)?;
+    let replies = solo_replies(alloc, config, host, items.as_slice())?;
+    told_beside(rt, alloc, journal, host, replies.as_slice())
+}
+
 const MIB: u64 = 0x10_0000;
 
-/// Two hosts; 16 MiB that sanitizes and 4 MiB that is shareable too, of blocks of 1 MiB. Region 0 begins at 0 for host
-/// 0 and at 256 MiB for host 1, region 1 behind it.
+/// 16 MiB of blocks of 1 MiB that sanitizes.
+const FIRST: RegionSpec = RegionSpec {
+    decode_units: 1,
+    length: 16 * MIB,
+    block: MIB,
+    sizes: MIB,
+    handle: 0,
+    sanitize: true,
+    shareable: false,
+};
+
+/// 4 MiB of such blocks that is shareable too.
+const SECOND: RegionSpec = RegionSpec {
+    decode_units: 1,
+    length: 4 * MIB,
+    block: MIB,
+    sizes: MIB,
+    handle: 1,
+    sanitize: true,
+    shareable: true,
+};
+
+/// Two hosts and both regions. Region 0 begins at 0 for host 0 and at 256 MiB for host 1, region 1 behind it.
 fn two_hosts(alloc: Global) -> Result<Talk, Fail> {
-    let first = RegionSpec {
-        decode_units: 1,
-        length: 16 * MIB,
-        block: MIB,
-        sizes: MIB,
-        handle: 0,
-        sanitize: true,
-        shareable: false,
-    };
-    let second = RegionSpec {
-        length: 4 * MIB,
-        handle: 1,
-        shareable: true,
-        ..first
-    };
     let base = 256 * MIB;
-    let config = Config::new(alloc, 2, &[first, second], &[0, base, base, 2 * base])?;
+    let config = Config::new(alloc, 2, &[FIRST, SECOND], &[0, base, base, 2 * base])?;
     Ok(Talk::new(Device::new(alloc, config)?))
 }
 
@@ -85,21 +118,12 @@ fn put_offer(talk: &mut Talk, alloc: Global, host: u8, at: u16) -> Result<(), Fa
 
 /// The host loads and stores, at bytes behind an address.
 fn put_use(talk: &mut Talk, host: u8, start: u64, word: u64) -> Result<(), Fail> {
-    talk.plays(Actor::Host(HostId(host)), &Act::Load(start.wrapping_add(8)))?;
-    talk.plays(
-        Actor::Host(HostId(host)),
-        &Act::Store(start.wrapping_add(8), word),
-    )?;
-    talk.plays(
-        Actor::Host(HostId(host)),
-        &Act::Store(start.wrapping_add(5 * MIB), 7),
-    )?;
-    talk.plays(
-        Actor::Host(HostId(host)),
-        &Act::Store(start.wrapping_add(2 * MIB), 7),
-    )?;
-    talk.plays(Actor::Host(HostId(host)), &Act::Load(start.wrapping_add(8)))?;
-    talk.plays(Actor::Host(HostId(host)), &Act::Load(start.wrapping_add(1)))
+    talk.loads(host, start.wrapping_add(8))?;
+    talk.stores(host, start.wrapping_add(8), word)?;
+    talk.stores(host, start.wrapping_add(5 * MIB), 7)?;
+    talk.stores(host, start.wrapping_add(2 * MIB), 7)?;
+    talk.loads(host, start.wrapping_add(8))?;
+    talk.loads(host, start.wrapping_add(1))
 }
 
 /// The host asks for what it has, and clears its log.
@@ -121,10 +145,7 @@ fn put_loss(talk: &mut Talk, alloc: Global, host: u8, at: u16) -> Result<(), Fai
     talk.lists(alloc, host, 0x4803, false, &[fifth])?;
     talk.places(alloc, 0x5605, [host, 0x31, 0], 0, 0, &[(at, 1)])?;
     talk.places(alloc, 0x5605, [host, 0x10, 0], 0, 0, &[])?;
-    talk.plays(
-        Actor::Host(HostId(host)),
-        &Act::Load(u64::from(at) * MIB + 8),
-    )?;
+    talk.loads(host, u64::from(at) * MIB + 8)?;
     talk.asks_of(alloc, host, 0x4801, &[10, 0, 0, 0, 0, 0, 0, 0])
 }
 
@@ -134,41 +155,56 @@ fn put_sharing(talk: &mut Talk, alloc: Global) -> Result<(), Fail> {
     talk.lists(alloc, 0, 0x4802, false, &[(256, 1)])?;
     talk.places(alloc, 0x5604, [1, 3, 1], 0, 9, &[])?;
     talk.lists(alloc, 1, 0x4802, false, &[(512, 1)])?;
-    talk.plays(Actor::Host(HostId(0)), &Act::Store(256 * MIB, 9))?;
-    talk.plays(Actor::Host(HostId(1)), &Act::Load(512 * MIB))?;
+    talk.stores(0, 256 * MIB, 9)?;
+    talk.loads(1, 512 * MIB)?;
     talk.lists(alloc, 0, 0x4803, false, &[(256, 1)])?;
     talk.lists(alloc, 1, 0x4803, false, &[(512, 1)])
+}
+
+/// All that a host does in a round, whose part of the first region begins at this MiB, and then a turn of the sanitizer
+/// over so many granules.
+fn put_host(
+    talk: &mut Talk,
+    alloc: Global,
+    host: u8,
+    at: u16,
+    handle: u8,
+    scrubbed: u16,
+) -> Result<(), Fail> {
+    let (start, word) = (u64::from(at) * MIB, u64::from(host) + 7);
+    put_offer(talk, alloc, host, at)?;
+    put_use(talk, host, start, word)?;
+    put_questions(talk, alloc, host, handle)?;
+    put_loss(talk, alloc, host, at)?;
+    talk.plays(Actor::Sanitizer, Act::Scrub(scrubbed))
 }
 
 /// Both hosts in the same blocks, with turns of the sanitizer, sharing, and a block size that is set.
 fn put_round(talk: &mut Talk, alloc: Global, round: u8) -> Result<(), Fail> {
     let handle = round.wrapping_mul(3).wrapping_add(1);
-    put_offer(talk, alloc, 0, 0)?;
-    put_use(talk, 0, 0, 7)?;
-    put_questions(talk, alloc, 0, handle)?;
-    put_loss(talk, alloc, 0, 0)?;
-    talk.plays(Actor::Sanitizer, &Act::Scrub(u16::from(round)))?;
-    put_offer(talk, alloc, 1, 256)?;
-    put_use(talk, 1, 256 * MIB, 8)?;
-    put_questions(talk, alloc, 1, handle)?;
-    put_loss(talk, alloc, 1, 256)?;
-    talk.plays(Actor::Sanitizer, &Act::Scrub(16))?;
+    put_host(talk, alloc, 0, 0, handle, u16::from(round))?;
+    put_host(talk, alloc, 1, 256, handle, 16)?;
     let block = [0, 0, 0, 0, 0, 0, 16, 0, 0, 0, 0, 0, 1, 0, 0, 0];
     talk.asks(alloc, Actor::Manager, 0x5602, &block)?;
     put_sharing(talk, alloc)?;
     talk.asks(alloc, Actor::Manager, 0x5600, &[])
 }
 
-#[test]
-fn each_of_two_hosts_is_told_what_it_is_told_alone(rt: HostRuntime) -> Result<(), Fail> {
-    let alloc = rt.alloc();
+/// The device after twelve rounds.
+fn after_twelve(alloc: Global) -> Result<Device, Fail> {
     let mut talk = two_hosts(alloc)?;
     for round in 0..12 {
         put_round(&mut talk, alloc, round)?;
     }
+    Ok(talk.into_device())
+}
+
+#[test]
+fn each_of_two_hosts_is_told_what_it_is_told_alone(rt: HostRuntime) -> Result<(), Fail> {
+    let device = after_twelve(rt.alloc())?;
     // A word that was loaded in the shareable region is not said.
     for (host, told) in [(0, (276, 0)), (1, (264, 12))] {
-        assert_eq!(rt; told_alone(&rt, alloc, &talk.device, HostId(host))?, told);
+        assert_eq!(rt; told_alone(&rt, rt.alloc(), &device, HostId(host))?, told);
     }
     Ok(())
 }
@@ -179,7 +215,7 @@ fn ran(alloc: Global, script: Script) -> Result<Device, Fail> {
     let mut talk = Talk::new(Device::new(alloc, config)?);
     for line in lines.into_vec() {
         if let Line::Do { actor, act, .. } = line {
-            talk.plays(actor, &act)?;
+            talk.plays(actor, act)?;
         }
     }
     Ok(talk.into_device())

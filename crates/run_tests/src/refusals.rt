@@ -1,7 +1,6 @@
 //! The line that is printed of a script that is refused, or of words that are not taken.
 
 ghost use Rattle.script_codec.specs.declared.faults.ScriptFault.{ScriptFault};
-ghost use Rattle.std.specs.Prelude.{◌≢◌};
 
 use cci_codec::MessageFault;
 use dcd_base::MemSink;
@@ -49,11 +48,15 @@ fn a_refused_script_has_the_number_and_the_place_of_its_fault(rt: HostRuntime) -
         let printed = line_of(rt.alloc(), fault);
         assert_eq!(rt; printed.taken().as_slice(), line.as_bytes());
     }
+    Ok(())
+}
+
+#[test]
+fn words_that_are_not_taken_have_a_line(rt: HostRuntime) {
     let mut words = MemSink::new(rt.alloc(), 4, Vec::new(rt.alloc()));
     assert_eq!(rt; usage(&mut words), Ok(()));
     assert_eq!(rt;
         words.taken().as_slice(),
         b"usage: dcdsim [--gen N]\n".as_slice()
     );
-    Ok(())
 }

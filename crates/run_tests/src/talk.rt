@@ -29,13 +29,23 @@ impl Talk {
         self.device
     }
 
-    pub fn plays(&mut self, actor: Actor, act: &Act) -> Result<(), Fail> {
-        if !fits(self.device.control().config().hosts(), &actor, act) {
+    pub fn plays(&mut self, actor: Actor, act: Act) -> Result<(), Fail> {
+        if !fits(self.device.control().config().hosts(), &actor, &act) {
             return Err("the actor may not do the act".into());
         }
         self.line = self.line.wrapping_add(1);
-        let _reply = self.device.step(0, self.line, actor, act)?;
+        let _reply = self.device.step(0, self.line, actor, &act)?;
         Ok(())
+    }
+
+    /// The host loads from an address.
+    pub fn loads(&mut self, host: u8, dpa: u64) -> Result<(), Fail> {
+        self.plays(Actor::Host(HostId(host)), Act::Load(dpa))
+    }
+
+    /// The host stores a word at an address.
+    pub fn stores(&mut self, host: u8, dpa: u64, word: u64) -> Result<(), Fail> {
+        self.plays(Actor::Host(HostId(host)), Act::Store(dpa, word))
     }
 
     pub fn asks(
@@ -51,7 +61,7 @@ impl Talk {
             opcode,
             payload,
         };
-        self.plays(actor, &Act::Command(request))
+        self.plays(actor, Act::Command(request))
     }
 
     /// A host's command of this opcode and payload.

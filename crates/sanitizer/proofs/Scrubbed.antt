@@ -7,7 +7,7 @@ use Rattle.dcd_base.specs.Words.{has_granule, has_in_runs}
 use Rattle.granule_map.specs.Choices.{joined, joined_onto, passing}
 use Rattle.region_config.specs.Configurations.{Configuration}
 use Rattle.region_config.specs.Granules.{granule_total, same_region}
-use Rattle.sanitizer.specs.Turns.{granules_of, scrub_runs, scrubbed}
+use Rattle.sanitizer.specs.Turns.{run_of_pair, scrub_runs, lowest_dirty}
 
 -- runs of numbers that all pass
 abbrev pass_in : (ℕ → Bool) → ℕ × ℕ → Bool
@@ -49,11 +49,11 @@ range_pass p a (suc n) g each from below =
       | inr first ↦ (let same : g ≡ a = omega (arith, from, first) in rw same parts.0)
     ]
 
-runs_pass : (p : ℕ → Bool) (rs : List (ℕ × ℕ)) (g : ℕ) → list_all (pass_in p) rs ≡ true → has_in_runs (map granules_of rs) g ≡ true → p g ≡ true
+runs_pass : (p : ℕ → Bool) (rs : List (ℕ × ℕ)) (g : ℕ) → list_all (pass_in p) rs ≡ true → has_in_runs (map run_of_pair rs) g ≡ true → p g ≡ true
 runs_pass p [] g each has = absurd (false≢true has)
 runs_pass p (r ∷ rs) g each has =
     let parts = and_parts (pass_in p r) (list_all (pass_in p) rs) each in
-    elim (cases_Bool (has_granule (granules_of r) g)) [
+    elim (cases_Bool (has_granule (run_of_pair r) g)) [
       | inl here ↦ (let within = and_parts (leb r.0 g) (ltb g (r.0 + r.1)) here in
           range_pass p r.0 r.1 g parts.0 (leb-true r.0 g within.0) (ltb-true g (r.0 + r.1) within.1))
       | inr other ↦ runs_pass p rs g parts.1 (rw other at has)
@@ -62,8 +62,8 @@ runs_pass p (r ∷ rs) g each has =
 -- each granule of a turn's runs is dirty
 pub scrubbed_dirty : (c : Configuration) (dirty : ℕ → Bool) (n g : ℕ) → has_in_runs (scrub_runs c dirty n) g ≡ true → dirty g ≡ true
 scrubbed_dirty c dirty n g has =
-    runs_pass dirty (joined (same_region c) (scrubbed c dirty n)) g
-    (joined_pass (same_region c) dirty (scrubbed c dirty n) (take_passes dirty n (passing dirty (granule_total c)) (filter_passes dirty (range_with_len 0 (granule_total c))))) has
+    runs_pass dirty (joined (same_region c) (lowest_dirty c dirty n)) g
+    (joined_pass (same_region c) dirty (lowest_dirty c dirty n) (take_passes dirty n (passing dirty (granule_total c)) (filter_passes dirty (range_with_len 0 (granule_total c))))) has
 
 filter_agree : (p q : ℕ → Bool) (a n : ℕ) → ((k : ℕ) → a ≤ k → k < a + n → p k ≡ q k) → filter p (range_with_len a n) ≡ filter q (range_with_len a n)
 filter_agree p q a zero agree = refl
@@ -71,8 +71,8 @@ filter_agree p q a (suc n) agree =
     rw (agree a (omega arith) (omega arith), filter_agree p q (a + 1) n (λ k low high. agree k (omega (arith, low)) (omega (arith, high)))) refl
 
 -- tests that agree on the device's granules give the same granules, and so the same runs
-pub scrubbed_agree : (c : Configuration) (p q : ℕ → Bool) (n : ℕ) → ((g : ℕ) → g < granule_total c → p g ≡ q g) → scrubbed c p n ≡ scrubbed c q n
+pub scrubbed_agree : (c : Configuration) (p q : ℕ → Bool) (n : ℕ) → ((g : ℕ) → g < granule_total c → p g ≡ q g) → lowest_dirty c p n ≡ lowest_dirty c q n
 scrubbed_agree c p q n agree = ap (take n) (filter_agree p q 0 (granule_total c) (λ k low high. agree k (omega (arith, high))))
 
 pub scrub_runs_agree : (c : Configuration) (p q : ℕ → Bool) (n : ℕ) → ((g : ℕ) → g < granule_total c → p g ≡ q g) → scrub_runs c p n ≡ scrub_runs c q n
-scrub_runs_agree c p q n agree = ap (λ gs. map granules_of (joined (same_region c) gs)) (scrubbed_agree c p q n agree)
+scrub_runs_agree c p q n agree = ap (λ gs. map run_of_pair (joined (same_region c) gs)) (scrubbed_agree c p q n agree)

@@ -10,16 +10,16 @@ use Rattle.region_config.specs.Configurations.{Configuration}
 use Rattle.region_config.specs.Granules.{first_granule, granule_total, region_of, same_region}
 
 -- the granules of a turn: the lowest dirty ones, so many, or all where there are fewer
-abbrev pub scrubbed : Configuration → (ℕ → Bool) → ℕ → List ℕ
-scrubbed c dirty n = take n (passing dirty (granule_total c))
+abbrev pub lowest_dirty : Configuration → (ℕ → Bool) → ℕ → List ℕ
+lowest_dirty c dirty n = take n (passing dirty (granule_total c))
 
 -- granules, by the first one and how many there are, as a run
-abbrev pub granules_of : ℕ × ℕ → Run
-granules_of granules = record { first = granules.0; count = granules.1 }
+abbrev pub run_of_pair : ℕ × ℕ → Run
+run_of_pair granules = record { first = granules.0; count = granules.1 }
 
 -- the same granules as the longest runs within regions, by rising number
 abbrev pub scrub_runs : Configuration → (ℕ → Bool) → ℕ → List Run
-scrub_runs c dirty n = map granules_of (joined (same_region c) (scrubbed c dirty n))
+scrub_runs c dirty n = map run_of_pair (joined (same_region c) (lowest_dirty c dirty n))
 
 -- the states once each of the runs is free
 abbrev pub freed : List GranuleState → List Run → List GranuleState
@@ -30,8 +30,8 @@ abbrev pub AreFreed : List GranuleState → List GranuleState → List Run → T
 AreFreed old new runs = (g : ℕ) (d : GranuleState) → slice_index_or new g d ≡ (if has_in_runs runs g then GranuleState.Free else slice_index_or old g d)
 
 -- how many granules are in the runs
-abbrev pub granules_in : List Run → ℕ
-granules_in runs = sum_by (λ run. run.count) runs
+abbrev pub granules_of_runs : List Run → ℕ
+granules_of_runs runs = sum_by (λ run. run.count) runs
 
 -- Granules of one region of the device, at least one.
 pub record IsInRegion (c : Configuration) (run : Run) : Type 0 where
@@ -40,7 +40,7 @@ pub record IsInRegion (c : Configuration) (run : Run) : Type 0 where
   pub within : run.first + run.count ≤ first_granule c (suc (region_of c run.first))
 
 -- What the lowest run of dirty granules from one on leaves to be zeroed: no run where none is left.
-pub record IsNext (c : Configuration) (dirty : ℕ → Bool) (from most : ℕ) (run : Run) : Type 0 where
+pub record IsNextDirtyRun (c : Configuration) (dirty : ℕ → Bool) (from most : ℕ) (run : Run) : Type 0 where
   pub runs : joined (same_region c) (lowest_from dirty (granule_total c) from most)
       ≡ (run.first, run.count) ∷ joined (same_region c) (lowest_from dirty (granule_total c) (run.first + run.count) (most - run.count))
   pub later : from < run.first + run.count
@@ -48,6 +48,6 @@ pub record IsNext (c : Configuration) (dirty : ℕ → Bool) (from most : ℕ) (
   pub below : run.first + run.count ≤ granule_total c
   pub in_region : IsInRegion c run
 
-abbrev pub NextRun : Configuration → (ℕ → Bool) → ℕ → ℕ → Option Run → Type 0
-NextRun c dirty from most None = lowest_from dirty (granule_total c) from most ≡ []
-NextRun c dirty from most (Some run) = IsNext c dirty from most run
+abbrev pub NextDirtyRun : Configuration → (ℕ → Bool) → ℕ → ℕ → Option Run → Type 0
+NextDirtyRun c dirty from most None = lowest_from dirty (granule_total c) from most ≡ []
+NextDirtyRun c dirty from most (Some run) = IsNextDirtyRun c dirty from most run

@@ -3,7 +3,7 @@
 ghost use Rattle.dcd_base.specs.Words.{has_in_runs};
 ghost use Rattle.granule_map.specs.StateLists.{is_dirty_at};
 ghost use Rattle.region_config.specs.Granules.{granule_total};
-ghost use Rattle.sanitizer.specs.Turns.{AreFreed, IsInRegion, freed, granules_in, scrub_runs, scrubbed};
+ghost use Rattle.sanitizer.specs.Turns.{AreFreed, IsInRegion, freed, granules_of_runs, scrub_runs, lowest_dirty};
 ghost use Rattle.std.specs.Prelude.{◌≡◌, ◌+◌, ◌≤◌, All, IfOk, IsTrue, OnErr, OnOk, [], length, ℕ};
 
 use crate::search::next_run;
@@ -24,7 +24,7 @@ pub fn turn(alloc: Global, map: &mut GranuleMap, config: &Config, n: u32) -> Res
     ensures dirty { IfOk result (λ runs. (g : ℕ) → IsTrue (has_in_runs runs g) → IsTrue (is_dirty_at map.old.states g)) }
     ensures states { IfOk result (λ runs. map.new.states ≡ freed map.old.states runs) }
     ensures each { IfOk result (λ runs. AreFreed map.old.states map.new.states runs) }
-    ensures count { IfOk result (λ runs. granules_in runs ≡ length (scrubbed config.now (is_dirty_at map.old.states) n)) }
+    ensures count { IfOk result (λ runs. granules_of_runs runs ≡ length (lowest_dirty config.now (is_dirty_at map.old.states) n)) }
     ensures granules { length map.new.states ≡ length map.old.states }
     ensures kept { OnErr result (map.new ≡ map.old) }
     ensures spare { map.old.spare ≤ map.new.spare + n }
@@ -46,7 +46,7 @@ pub fn dirty_runs(
     ensures runs { IfOk result (λ runs. runs ≡ scrub_runs config.now (is_dirty_at map.now.states) n) }
     ensures regions { IfOk result (λ runs. All (IsInRegion config.now) runs) }
     ensures dirty { IfOk result (λ runs. (g : ℕ) → IsTrue (has_in_runs runs g) → IsTrue (is_dirty_at map.now.states g)) }
-    ensures count { IfOk result (λ runs. granules_in runs ≡ length (scrubbed config.now (is_dirty_at map.now.states) n)) }
+    ensures count { IfOk result (λ runs. granules_of_runs runs ≡ length (lowest_dirty config.now (is_dirty_at map.now.states) n)) }
     ensures few { IfOk result (λ runs. length runs ≤ n) }
 {
     let mut runs = Runs::new(alloc);

@@ -2,7 +2,7 @@
 
 ghost use Rattle.granule_map.specs.StateLists.{dirty_from, is_dirty_at};
 ghost use Rattle.region_config.specs.Granules.{first_granule, granule_total, region_of};
-ghost use Rattle.sanitizer.specs.Turns.{NextRun};
+ghost use Rattle.sanitizer.specs.Turns.{NextDirtyRun};
 ghost use Rattle.std.specs.List.{prefix_len, range_with_len};
 ghost use Rattle.std.specs.Prelude.{◌≡◌, ◌+◌, ◌<◌, ◌≤◌, length, suc};
 
@@ -13,7 +13,7 @@ use region_config::Config;
 /// The lowest run of dirty granules of one region from a granule on, at most so many of them.
 pub(crate) fn next_run(map: &GranuleMap, config: &Config, from: u32, most: u32) -> Option<Run>
     requires { length map.now.states ≡ granule_total config.now }
-    ensures { NextRun config.now (is_dirty_at map.now.states) from most result }
+    ensures { NextDirtyRun config.now (is_dirty_at map.now.states) from most result }
 {
     if most == 0 {
         return None;

@@ -6,27 +6,27 @@ use Rattle.std.proofs.Math.Nat.{mul-le-mul_right, suc-mul}
 use Rattle.std.proofs.lemmas.Grind.{flat_map-append}
 use Rattle.field_bytes.specs.Layouts.{Field, spell, spelling}
 use Rattle.field_bytes.proofs.Agreement.{fits-append}
-use Rattle.script_codec.specs.Writing.{Appends}
+use Rattle.script_codec.specs.Writing.{AppendsLines}
 
-pub appends_nothing : (old : List ℕ) → Appends old old []
+pub appends_nothing : (old : List ℕ) → AppendsLines old old []
 appends_nothing old = record { fits = tt; is = sym (append-nil old) }
 
-pub appends_then : {old mid new : List ℕ} {fs gs : List Field} → Appends old mid fs → Appends mid new gs → Appends old new (fs ++ gs)
+pub appends_then : {old mid new : List ℕ} {fs gs : List Field} → AppendsLines old mid fs → AppendsLines mid new gs → AppendsLines old new (fs ++ gs)
 appends_then {old} {mid} {new} {fs} {gs} a b = record {
   fits = fits-append fs gs a.fits b.fits;
   is = b.is ∙ ap (λ bytes. bytes ++ spelling gs) a.is ∙ append_assoc old (spelling fs) (spelling gs) ∙ ap (λ bytes. old ++ bytes) (sym (flat_map-append spell fs gs));
 }
 
 -- one more of a list
-pub appends_item : {X : Type 0} (layout : X → List Field) (xs : List X) (i : ℕ) (d : X) (old mid new : List ℕ) → i < length xs → Appends old mid (flat_map layout (take i xs)) → Appends mid new (layout (get_or xs i d)) → Appends old new (flat_map layout (take (i + 1) xs))
+pub appends_item : {X : Type 0} (layout : X → List Field) (xs : List X) (i : ℕ) (d : X) (old mid new : List ℕ) → i < length xs → AppendsLines old mid (flat_map layout (take i xs)) → AppendsLines mid new (layout (get_or xs i d)) → AppendsLines old new (flat_map layout (take (i + 1) xs))
 appends_item layout xs i d old mid new under a b =
-    subst (λ fields. Appends old new fields)
+    subst (λ fields. AppendsLines old new fields)
     (sym (ap (flat_map layout) (take_more xs i d under) ∙ flat_map-append layout (take i xs) (get_or xs i d ∷ []) ∙ ap (λ fs. flat_map layout (take i xs) ++ fs) (append-nil (layout (get_or xs i d)))))
     (appends_then a b)
 
-pub appends_member : {X : Type 0} (field : X → Field) (xs : List X) (i j : ℕ) (d : X) (old mid new : List ℕ) → i < length xs → j ≡ i + 1 → Appends old mid (map field (take i xs)) → Appends mid new (field (get_or xs i d) ∷ []) → Appends old new (map field (take j xs))
+pub appends_member : {X : Type 0} (field : X → Field) (xs : List X) (i j : ℕ) (d : X) (old mid new : List ℕ) → i < length xs → j ≡ i + 1 → AppendsLines old mid (map field (take i xs)) → AppendsLines mid new (field (get_or xs i d) ∷ []) → AppendsLines old new (map field (take j xs))
 appends_member field xs i j d old mid new under next a b =
-    subst (λ fields. Appends old new fields)
+    subst (λ fields. AppendsLines old new fields)
     (sym (ap (λ k. map field (take k xs)) next ∙ ap (map field) (take_more xs i d under) ∙ map-append field (take i xs) (get_or xs i d ∷ [])))
     (appends_then a b)
 

@@ -17,7 +17,7 @@ use Rattle.script_codec.specs.declared.faults.ScriptFault.{ScriptFault}
 use Rattle.script_codec.specs.declared.heads.Head.{Head}
 use Rattle.script_codec.specs.Fields.{skip, part, number_from, many_from}
 use Rattle.script_codec.specs.Heads.{magic_from, version_from, counts_from, told_lanes_from, lanes_and_reserved_from, one_lane_from, lanes_from, region_from, sound_config, config_of, config_from, head_from}
-use Rattle.script_codec.specs.Scripts.{magic, region_fields, lanes_fields, bad_version, bad_lanes, are_lanes, start_fields, head_fields, IsScript}
+use Rattle.script_codec.specs.Scripts.{magic, region_fields, lanes_fields, bad_version, bad_lanes, are_lanes, start_fields, script_head, IsScript}
 use Rattle.script_codec.specs.declared.script_line.Line.{Line}
 use Rattle.script_codec.specs.declared.scripts.Script.{Script}
 use Rattle.script_codec.proofs.Writable.{laned, count_good}
@@ -264,7 +264,7 @@ module _ (bytes : List ℕ) where
     with_head head lines = record { version = head.version; lanes = head.lanes; config = head.config; lines = lines }
 
     pub record HeadStands (at : ℕ) (x : Head × ℕ) : Type 0 where
-      pub spans : (lines : List Line) → Spans bytes at x.1 (head_fields (with_head x.0 lines))
+      pub spans : (lines : List Line) → Spans bytes at x.1 (script_head (with_head x.0 lines))
       pub lanes_are : are_lanes x.0.version x.0.lanes ≡ true
       pub faultless : config_fault x.0.config ≡ None
       pub based : length x.0.config.bases ≡ x.0.config.hosts * length x.0.config.regions
@@ -301,7 +301,7 @@ module _ (bytes : List ℕ) where
           based = made.based ∙ (λ i. sym made.hosts_are i * sym made.regions_are i);
         })
 
-    pub head_is : (s : Script) (at next : ℕ) → IsScript s → Spans bytes at next (head_fields s) → head_from bytes at ≡ Ok (record { version = s.version; lanes = s.lanes; config = s.config }, next)
+    pub head_is : (s : Script) (at next : ℕ) → IsScript s → Spans bytes at next (script_head s) → head_from bytes at ≡ Ok (record { version = s.version; lanes = s.lanes; config = s.config }, next)
     unfolding head_from
     head_is s at next script spans =
         let p = parted bytes at next (start_fields s ++ flat_map region_fields s.config.regions) (map base_field s.config.bases) spans in

@@ -5,6 +5,7 @@ pub mod FieldLaws
 pub mod HeadLaws
 pub mod LineLaws
 pub mod Lists
+pub mod Moves
 pub mod NextLines
 pub mod ScriptLaws
 pub mod Spans

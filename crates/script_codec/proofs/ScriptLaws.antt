@@ -14,7 +14,7 @@ use Rattle.script_codec.specs.Fields.{◌>>=◌}
 use Rattle.script_codec.specs.Heads.{head_from}
 use Rattle.script_codec.specs.Lines.{kind_from, line_from, end_from, lines_from}
 use Rattle.script_codec.specs.Reading.{most_bytes, most_lines, fields_in, script_in}
-use Rattle.script_codec.specs.Scripts.{line_fields, is_sound_line, head_fields, script_fields, ReadsScript}
+use Rattle.script_codec.specs.Scripts.{line_fields, is_sound_line, script_head, script_fields, ReadsScript}
 use Rattle.script_codec.proofs.Writable.{both_first, both_second, counted, laned}
 use Rattle.script_codec.proofs.Spans.{Spans, spans_then, parted, reads_from_spans, spans_from_reads}
 use Rattle.script_codec.proofs.FieldLaws.{bound, ok_is, passed}
@@ -108,7 +108,7 @@ fields_sound bytes s small short is =
     (record {
       script = record { versioned = h.lanes_are; configured = h.faultless; based = h.based; sound = ls.sound; few = ls.few };
       reads = reads_from_spans bytes (script_fields (with_head bytes small head.value.0 lines.value)) (all_bytes bytes small)
-          (subst (λ fields. Spans bytes 0 (length bytes) fields) (sym (append_assoc (head_fields (with_head bytes small head.value.0 lines.value)) (flat_map line_fields lines.value) end_fields))
+          (subst (λ fields. Spans bytes 0 (length bytes) fields) (sym (append_assoc (script_head (with_head bytes small head.value.0 lines.value)) (flat_map line_fields lines.value) end_fields))
           (spans_then (h.spans lines.value) ls.spans));
       short = short;
     })
@@ -127,9 +127,9 @@ pub script_is : (bytes : List ℕ) (s : Script) → ReadsScript bytes s → scri
 unfolding script_in fields_in
 script_is bytes s reads =
     let small = each_byte bytes reads.reads.in_range in
-    let whole : Spans bytes 0 (length bytes) (head_fields s ++ (flat_map line_fields s.lines ++ end_fields)) =
-    subst (λ fields. Spans bytes 0 (length bytes) fields) (append_assoc (head_fields s) (flat_map line_fields s.lines) end_fields) (spans_from_reads bytes (script_fields s) reads.reads) in
-    let p = parted bytes 0 (length bytes) (head_fields s) (flat_map line_fields s.lines ++ end_fields) whole in
+    let whole : Spans bytes 0 (length bytes) (script_head s ++ (flat_map line_fields s.lines ++ end_fields)) =
+    subst (λ fields. Spans bytes 0 (length bytes) fields) (append_assoc (script_head s) (flat_map line_fields s.lines) end_fields) (spans_from_reads bytes (script_fields s) reads.reads) in
+    let p = parted bytes 0 (length bytes) (script_head s) (flat_map line_fields s.lines ++ end_fields) whole in
     let not_long : nat_lt most_bytes (length bytes) ≡ false = le-ltb most_bytes (length bytes) reads.short in
     let lines : lines_from most_lines s.config.hosts s.lanes bytes p.mid ≡ Ok s.lines =
     lines_are bytes small s.config.hosts s.lanes (counted s.config reads.script.configured).few_hosts (laned s.version s.lanes reads.script.versioned).few most_lines p.mid s.lines reads.script.few reads.script.sound p.back in

@@ -12,8 +12,8 @@ use Rattle.journal_core.specs.declared.acts.Act.{Act}
 use Rattle.script_codec.specs.declared.script_line.Line.{Line}
 use Rattle.script_codec.specs.declared.scripts.Script.{Script}
 use Rattle.script_codec.specs.declared.faults.ScriptFault.{ScriptFault}
-use Rattle.script_codec.specs.Scripts.{region_fields, start_fields, head_fields, line_fields, script_fields, IsScript, ReadsScript}
-use Rattle.script_codec.specs.Reading.{script_in, fault_of, IsRead, IsReadAs}
+use Rattle.script_codec.specs.Scripts.{region_fields, start_fields, script_head, line_fields, script_fields, IsScript, ReadsScript}
+use Rattle.script_codec.specs.Reading.{script_in, fault_of, IsScriptRead, IsReadAs}
 use Rattle.script_codec.specs.Writing.{IsWritable, WritesScript, script_bytes, has_short_message}
 use Rattle.script_codec.proofs.ScriptLaws.{script_is, script_sound}
 use Rattle.script_codec.proofs.FieldLaws.{ok_is}
@@ -49,8 +49,8 @@ line_of_bytes (Line.Do actor lane (Act.Scrub n)) = (tt, (tt, tt))
 
 script_of_bytes : (s : Script) → AreOfBytes (script_fields s)
 script_of_bytes s =
-    and_then (head_fields s ++ flat_map line_fields s.lines) (Number w8 0 ∷ [])
-    (and_then (head_fields s) (flat_map line_fields s.lines)
+    and_then (script_head s ++ flat_map line_fields s.lines) (Number w8 0 ∷ [])
+    (and_then (script_head s) (flat_map line_fields s.lines)
     (and_then (start_fields s ++ flat_map region_fields s.config.regions) (map (λ base. Number w64 base) s.config.bases)
     (and_then (start_fields s) (flat_map region_fields s.config.regions)
     (tt, (tt, (tt, (tt, (tt, lanes_of_bytes (s.version == 2) s.lanes)))))
@@ -72,7 +72,7 @@ pub reads_back : (s : Script) → IsWritable s → WritesScript s (script_bytes 
 reads_back s may writes = script_is (script_bytes s) s (spelled_script s (script_bytes s) may.script writes may.short)
 
 -- ---- what the answer of reading says
-pub read_reads : (bytes : List ℕ) (r : Result Script ScriptFault) → IsBytes bytes → IsRead bytes r → IfOk r (λ script. ReadsScript bytes script)
+pub read_reads : (bytes : List ℕ) (r : Result Script ScriptFault) → IsBytes bytes → IsScriptRead bytes r → IfOk r (λ script. ReadsScript bytes script)
 read_reads bytes (Ok found) small is = script_sound bytes found small is
 read_reads bytes (Err fault) small is = tt
 
@@ -90,7 +90,7 @@ other_fault (ScriptFault.AfterEnd at) un = absurd (un (λ e. cc))
 other_fault (ScriptFault.TooManyLines at) un = absurd (un (λ e. cc))
 other_fault (ScriptFault.BadLanes n) un = absurd (un (λ e. cc))
 
-pub read_only : (bytes : List ℕ) (r : Result Script ScriptFault) → IsRead bytes r → (script : Script) → ReadsScript bytes script → IsReadAs script r
+pub read_only : (bytes : List ℕ) (r : Result Script ScriptFault) → IsScriptRead bytes r → (script : Script) → ReadsScript bytes script → IsReadAs script r
 read_only bytes (Ok found) is script reads = ok_is found script (sym is ∙ script_is bytes script reads)
 read_only bytes (Err fault) is script reads =
     other_fault fault (λ real. let e = sym (ap fault_of (script_is bytes script reads)) ∙ is real in cc)
@@ -121,10 +121,10 @@ short_lines (line ∷ lines) fits =
 pub may_be_written : (bytes : List ℕ) (s : Script) → ReadsScript bytes s → IsWritable s
 unfolding script_bytes
 may_be_written bytes s reads =
-    let fits = fits_back (head_fields s) (flat_map line_fields s.lines) (fits_front (head_fields s ++ flat_map line_fields s.lines) (Number w8 0 ∷ []) reads.reads.fits) in
+    let fits = fits_back (script_head s) (flat_map line_fields s.lines) (fits_front (script_head s ++ flat_map line_fields s.lines) (Number w8 0 ∷ []) reads.reads.fits) in
     let long = length_of_fields bytes (script_fields s) reads.reads.agrees in
     record { script = reads.script; messages = short_lines s.lines fits; short = omega (arith, long, reads.short) }
 
-pub read_writable : (bytes : List ℕ) (r : Result Script ScriptFault) → IsBytes bytes → IsRead bytes r → IfOk r (λ script. IsWritable script)
+pub read_writable : (bytes : List ℕ) (r : Result Script ScriptFault) → IsBytes bytes → IsScriptRead bytes r → IfOk r (λ script. IsWritable script)
 read_writable bytes (Ok found) small is = may_be_written bytes found (script_sound bytes found small is)
 read_writable bytes (Err fault) small is = tt

@@ -10,9 +10,9 @@ Ok x >>= next = next x
 Err fault >>= next = Err fault
 
 -- The call answers what the definition reads, seen by view. Memory may be wanting at any time.
-abbrev pub Gives : {A B : Type 0} → (A → B) → Result A ScriptFault → Result B ScriptFault → Type 0
-Gives view (Ok x) read = read ≡ Ok (view x)
-Gives view (Err fault) read = fault ≢ ScriptFault.NoMemory → read ≡ Err fault
+abbrev pub GivesField : {A B : Type 0} → (A → B) → Result A ScriptFault → Result B ScriptFault → Type 0
+GivesField view (Ok x) read = read ≡ Ok (view x)
+GivesField view (Err fault) read = fault ≢ ScriptFault.NoMemory → read ≡ Err fault
 
 -- The place behind so many bytes. Where they are not all there, the place of the fault is the number of bytes there are.
 unfoldable pub skip : ℕ → List ℕ → ℕ → Result ℕ ScriptFault

@@ -3,6 +3,7 @@ pub mod Fields
 pub mod Heads
 pub mod LineByLine
 pub mod Lines
+pub mod Moving
 pub mod Reading
 pub mod Scripts
 pub mod Unread

@@ -6,7 +6,7 @@ use Rattle.script_codec.specs.declared.scripts.Script.{Script}
 use Rattle.script_codec.specs.declared.faults.ScriptFault.{ScriptFault}
 use Rattle.script_codec.specs.Fields.{◌>>=◌}
 use Rattle.script_codec.specs.Lines.{lines_from}
-use Rattle.script_codec.specs.Reading.{script_in}
+use Rattle.script_codec.specs.Reading.{most_lines, script_in}
 use Rattle.script_codec.specs.Scripts.{is_sound_line, ReadsScript}
 use Rattle.script_codec.specs.Unread.{Unread}
 
@@ -33,19 +33,33 @@ pub record Begins (bytes : List ℕ) (head : Head) (unread : Unread) : Type 0 wh
 
 -- What beginning answers: the head and what is still to come, or the first fault of the bytes. Memory may be wanting at
 -- any time.
-abbrev pub IsBegun : List ℕ → Result (Head × Unread) ScriptFault → Type 0
-IsBegun bytes (Ok begun) = Begins bytes begun.0 begun.1
-IsBegun bytes (Err fault) = fault ≢ ScriptFault.NoMemory → script_in bytes ≡ Err fault
+abbrev pub HasBegun : List ℕ → Result (Head × Unread) ScriptFault → Type 0
+HasBegun bytes (Ok begun) = Begins bytes begun.0 begun.1
+HasBegun bytes (Err fault) = fault ≢ ScriptFault.NoMemory → script_in bytes ≡ Err fault
+
+-- what is still to come behind a head
+abbrev pub behind_head : Head → List ℕ → ℕ → Unread
+behind_head head bytes place = record {
+  hosts = head.config.hosts;
+  lanes = head.lanes;
+  left = most_lines;
+  rest = lines_from most_lines head.config.hosts head.lanes bytes place;
+}
+
+-- The same of the head and the place behind it.
+abbrev pub IsBegunAt : List ℕ → Result (Head × ℕ) ScriptFault → Type 0
+IsBegunAt bytes (Ok begun) = Begins bytes begun.0 (behind_head begun.0 bytes begun.1)
+IsBegunAt bytes (Err fault) = fault ≢ ScriptFault.NoMemory → script_in bytes ≡ Err fault
 
 -- The line came first of what was still to come, and it is sound.
-pub record Takes (old new : Unread) (line : Line) : Type 0 where
+pub record TakesLine (old new : Unread) (line : Line) : Type 0 where
   pub is : old.rest ≡ line_then line new.rest
   pub left_is : old.left ≡ new.left + 1
   pub sound : IsTrue (is_sound_line old.hosts old.lanes line)
 
 -- What asking for the next line answers: that line, or that none comes, or the fault that comes first.
 abbrev pub IsNext : Unread → Unread → Result (Option Line) ScriptFault → Type 0
-IsNext old new (Ok (Some line)) = Takes old new line
+IsNext old new (Ok (Some line)) = TakesLine old new line
 IsNext old new (Ok None) = (old.rest ≡ Ok []) × (new ≡ old)
 IsNext old new (Err fault) = (fault ≢ ScriptFault.NoMemory → old.rest ≡ Err fault) × (new ≡ old)
 

@@ -32,9 +32,9 @@ abbrev pub first_fault : List ℕ → Option ScriptFault
 first_fault bytes = fault_of (script_in bytes)
 
 -- What reading the bytes answers: the script that they are, or their first fault. Memory may be wanting at any time.
-abbrev pub IsRead : List ℕ → Result Script ScriptFault → Type 0
-IsRead bytes (Ok script) = script_in bytes ≡ Ok script
-IsRead bytes (Err fault) = fault ≢ ScriptFault.NoMemory → first_fault bytes ≡ Some fault
+abbrev pub IsScriptRead : List ℕ → Result Script ScriptFault → Type 0
+IsScriptRead bytes (Ok script) = script_in bytes ≡ Ok script
+IsScriptRead bytes (Err fault) = fault ≢ ScriptFault.NoMemory → first_fault bytes ≡ Some fault
 
 -- What reading answers where the bytes read as this script: the script, if there is memory.
 abbrev pub IsReadAs : Script → Result Script ScriptFault → Type 0

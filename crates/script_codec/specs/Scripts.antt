@@ -33,8 +33,8 @@ start_fields s =
     ∷ lanes_fields s.version s.lanes
 
 -- then the regions, and the bases host by host
-abbrev pub head_fields : Script → List Field
-head_fields s = start_fields s ++ flat_map region_fields s.config.regions ++ map (λ base. Number w64 base) s.config.bases
+abbrev pub script_head : Script → List Field
+script_head s = start_fields s ++ flat_map region_fields s.config.regions ++ map (λ base. Number w64 base) s.config.bases
 
 -- a host's number and sixteen times its lane, or FEh for the manager
 abbrev pub actor_byte : Actor → ℕ → ℕ
@@ -55,7 +55,7 @@ line_fields (Line.Do actor lane act) = act_fields actor lane act
 line_fields Line.Mark = Number w8 5 ∷ []
 
 abbrev pub script_fields : Script → List Field
-script_fields s = head_fields s ++ flat_map line_fields s.lines ++ Number w8 0 ∷ []
+script_fields s = script_head s ++ flat_map line_fields s.lines ++ Number w8 0 ∷ []
 
 -- version 1 has one lane, and version 2 has one to four
 abbrev pub bad_version : ℕ → Bool

@@ -8,7 +8,7 @@ use Rattle.script_codec.specs.declared.scripts.Script.{Script}
 use Rattle.script_codec.specs.Scripts.{script_fields, actor_byte, IsScript}
 
 -- The spelling of these fields was put at the end, and each of them has one.
-pub record Appends (old new : List ℕ) (fields : List Field) : Type 0 where
+pub record AppendsLines (old new : List ℕ) (fields : List Field) : Type 0 where
   pub fits : AllByRecursion FitsField fields
   pub is : new ≡ old ++ spelling fields
 

@@ -1,7 +1,8 @@
 //! Why bytes are no script.
 
+ghost use Rattle.script_codec.specs.Moving.{IsWithin, moved_fault};
 ghost use Rattle.script_codec.specs.declared.faults.ScriptFault.TheVariants.{NoMemory as OutOfMemory};
-ghost use Rattle.std.specs.Prelude.{◌≡◌};
+ghost use Rattle.std.specs.Prelude.{◌≡◌, ◌≤◌};
 
 use cci_codec::MessageFault;
 use dcd_base::NoMemory;
@@ -37,6 +38,28 @@ pub enum ScriptFault {
     BadLanes(u8),
     /// Memory was wanted and not to be had.
     NoMemory,
+}
+
+impl ScriptFault {
+    /// The same fault of bytes behind so many others, no more than a script may have.
+    pub(crate) fn moved(self, before: u64) -> ScriptFault
+        requires before { before ≤ 16777216 }
+        requires within { IsWithin 16777216 self }
+        ensures { result ≡ moved_fault before self }
+    {
+        match self {
+            ScriptFault::Truncated(count) => ScriptFault::Truncated(before + count),
+            ScriptFault::UnknownKind(at) => ScriptFault::UnknownKind(before + at),
+            ScriptFault::UnknownActor(at) => ScriptFault::UnknownActor(before + at),
+            ScriptFault::BadMessage { at, fault } => ScriptFault::BadMessage {
+                at: before + at,
+                fault,
+            },
+            ScriptFault::AfterEnd(at) => ScriptFault::AfterEnd(before + at),
+            ScriptFault::TooManyLines(at) => ScriptFault::TooManyLines(before + at),
+            _ => self,
+        }
+    }
 }
 
 impl From<NoMemory> for ScriptFault {

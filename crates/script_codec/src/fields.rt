@@ -1,8 +1,9 @@
 //! Fields of a script: each reader answers a value and the place behind it.
 
-ghost use Rattle.script_codec.specs.Fields.{Gives, skip as skipped, part as part_of, number_from};
+ghost use Rattle.script_codec.specs.Fields.{GivesField, skip as skipped, part as part_of, number_from};
+ghost use Rattle.script_codec.specs.Moving.{IsWithin};
 ghost use Rattle.std.specs.Int.{w8, w16, w32, w64};
-ghost use Rattle.std.specs.Prelude.{◌≡◌, ◌+◌, ◌≤◌, IfOk, length};
+ghost use Rattle.std.specs.Prelude.{◌≡◌, ◌+◌, ◌≤◌, IfErr, IfOk, length};
 
 use crate::faults::ScriptFault;
 
@@ -10,8 +11,9 @@ use crate::faults::ScriptFault;
 #[tactic(auto, unfolding(crate::specs::Fields::skip))]
 pub fn skip(bytes: &[u8], at: usize, count: usize) -> Result<usize, ScriptFault>
     requires { at ≤ length bytes.now }
-    ensures value { Gives (λ next. next) result (skipped count bytes.now at) }
+    ensures value { GivesField (λ next. next) result (skipped count bytes.now at) }
     ensures within { IfOk result (λ next. next ≤ length bytes.now) }
+    ensures fault { IfErr result (IsWithin (length bytes.now)) }
     ensures behind { IfOk result (λ next. next ≡ at + count) }
 {
     if bytes.len() - at < count {
@@ -35,8 +37,9 @@ pub fn part(bytes: &[u8], at: usize, count: usize) -> &[u8]
 #[tactic(auto, unfolding(crate::specs::Fields::number_from))]
 pub fn u8_at(bytes: &[u8], at: usize) -> Result<(u8, usize), ScriptFault>
     requires { at ≤ length bytes.now }
-    ensures value { Gives (λ x. x) result (number_from w8 bytes.now at) }
+    ensures value { GivesField (λ x. x) result (number_from w8 bytes.now at) }
     ensures within { IfOk result (λ x. x.1 ≤ length bytes.now) }
+    ensures fault { IfErr result (IsWithin (length bytes.now)) }
 {
     let next = skip(bytes, at, 1)?;
     let field = part(bytes, at, 1);
@@ -47,8 +50,9 @@ pub fn u8_at(bytes: &[u8], at: usize) -> Result<(u8, usize), ScriptFault>
 #[tactic(auto, unfolding(crate::specs::Fields::number_from))]
 pub fn u16_at(bytes: &[u8], at: usize) -> Result<(u16, usize), ScriptFault>
     requires { at ≤ length bytes.now }
-    ensures value { Gives (λ x. x) result (number_from w16 bytes.now at) }
+    ensures value { GivesField (λ x. x) result (number_from w16 bytes.now at) }
     ensures within { IfOk result (λ x. x.1 ≤ length bytes.now) }
+    ensures fault { IfErr result (IsWithin (length bytes.now)) }
 {
     let next = skip(bytes, at, 2)?;
     let field = part(bytes, at, 2);
@@ -59,8 +63,9 @@ pub fn u16_at(bytes: &[u8], at: usize) -> Result<(u16, usize), ScriptFault>
 #[tactic(auto, unfolding(crate::specs::Fields::number_from))]
 pub fn u32_at(bytes: &[u8], at: usize) -> Result<(u32, usize), ScriptFault>
     requires { at ≤ length bytes.now }
-    ensures value { Gives (λ x. x) result (number_from w32 bytes.now at) }
+    ensures value { GivesField (λ x. x) result (number_from w32 bytes.now at) }
     ensures within { IfOk result (λ x. x.1 ≤ length bytes.now) }
+    ensures fault { IfErr result (IsWithin (length bytes.now)) }
 {
     let next = skip(bytes, at, 4)?;
     let field = part(bytes, at, 4);
@@ -71,8 +76,9 @@ pub fn u32_at(bytes: &[u8], at: usize) -> Result<(u32, usize), ScriptFault>
 #[tactic(auto, unfolding(crate::specs::Fields::number_from))]
 pub fn u64_at(bytes: &[u8], at: usize) -> Result<(u64, usize), ScriptFault>
     requires { at ≤ length bytes.now }
-    ensures value { Gives (λ x. x) result (number_from w64 bytes.now at) }
+    ensures value { GivesField (λ x. x) result (number_from w64 bytes.now at) }
     ensures within { IfOk result (λ x. x.1 ≤ length bytes.now) }
+    ensures fault { IfErr result (IsWithin (length bytes.now)) }
 {
     let next = skip(bytes, at, 8)?;
     let field = part(bytes, at, 8);

@@ -1,12 +1,9 @@
 //! The head of a script: its version, lanes and configuration.
 
-ghost use Rattle.script_codec.specs.Fields.{Gives, many_from, number_from};
+ghost use Rattle.script_codec.specs.Fields.{GivesField, many_from, number_from};
 ghost use Rattle.script_codec.specs.Heads.{config_from, config_of, counts_from, head_from, lanes_and_reserved_from, lanes_from, magic_from, one_lane_from, region_from, told_lanes_from, version_from};
-ghost use Rattle.script_codec.specs.Scripts.{bad_lanes, bad_version, magic};
-ghost use Rattle.region_config.specs.Setups.{bad_count};
 ghost use Rattle.std.specs.Int.{w64};
-ghost use lib.Pointwise.{pointwise};
-ghost use Rattle.std.specs.Prelude.{◌≡◌, ◌+◌, ◌*◌, ◌≤◌, ◌==◌, IfOk, length};
+ghost use Rattle.std.specs.Prelude.{◌≡◌, ◌*◌, ◌≤◌, ◌==◌, IfOk, length};
 
 use crate::faults::ScriptFault;
 use crate::fields::{part, skip, u8_at, u16_at, u32_at, u64_at};
@@ -28,7 +25,7 @@ pub struct Head {
 #[tactic(auto, unfolding(crate::specs::Heads::magic_from))]
 fn magic_at(bytes: &[u8], at: usize) -> Result<usize, ScriptFault>
     requires { at ≤ length bytes.now }
-    ensures value { Gives (λ next. next) result (magic_from bytes.now at) }
+    ensures value { GivesField (λ next. next) result (magic_from bytes.now at) }
     ensures within { IfOk result (λ next. next ≤ length bytes.now) }
 {
     let next = skip(bytes, at, 4)?;
@@ -43,7 +40,7 @@ fn magic_at(bytes: &[u8], at: usize) -> Result<usize, ScriptFault>
 #[tactic(auto, unfolding(crate::specs::Heads::version_from))]
 fn version_at(bytes: &[u8], at: usize) -> Result<(u16, usize), ScriptFault>
     requires { at ≤ length bytes.now }
-    ensures value { Gives (λ x. x) result (version_from bytes.now at) }
+    ensures value { GivesField (λ x. x) result (version_from bytes.now at) }
     ensures within { IfOk result (λ x. x.1 ≤ length bytes.now) }
 {
     let (version, next) = u16_at(bytes, at)?;
@@ -57,7 +54,7 @@ fn version_at(bytes: &[u8], at: usize) -> Result<(u16, usize), ScriptFault>
 #[tactic(auto, unfolding(crate::specs::Heads::counts_from))]
 fn counts_at(bytes: &[u8], at: usize) -> Result<((u8, u8), usize), ScriptFault>
     requires { at ≤ length bytes.now }
-    ensures value { Gives (λ x. x) result (counts_from bytes.now at) }
+    ensures value { GivesField (λ x. x) result (counts_from bytes.now at) }
     ensures within { IfOk result (λ x. x.1 ≤ length bytes.now) }
     ensures few { IfOk result (λ x. x.0.0 ≤ 16) }
     ensures regions { IfOk result (λ x. x.0.1 ≤ 8) }
@@ -74,7 +71,7 @@ fn counts_at(bytes: &[u8], at: usize) -> Result<((u8, u8), usize), ScriptFault>
 #[tactic(auto, unfolding(crate::specs::Heads::told_lanes_from))]
 fn told_lanes_at(bytes: &[u8], at: usize) -> Result<(u8, usize), ScriptFault>
     requires { at ≤ length bytes.now }
-    ensures value { Gives (λ x. x) result (told_lanes_from bytes.now at) }
+    ensures value { GivesField (λ x. x) result (told_lanes_from bytes.now at) }
     ensures within { IfOk result (λ x. x.1 ≤ length bytes.now) }
 {
     let (lanes, next) = u8_at(bytes, at)?;
@@ -88,7 +85,7 @@ fn told_lanes_at(bytes: &[u8], at: usize) -> Result<(u8, usize), ScriptFault>
 #[tactic(auto, unfolding(crate::specs::Heads::lanes_and_reserved_from))]
 fn lanes_and_reserved_at(bytes: &[u8], at: usize) -> Result<(u8, usize), ScriptFault>
     requires { at ≤ length bytes.now }
-    ensures value { Gives (λ x. x) result (lanes_and_reserved_from bytes.now at) }
+    ensures value { GivesField (λ x. x) result (lanes_and_reserved_from bytes.now at) }
     ensures within { IfOk result (λ x. x.1 ≤ length bytes.now) }
 {
     let (lanes, next) = told_lanes_at(bytes, at)?;
@@ -100,7 +97,7 @@ fn lanes_and_reserved_at(bytes: &[u8], at: usize) -> Result<(u8, usize), ScriptF
 #[tactic(auto, unfolding(crate::specs::Heads::one_lane_from))]
 fn one_lane_at(bytes: &[u8], at: usize) -> Result<(u8, usize), ScriptFault>
     requires { at ≤ length bytes.now }
-    ensures value { Gives (λ x. x) result (one_lane_from bytes.now at) }
+    ensures value { GivesField (λ x. x) result (one_lane_from bytes.now at) }
     ensures within { IfOk result (λ x. x.1 ≤ length bytes.now) }
 {
     let next = skip(bytes, at, 6)?;
@@ -110,7 +107,7 @@ fn one_lane_at(bytes: &[u8], at: usize) -> Result<(u8, usize), ScriptFault>
 /// The number of lanes.
 fn lanes_at(version: u16, bytes: &[u8], at: usize) -> Result<(u8, usize), ScriptFault>
     requires { at ≤ length bytes.now }
-    ensures value { Gives (λ x. x) result (lanes_from version bytes.now at) }
+    ensures value { GivesField (λ x. x) result (lanes_from version bytes.now at) }
     ensures within { IfOk result (λ x. x.1 ≤ length bytes.now) }
 {
     if version == 2 {
@@ -124,7 +121,7 @@ fn lanes_at(version: u16, bytes: &[u8], at: usize) -> Result<(u8, usize), Script
 #[tactic(auto, unfolding(crate::specs::Heads::region_from))]
 fn region_at(bytes: &[u8], at: usize) -> Result<(RegionSpec, usize), ScriptFault>
     requires { at ≤ length bytes.now }
-    ensures value { Gives (λ x. x) result (region_from bytes.now at) }
+    ensures value { GivesField (λ x. x) result (region_from bytes.now at) }
     ensures within { IfOk result (λ x. x.1 ≤ length bytes.now) }
 {
     let (decode_units, next) = u64_at(bytes, at)?;
@@ -154,7 +151,7 @@ fn regions_at(
     at: usize,
 ) -> Result<(Vec<RegionSpec>, usize), ScriptFault>
     requires { at ≤ length bytes.now }
-    ensures value { Gives (λ x. (x.0.items, x.1)) result (many_from region_from count bytes.now at) }
+    ensures value { GivesField (λ x. (x.0.items, x.1)) result (many_from region_from count bytes.now at) }
     ensures within { IfOk result (λ x. x.1 ≤ length bytes.now) }
     ensures count { IfOk result (λ x. length x.0.items ≡ count) }
 {
@@ -176,7 +173,7 @@ fn bases_at(
     at: usize,
 ) -> Result<(Vec<u64>, usize), ScriptFault>
     requires { at ≤ length bytes.now }
-    ensures value { Gives (λ x. (x.0.items, x.1)) result (many_from (number_from w64) count bytes.now at) }
+    ensures value { GivesField (λ x. (x.0.items, x.1)) result (many_from (number_from w64) count bytes.now at) }
     ensures within { IfOk result (λ x. x.1 ≤ length bytes.now) }
     ensures count { IfOk result (λ x. length x.0.items ≡ count) }
 {
@@ -198,7 +195,7 @@ fn config_of_parts(
     bases: &[u64],
 ) -> Result<Config, ScriptFault>
     requires { length bases.now ≡ hosts * length regions.now }
-    ensures { Gives (λ config. config) result (config_of hosts regions.now bases.now) }
+    ensures { GivesField (λ config. config) result (config_of hosts regions.now bases.now) }
 {
     match Config::new(alloc, hosts, regions, bases) {
         Ok(config) => Ok(config),
@@ -219,7 +216,7 @@ fn config_at(
     requires place { at ≤ length bytes.now }
     requires hosts { hosts ≤ 16 }
     requires regions { count ≤ 8 }
-    ensures value { Gives (λ x. x) result (config_from hosts count bytes.now at) }
+    ensures value { GivesField (λ x. x) result (config_from hosts count bytes.now at) }
     ensures within { IfOk result (λ x. x.1 ≤ length bytes.now) }
 {
     let (regions, next) = regions_at(alloc, count, bytes, at)?;
@@ -232,7 +229,7 @@ fn config_at(
 #[tactic(auto, unfolding(crate::specs::Heads::head_from))]
 pub fn head_at(alloc: Global, bytes: &[u8], at: usize) -> Result<(Head, usize), ScriptFault>
     requires { at ≤ length bytes.now }
-    ensures value { Gives (λ x. x) result (head_from bytes.now at) }
+    ensures value { GivesField (λ x. x) result (head_from bytes.now at) }
     ensures within { IfOk result (λ x. x.1 ≤ length bytes.now) }
 {
     let next = magic_at(bytes, at)?;

@@ -1,7 +1,8 @@
 //! The script: what a user hands in, as bytes and as lines.
 //!
 //! A script has a configuration and lines, each an act of an actor or a mark. `read` reads its bytes or answers
-//! the first fault with its place, a `Reader` does so line by line, and `write` gives the one spelling.
+//! the first fault with its place, and `write` gives the one spelling. A `Reader` reads line by line, and so does an
+//! `OwnReader`, which lets the bytes go as it reads on.
 #![tactic(auto)]
 
 mod faults;
@@ -9,6 +10,7 @@ mod fields;
 mod heads;
 mod laws;
 mod line_bytes;
+mod own_reader;
 mod passes;
 mod reader;
 mod reading;
@@ -19,6 +21,7 @@ mod writing;
 pub use faults::ScriptFault;
 pub use heads::Head;
 pub use laws::law_runs_cover;
+pub use own_reader::OwnReader;
 pub use passes::{entries_of, pass_of};
 pub use reader::Reader;
 pub use reading::read;

@@ -1,8 +1,9 @@
 //! One line of a script in bytes.
 
-ghost use Rattle.script_codec.specs.Fields.{Gives};
+ghost use Rattle.script_codec.specs.Fields.{GivesField};
 ghost use Rattle.script_codec.specs.Lines.{command_from, commander_from, commander_of, host_from, host_of, is_host_byte, kind_from, line_from, load_from, message_from, message_of, scrub_from, store_from};
-ghost use Rattle.std.specs.Prelude.{◌≡◌, ◌≤◌, IfOk, length};
+ghost use Rattle.script_codec.specs.Moving.{IsWithin};
+ghost use Rattle.std.specs.Prelude.{◌≡◌, ◌≤◌, IfErr, IfOk, length};
 
 use crate::faults::ScriptFault;
 use crate::fields::{part, skip, u8_at, u16_at, u64_at};
@@ -21,7 +22,8 @@ fn names_host(hosts: u8, lanes: u8, byte: u8) -> bool
 
 /// The host and the lane that the byte at the place names.
 fn host_named(hosts: u8, lanes: u8, at: usize, byte: u8) -> Result<(HostId, u8), ScriptFault>
-    ensures { Gives (λ x. x) result (host_of hosts lanes at byte) }
+    ensures value { GivesField (λ x. x) result (host_of hosts lanes at byte) }
+    ensures fault { IfErr result (IsWithin at) }
 {
     if names_host(hosts, lanes, byte) {
         Ok((HostId(byte % 16), byte / 16))
@@ -32,7 +34,8 @@ fn host_named(hosts: u8, lanes: u8, at: usize, byte: u8) -> Result<(HostId, u8),
 
 /// The actor of a command and its lane, named by the byte at the place.
 fn commander_named(hosts: u8, lanes: u8, at: usize, byte: u8) -> Result<(Actor, u8), ScriptFault>
-    ensures { Gives (λ x. x) result (commander_of hosts lanes at byte) }
+    ensures value { GivesField (λ x. x) result (commander_of hosts lanes at byte) }
+    ensures fault { IfErr result (IsWithin at) }
 {
     if names_host(hosts, lanes, byte) {
         Ok((Actor::Host(HostId(byte % 16)), byte / 16))
@@ -52,8 +55,9 @@ fn host_at(
     at: usize,
 ) -> Result<((HostId, u8), usize), ScriptFault>
     requires { at ≤ length bytes.now }
-    ensures value { Gives (λ x. x) result (host_from hosts lanes bytes.now at) }
+    ensures value { GivesField (λ x. x) result (host_from hosts lanes bytes.now at) }
     ensures within { IfOk result (λ x. x.1 ≤ length bytes.now) }
+    ensures fault { IfErr result (IsWithin (length bytes.now)) }
 {
     let (byte, next) = u8_at(bytes, at)?;
     let host = host_named(hosts, lanes, at, byte)?;
@@ -69,8 +73,9 @@ fn commander_at(
     at: usize,
 ) -> Result<((Actor, u8), usize), ScriptFault>
     requires { at ≤ length bytes.now }
-    ensures value { Gives (λ x. x) result (commander_from hosts lanes bytes.now at) }
+    ensures value { GivesField (λ x. x) result (commander_from hosts lanes bytes.now at) }
     ensures within { IfOk result (λ x. x.1 ≤ length bytes.now) }
+    ensures fault { IfErr result (IsWithin (length bytes.now)) }
 {
     let (byte, next) = u8_at(bytes, at)?;
     let actor = commander_named(hosts, lanes, at, byte)?;
@@ -79,7 +84,8 @@ fn commander_at(
 
 /// The request that a message is which begins at the place.
 fn request_of(alloc: Global, at: usize, message: &[u8]) -> Result<Request, ScriptFault>
-    ensures { Gives (λ x. x) result (message_of at message.now) }
+    ensures value { GivesField (λ x. x) result (message_of at message.now) }
+    ensures fault { IfErr result (IsWithin at) }
 {
     match decode(alloc, message) {
         Ok(request) => Ok(request),
@@ -100,8 +106,9 @@ fn message_at(
     at: usize,
 ) -> Result<(Request, usize), ScriptFault>
     requires { at ≤ length bytes.now }
-    ensures value { Gives (λ x. x) result (message_from size bytes.now at) }
+    ensures value { GivesField (λ x. x) result (message_from size bytes.now at) }
     ensures within { IfOk result (λ x. x.1 ≤ length bytes.now) }
+    ensures fault { IfErr result (IsWithin (length bytes.now)) }
 {
     let size = usize::from(size);
     let next = skip(bytes, at, size)?;
@@ -119,8 +126,9 @@ fn command_at(
     at: usize,
 ) -> Result<(Line, usize), ScriptFault>
     requires { at ≤ length bytes.now }
-    ensures value { Gives (λ x. x) result (command_from hosts lanes bytes.now at) }
+    ensures value { GivesField (λ x. x) result (command_from hosts lanes bytes.now at) }
     ensures within { IfOk result (λ x. x.1 ≤ length bytes.now) }
+    ensures fault { IfErr result (IsWithin (length bytes.now)) }
 {
     let ((actor, lane), next) = commander_at(hosts, lanes, bytes, at)?;
     let (size, next) = u16_at(bytes, next)?;
@@ -133,8 +141,9 @@ fn command_at(
 #[tactic(auto, unfolding(crate::specs::Lines::load_from))]
 fn load_at(hosts: u8, lanes: u8, bytes: &[u8], at: usize) -> Result<(Line, usize), ScriptFault>
     requires { at ≤ length bytes.now }
-    ensures value { Gives (λ x. x) result (load_from hosts lanes bytes.now at) }
+    ensures value { GivesField (λ x. x) result (load_from hosts lanes bytes.now at) }
     ensures within { IfOk result (λ x. x.1 ≤ length bytes.now) }
+    ensures fault { IfErr result (IsWithin (length bytes.now)) }
 {
     let ((host, lane), next) = host_at(hosts, lanes, bytes, at)?;
     let (dpa, next) = u64_at(bytes, next)?;
@@ -147,8 +156,9 @@ fn load_at(hosts: u8, lanes: u8, bytes: &[u8], at: usize) -> Result<(Line, usize
 #[tactic(auto, unfolding(crate::specs::Lines::store_from))]
 fn store_at(hosts: u8, lanes: u8, bytes: &[u8], at: usize) -> Result<(Line, usize), ScriptFault>
     requires { at ≤ length bytes.now }
-    ensures value { Gives (λ x. x) result (store_from hosts lanes bytes.now at) }
+    ensures value { GivesField (λ x. x) result (store_from hosts lanes bytes.now at) }
     ensures within { IfOk result (λ x. x.1 ≤ length bytes.now) }
+    ensures fault { IfErr result (IsWithin (length bytes.now)) }
 {
     let ((host, lane), next) = host_at(hosts, lanes, bytes, at)?;
     let (dpa, next) = u64_at(bytes, next)?;
@@ -162,8 +172,9 @@ fn store_at(hosts: u8, lanes: u8, bytes: &[u8], at: usize) -> Result<(Line, usiz
 #[tactic(auto, unfolding(crate::specs::Lines::scrub_from))]
 fn scrub_at(bytes: &[u8], at: usize) -> Result<(Line, usize), ScriptFault>
     requires { at ≤ length bytes.now }
-    ensures value { Gives (λ x. x) result (scrub_from bytes.now at) }
+    ensures value { GivesField (λ x. x) result (scrub_from bytes.now at) }
     ensures within { IfOk result (λ x. x.1 ≤ length bytes.now) }
+    ensures fault { IfErr result (IsWithin (length bytes.now)) }
 {
     let (most, next) = u16_at(bytes, at)?;
     let actor = Actor::Sanitizer;
@@ -182,8 +193,9 @@ fn scrub_at(bytes: &[u8], at: usize) -> Result<(Line, usize), ScriptFault>
 #[tactic(auto, unfolding(crate::specs::Lines::kind_from))]
 pub fn kind_at(bytes: &[u8], at: usize) -> Result<(u8, usize), ScriptFault>
     requires { at ≤ length bytes.now }
-    ensures value { Gives (λ x. x) result (kind_from bytes.now at) }
+    ensures value { GivesField (λ x. x) result (kind_from bytes.now at) }
     ensures within { IfOk result (λ x. x.1 ≤ length bytes.now) }
+    ensures fault { IfErr result (IsWithin (length bytes.now)) }
 {
     let (kind, next) = u8_at(bytes, at)?;
     if kind > 5 {
@@ -202,8 +214,9 @@ pub fn line_at(
     at: usize,
 ) -> Result<(Line, usize), ScriptFault>
     requires { at ≤ length bytes.now }
-    ensures value { Gives (λ x. x) result (line_from kind hosts lanes bytes.now at) }
+    ensures value { GivesField (λ x. x) result (line_from kind hosts lanes bytes.now at) }
     ensures within { IfOk result (λ x. x.1 ≤ length bytes.now) }
+    ensures fault { IfErr result (IsWithin (length bytes.now)) }
 {
     match kind {
         1 => command_at(alloc, hosts, lanes, bytes, at),

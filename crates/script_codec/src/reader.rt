@@ -1,9 +1,10 @@
 //! A script line by line.
 
-ghost use Rattle.script_codec.specs.Fields.{Gives};
-ghost use Rattle.script_codec.specs.LineByLine.{IsBegun, IsNext, IsNextAt};
+ghost use Rattle.script_codec.specs.Fields.{GivesField};
+ghost use Rattle.script_codec.specs.LineByLine.{HasBegun, IsBegunAt, IsNext, IsNextAt};
 ghost use Rattle.script_codec.specs.Lines.{end_from};
-ghost use Rattle.std.specs.Prelude.{◌≡◌, ◌≤◌, [], length};
+ghost use Rattle.script_codec.specs.Moving.{IsWithin};
+ghost use Rattle.std.specs.Prelude.{◌≡◌, ◌≤◌, [], IfErr, IfOk, length};
 
 use crate::faults::ScriptFault;
 use crate::heads::{Head, head_at};
@@ -16,7 +17,7 @@ use std::marker::Model;
 const MOST_BYTES: usize = 16_777_216;
 
 /// The most lines of a script.
-const MOST_LINES: u32 = 65_536;
+pub(crate) const MOST_LINES: u32 = 65_536;
 
 /// What is still to come of a script: each line is read when it is asked for.
 ///
@@ -51,12 +52,9 @@ impl<'a> Reader<'a> {
     ///
     /// `TooLong` is tried first. `NoMemory` may come in place of any answer.
     pub fn begin(alloc: Global, bytes: &'a [u8]) -> Result<(Head, Reader<'a>), ScriptFault>
-        ensures { IsBegun bytes.now result }
+        ensures { HasBegun bytes.now result }
     {
-        if bytes.len() > MOST_BYTES {
-            return Err(ScriptFault::TooLong);
-        }
-        let (head, place) = head_at(alloc, bytes, 0)?;
+        let (head, place) = begin_at(alloc, bytes)?;
         let hosts = head.config.hosts();
         let lanes = head.lanes;
         let reader = Reader {
@@ -92,9 +90,23 @@ impl<'a> Reader<'a> {
     }
 }
 
+/// The head of the script that the bytes are, and the place behind it, or the first fault of the bytes, where it comes
+/// before the lines.
+pub(crate) fn begin_at(alloc: Global, bytes: &[u8]) -> Result<(Head, usize), ScriptFault>
+    ensures begun { IsBegunAt bytes.now result }
+    ensures within { IfOk result (λ begun. begun.1 ≤ length bytes.now) }
+{
+    if bytes.len() > MOST_BYTES {
+        return Err(ScriptFault::TooLong);
+    }
+    let (head, place) = head_at(alloc, bytes, 0)?;
+    Ok((head, place))
+}
+
 /// That nothing stands behind the end word.
 fn end_at(bytes: &[u8], at: usize) -> Result<(), ScriptFault>
-    ensures { Gives (λ _. []) result (end_from bytes.now at) }
+    ensures value { GivesField (λ _. []) result (end_from bytes.now at) }
+    ensures fault { IfErr result (IsWithin (length bytes.now)) }
 {
     if at < bytes.len() {
         return Err(ScriptFault::AfterEnd(at as u64));
@@ -104,7 +116,7 @@ fn end_at(bytes: &[u8], at: usize) -> Result<(), ScriptFault>
 
 /// The line that begins at the place and the place behind it, where at most so many may still come, or `None` where the
 /// script ends there.
-fn next_at(
+pub(crate) fn next_at(
     alloc: Global,
     left: u32,
     hosts: u8,
@@ -113,7 +125,8 @@ fn next_at(
     at: usize,
 ) -> Result<Option<(Line, usize)>, ScriptFault>
     requires { at ≤ length bytes.now }
-    ensures { IsNextAt left hosts lanes bytes.now at result }
+    ensures next { IsNextAt left hosts lanes bytes.now at result }
+    ensures fault { IfErr result (IsWithin (length bytes.now)) }
 {
     let (kind, next) = kind_at(bytes, at)?;
     if kind == 0 {

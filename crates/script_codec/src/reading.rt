@@ -1,7 +1,7 @@
 //! A script out of its bytes.
 
-ghost use Rattle.script_codec.specs.Fields.{Gives};
-ghost use Rattle.script_codec.specs.Reading.{IsRead, IsReadAs};
+ghost use Rattle.script_codec.specs.Fields.{GivesField};
+ghost use Rattle.script_codec.specs.Reading.{IsScriptRead, IsReadAs};
 ghost use Rattle.script_codec.specs.Scripts.{ReadsScript};
 ghost use Rattle.script_codec.specs.Writing.{IsWritable};
 ghost use Rattle.script_codec.specs.declared.scripts.Script.{Script};
@@ -16,7 +16,7 @@ use std::alloc::Global;
 /// Puts the lines that are still to come into the empty list.
 fn lines_of(reader: &mut Reader<'_>, lines: &mut Lines) -> Result<(), ScriptFault>
     requires { lines.old ≡ [] }
-    ensures value { Gives (λ _. lines.new) result reader.old.rest }
+    ensures value { GivesField (λ _. lines.new) result reader.old.rest }
     ensures few { length lines.new ≤ reader.old.left }
 {
     while let Some(line) = reader.next()? {
@@ -27,7 +27,7 @@ fn lines_of(reader: &mut Reader<'_>, lines: &mut Lines) -> Result<(), ScriptFaul
 
 /// The script that the bytes are, or their first fault.
 fn script_of(alloc: Global, bytes: &[u8]) -> Result<Script, ScriptFault>
-    ensures cases { IsRead bytes.now result }
+    ensures cases { IsScriptRead bytes.now result }
     ensures few { IfOk result (λ script. length script.lines ≤ 65536) }
     ensures short { OnOk result (length bytes.now ≤ 16777216) }
 {
@@ -47,7 +47,7 @@ fn script_of(alloc: Global, bytes: &[u8]) -> Result<Script, ScriptFault>
 /// The fields are read in order; a field that lacks bytes is `Truncated` whatever bytes it has. `NoMemory` may
 /// come in place of any answer.
 pub fn read(alloc: Global, bytes: &[u8]) -> Result<Script, ScriptFault>
-    ensures cases { IsRead bytes.now result }
+    ensures cases { IsScriptRead bytes.now result }
     ensures reads { IfOk result (λ script. ReadsScript bytes.now script) }
     ensures only { (script : Script) → ReadsScript bytes.now script → IsReadAs script result }
     ensures writable { IfOk result (λ script. IsWritable script) }

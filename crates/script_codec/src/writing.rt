@@ -5,8 +5,8 @@ ghost use Rattle.field_bytes.specs.Layouts.{Masked, Number, Raw, Reserved};
 ghost use Rattle.dcd_base.specs.Words.{flag_of};
 ghost use Rattle.journal_core.specs.declared.acts.Act.{Act};
 ghost use Rattle.script_codec.specs.Reading.{script_in};
-ghost use Rattle.script_codec.specs.Scripts.{act_fields, actor_byte, head_fields, lanes_fields, line_fields, magic, region_fields, script_fields, start_fields};
-ghost use Rattle.script_codec.specs.Writing.{Appends, IsWritable, WritesScript, has_spelling, script_bytes};
+ghost use Rattle.script_codec.specs.Scripts.{act_fields, actor_byte, script_head, lanes_fields, line_fields, magic, region_fields, script_fields, start_fields};
+ghost use Rattle.script_codec.specs.Writing.{AppendsLines, IsWritable, WritesScript, has_spelling, script_bytes};
 ghost use Rattle.std.specs.Int.{w8, w16, w32, w64};
 ghost use Rattle.std.specs.Prelude.{◌≡◌, ◌+◌, ◌*◌, ◌<◌, ◌≤◌, ◌++◌, [], ◌∷◌, IsTrue, OnErr, OnOk, flat_map, length, map};
 ghost use Rattle.std.specs.List.{All};
@@ -20,56 +20,56 @@ use journal_core::Act;
 use region_config::{Config, RegionSpec};
 
 fn put_u8(number: u8, out: &mut Bytes) -> Result<(), NoMemory>
-    ensures { OnOk result (Appends out.old out.new (Number w8 number ∷ [])) }
+    ensures { OnOk result (AppendsLines out.old out.new (Number w8 number ∷ [])) }
 {
     add_u8(out, number)
 }
 
 fn put_u16(number: u16, out: &mut Bytes) -> Result<(), NoMemory>
-    ensures { OnOk result (Appends out.old out.new (Number w16 number ∷ [])) }
+    ensures { OnOk result (AppendsLines out.old out.new (Number w16 number ∷ [])) }
 {
     add_u16(out, number)
 }
 
 fn put_u32(number: u32, out: &mut Bytes) -> Result<(), NoMemory>
-    ensures { OnOk result (Appends out.old out.new (Number w32 number ∷ [])) }
+    ensures { OnOk result (AppendsLines out.old out.new (Number w32 number ∷ [])) }
 {
     add_u32(out, number)
 }
 
 fn put_u64(number: u64, out: &mut Bytes) -> Result<(), NoMemory>
-    ensures { OnOk result (Appends out.old out.new (Number w64 number ∷ [])) }
+    ensures { OnOk result (AppendsLines out.old out.new (Number w64 number ∷ [])) }
 {
     add_u64(out, number)
 }
 
 /// What every script begins with.
 fn put_magic(out: &mut Bytes) -> Result<(), NoMemory>
-    ensures { OnOk result (Appends out.old out.new (Raw 4 magic ∷ [])) }
+    ensures { OnOk result (AppendsLines out.old out.new (Raw 4 magic ∷ [])) }
 {
     out.extend_from_slice(b"DCDS".as_slice())
 }
 
 fn put_2_reserved(out: &mut Bytes) -> Result<(), NoMemory>
-    ensures { OnOk result (Appends out.old out.new (Reserved 2 ∷ [])) }
+    ensures { OnOk result (AppendsLines out.old out.new (Reserved 2 ∷ [])) }
 {
     out.extend_from_slice([0; 2].as_slice())
 }
 
 fn put_3_reserved(out: &mut Bytes) -> Result<(), NoMemory>
-    ensures { OnOk result (Appends out.old out.new (Reserved 3 ∷ [])) }
+    ensures { OnOk result (AppendsLines out.old out.new (Reserved 3 ∷ [])) }
 {
     out.extend_from_slice([0; 3].as_slice())
 }
 
 fn put_5_reserved(out: &mut Bytes) -> Result<(), NoMemory>
-    ensures { OnOk result (Appends out.old out.new (Reserved 5 ∷ [])) }
+    ensures { OnOk result (AppendsLines out.old out.new (Reserved 5 ∷ [])) }
 {
     out.extend_from_slice([0; 5].as_slice())
 }
 
 fn put_6_reserved(out: &mut Bytes) -> Result<(), NoMemory>
-    ensures { OnOk result (Appends out.old out.new (Reserved 6 ∷ [])) }
+    ensures { OnOk result (AppendsLines out.old out.new (Reserved 6 ∷ [])) }
 {
     out.extend_from_slice([0; 6].as_slice())
 }
@@ -87,13 +87,13 @@ fn flags_of(sanitize: bool, shareable: bool) -> u8
 }
 
 fn put_flags(sanitize: bool, shareable: bool, out: &mut Bytes) -> Result<(), NoMemory>
-    ensures { OnOk result (Appends out.old out.new (Masked 3 (flag_of sanitize + 2 * flag_of shareable) ∷ [])) }
+    ensures { OnOk result (AppendsLines out.old out.new (Masked 3 (flag_of sanitize + 2 * flag_of shareable) ∷ [])) }
 {
     out.push(flags_of(sanitize, shareable))
 }
 
 fn put_region(region: &RegionSpec, out: &mut Bytes) -> Result<(), NoMemory>
-    ensures { OnOk result (Appends out.old out.new (region_fields region.now)) }
+    ensures { OnOk result (AppendsLines out.old out.new (region_fields region.now)) }
 {
     put_u64(region.decode_units, out)?;
     put_u64(region.length, out)?;
@@ -106,7 +106,7 @@ fn put_region(region: &RegionSpec, out: &mut Bytes) -> Result<(), NoMemory>
 
 /// The lanes, which only version 2 tells, and the reserved bytes behind them.
 fn put_lanes(version: u16, lanes: u8, out: &mut Bytes) -> Result<(), NoMemory>
-    ensures { OnOk result (Appends out.old out.new (lanes_fields version lanes)) }
+    ensures { OnOk result (AppendsLines out.old out.new (lanes_fields version lanes)) }
 {
     if version == 2 {
         put_told_lanes(lanes, out)
@@ -116,7 +116,7 @@ fn put_lanes(version: u16, lanes: u8, out: &mut Bytes) -> Result<(), NoMemory>
 }
 
 fn put_told_lanes(lanes: u8, out: &mut Bytes) -> Result<(), NoMemory>
-    ensures { OnOk result (Appends out.old out.new (Number w8 lanes ∷ Reserved 5 ∷ [])) }
+    ensures { OnOk result (AppendsLines out.old out.new (Number w8 lanes ∷ Reserved 5 ∷ [])) }
 {
     put_u8(lanes, out)?;
     put_5_reserved(out)
@@ -124,7 +124,7 @@ fn put_told_lanes(lanes: u8, out: &mut Bytes) -> Result<(), NoMemory>
 
 /// The first 16 bytes.
 fn put_start(script: &Script, out: &mut Bytes) -> Result<(), NoMemory>
-    ensures { OnOk result (Appends out.old out.new (start_fields script.now)) }
+    ensures { OnOk result (AppendsLines out.old out.new (start_fields script.now)) }
 {
     put_magic(out)?;
     put_u16(script.version, out)?;
@@ -135,7 +135,7 @@ fn put_start(script: &Script, out: &mut Bytes) -> Result<(), NoMemory>
 }
 
 fn put_regions(config: &Config, out: &mut Bytes) -> Result<(), NoMemory>
-    ensures { OnOk result (Appends out.old out.new (flat_map region_fields config.now.regions)) }
+    ensures { OnOk result (AppendsLines out.old out.new (flat_map region_fields config.now.regions)) }
 {
     for region in 0..config.regions() {
         put_region(&config.region(RegionId(region)), out)?;
@@ -146,7 +146,7 @@ fn put_regions(config: &Config, out: &mut Bytes) -> Result<(), NoMemory>
 /// The bases, host by host, within a host region by region.
 fn put_bases(config: &Config, out: &mut Bytes) -> Result<(), NoMemory>
     requires { length config.now.bases ≡ config.now.hosts * length config.now.regions }
-    ensures { OnOk result (Appends out.old out.new (map (λ base. Number w64 base) config.now.bases)) }
+    ensures { OnOk result (AppendsLines out.old out.new (map (λ base. Number w64 base) config.now.bases)) }
 {
     for host in 0..config.hosts() {
         for region in 0..config.regions() {
@@ -158,7 +158,7 @@ fn put_bases(config: &Config, out: &mut Bytes) -> Result<(), NoMemory>
 
 fn put_head(script: &Script, out: &mut Bytes) -> Result<(), NoMemory>
     requires { length script.now.config.bases ≡ script.now.config.hosts * length script.now.config.regions }
-    ensures { OnOk result (Appends out.old out.new (head_fields script.now)) }
+    ensures { OnOk result (AppendsLines out.old out.new (script_head script.now)) }
 {
     put_start(script, out)?;
     put_regions(&script.config, out)?;
@@ -179,7 +179,7 @@ fn byte_of(actor: &Actor, lane: u8) -> u8
 
 fn put_request(request: &Request, out: &mut Bytes) -> Result<(), NoMemory>
     requires { length request.now.payload ≤ 65523 }
-    ensures { OnOk result (Appends out.old out.new (request_fields request.now)) }
+    ensures { OnOk result (AppendsLines out.old out.new (request_fields request.now)) }
 {
     law_request_is_spelled(request);
     encode_request(request, out)
@@ -188,7 +188,7 @@ fn put_request(request: &Request, out: &mut Bytes) -> Result<(), NoMemory>
 fn put_command(actor: &Actor, lane: u8, request: &Request, out: &mut Bytes) -> Result<(), NoMemory>
     requires byte { actor_byte actor.now lane < 256 }
     requires short { length request.now.payload ≤ 65523 }
-    ensures { OnOk result (Appends out.old out.new (act_fields actor.now lane (Act.Command request.now))) }
+    ensures { OnOk result (AppendsLines out.old out.new (act_fields actor.now lane (Act.Command request.now))) }
 {
     put_u8(1, out)?;
     put_u8(byte_of(actor, lane), out)?;
@@ -198,7 +198,7 @@ fn put_command(actor: &Actor, lane: u8, request: &Request, out: &mut Bytes) -> R
 
 fn put_load(actor: &Actor, lane: u8, dpa: u64, out: &mut Bytes) -> Result<(), NoMemory>
     requires { actor_byte actor.now lane < 256 }
-    ensures { OnOk result (Appends out.old out.new (act_fields actor.now lane (Act.Load dpa))) }
+    ensures { OnOk result (AppendsLines out.old out.new (act_fields actor.now lane (Act.Load dpa))) }
 {
     put_u8(2, out)?;
     put_u8(byte_of(actor, lane), out)?;
@@ -207,7 +207,7 @@ fn put_load(actor: &Actor, lane: u8, dpa: u64, out: &mut Bytes) -> Result<(), No
 
 fn put_store(actor: &Actor, lane: u8, dpa: u64, value: u64, out: &mut Bytes) -> Result<(), NoMemory>
     requires { actor_byte actor.now lane < 256 }
-    ensures { OnOk result (Appends out.old out.new (act_fields actor.now lane (Act.Store dpa value))) }
+    ensures { OnOk result (AppendsLines out.old out.new (act_fields actor.now lane (Act.Store dpa value))) }
 {
     put_u8(3, out)?;
     put_u8(byte_of(actor, lane), out)?;
@@ -216,7 +216,7 @@ fn put_store(actor: &Actor, lane: u8, dpa: u64, value: u64, out: &mut Bytes) -> 
 }
 
 fn put_scrub(actor: &Actor, lane: u8, most: u16, out: &mut Bytes) -> Result<(), NoMemory>
-    ensures { OnOk result (Appends out.old out.new (act_fields actor.now lane (Act.Scrub most))) }
+    ensures { OnOk result (AppendsLines out.old out.new (act_fields actor.now lane (Act.Scrub most))) }
 {
     put_u8(4, out)?;
     put_u16(most, out)
@@ -224,7 +224,7 @@ fn put_scrub(actor: &Actor, lane: u8, most: u16, out: &mut Bytes) -> Result<(), 
 
 fn put_line(line: &Line, out: &mut Bytes) -> Result<(), NoMemory>
     requires { IsTrue (has_spelling line.now) }
-    ensures { OnOk result (Appends out.old out.new (line_fields line.now)) }
+    ensures { OnOk result (AppendsLines out.old out.new (line_fields line.now)) }
 {
     match line {
         Line::Do { actor, lane, act } => match act {
@@ -239,7 +239,7 @@ fn put_line(line: &Line, out: &mut Bytes) -> Result<(), NoMemory>
 
 fn put_lines(lines: &[Line], out: &mut Bytes) -> Result<(), NoMemory>
     requires { All (λ line. IsTrue (has_spelling line)) lines.now }
-    ensures { OnOk result (Appends out.old out.new (flat_map line_fields lines.now)) }
+    ensures { OnOk result (AppendsLines out.old out.new (flat_map line_fields lines.now)) }
 {
     for line in lines {
         put_line(line, out)?;
@@ -249,7 +249,7 @@ fn put_lines(lines: &[Line], out: &mut Bytes) -> Result<(), NoMemory>
 
 fn put_script(script: &Script, out: &mut Bytes) -> Result<(), NoMemory>
     requires { IsWritable script.now }
-    ensures { OnOk result (Appends out.old out.new (script_fields script.now)) }
+    ensures { OnOk result (AppendsLines out.old out.new (script_fields script.now)) }
 {
     put_head(script, out)?;
     put_lines(script.lines.as_slice(), out)?;

@@ -6,7 +6,7 @@ use Rattle.std.proofs.lemmas.Bool.{lt-ltb}
 use Rattle.std.proofs.lemmas.List.Sums.{sum_by-append}
 use Rattle.script_codec.specs.declared.script_line.Line.{Line}
 use Rattle.script_codec.specs.Covering.{is_line}
-use Rattle.script_gen.specs.Drawing.{after, use_by, round_by}
+use Rattle.script_gen.specs.Drawing.{draws_after, use_by, round_by}
 use Rattle.script_gen.specs.Generated.{access_lines, take_line, clear_line, offer_line, give_back_line, offers_lines, give_back_lines, end_lines, generated_lines}
 use Rattle.script_gen.proofs.Made.{lines_made}
 use Rattle.script_gen.proofs.Stepping.{flat_map_more}
@@ -27,9 +27,9 @@ rounds_add size adds f each a (suc n) sizes =
 -- all rounds, of which the last is shorter
 all_add : (size : List Line → ℕ) → Adds size → (seed each last : ℕ) → ((k x : ℕ) → nat_lt k 255 ≡ true → size (round_by k x) ≡ each) → ((x : ℕ) → size (round_by 255 x) ≡ last) → size (generated_lines seed) ≡ each * 255 + last
 all_add size adds seed each last most ends =
-    let f : ℕ → List Line = λ k. round_by k (after seed (128 * k)) in
-    let front = rounds_add size adds f each 0 255 (λ k below. most k (after seed (128 * k)) (lt-ltb k 255 (omega (arith, below)))) in
-    let end = ends (after seed (128 * 255)) in
+    let f : ℕ → List Line = λ k. round_by k (draws_after seed (128 * k)) in
+    let front = rounds_add size adds f each 0 255 (λ k below. most k (draws_after seed (128 * k)) (lt-ltb k 255 (omega (arith, below)))) in
+    let end = ends (draws_after seed (128 * 255)) in
     ap size (lines_made seed) ∙ ap size (flat_map_more f 255) ∙ adds.both (flat_map f (range_with_len 0 255)) (f 255) ∙ ap (λ m. m + size (f 255)) front ∙ ap (λ m. each * 255 + m) end
 
 lengths_add : Adds (λ xs. length xs)

@@ -8,10 +8,10 @@ use Rattle.std.specs.List.{list_all, range_with_len}
 use Rattle.std.proofs.lemmas.List.Folds.{list_all-append}
 use Rattle.field_bytes.specs.Layouts.{Field, Number, spell, spelling}
 use Rattle.script_codec.specs.declared.script_line.Line.{Line}
-use Rattle.script_codec.specs.Scripts.{head_fields, is_sound_line, line_fields}
+use Rattle.script_codec.specs.Scripts.{script_head, is_sound_line, line_fields}
 use Rattle.script_codec.specs.Writing.{IsWritable, has_short_message, script_bytes}
 use Rattle.script_codec.proofs.Writable.{both_first, both_second}
-use Rattle.script_gen.specs.Drawing.{after, access_by, accesses_by, use_by, uses_by, round_by}
+use Rattle.script_gen.specs.Drawing.{draws_after, access_by, accesses_by, use_by, uses_by, round_by}
 use Rattle.script_gen.specs.Generated.{access_lines, take_line, clear_line, offer_line, give_back_line, offers_lines, give_back_lines, end_lines, next_draw, generated, generated_lines}
 use Rattle.script_gen.proofs.Configured.{faultless}
 use Rattle.script_gen.proofs.Counting.{length_is}
@@ -49,17 +49,17 @@ use_good : (k h x : ℕ) → h < 4 → list_all is_good (use_by k h x) ≡ true
 unfolding use_by
 use_good k h x less =
     list_all-append is_good (take_line k h ∷ clear_line k h ∷ []) (accesses_by k h x 16)
-    ∙ rw (front_good k h less, all_good (λ i. access_by k h (after x (2 * i))) 0 16 (λ i below. access_good k h (next_draw (after x (2 * i))) (next_draw (next_draw (after x (2 * i)))) less)) refl
+    ∙ rw (front_good k h less, all_good (λ i. access_by k h (draws_after x (2 * i))) 0 16 (λ i below. access_good k h (next_draw (draws_after x (2 * i))) (next_draw (next_draw (draws_after x (2 * i)))) less)) refl
 
 round_good : (k x : ℕ) → list_all is_good (round_by k x) ≡ true
 unfolding round_by
 round_good k x =
     list_all-append is_good (offers_lines k ++ Line.Mark ∷ uses_by k x 4) (Line.Mark ∷ end_lines k)
-    ∙ rw (list_all-append is_good (offers_lines k) (Line.Mark ∷ uses_by k x 4), offers_good k, all_good (λ h. use_by k h (after x (32 * h))) 0 4 (λ h below. use_good k h (after x (32 * h)) (omega (arith, below))), end_good k) refl
+    ∙ rw (list_all-append is_good (offers_lines k) (Line.Mark ∷ uses_by k x 4), offers_good k, all_good (λ h. use_by k h (draws_after x (32 * h))) 0 4 (λ h below. use_good k h (draws_after x (32 * h)) (omega (arith, below))), end_good k) refl
 
 lines_good : (seed : ℕ) → list_all is_good (generated_lines seed) ≡ true
 lines_good seed =
-    ap (list_all is_good) (lines_made seed) ∙ all_good (λ k. round_by k (after seed (128 * k))) 0 256 (λ k below. round_good k (after seed (128 * k)))
+    ap (list_all is_good) (lines_made seed) ∙ all_good (λ k. round_by k (draws_after seed (128 * k))) 0 256 (λ k below. round_good k (draws_after seed (128 * k)))
 
 -- ---- what good lines are
 is_sound : (line : Line) → is_good line ≡ true → is_sound_line 4 1 line ≡ true
@@ -87,11 +87,14 @@ have_few_bytes (line ∷ lines) good =
 pub sound_lines : (seed : ℕ) → list_all (is_sound_line 4 1) (generated_lines seed) ≡ true
 sound_lines seed = each_is (is_sound_line 4 1) is_sound (generated_lines seed) (lines_good seed)
 
+pub sound_round : (k x : ℕ) → list_all (is_sound_line 4 1) (round_by k x) ≡ true
+sound_round k x = each_is (is_sound_line 4 1) is_sound (round_by k x) (round_good k x)
+
 pub short_messages : (seed : ℕ) → list_all has_short_message (generated_lines seed) ≡ true
 short_messages seed = each_is has_short_message is_short (generated_lines seed) (lines_good seed)
 
 -- ---- the whole script
-length_of_head : (seed : ℕ) → length (spelling (head_fields (generated seed))) ≡ 88
+length_of_head : (seed : ℕ) → length (spelling (script_head (generated seed))) ≡ 88
 unfolding generated
 length_of_head seed = refl
 
@@ -104,7 +107,7 @@ joined xs ys zs =
 few_bytes : (seed : ℕ) → length (script_bytes (generated seed)) ≤ 16777216
 unfolding script_bytes generated
 few_bytes seed =
-    let parts = joined (head_fields (generated seed)) (flat_map line_fields (generated_lines seed)) (Number w8 0 ∷ []) in
+    let parts = joined (script_head (generated seed)) (flat_map line_fields (generated_lines seed)) (Number w8 0 ∷ []) in
     let head = length_of_head seed in
     let lines = have_few_bytes (generated_lines seed) (lines_good seed) in
     omega (arith, parts, head, lines, length_is seed)

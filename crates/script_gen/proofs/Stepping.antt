@@ -4,7 +4,7 @@ use Rattle.std.specs.Prelude.{flat_map}
 use Rattle.std.specs.List.{range_with_len}
 use Rattle.std.proofs.lemmas.List.FromFn.{map-range_with_len_more}
 use Rattle.std.proofs.lemmas.Grind.{flat_map-append}
-use Rattle.script_gen.specs.Drawing.{after}
+use Rattle.script_gen.specs.Drawing.{draws_after}
 use Rattle.script_gen.specs.Generated.{next_draw}
 
 -- one more number at the end of a range
@@ -31,13 +31,13 @@ puts_one_more f n before old new x so_far is put =
     put ∙ ap (λ front. front ++ x ∷ []) so_far ∙ ap (λ y. (before ++ map f (range_with_len 0 n)) ++ y ∷ []) is ∙ append_assoc before (map f (range_with_len 0 n)) (f n ∷ [])
     ∙ ap (λ made. before ++ made) (sym (map-range_with_len_more f 0 n n (zero-add n)))
 
-pub after_parts : (x n m total : ℕ) → total ≡ n + m → after x total ≡ after (after x n) m
-unfolding after
-after_parts x zero m total is = let same : total ≡ m = omega (arith, is) in ap (after x) same
+pub after_parts : (x n m total : ℕ) → total ≡ n + m → draws_after x total ≡ draws_after (draws_after x n) m
+unfolding draws_after
+after_parts x zero m total is = let same : total ≡ m = omega (arith, is) in ap (draws_after x) same
 after_parts x (suc n) m zero is = absurd (omega (arith, is))
 after_parts x (suc n) m (suc total) is = after_parts (next_draw x) n m total (omega (arith, is))
 
 -- a loop that takes so many draws each time
-pub draws_more : (x each n : ℕ) (old new : ℕ) → old ≡ after x (each * n) → new ≡ after old each → new ≡ after x (each * (n + 1))
+pub draws_more : (x each n : ℕ) (old new : ℕ) → old ≡ draws_after x (each * n) → new ≡ draws_after old each → new ≡ draws_after x (each * (n + 1))
 draws_more x each n old new so_far drawn =
-    drawn ∙ ap (λ state. after state each) so_far ∙ sym (after_parts x (each * n) each (each * (n + 1)) (grind arith))
+    drawn ∙ ap (λ state. draws_after state each) so_far ∙ sym (after_parts x (each * n) each (each * (n + 1)) (grind arith))

@@ -1,7 +1,7 @@
 //! The lines that are commands.
 
-ghost use Rattle.fm_payloads.specs.ManagerPayloads.{CountsFit as ManagerCountsFit, manager_opcode};
-ghost use Rattle.host_payloads.specs.HostPayloads.{CountsFit, host_opcode, lists_untagged};
+ghost use Rattle.fm_payloads.specs.ManagerPayloads.{ManagerCountsFit, manager_opcode};
+ghost use Rattle.host_payloads.specs.HostPayloads.{HostCountsFit, host_opcode, lists_untagged};
 ghost use Rattle.script_gen.specs.Generated.{clear_line, give_back_line, host_sends, manager_sends, offer_line, take_line};
 ghost use Rattle.std.specs.Prelude.{◌≡◌, ◌<◌, IfOk, IsTrue};
 
@@ -36,7 +36,7 @@ fn host_line(
     request: &HostRequest,
 ) -> Result<Line, NoMemory>
     requires opcode { opcode ≡ host_opcode request.now }
-    requires counts { CountsFit request.now }
+    requires counts { HostCountsFit request.now }
     requires untagged { IsTrue (lists_untagged request.now) }
     ensures { IfOk result (λ line. line ≡ host_sends host request.now) }
 {

@@ -26,6 +26,13 @@ impl Draws {
         Draws { state: seed }
     }
 
+    /// A generator of the same draws.
+    pub fn copy(&self) -> Draws
+        ensures { result ≡ self.now }
+    {
+        Draws { state: self.state }
+    }
+
     /// The next draw, with Knuth's multiplier and increment for MMIX.
     #[tactic(auto, unfolding(crate::specs::Generated::next_draw))]
     pub fn draw(&mut self) -> u64

@@ -2,9 +2,10 @@
 //!
 //! Four hosts share one region. In each of 256 rounds the Fabric Manager offers each of them an extent, and each
 //! takes it, stores and loads 16 words of it, and gives it back; the sanitizer zeroes what was given back.
-//! `generate` makes the lines, and the seed alone says which words and which values.
+//! `Rounds` makes the lines round by round, `generate` all at once; the seed alone says which words and which values.
 #![tactic(auto)]
 
+mod by_rounds;
 mod commands;
 mod draws;
 mod generating;
@@ -12,4 +13,5 @@ mod rounds;
 mod settings;
 mod uses;
 
+pub use by_rounds::Rounds;
 pub use generating::generate;

@@ -1,7 +1,7 @@
 //! The lines of a round.
 
 ghost use Rattle.script_codec.specs.declared.script_line.Line.{Line};
-ghost use Rattle.script_gen.specs.Drawing.{after, round_by, rounds_by};
+ghost use Rattle.script_gen.specs.Drawing.{draws_after, round_by, rounds_by};
 ghost use Rattle.script_gen.specs.Generated.{end_lines, give_back_lines, offers_lines};
 ghost use Rattle.std.specs.Prelude.{◌≡◌, ◌++◌, [], ◌∷◌, ◌<◌, OnOk};
 
@@ -14,7 +14,7 @@ use journal_core::Act;
 use script_codec::{Line, Lines};
 
 /// How many rounds there are.
-const ROUNDS: u16 = 256;
+pub const ROUNDS: u16 = 256;
 
 /// The round after which nothing is given back.
 const LAST: u16 = 255;
@@ -79,11 +79,12 @@ fn put_end_or_none(round: u16, lines: &mut Lines) -> Result<(), NoMemory>
     }
 }
 
+/// A round.
 #[tactic(auto, unfolding(crate::specs::Drawing::round_by))]
-fn put_round(round: u16, draws: &mut Draws, lines: &mut Lines) -> Result<(), NoMemory>
+pub fn put_round(round: u16, draws: &mut Draws, lines: &mut Lines) -> Result<(), NoMemory>
     requires { round < 256 }
     ensures lines { OnOk result (lines.new ≡ lines.old ++ round_by round draws.old) }
-    ensures draws { OnOk result (draws.new ≡ after draws.old 128) }
+    ensures draws { OnOk result (draws.new ≡ draws_after draws.old 128) }
 {
     put_offers(round, lines)?;
     end_phase(lines)?;

@@ -2,7 +2,7 @@
 
 ghost use Rattle.dcd_base.specs.declared.steps.Actor.{Actor};
 ghost use Rattle.script_codec.specs.declared.script_line.Line.{Line};
-ghost use Rattle.script_gen.specs.Drawing.{access_by, accesses_by, after, use_by, uses_by};
+ghost use Rattle.script_gen.specs.Drawing.{access_by, accesses_by, draws_after, use_by, uses_by};
 ghost use Rattle.script_gen.specs.Generated.{place};
 ghost use Rattle.std.specs.Prelude.{◌≡◌, ◌++◌, ◌<◌, OnOk};
 
@@ -39,7 +39,7 @@ fn host_does(host: HostId, act: Act) -> Line
 }
 
 /// A store and a load of one word: one draw says which word, the next which value.
-#[tactic(auto, unfolding(crate::specs::Generated::access_lines, crate::specs::Drawing::after))]
+#[tactic(auto, unfolding(crate::specs::Generated::access_lines, crate::specs::Drawing::draws_after))]
 fn put_access(
     round: u16,
     host: HostId,
@@ -48,7 +48,7 @@ fn put_access(
 ) -> Result<(), NoMemory>
     requires { host < 4 }
     ensures lines { OnOk result (lines.new ≡ lines.old ++ access_by round host draws.old) }
-    ensures draws { OnOk result (draws.new ≡ after draws.old 2) }
+    ensures draws { OnOk result (draws.new ≡ draws_after draws.old 2) }
 {
     let dpa = place(round, host, draws.draw());
     let value = draws.draw();
@@ -64,7 +64,7 @@ fn put_accesses(
 ) -> Result<(), NoMemory>
     requires { host < 4 }
     ensures lines { OnOk result (lines.new ≡ lines.old ++ accesses_by round host draws.old 16) }
-    ensures draws { OnOk result (draws.new ≡ after draws.old 32) }
+    ensures draws { OnOk result (draws.new ≡ draws_after draws.old 32) }
 {
     for word in 0..WORDS {
         put_access(round, host, draws, lines)?;
@@ -78,7 +78,7 @@ fn put_use(round: u16, host: HostId, draws: &mut Draws, lines: &mut Lines) -> Re
     requires host { host < 4 }
     requires round { round < 256 }
     ensures lines { OnOk result (lines.new ≡ lines.old ++ use_by round host draws.old) }
-    ensures draws { OnOk result (draws.new ≡ after draws.old 32) }
+    ensures draws { OnOk result (draws.new ≡ draws_after draws.old 32) }
 {
     let alloc = lines.allocator();
     lines.push(take(alloc, round, host)?)?;
@@ -90,7 +90,7 @@ fn put_use(round: u16, host: HostId, draws: &mut Draws, lines: &mut Lines) -> Re
 pub fn put_uses(round: u16, draws: &mut Draws, lines: &mut Lines) -> Result<(), NoMemory>
     requires { round < 256 }
     ensures lines { OnOk result (lines.new ≡ lines.old ++ uses_by round draws.old 4) }
-    ensures draws { OnOk result (draws.new ≡ after draws.old 128) }
+    ensures draws { OnOk result (draws.new ≡ draws_after draws.old 128) }
 {
     for host in 0..HOSTS {
         put_use(round, HostId(host), draws, lines)?;

@@ -1,17 +1,18 @@
 -- What words ask for is what is looked at in them, and a run by it is what is to be written.
-use Rattle.std.proofs.Common.{◌≡◌, ℕ, Bool, true, false, ◌&&◌, leb, List, [], ◌∷◌, ◌++◌, length, take, drop, Option, Some, None, refl, sym, ap, subst, ◌∙◌, inl, inr, arith}
+use Rattle.std.proofs.Common.{◌≡◌, ℕ, Bool, true, false, List, [], ◌∷◌, ◌++◌, length, take, drop, Option, Some, None, refl, sym, ap, subst, ◌∙◌, inl, inr, arith}
 use Rattle.std.specs.Prelude.{codes, if◌then◌else◌}
 use Rattle.std.specs.Cmp.Lexicographic.{same_text}
-use Rattle.std.specs.List.{list_all}
 use Rattle.std.proofs.Math.Seq.{drop-append_seam, take-append_seam}
-use Rattle.std.proofs.lemmas.Bool.{and_from, and_parts, false≢true, le-leb, leb-true}
+use Rattle.std.proofs.lemmas.Bool.{false≢true}
 use Rattle.std.proofs.lemmas.Cmp.{nat_list_eq_equiv}
 use Rattle.std.proofs.lemmas.List.{take-append-drop}
 use Rattle.dcd_base.specs.Streams.{HasRisen, IsAtEnd}
 use Rattle.script_runner.specs.Choosing.{EndsGenerated, IsBegunBy, IsSoundBy, IsWrittenBy}
-use Rattle.script_runner.specs.Planning.{IsBegun, IsSound, IsTakenWhole, IsWritten}
+use Rattle.script_runner.specs.Planning.{IsBegun, NothingFails, IsTakenWhole, IsWritten}
 use Rattle.script_runner.specs.Statuses.{IfWhole, OnDone, OnNothing, OnRead, OnReadFault, OnWriteFault, UnlessFinished}
-use Rattle.script_runner.specs.Words.{Accepts, AreRefused, IsChoice, IsNumber, choice_of, is_digit, is_number, number_in, same_word}
+use Rattle.edge_io.specs.Words.{IsNumber, is_number, number_in}
+use Rattle.edge_io.proofs.WordNumbers.{is_a_number, number_is}
+use Rattle.script_runner.specs.Words.{Accepts, AreRefused, IsChoice, choice_of, most_digits, same_word}
 use Rattle.script_runner.specs.declared.status.Status.{Status}
 use Rattle.script_runner.specs.declared.words.Choice.{Choice}
 use Rattle.script_runner.proofs.Endings.{lifted}
@@ -23,18 +24,6 @@ same_is w v same = same_text w v (sym same)
 
 is_same : (w v : List ℕ) → w ≡ v → same_word w v ≡ true
 is_same w v is = subst (λ x. same_word w x ≡ true) is (nat_list_eq_equiv.refl w)
-
--- digits that write a number, and none others
-number_is : (digits : List ℕ) → is_number digits ≡ true → IsNumber digits (number_in digits)
-number_is digits good =
-    let some = and_parts (leb 1 (length digits)) (leb (length digits) 18 && list_all is_digit digits) good in
-    let few = and_parts (leb (length digits) 18) (list_all is_digit digits) some.1 in
-    record { some = leb-true 1 (length digits) some.0; few = leb-true (length digits) 18 few.0; each = few.1; value = refl }
-
-is_a_number : (digits : List ℕ) (n : ℕ) → IsNumber digits n → is_number digits ≡ true
-is_a_number digits n is =
-    and_from (leb 1 (length digits)) (leb (length digits) 18 && list_all is_digit digits) (le-leb 1 (length digits) is.some)
-    (and_from (leb (length digits) 18) (list_all is_digit digits) (le-leb (length digits) 18 is.few) is.each)
 
 -- a word begins with the other
 begins : (w : List ℕ) → take 6 w ≡ codes "--gen=" → w ≡ codes "--gen=" ++ drop 6 w
@@ -53,31 +42,31 @@ count_differs : (xs ys : List (List ℕ)) → (length xs ≡ length ys → ⊥) 
 count_differs xs ys other is = other (ap length is)
 
 -- one word
-one_refused : (w : List ℕ) → ((digits : List ℕ) (n : ℕ) → IsNumber digits n → w ≡ codes "--gen=" ++ digits → ⊥) → AreRefused (w ∷ [])
+one_refused : (w : List ℕ) → ((digits : List ℕ) (n : ℕ) → IsNumber most_digits digits n → w ≡ codes "--gen=" ++ digits → ⊥) → AreRefused (w ∷ [])
 one_refused w other None is = count_differs (w ∷ []) [] (λ e. omega (arith, e)) is
 one_refused w other (Some n) (digits, number, inl is) = count_differs (w ∷ []) (codes "--gen" ∷ digits ∷ []) (λ e. omega (arith, e)) is
 one_refused w other (Some n) (digits, number, inr is) = other digits n number (ap head_of is)
 
-one_by : (w : List ℕ) (front number : Bool) → same_word (take 6 w) (codes "--gen=") ≡ front → is_number (drop 6 w) ≡ number
+one_by : (w : List ℕ) (front number : Bool) → same_word (take 6 w) (codes "--gen=") ≡ front → is_number most_digits (drop 6 w) ≡ number
     → IsChoice (w ∷ []) (if front then (if number then Some (Choice.Generated (number_in (drop 6 w))) else None) else None)
-one_by w true true front number = (drop 6 w, number_is (drop 6 w) number, inr (ap (λ x. x ∷ []) (begins w (same_is (take 6 w) (codes "--gen=") front))))
+one_by w true true front number = (drop 6 w, number_is most_digits (drop 6 w) number, inr (ap (λ x. x ∷ []) (begins w (same_is (take 6 w) (codes "--gen=") front))))
 one_by w true false front number = one_refused w (λ digits n is whole.
     let rest = ap (drop 6) whole ∙ drop-append_seam (codes "--gen=") digits in
-    false≢true (sym number ∙ ap is_number rest ∙ is_a_number digits n is))
+    false≢true (sym number ∙ ap (is_number most_digits) rest ∙ is_a_number most_digits digits n is))
 one_by w false number front numbered = one_refused w (λ digits n is whole.
     let begun = ap (take 6) whole ∙ take-append_seam (codes "--gen=") digits in
     false≢true (sym front ∙ is_same (take 6 w) (codes "--gen=") begun))
 
 -- two words
-two_refused : (w d : List ℕ) → ((n : ℕ) → IsNumber d n → w ≡ codes "--gen" → ⊥) → AreRefused (w ∷ d ∷ [])
+two_refused : (w d : List ℕ) → ((n : ℕ) → IsNumber most_digits d n → w ≡ codes "--gen" → ⊥) → AreRefused (w ∷ d ∷ [])
 two_refused w d other None is = count_differs (w ∷ d ∷ []) [] (λ e. omega (arith, e)) is
-two_refused w d other (Some n) (digits, number, inl is) = other n (subst (λ x. IsNumber x n) (sym (ap second_of is)) number) (ap head_of is)
+two_refused w d other (Some n) (digits, number, inl is) = other n (subst (λ x. IsNumber most_digits x n) (sym (ap second_of is)) number) (ap head_of is)
 two_refused w d other (Some n) (digits, number, inr is) = count_differs (w ∷ d ∷ []) ((codes "--gen=" ++ digits) ∷ []) (λ e. omega (arith, e)) is
 
-two_by : (w d : List ℕ) (front number : Bool) → same_word w (codes "--gen") ≡ front → is_number d ≡ number
+two_by : (w d : List ℕ) (front number : Bool) → same_word w (codes "--gen") ≡ front → is_number most_digits d ≡ number
     → IsChoice (w ∷ d ∷ []) (if front then (if number then Some (Choice.Generated (number_in d)) else None) else None)
-two_by w d true true front number = (d, number_is d number, inl (ap (λ x. x ∷ d ∷ []) (same_is w (codes "--gen") front)))
-two_by w d true false front number = two_refused w d (λ n is whole. false≢true (sym number ∙ is_a_number d n is))
+two_by w d true true front number = (d, number_is most_digits d number, inl (ap (λ x. x ∷ d ∷ []) (same_is w (codes "--gen") front)))
+two_by w d true false front number = two_refused w d (λ n is whole. false≢true (sym number ∙ is_a_number most_digits d n is))
 two_by w d false number front numbered = two_refused w d (λ n is whole. false≢true (sym front ∙ is_same w (codes "--gen") whole))
 
 -- more
@@ -88,8 +77,8 @@ more_refused w d e more (Some n) (digits, number, inr is) = count_differs (w ∷
 
 pub choice_is : (words : List (List ℕ)) → IsChoice words (choice_of words)
 choice_is [] = refl
-choice_is (w ∷ []) = one_by w (same_word (take 6 w) (codes "--gen=")) (is_number (drop 6 w)) refl refl
-choice_is (w ∷ d ∷ []) = two_by w d (same_word w (codes "--gen")) (is_number d) refl refl
+choice_is (w ∷ []) = one_by w (same_word (take 6 w) (codes "--gen=")) (is_number most_digits (drop 6 w)) refl refl
+choice_is (w ∷ d ∷ []) = two_by w d (same_word w (codes "--gen")) (is_number most_digits d) refl refl
 choice_is (w ∷ d ∷ e ∷ more) = more_refused w d e more
 
 pub choice_found : (words : List (List ℕ)) (found : Option Choice) → found ≡ choice_of words → IsChoice words found
@@ -138,12 +127,12 @@ to_the_end_source words now Status.NoMemory ended = tt
 to_the_end_source words now Status.ReadFault ended = tt
 to_the_end_source words now Status.WriteFault ended = tt
 
-sound_source : (words : List (List ℕ)) (left : Option (List ℕ)) (reads writes : ℕ × ℕ) → Accepts words None → IsSoundBy words left reads writes → IsSound true left reads writes
+sound_source : (words : List (List ℕ)) (left : Option (List ℕ)) (reads writes : ℕ × ℕ) → Accepts words None → IsSoundBy words left reads writes → NothingFails true left reads writes
 sound_source words left reads writes asked (inl sound) = sound.1
 sound_source words left reads writes asked (inr (seed, other, whole)) = absurd (one_choice words seed asked other)
 
 pub complete_source : (words : List (List ℕ)) (left : Option (List ℕ)) (reads writes : ℕ × ℕ) (status : Status) → Accepts words None
-    → UnlessFinished status (¬ IsSound true left reads writes) → UnlessFinished status (¬ IsSoundBy words left reads writes)
+    → UnlessFinished status (¬ NothingFails true left reads writes) → UnlessFinished status (¬ IsSoundBy words left reads writes)
 complete_source words left reads writes status asked unsound = lifted status (sound_source words left reads writes asked) unsound
 
 -- ---- a run of a generated script

@@ -6,12 +6,9 @@ use Rattle.dcd_base.specs.Streams.{HasRisen, IsAtEnd, with_front}
 use Rattle.script_codec.specs.declared.faults.ScriptFault.{ScriptFault}
 use Rattle.script_codec.specs.Reading.{fault_of, first_fault}
 use Rattle.script_runner.specs.declared.status.Status.{Status}
-use Rattle.script_runner.specs.Planning.{EndsFor, IsBegun, IsBegunFor, IsPlanned, IsPlannedFor, IsSound, IsSoundInput, IsTaken, IsTakenWhole, IsTextOf, IsWritten, IsWrittenFor, Takes, most_read}
+use Rattle.script_runner.specs.Planning.{EndsFor, IsBegun, IsBegunFor, IsPlanned, IsPlannedFor, NothingFails, IsSoundInput, IsTaken, IsTakenWhole, IsTextOf, IsWritten, IsWrittenFor, TakesBytes, most_read}
+use Rattle.script_runner.proofs.Inputs.{IsInput}
 use Rattle.script_runner.specs.Statuses.{IfWhole, OnDone, OnNothing, OnRead, OnReadFault, OnUsage, OnWriteFault, UnlessFinished}
-
--- The input is what was left, up to the most that is read.
-abbrev IsInput : Option (List ℕ) → List ℕ → Type 0
-IsInput left input = IfSome left (λ all. input ≡ take most_read all)
 
 -- what holds of the input holds of what was left
 along : (left : Option (List ℕ)) (input : List ℕ) (P : List ℕ → Type 0) → IsInput left input → P input → IfSome left (λ all. P (take most_read all))
@@ -97,7 +94,7 @@ still (Some all) = refl
 pub taken_nothing : (left now : Option (List ℕ)) → now ≡ left → IsTaken left now
 taken_nothing left now same = ([], record { given = still left ∙ ap (with_front []) (sym same); most = omega arith })
 
-pub taken_whole : (left now : Option (List ℕ)) (input : List ℕ) (old new : Option (List ℕ)) (faults count : ℕ) (status : Status) → Takes input left now
+pub taken_whole : (left now : Option (List ℕ)) (input : List ℕ) (old new : Option (List ℕ)) (faults count : ℕ) (status : Status) → TakesBytes input left now
     → (length input < most_read → IsAtEnd now) → EndsFor input old faults new count status → OnRead status (IsTakenWhole left now)
 taken_whole left now input old new faults count Status.Done takes end ends = (input, takes, end)
 taken_whole left now input old new faults count Status.Usage takes end ends = tt
@@ -150,7 +147,7 @@ incomplete input old new faults count Status.NoMemory ends = tt
 incomplete input old new faults count Status.ReadFault ends = absurd ends
 incomplete input old new faults count Status.WriteFault ends = λ sound. sound.no_write_fault ends.1
 
-sound_input : (left : Option (List ℕ)) (input : List ℕ) (reads writes : ℕ × ℕ) → IsInput left input → IsSound true left reads writes → IsSoundInput input writes
+sound_input : (left : Option (List ℕ)) (input : List ℕ) (reads writes : ℕ × ℕ) → IsInput left input → NothingFails true left reads writes → IsSoundInput input writes
 sound_input left input reads writes is sound =
     let told : IsInput (Some sound.input) input = subst (λ l. IsInput l input) sound.told is in
     subst (λ i. IsSoundInput i writes) (sym told) sound.sound
@@ -164,6 +161,6 @@ lifted Status.ReadFault f unsound = λ q. unsound (f q)
 lifted Status.WriteFault f unsound = λ q. unsound (f q)
 
 pub complete : (left : Option (List ℕ)) (input : List ℕ) (old new : Option (List ℕ)) (faults count : ℕ) (reads : ℕ × ℕ) (status : Status) → IsInput left input
-    → EndsFor input old faults new count status → UnlessFinished status (¬ IsSound true left reads (faults, count))
+    → EndsFor input old faults new count status → UnlessFinished status (¬ NothingFails true left reads (faults, count))
 complete left input old new faults count reads status is ends =
     lifted status (sound_input left input reads (faults, count) is) (incomplete input old new faults count status ends)

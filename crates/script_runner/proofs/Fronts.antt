@@ -23,7 +23,7 @@ use Rattle.script_codec.specs.Covering.{Covers, IsOfLine, is_line, pass_of}
 use Rattle.script_codec.specs.LineByLine.{Begins, head_then, with_head}
 use Rattle.script_codec.specs.Reading.{fault_of, first_fault}
 use Rattle.script_codec.specs.Unread.{Unread}
-use Rattle.script_runner.specs.Fronts.{AddsEntry, CoversFront, RanLines, RanRest, RanScript, RunsLine}
+use Rattle.script_runner.specs.Fronts.{AddsEntry, CoversFront, RanAll, RanLines, RanRest, RanScript, RunsLine, RunsLines}
 
 all_push : {X : Type 0} (P : X → Type 0) (xs : List X) (x : X) → AllByRecursion P xs → P x → AllByRecursion P (xs ++ x ∷ [])
 all_push P [] x all last = (last, tt)
@@ -138,6 +138,30 @@ ran_one_more hosts lanes done l number old new counted before ran = record {
       subst (λ n. RunsLine n s.lanes (number + 1) l old new) (sym hosts_are) (subst (λ n. RunsLine hosts n (number + 1) l old new) (sym lanes_are) ran) in
       front_item s done rest l number old new here counted (before.front s (l ∷ rest) here hosts_are lanes_are) its;
 }
+
+-- ---- lines of a list, behind others
+
+pub runs_none : (hosts lanes behind : ℕ) (journal : List Entry) → RunsLines hosts lanes behind [] journal journal
+runs_none hosts lanes behind journal = record { goes_on = λ done counted ran. subst (λ xs. RanLines hosts lanes xs journal) (sym (append-nil done)) ran }
+
+pub runs_one_more : (hosts lanes behind : ℕ) (lines : List Line) (l : Line) (number : ℕ) (start old new : List Entry) → number ≡ behind + length lines
+    → RunsLines hosts lanes behind lines start old → RunsLine hosts lanes (number + 1) l old new → RunsLines hosts lanes behind (lines ++ l ∷ []) start new
+runs_one_more hosts lanes behind lines l number start old new counted before ran = record {
+  goes_on = λ done is its.
+      subst (λ xs. RanLines hosts lanes xs new) (append_assoc done lines (l ∷ []))
+      (ran_one_more hosts lanes (done ++ lines) l number old new (omega (arith, counted, is, length-append done lines)) (before.goes_on done is its) ran);
+}
+
+-- all lines of a script that was made and not read
+pub ran_all : (s : Script) (done : List Line) (config : Configuration) (journal : List Entry) → config ≡ s.config → s.lines ≡ done
+    → RanLines config.hosts s.lanes done journal → RanAll s config journal
+ran_all s done config journal config_is whole ran =
+    let front : CoversFront s (length done) journal = ran.front s [] (whole ∙ sym (append-nil done)) (ap (λ (k : Configuration). k.hosts) (sym config_is)) refl in
+    record {
+      config_is = config_is;
+      covers = front_end s journal (length done) (omega (arith, ap length whole)) front;
+      rising = front.rising;
+    }
 
 -- what was read and what was done make the script
 pub ran_script : (input : List ℕ) (head : Head) (unread : Unread) (config : Configuration) (journal : List Entry) → Begins input head unread

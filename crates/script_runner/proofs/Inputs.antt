@@ -1,44 +1,72 @@
--- What was read is the input, once the source is at its end or the input is full.
-use Rattle.std.proofs.Common.{◌≡◌, ℕ, ◌-◌, ◌≤◌, arith, List, [], ◌++◌, Option, Some, None, length, take, sym, ap, ◌∙◌}
+-- What was read of the source is the input of a run, and one that is too long has that fault.
+use Rattle.std.proofs.Common.{◌≡◌, ℕ, ◌+◌, ◌<◌, ◌≤◌, arith, List, Option, Some, None, length, take, refl, sym, ap, subst, ◌∙◌}
 use Rattle.std.specs.Option.{IfSome}
-use Rattle.std.proofs.lemmas.List.{append-nil, append_assoc, length-append, length-take, take_all, take_at}
-use Rattle.dcd_base.specs.Streams.{IsAtEnd, with_front}
+use Rattle.std.specs.declared.result.Result.TheVariants.{Err}
+use Rattle.std.proofs.lemmas.List.{take_all}
+use Rattle.dcd_base.specs.Streams.{IsAtEnd}
+use Rattle.edge_io.specs.ReadEnds.{Ends, TakesAll, TakesMore}
+use Rattle.edge_io.specs.ReadEnds.{TakesAtMost as TakesFew}
+use Rattle.edge_io.specs.declared.reading.ReadEnd.{ReadEnd}
+use Rattle.edge_io.proofs.Fronts.{all_is, front_is}
+use Rattle.report.specs.Refusals.{refusal_line}
+use Rattle.script_codec.specs.declared.faults.ScriptFault.{ScriptFault}
+use Rattle.script_codec.specs.Reading.{fault_of, first_fault, most_bytes}
+use Rattle.script_codec.proofs.Beginnings.{too_long}
+use Rattle.script_runner.specs.declared.status.Status.{Status}
+use Rattle.script_runner.specs.Planning.{EndsFor, EndsRefused, IsTaken, TakesBytes, most_read}
 
-never_told : {A : Type 0} (x : A) → Some x ≡ None → ⊥
-never_told x e = cc
+-- The input is what was left, up to the most that is read.
+abbrev pub IsInput : Option (List ℕ) → List ℕ → Type 0
+IsInput left input = IfSome left (λ all. input ≡ take most_read all)
 
-inner : {A : Type 0} (x y : A) → Some x ≡ Some y → x ≡ y
-inner x y e = cc
+up_to : (left : Option (List ℕ)) (input : List ℕ) → IfSome left (λ all. input ≡ all) → length input ≤ most_bytes → IsInput left input
+up_to None input is short = tt
+up_to (Some all) input is short = is ∙ sym (take_all most_read all (omega (arith, ap length is, short)))
 
-pub read_to_end : (left now : Option (List ℕ)) (input : List ℕ) (most : ℕ) → left ≡ with_front input now → IsAtEnd now → length input ≤ most
-    → IfSome left (λ all. input ≡ take most all)
-read_to_end None now input most given end within = tt
-read_to_end (Some all) None input most given end within = absurd (never_told all given)
-read_to_end (Some all) (Some rest) input most given end within =
-    let whole : all ≡ input = inner all (input ++ rest) given ∙ ap (λ xs. input ++ xs) end ∙ append-nil input in
-    sym (ap (take most) whole ∙ take_all most input within)
+-- The input of a whole run: all that was left.
+pub input_whole : (left now : Option (List ℕ)) (input : List ℕ) → TakesAll most_bytes left now input → IsInput left input
+input_whole left now input t = up_to left input (all_is most_bytes left now input t) t.few
 
-pub read_full : (left now : Option (List ℕ)) (input : List ℕ) (most : ℕ) → left ≡ with_front input now → length input ≡ most
-    → IfSome left (λ all. input ≡ take most all)
-read_full None now input most given full = tt
-read_full (Some all) None input most given full = absurd (never_told all given)
-read_full (Some all) (Some rest) input most given full =
-    sym (ap (take most) (inner all (input ++ rest) given) ∙ take_at input rest most full)
+pub takes_whole : (left now : Option (List ℕ)) (input : List ℕ) → TakesAll most_bytes left now input → TakesBytes input left now
+takes_whole left now input t = record { given = t.taken; most = omega (arith, t.few) }
 
--- Where nothing was read at the end, nothing was left before.
-pub still_at_end : (before now : Option (List ℕ)) (piece : List ℕ) → before ≡ with_front piece now → piece ≡ [] → IsAtEnd now → IsAtEnd before
-still_at_end None now piece given nothing end = tt
-still_at_end (Some all) None piece given nothing end = absurd (never_told all given)
-still_at_end (Some all) (Some rest) piece given nothing end =
-    inner all (piece ++ rest) given ∙ ap (λ xs. xs ++ rest) nothing ∙ end
+pub ends_whole : (left now : Option (List ℕ)) (input : List ℕ) → TakesAll most_bytes left now input → length input < most_read → IsAtEnd now
+ends_whole left now input t few = t.end
 
--- What was taken in two parts.
-pub in_two : (left mid now : Option (List ℕ)) (first second : List ℕ) → left ≡ with_front first mid → mid ≡ with_front second now
-    → left ≡ with_front (first ++ second) now
-in_two left mid None first second begun more = begun ∙ ap (with_front first) more
-in_two left mid (Some rest) first second begun more = begun ∙ ap (with_front first) more ∙ ap Some (sym (append_assoc first second rest))
+-- The input where more was left: its front.
+pub front_of : (left now : Option (List ℕ)) (faults count : ℕ) (end : ReadEnd) → end ≡ ReadEnd.TooLong → Ends most_bytes left now faults count (Err end) → TakesMore most_bytes left now
+front_of left now faults count end is ends = subst (λ (x : ReadEnd). Ends most_bytes left now faults count (Err x)) is ends
 
-pub within_two : (first piece : List ℕ) (n places most : ℕ) → n ≤ places → places ≤ most - length first → length first ≤ most
-    → length (first ++ take n piece) ≤ most
-within_two first piece n places most count room within =
-    omega (arith, length-append first (take n piece), length-take n piece, count, room, within)
+pub input_front : (left now : Option (List ℕ)) (t : TakesMore most_bytes left now) → IsInput left t.bytes
+input_front left now t = front_is most_bytes left now t
+
+pub takes_front : (left now : Option (List ℕ)) (t : TakesMore most_bytes left now) → TakesBytes t.bytes left now
+takes_front left now t = record { given = t.taken; most = omega (arith, t.one_more) }
+
+pub ends_front : (left now : Option (List ℕ)) (t : TakesMore most_bytes left now) → length t.bytes < most_read → IsAtEnd now
+ends_front left now t few = absurd (omega (arith, t.one_more, few))
+
+-- What was taken in any case.
+pub taken_few : (left now : Option (List ℕ)) → TakesFew (most_bytes + 1) left now → IsTaken left now
+taken_few left now t = (t.bytes, record { given = t.taken; most = omega (arith, t.few) })
+
+-- ---- the line on a fault
+
+pub refused_ends : (fault : ScriptFault) (input : List ℕ) (old new : Option (List ℕ)) (faults count : ℕ) (status : Status) → first_fault input ≡ Some fault
+    → EndsRefused fault old faults new count status → EndsFor input old faults new count status
+refused_ends fault input old new faults count Status.Done is ends = absurd ends
+refused_ends fault input old new faults count Status.Usage is ends = absurd ends
+refused_ends fault input old new faults count (Status.ScriptRefused found) is ends = record {
+  printed = refusal_line fault;
+  planned = (is ∙ ap Some (sym ends.0), ap refusal_line (sym ends.0));
+  took = ends.1;
+}
+refused_ends fault input old new faults count Status.NoMemory is ends = absurd ends
+refused_ends fault input old new faults count Status.ReadFault is ends = absurd ends
+refused_ends fault input old new faults count Status.WriteFault is ends = (
+  record { status = Status.ScriptRefused fault; printed = refusal_line fault; rest = ends.0.0; planned = (is, refl); took = ends.0.1 },
+  ends.1,
+)
+
+pub front_refused : (left now : Option (List ℕ)) (t : TakesMore most_bytes left now) → first_fault t.bytes ≡ Some ScriptFault.TooLong
+front_refused left now t = ap fault_of (too_long t.bytes (omega (arith, t.one_more)))

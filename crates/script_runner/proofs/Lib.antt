@@ -1,5 +1,4 @@
 mod Choices
-mod Digits
 mod Endings
 mod Fronts
 mod Inputs

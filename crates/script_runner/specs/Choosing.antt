@@ -5,7 +5,7 @@ use Rattle.journal_core.specs.declared.entries.Entry.{Entry}
 use Rattle.script_gen.specs.Generated.{generated}
 use Rattle.report.specs.Texts.{summary}
 use Rattle.script_runner.specs.declared.status.Status.{Status}
-use Rattle.script_runner.specs.Planning.{IsBegun, IsSound, IsWritten}
+use Rattle.script_runner.specs.Planning.{IsBegun, NothingFails, IsWritten}
 use Rattle.script_runner.specs.Running.{IsSerialRun}
 use Rattle.script_runner.specs.Words.{Accepts, AreRefused}
 
@@ -64,7 +64,7 @@ IsBegunBy words left old new =
 -- gen item no write failed. The pairs are counts of faults before and after.
 abbrev pub IsSoundBy : List (List ℕ) → Option (List ℕ) → ℕ × ℕ → ℕ × ℕ → Type 0
 IsSoundBy words left reads writes =
-    (Accepts words None × IsSound true left reads writes)
+    (Accepts words None × NothingFails true left reads writes)
     ⊎ ((seed : ℕ) × Accepts words (Some seed) × (HasRisen writes.0 writes.1 → ⊥))
 
 -- The same of a source and a sink, before and after: what the source has left, and their counts of faults.

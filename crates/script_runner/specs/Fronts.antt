@@ -37,13 +37,23 @@ pub record CoversFront (s : Script) (count : ℕ) (journal : List Entry) : Type 
 pub record RanLines (hosts lanes : ℕ) (done : List Line) (journal : List Entry) : Type 0 where
   pub front : (s : Script) (rest : List Line) → s.lines ≡ done ++ rest → s.config.hosts ≡ hosts → s.lanes ≡ lanes → CoversFront s (length done) journal
 
+-- So many lines were done behind others, and these: what was so of the others is so of both.
+pub record RunsLines (hosts lanes behind : ℕ) (lines : List Line) (old new : List Entry) : Type 0 where
+  pub goes_on : (done : List Line) → behind ≡ length done → RanLines hosts lanes done old → RanLines hosts lanes (done ++ lines) new
+
 -- All lines that were to come were done.
 pub record RanRest (hosts lanes : ℕ) (rest : Result (List Line) ScriptFault) (journal : List Entry) : Type 0 where
   pub lines : List Line
   pub whole : rest ≡ Ok lines
   pub ran : RanLines hosts lanes lines journal
 
--- All lines of the script that the input is were done, in their order.
+-- All lines of the script were done, in their order.
+pub record RanAll (script : Script) (config : Configuration) (journal : List Entry) : Type 0 where
+  pub config_is : config ≡ script.config
+  pub covers : Covers journal script
+  pub rising : AllPairs (λ (e f : Entry). e.line < f.line) journal
+
+-- All lines of the script that the input is were done.
 pub record RanScript (input : List ℕ) (config : Configuration) (journal : List Entry) : Type 0 where
   pub script : Script
   pub reads : ReadsScript input script

@@ -4,6 +4,7 @@ use Rattle.std.specs.Option.{IfSome}
 use Rattle.std.specs.declared.result.Result.TheVariants.{Ok}
 use Rattle.dcd_base.specs.Streams.{Passes, HasRisen, IsAtEnd, with_front}
 use Rattle.journal_core.specs.declared.entries.Entry.{Entry}
+use Rattle.script_codec.specs.declared.faults.ScriptFault.{ScriptFault}
 use Rattle.script_codec.specs.declared.scripts.Script.{Script}
 use Rattle.script_codec.specs.Reading.{script_in, first_fault}
 use Rattle.script_codec.specs.Scripts.{ReadsScript}
@@ -17,17 +18,17 @@ abbrev pub most_read : ℕ
 most_read = 16777217
 
 -- These bytes and no others were taken from the source, no more than are read.
-pub record Takes (bytes : List ℕ) (left now : Option (List ℕ)) : Type 0 where
+pub record TakesBytes (bytes : List ℕ) (left now : Option (List ℕ)) : Type 0 where
   pub given : left ≡ with_front bytes now
   pub most : length bytes ≤ most_read
 
 -- At most so many bytes were taken.
 abbrev pub IsTaken : Option (List ℕ) → Option (List ℕ) → Type 0
-IsTaken left now = (bytes : List ℕ) × Takes bytes left now
+IsTaken left now = (bytes : List ℕ) × TakesBytes bytes left now
 
 -- All that was left was taken, or as many bytes as are read.
 abbrev pub IsTakenWhole : Option (List ℕ) → Option (List ℕ) → Type 0
-IsTakenWhole left now = (bytes : List ℕ) × Takes bytes left now × (length bytes < most_read → IsAtEnd now)
+IsTakenWhole left now = (bytes : List ℕ) × TakesBytes bytes left now × (length bytes < most_read → IsAtEnd now)
 
 -- The input reads as a script, whatever its reserved bits, and the text is that of its serial run.
 pub record IsTextOf (input printed : List ℕ) : Type 0 where
@@ -94,6 +95,15 @@ EndsFor input old faults new count Status.NoMemory = new ≡ old
 EndsFor input old faults new count Status.ReadFault = ⊥
 EndsFor input old faults new count Status.WriteFault = IsBegunFor input old new × HasRisen faults count
 
+-- How it ends where an input has this first fault: the line on it goes out.
+abbrev pub EndsRefused : ScriptFault → Option (List ℕ) → ℕ → Option (List ℕ) → ℕ → Status → Type 0
+EndsRefused fault old faults new count Status.Done = ⊥
+EndsRefused fault old faults new count Status.Usage = ⊥
+EndsRefused fault old faults new count (Status.ScriptRefused found) = (found ≡ fault) × Passes old new [] (refusal_line fault)
+EndsRefused fault old faults new count Status.NoMemory = ⊥
+EndsRefused fault old faults new count Status.ReadFault = ⊥
+EndsRefused fault old faults new count Status.WriteFault = ((rest : List ℕ) × Passes old new rest (refusal_line fault)) × HasRisen faults count
+
 -- The input is a script, and no write failed.
 pub record IsSoundInput (input : List ℕ) (writes : ℕ × ℕ) : Type 0 where
   pub script : Script
@@ -102,7 +112,7 @@ pub record IsSoundInput (input : List ℕ) (writes : ℕ × ℕ) : Type 0 where
 
 -- Nothing stood in the way: the words are accepted, the input is told and is a script, and no read and no write
 -- failed. The pairs are counts of faults before and after.
-pub record IsSound (accepted : Bool) (left : Option (List ℕ)) (reads writes : ℕ × ℕ) : Type 0 where
+pub record NothingFails (accepted : Bool) (left : Option (List ℕ)) (reads writes : ℕ × ℕ) : Type 0 where
   pub accepted_is : accepted ≡ true
   pub input : List ℕ
   pub told : left ≡ Some input
@@ -111,4 +121,4 @@ pub record IsSound (accepted : Bool) (left : Option (List ℕ)) (reads writes : 
 
 -- The same without words of a source and a sink, before and after: what the source has left, and their counts of faults.
 abbrev pub IsSoundFrom : {S K : Type 0} → (S → Option (List ℕ)) → (S → ℕ) → (K → ℕ) → S → S → K → K → Type 0
-IsSoundFrom left reads writes source source' sink sink' = IsSound true (left source) (reads source, reads source') (writes sink, writes sink')
+IsSoundFrom left reads writes source source' sink sink' = NothingFails true (left source) (reads source, reads source') (writes sink, writes sink')

@@ -3,13 +3,13 @@ use Rattle.std.specs.Prelude.{ℕ}
 use Rattle.script_runner.specs.declared.status.Status.{Status}
 
 -- the exit status of the program
-abbrev pub number_of : Status → ℕ
-number_of Status.Done = 0
-number_of Status.Usage = 2
-number_of (Status.ScriptRefused fault) = 3
-number_of Status.NoMemory = 4
-number_of Status.ReadFault = 5
-number_of Status.WriteFault = 6
+abbrev pub status_number : Status → ℕ
+status_number Status.Done = 0
+status_number Status.Usage = 2
+status_number (Status.ScriptRefused fault) = 3
+status_number Status.NoMemory = 4
+status_number Status.ReadFault = 5
+status_number Status.WriteFault = 6
 
 abbrev pub OnDone : Status → Type 0 → Type 0
 OnDone Status.Done P = P

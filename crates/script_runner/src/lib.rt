@@ -6,8 +6,8 @@
 #![tactic(auto)]
 
 mod generated;
-mod input;
 mod lines;
+mod printing;
 mod script;
 mod status;
 mod top;

@@ -1,17 +1,18 @@
 //! The script of an input: each line is done as soon as it is read.
 
-ghost use Rattle.isolation_laws.specs.Solo.{Isolated};
 ghost use Rattle.script_codec.specs.Reading.{first_fault};
 ghost use Rattle.script_runner.specs.Fronts.{RanRest, RanScript};
+ghost use Rattle.script_runner.specs.Running.{IsLawful};
 ghost use Rattle.std.specs.Prelude.{◌≡◌, ◌≢◌, ◌≤◌, [], Err, IfErr, IfOk, OnOk, Some};
 
-use crate::lines::{is_isolated, run_line};
+use crate::lines::{is_lawful, run_line};
+use dcd_base::Bytes;
 use device_plain::Device;
-use script_codec::{Reader, ScriptFault};
+use script_codec::{OwnReader, ScriptFault};
 use std::alloc::Global;
 
 /// Does the lines that are still to come, in their order, on the fresh device.
-fn run_rest(reader: &mut Reader<'_>, lanes: u8, device: &mut Device) -> Result<(), ScriptFault>
+fn run_rest(reader: &mut OwnReader, lanes: u8, device: &mut Device) -> Result<(), ScriptFault>
     requires fresh { device.old.journal ≡ [] }
     requires hosts { reader.old.hosts ≡ device.old.config.hosts }
     requires lanes { reader.old.lanes ≡ lanes }
@@ -29,16 +30,16 @@ fn run_rest(reader: &mut Reader<'_>, lanes: u8, device: &mut Device) -> Result<(
 }
 
 /// Does all lines of the script that the input is on a fresh device, or answers the first fault of the input. `NoMemory`
-/// may come in place of any answer.
-pub(crate) fn run_script(alloc: Global, input: &[u8]) -> Result<Device, ScriptFault>
-    ensures ran { IfOk result (λ device. RanScript input.now device.config device.journal) }
-    ensures isolated { IfOk result (λ device. Isolated device.config device.journal) }
-    ensures fault { IfErr result (λ fault. fault ≢ ScriptFault.NoMemory → first_fault input.now ≡ Some fault) }
+/// may come in place of any answer. The bytes are let go as they are read.
+pub(crate) fn run_script(alloc: Global, input: Bytes) -> Result<Device, ScriptFault>
+    ensures ran { IfOk result (λ device. RanScript input device.config device.journal) }
+    ensures lawful { IfOk result (λ device. IsLawful device.config device.journal) }
+    ensures fault { IfErr result (λ fault. fault ≢ ScriptFault.NoMemory → first_fault input ≡ Some fault) }
 {
-    let (head, mut reader) = Reader::begin(alloc, input)?;
+    let (head, mut reader) = OwnReader::begin(alloc, input)?;
     let lanes = head.lanes;
     let mut device = Device::new(alloc, head.config)?;
     run_rest(&mut reader, lanes, &mut device)?;
-    is_isolated(&device);
+    is_lawful(&device);
     Ok(device)
 }

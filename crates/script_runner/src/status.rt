@@ -1,6 +1,6 @@
 //! How a run ends.
 
-ghost use Rattle.script_runner.specs.Statuses.{number_of};
+ghost use Rattle.script_runner.specs.Statuses.{status_number};
 ghost use Rattle.std.specs.Prelude.{◌≡◌};
 
 use script_codec::ScriptFault;
@@ -25,7 +25,7 @@ pub enum Status {
 impl Status {
     /// The exit status of the program.
     pub fn number(self) -> u8
-        ensures { result ≡ number_of self }
+        ensures { result ≡ status_number self }
     {
         match self {
             Status::Done => 0,

@@ -1,10 +1,11 @@
 //! The top call.
 
 ghost use Rattle.dcd_base.specs.Streams.{HasRisen, IsAtEnd};
+ghost use Rattle.edge_io.specs.Words.{words_of};
 ghost use Rattle.script_runner.specs.Choosing.{IsBegunBy, IsSoundRun, IsWrittenBy};
 ghost use Rattle.script_runner.specs.Planning.{IsTaken, IsTakenWhole};
 ghost use Rattle.script_runner.specs.Statuses.{IfWhole, OnDone, OnNothing, OnRead, OnReadFault, OnWriteFault, UnlessFinished};
-ghost use Rattle.script_runner.specs.Words.{Accepts, words_of};
+ghost use Rattle.script_runner.specs.Words.{Accepts};
 ghost use Rattle.std.specs.Prelude.{◌≡◌, None};
 
 use crate::generated::run_generated;

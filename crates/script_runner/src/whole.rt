@@ -1,22 +1,22 @@
 //! The steps of a run, each with what is to be written by then.
 
 ghost use Rattle.dcd_base.specs.Streams.{HasRisen, IsAtEnd};
-ghost use Rattle.isolation_laws.specs.Solo.{Isolated};
-ghost use Rattle.script_codec.specs.Reading.{first_fault};
-ghost use Rattle.script_runner.specs.Fronts.{RanScript};
-ghost use Rattle.script_runner.specs.Planning.{EndsFor, IsBegun, IsSoundFrom, IsTaken, IsTakenWhole, IsWritten};
+ghost use Rattle.script_runner.specs.Planning.{EndsFor, EndsRefused, IsBegun, IsSoundFrom, IsTaken, IsTakenWhole, IsWritten};
 ghost use Rattle.script_runner.specs.Statuses.{IfWhole, OnDone, OnNothing, OnRead, OnReadFault, OnUsage, OnWriteFault, UnlessFinished};
-ghost use Rattle.std.specs.Prelude.{◌≡◌, ◌≢◌, IfErr, IfOk, Some, true};
+ghost use Rattle.std.specs.Prelude.{◌≡◌, ◌≢◌, true};
 
-use crate::input::{InputFault, fill};
 use crate::lines::part;
+use crate::printing::print_text;
 use crate::script::run_script;
 use crate::status::Status;
 use dcd_base::{Bytes, Failed, Sink, Source};
-use device_plain::Device;
-use report::{refusal, render};
+use edge_io::{ReadEnd, read_all};
+use report::refusal;
 use script_codec::ScriptFault;
 use std::alloc::Global;
+
+/// The most bytes that a script has.
+const MOST_BYTES: usize = 16_777_216;
 
 /// Runs what is left in the source, up to one byte more than a script may have. Where it `leaves`, the device of a whole
 /// run keeps its memory.
@@ -38,11 +38,11 @@ pub(crate) fn run_source<S: Source, K: Sink>(
     ensures write_fault { OnWriteFault result (HasRisen (K.faults sink.old) (K.faults sink.new)) }
     ensures complete { UnlessFinished result (¬ IsSoundFrom S.left S.faults K.faults source.old source.new sink.old sink.new) }
 {
-    let mut input = Bytes::new(alloc);
-    match fill(source, &mut input) {
-        Ok(()) => run_input(alloc, input, sink, leaves),
-        Err(InputFault::Failed) => Status::ReadFault,
-        Err(InputFault::NoMemory) => Status::NoMemory,
+    match read_all(alloc, source, MOST_BYTES) {
+        Ok(input) => run_input(alloc, input, sink, leaves),
+        Err(ReadEnd::TooLong) => refused(ScriptFault::TooLong, sink),
+        Err(ReadEnd::ReadFault) => Status::ReadFault,
+        Err(ReadEnd::NoMemory) => Status::NoMemory,
     }
 }
 
@@ -50,30 +50,26 @@ pub(crate) fn run_source<S: Source, K: Sink>(
 fn run_input<K: Sink>(alloc: Global, input: Bytes, sink: &mut K, leaves: bool) -> Status
     ensures { EndsFor input (K.taken sink.old) (K.faults sink.old) (K.taken sink.new) (K.faults sink.new) result }
 {
-    match run_bytes(alloc, input) {
-        Ok(device) => {
-            let control = device.control();
-            match render(control, device.journal(), sink) {
-                Ok(()) => {
-                    part(device, leaves);
-                    Status::Done
-                }
-                Err(Failed) => Status::WriteFault,
+    match run_script(alloc, input) {
+        Ok(device) => match print_text(&device, sink) {
+            Ok(()) => {
+                part(device, leaves);
+                Status::Done
             }
-        }
-        Err(ScriptFault::NoMemory) => Status::NoMemory,
-        Err(fault) => match refusal(&fault, sink) {
-            Ok(()) => Status::ScriptRefused(fault),
             Err(Failed) => Status::WriteFault,
         },
+        Err(ScriptFault::NoMemory) => Status::NoMemory,
+        Err(fault) => refused(fault, sink),
     }
 }
 
-/// Does all lines of the script that the input is, or answers its first fault. The bytes are let go.
-fn run_bytes(alloc: Global, input: Bytes) -> Result<Device, ScriptFault>
-    ensures ran { IfOk result (λ device. RanScript input device.config device.journal) }
-    ensures isolated { IfOk result (λ device. Isolated device.config device.journal) }
-    ensures fault { IfErr result (λ fault. fault ≢ ScriptFault.NoMemory → first_fault input ≡ Some fault) }
+/// Writes the line on the first fault of an input.
+fn refused<K: Sink>(fault: ScriptFault, sink: &mut K) -> Status
+    requires { fault ≢ ScriptFault.NoMemory }
+    ensures { EndsRefused fault (K.taken sink.old) (K.faults sink.old) (K.taken sink.new) (K.faults sink.new) result }
 {
-    run_script(alloc, input.as_slice())
+    match refusal(&fault, sink) {
+        Ok(()) => Status::ScriptRefused(fault),
+        Err(Failed) => Status::WriteFault,
+    }
 }

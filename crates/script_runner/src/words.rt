@@ -1,8 +1,10 @@
 //! The words of the command line.
 
-ghost use Rattle.script_runner.specs.Words.{IsChoice, choice_of, is_digit, is_number, number_in, seed_of, words_of};
-ghost use Rattle.std.specs.Prelude.{◌≡◌, ◌≤◌, ◌∷◌, [], IsTrue, length};
-ghost use Rattle.std.specs.List.{list_all};
+ghost use Rattle.edge_io.specs.Words.{words_of};
+ghost use Rattle.script_runner.specs.Words.{IsChoice, choice_of, seed_of};
+ghost use Rattle.std.specs.Prelude.{◌≡◌, ◌∷◌, []};
+
+use edge_io::number;
 
 /// What the words of the command line ask for.
 #[derive(Clone, Copy, Debug, PartialEq, Eq)]
@@ -62,43 +64,8 @@ fn seed_after(word: &[u8], digits: &[u8]) -> Option<Choice>
 fn seed(digits: &[u8]) -> Option<Choice>
     ensures { result ≡ seed_of digits.now }
 {
-    if is_number(digits) {
-        Some(Choice::Generated(number_of(digits)))
-    } else {
-        None
+    match number(digits, DIGITS) {
+        Some(seed) => Some(Choice::Generated(seed)),
+        None => None,
     }
-}
-
-/// Whether they are 1 to 18 decimal digits.
-fn is_number(digits: &[u8]) -> bool
-    ensures { result ≡ is_number digits.now }
-{
-    !digits.is_empty() && digits.len() <= DIGITS && are_digits(digits)
-}
-
-/// Whether all are decimal digits.
-fn are_digits(bytes: &[u8]) -> bool
-    ensures { result ≡ list_all is_digit bytes.now }
-{
-    bytes.iter().all(|byte| is_digit(*byte))
-}
-
-/// Whether it is a decimal digit.
-fn is_digit(byte: u8) -> bool
-    ensures { result ≡ is_digit byte }
-{
-    b'0' <= byte && byte <= b'9'
-}
-
-/// The number that so few digits write.
-fn number_of(digits: &[u8]) -> u64
-    requires few { length digits.now ≤ 18 }
-    requires each { IsTrue (list_all is_digit digits.now) }
-    ensures { result ≡ number_in digits.now }
-{
-    let mut number = 0;
-    for i in 0..digits.len() {
-        number = 10 * number + u64::from(digits[i] - b'0');
-    }
-    number
 }

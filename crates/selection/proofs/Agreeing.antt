@@ -16,7 +16,7 @@ use Rattle.media_map.specs.Places.{run_of}
 use Rattle.region_config.specs.Configurations.{Configuration}
 use Rattle.region_config.specs.Granules.{granule_total}
 use Rattle.region_config.specs.Soundness.{IsSound}
-use Rattle.selection.specs.Selections.{all_free, always_together, contiguous_runs, extent_rule, free_blocks, free_runs, granules_of, is_free_block, longest_free, prescribed_rule}
+use Rattle.selection.specs.Selections.{all_free, always_together, contiguous_runs, free_extent_rule, free_blocks, free_runs, granules_of_blocks, is_free_block, longest_free, prescribed_rule}
 use Rattle.selection.proofs.Placed.{placed, run_below, run_is_run}
 
 -- The tests agree on the numbers from one up to another.
@@ -66,7 +66,7 @@ module _ (f g : ℕ → Bool) (area : Run) (per : ℕ) (agree : Agree f g area.f
   free_blocks_agree = ap length passing_agree
 
   pub free_runs_agree : (need : ℕ) → free_runs f area per need ≡ free_runs g area per need
-  free_runs_agree need = ap (λ ns. map (granules_of area per) (joined always_together (take need ns))) passing_agree
+  free_runs_agree need = ap (λ ns. map (granules_of_blocks area per) (joined always_together (take need ns))) passing_agree
 
   pub longest_free_agree : longest_free f area per ≡ longest_free g area per
   longest_free_agree =
@@ -82,7 +82,7 @@ module _ (f g : ℕ → Bool) (area : Run) (per : ℕ) (agree : Agree f g area.f
       (λ k low high. ap (leb need) (run_agree (is_free_block f area per) (is_free_block g area per) n k (omega (arith, high)) blocks_agree)))
 
 module _ (c : Configuration) (h : HostId) (s : IsSound c) (host : h < c.hosts) (f g : ℕ → Bool) (agree : Agree f g 0 (granule_total c)) (r : ℕ) where
-  rule_agree : (before : List Extent) (x : Extent) (found : Option Rule) → misplaced c h r (length before) x ≡ found → extent_rule c h f r before x ≡ extent_rule c h g r before x
+  rule_agree : (before : List Extent) (x : Extent) (found : Option Rule) → misplaced c h r (length before) x ≡ found → free_extent_rule c h f r before x ≡ free_extent_rule c h g r before x
   rule_agree before x (Some rule) is = rw is refl
   rule_agree before x None is =
       let below = run_below c (run_of c h x) (run_is_run c h s host r x (placed c h r (length before) x is)) in
@@ -90,11 +90,11 @@ module _ (c : Configuration) (h : HostId) (s : IsSound c) (host : h < c.hosts) (
       all_agree f g (run_of c h x).first (run_of c h x).count (λ k low high. agree k (omega arith) (omega (arith, high, below))) in
       ap (λ b. misplaced c h r (length before) x or (not b breaks Rule.NotFree (length before)) or overlapping before x) same
 
-  each_agree : (before xs : List Extent) → first_by (extent_rule c h f r) before xs ≡ first_by (extent_rule c h g r) before xs
+  each_agree : (before xs : List Extent) → first_by (free_extent_rule c h f r) before xs ≡ first_by (free_extent_rule c h g r) before xs
   each_agree before [] = refl
   each_agree before (x ∷ xs) =
-      ap (λ o. o or first_by (extent_rule c h f r) (before ++ x ∷ []) xs) (rule_agree before x (misplaced c h r (length before) x) refl)
-      ∙ ap (λ o. extent_rule c h g r before x or o) (each_agree (before ++ x ∷ []) xs)
+      ap (λ o. o or first_by (free_extent_rule c h f r) (before ++ x ∷ []) xs) (rule_agree before x (misplaced c h r (length before) x) refl)
+      ∙ ap (λ o. free_extent_rule c h g r before x or o) (each_agree (before ++ x ∷ []) xs)
 
   pub prescribed_rule_agree : (list : List Extent) → prescribed_rule c h f r list ≡ prescribed_rule c h g r list
   prescribed_rule_agree list = ap (λ o. (is_empty list breaks Rule.EmptyList) or too_many_listed list or o) (each_agree [] list)

@@ -12,7 +12,7 @@ use Rattle.dcd_base.specs.declared.media.Run.{Run}
 use Rattle.dcd_base.specs.Words.{has_in_runs}
 use Rattle.granule_map.specs.Blocks.{block_count, run_of_blocks}
 use Rattle.granule_map.specs.Choices.{joined, joined_onto, lowest_run, passing, run_from}
-use Rattle.selection.specs.Selections.{AreApart, AreBetween, always_together, are_free, contiguous_runs, free_runs, granules_of, is_free_block}
+use Rattle.selection.specs.Selections.{AreApart, AreBetween, always_together, are_free, contiguous_runs, free_runs, granules_of_blocks, is_free_block}
 use Rattle.granule_map.proofs.Joining.{lowest_found, prefix_passes}
 
 -- rising numbers between two, and runs of numbers one behind another between two
@@ -101,13 +101,13 @@ range_append a (suc m) n =
 
 module _ (free : ℕ → Bool) (area : Run) (per : ℕ) where
   -- blocks one behind another, as runs of granules
-  pub blocks_between : (some : 0 < per) (from to : ℕ) (rs : List (ℕ × ℕ)) → PairsBetween from to rs → AreBetween (area.first + from * per) (area.first + to * per) (map (granules_of area per) rs)
+  pub blocks_between : (some : 0 < per) (from to : ℕ) (rs : List (ℕ × ℕ)) → PairsBetween from to rs → AreBetween (area.first + from * per) (area.first + to * per) (map (granules_of_blocks area per) rs)
   blocks_between some from to [] rises = omega (arith, mul-le-mul_right per rises)
   blocks_between some from to (r ∷ rs) rises =
       let end : area.first + (r.0 + r.1) * per ≡ area.first + r.0 * per + r.1 * per = omega (arith, add-mul r.0 r.1 per) in (
         omega (arith, mul-le-mul_right per rises.0),
         omega (arith, mul-le-mul_right per rises.1, some),
-        subst (λ m. AreBetween m (area.first + to * per) (map (granules_of area per) rs)) end (blocks_between some (r.0 + r.1) to rs rises.2),
+        subst (λ m. AreBetween m (area.first + to * per) (map (granules_of_blocks area per) rs)) end (blocks_between some (r.0 + r.1) to rs rises.2),
       )
 
   -- and free where the blocks are
@@ -122,7 +122,7 @@ module _ (free : ℕ → Bool) (area : Run) (per : ℕ) where
       ∙ list_all-append free (range_with_len (area.first + k * per) per) (range_with_len (area.first + k * per + per) (c * per))
       ∙ and_from _ _ parts.0 (ap (λ m. list_all free (range_with_len m (c * per))) next ∙ blocks_free (k + 1) c parts.1)
 
-  runs_free : (rs : List (ℕ × ℕ)) → list_all (pass_in (is_free_block free area per)) rs ≡ true → are_free free (map (granules_of area per) rs) ≡ true
+  runs_free : (rs : List (ℕ × ℕ)) → list_all (pass_in (is_free_block free area per)) rs ≡ true → are_free free (map (granules_of_blocks area per) rs) ≡ true
   runs_free [] each = refl
   runs_free (r ∷ rs) each =
       let parts = and_parts (pass_in (is_free_block free area per) r) (list_all (pass_in (is_free_block free area per)) rs) each in
@@ -204,7 +204,7 @@ free_some free area per need some enough =
     let ns : List ℕ = passing (is_free_block free area per) (block_count area per) in
     let taken = length-take-le need ns enough in
     let joined_list : List (ℕ × ℕ) = joined always_together (take need ns) in
-    omega (arith, length-map joined_list (granules_of area per), joined_some always_together (take need ns) (omega (arith, taken, some)))
+    omega (arith, length-map joined_list (granules_of_blocks area per), joined_some always_together (take need ns) (omega (arith, taken, some)))
 
 -- runs one behind another share no granule
 none_below : (from to : ℕ) (runs : List Run) (g : ℕ) → AreBetween from to runs → g < from → has_in_runs runs g ≡ false

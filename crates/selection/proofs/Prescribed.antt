@@ -9,17 +9,17 @@ use Rattle.std.proofs.Math.Nat.{add-mul, mul-le-mul_right}
 use Rattle.dcd_base.specs.declared.capacity.Extent.{Extent}
 use Rattle.dcd_base.specs.declared.ids.HostId.{HostId}
 use Rattle.dcd_base.specs.declared.media.Run.{Run}
-use Rattle.dcd_base.specs.Words.{◌or◌, has_granule, has_in_runs}
+use Rattle.dcd_base.specs.Words.{◌or◌, has_granule, has_in_runs, is_empty}
 use Rattle.dcd_codes.specs.declared.rules.Rule.{Rule}
-use Rattle.dcd_codes.specs.Rules.{◌breaks◌, first_by}
+use Rattle.dcd_codes.specs.Rules.{◌breaks◌, each_in, first_by}
 use Rattle.extent_list.specs.ExtentLists.{overlaps}
-use Rattle.list_rules.specs.Listing.{misplaced, overlapping}
+use Rattle.list_rules.specs.Listing.{misplaced, overlapping, too_many_listed}
 use Rattle.media_map.specs.Places.{IsRun, run_of}
 use Rattle.region_config.specs.Configurations.{Configuration}
 use Rattle.region_config.specs.Granules.{base_of, first_granule, granule_size}
 use Rattle.region_config.specs.Soundness.{IsSound}
 use Rattle.region_config.proofs.Faultless.{granule_from}
-use Rattle.selection.specs.Selections.{AreApart, all_free, are_free, extent_rule, listed_runs}
+use Rattle.selection.specs.Selections.{AreApart, all_free, are_free, free_extent_rule, listed_runs, prescribed_rule}
 use Rattle.selection.proofs.Placed.{IsPlaced, all_cons, bytes_of, its_run, placed, run_is_run, starts_at}
 
 -- neither of two rules is broken
@@ -37,7 +37,7 @@ pub record IsKept (c : Configuration) (h : HostId) (free : ℕ → Bool) (r : �
   pub is_free : all_free free (run_of c h x) ≡ true
   pub no_overlap : overlapping before x ≡ None
 
-pub kept : (c : Configuration) (h : HostId) (free : ℕ → Bool) (r : ℕ) (before : List Extent) (x : Extent) → extent_rule c h free r before x ≡ None → IsKept c h free r before x
+pub kept : (c : Configuration) (h : HostId) (free : ℕ → Bool) (r : ℕ) (before : List Extent) (x : Extent) → free_extent_rule c h free r before x ≡ None → IsKept c h free r before x
 kept c h free r before x none =
     let placing : Option Rule = misplaced c h r (length before) x in
     let freedom : Option Rule = not (all_free free (run_of c h x)) breaks Rule.NotFree (length before) in
@@ -108,38 +108,43 @@ module _ (c : Configuration) (h : HostId) (s : IsSound c) (host : h < c.hosts) (
       subst (λ run. has_granule run g ≡ false) (sym (its_run c h s host r y q)) (apart_runs a b g sides has_a)
 
   module _ (free : ℕ → Bool) where
-    later_apart : (x : Extent) → IsPlaced c h r x → (front back ys : List Extent) → first_by (extent_rule c h free r) (front ++ x ∷ back) ys ≡ None
+    later_apart : (x : Extent) → IsPlaced c h r x → (front back ys : List Extent) → first_by (free_extent_rule c h free r) (front ++ x ∷ back) ys ≡ None
         → (g : ℕ) → has_granule (run_of c h x) g ≡ true → has_in_runs (listed_runs c h ys) g ≡ false
     later_apart x p front back [] none g has = refl
     later_apart x p front back (y ∷ ys) none g has =
         let before : List Extent = front ++ x ∷ back in
-        let check = extent_rule c h free r in
+        let check = free_extent_rule c h free r in
         let parts = neither (check before y) (first_by check (before ++ y ∷ []) ys) none in
         let k = kept c h free r before y parts.0 in
         let here : has_granule (run_of c h y) g ≡ false = extents_apart x y p k.place (no_overlap_with front x back y k.no_overlap) g has in
         let rest = later_apart x p front (back ++ y ∷ []) ys (ap (λ b. first_by check b ys) (sym (append_assoc front (x ∷ back) (y ∷ []))) ∙ parts.1) g has in
         rw here rest
 
-    pub kept_apart : (before xs : List Extent) → first_by (extent_rule c h free r) before xs ≡ None → AreApart (listed_runs c h xs)
+    pub kept_apart : (before xs : List Extent) → first_by (free_extent_rule c h free r) before xs ≡ None → AreApart (listed_runs c h xs)
     kept_apart before [] none = tt
     kept_apart before (x ∷ xs) none =
-        let check = extent_rule c h free r in
+        let check = free_extent_rule c h free r in
         let parts = neither (check before x) (first_by check (before ++ x ∷ []) xs) none in
         let k = kept c h free r before x parts.0 in
         ((λ g has. later_apart x k.place before [] xs parts.1 g has), kept_apart (before ++ x ∷ []) xs parts.1)
 
-    pub kept_runs : (before xs : List Extent) → first_by (extent_rule c h free r) before xs ≡ None → All (IsRun c) (listed_runs c h xs)
+    pub kept_runs : (before xs : List Extent) → first_by (free_extent_rule c h free r) before xs ≡ None → All (IsRun c) (listed_runs c h xs)
     kept_runs before [] none = λ k d below. absurd (omega (arith, below))
     kept_runs before (x ∷ xs) none =
-        let check = extent_rule c h free r in
+        let check = free_extent_rule c h free r in
         let parts = neither (check before x) (first_by check (before ++ x ∷ []) xs) none in
         let k = kept c h free r before x parts.0 in
         all_cons (IsRun c) (run_of c h x) (listed_runs c h xs) (run_is_run c h s host r x k.place) (kept_runs (before ++ x ∷ []) xs parts.1)
 
-    pub kept_free : (before xs : List Extent) → first_by (extent_rule c h free r) before xs ≡ None → are_free free (listed_runs c h xs) ≡ true
+    pub kept_free : (before xs : List Extent) → first_by (free_extent_rule c h free r) before xs ≡ None → are_free free (listed_runs c h xs) ≡ true
     kept_free before [] none = refl
     kept_free before (x ∷ xs) none =
-        let check = extent_rule c h free r in
+        let check = free_extent_rule c h free r in
         let parts = neither (check before x) (first_by check (before ++ x ∷ []) xs) none in
         let k = kept c h free r before x parts.0 in
         and_from (all_free free (run_of c h x)) (are_free free (listed_runs c h xs)) k.is_free (kept_free (before ++ x ∷ []) xs parts.1)
+
+-- the first rule of a prescribed list of some extents, not too many, is that of an extent
+pub extent_broken : (c : Configuration) (h : HostId) (free : ℕ → Bool) (r : ℕ) (list : List Extent) → is_empty list ≡ false → too_many_listed list ≡ None → (rule : Rule) → each_in list (free_extent_rule c h free r) ≡ Some rule
+    → prescribed_rule c h free r list ≡ Some rule
+extent_broken c h free r list some few rule broken = rw (some, few, broken) refl

@@ -29,13 +29,13 @@ abbrev pub always_together : ℕ → ℕ → Bool
 always_together k next = true
 
 -- blocks of the area, by the first one and how many there are, as a run of granules
-abbrev pub granules_of : Run → ℕ → ℕ × ℕ → Run
-granules_of area per_block blocks = run_of_blocks area per_block blocks.1 blocks.0
+abbrev pub granules_of_blocks : Run → ℕ → ℕ × ℕ → Run
+granules_of_blocks area per_block blocks = run_of_blocks area per_block blocks.1 blocks.0
 
 -- Free: the lowest free blocks, adjacent ones joined.
 abbrev pub free_runs : (ℕ → Bool) → Run → ℕ → ℕ → List Run
 free_runs free area per_block need =
-    map (granules_of area per_block) (joined always_together (take need (passing (is_free_block free area per_block) (block_count area per_block))))
+    map (granules_of_blocks area per_block) (joined always_together (take need (passing (is_free_block free area per_block) (block_count area per_block))))
 
 -- Contiguous: the lowest run of so many free blocks.
 abbrev pub contiguous_runs : (ℕ → Bool) → Run → ℕ → ℕ → List Run
@@ -63,8 +63,8 @@ NextRun test limit from most (Some blocks) =
     × (from < blocks.0 + blocks.1) × (blocks.0 + blocks.1 ≤ limit) × (blocks.1 ≤ most)
 
 -- Prescriptive: an extent that is misplaced in the region, has a granule that is not free, or shares an address with one before it.
-abbrev pub extent_rule : Configuration → HostId → (ℕ → Bool) → ℕ → List Extent → Extent → Option Rule
-extent_rule c h free r before x =
+abbrev pub free_extent_rule : Configuration → HostId → (ℕ → Bool) → ℕ → List Extent → Extent → Option Rule
+free_extent_rule c h free r before x =
     misplaced c h r (length before) x
     or not (all_free free (run_of c h x)) breaks Rule.NotFree (length before)
     or overlapping before x
@@ -74,7 +74,7 @@ abbrev pub prescribed_rule : Configuration → HostId → (ℕ → Bool) → ℕ
 prescribed_rule c h free r list =
     is_empty list breaks Rule.EmptyList
     or too_many_listed list
-    or each_in list (extent_rule c h free r)
+    or each_in list (free_extent_rule c h free r)
 
 -- the runs of a list of the host's extents, in its order
 abbrev pub listed_runs : Configuration → HostId → List Extent → List Run

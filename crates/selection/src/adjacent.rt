@@ -1,9 +1,9 @@
 //! The policy Contiguous: free blocks that lie together.
 
-ghost use Rattle.dcd_codes.specs.Rules.{ByRow};
 ghost use Rattle.granule_map.specs.Blocks.{IsArea, longest_free_run};
 ghost use Rattle.granule_map.specs.StateLists.{is_free_at};
-ghost use Rattle.selection.specs.Selections.{AreBetween, are_free, contiguous_runs, too_few_free};
+ghost use Rattle.selection.specs.Picks.{PicksAdjacent};
+ghost use Rattle.selection.specs.Selections.{AreBetween, are_free};
 ghost use Rattle.std.specs.Prelude.{◌≡◌, ◌+◌, ◌<◌, IfOk, IsTrue, length};
 
 use dcd_base::{Run, Runs};
@@ -25,8 +25,7 @@ pub fn contiguous(
 ) -> Result<Runs, Refusal>
     requires area { IsArea map.now.states area per_block }
     requires some { 0 < blocks }
-    ensures answer { ByRow (too_few_free blocks (longest_free_run map.now.states area per_block))
-        (λ runs. runs ≡ contiguous_runs (is_free_at map.now.states) area per_block blocks) result }
+    ensures answer { PicksAdjacent map.now.states area per_block blocks result }
     ensures one { IfOk result (λ runs. length runs ≡ 1) }
     ensures within { IfOk result (λ runs. AreBetween area.first (area.first + area.count) runs) }
     ensures are_free { IfOk result (λ runs. IsTrue (are_free (is_free_at map.now.states) runs)) }

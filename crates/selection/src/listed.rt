@@ -1,11 +1,11 @@
 //! The policy Prescriptive: the extents that the manager lists.
 
-ghost use Rattle.dcd_codes.specs.Rules.{ByRow, each_in};
 ghost use Rattle.granule_map.specs.StateLists.{is_free_at};
 ghost use Rattle.media_map.specs.Places.{IsRun, is_granular, run_of};
 ghost use Rattle.region_config.specs.Granules.{granule_total};
-ghost use Rattle.selection.specs.Selections.{AreApart, are_free, extent_rule, listed_runs, prescribed_rule};
-ghost use Rattle.std.specs.Prelude.{◌≡◌, ◌+◌, ◌^◌, ◌<◌, ◌≤◌, All, IfOk, IsTrue, MatchResult, None, Some, [], length};
+ghost use Rattle.selection.specs.Picks.{PicksListed, TriesExtent};
+ghost use Rattle.selection.specs.Selections.{AreApart, are_free};
+ghost use Rattle.std.specs.Prelude.{◌≡◌, ◌+◌, ◌^◌, ◌<◌, ◌≤◌, All, IfOk, IsTrue, None, Some, length};
 
 use crate::blocks::are_free;
 use dcd_base::{Extent, Extents, HostId, RegionId, Run, Runs};
@@ -31,8 +31,7 @@ pub fn prescriptive(
 ) -> Result<Runs, Refusal>
     requires host { host < config.now.hosts }
     requires granules { length map.now.states ≡ granule_total config.now }
-    ensures answer { ByRow (prescribed_rule config.now host (is_free_at map.now.states) region list.now)
-        (λ runs. runs ≡ listed_runs config.now host list.now) result }
+    ensures answer { PicksListed config.now host map.now.states region list.now result }
     ensures some { IfOk result (λ runs. 0 < length runs) }
     ensures runs { IfOk result (λ runs. All (IsRun config.now) runs) }
     ensures apart { IfOk result (λ runs. AreApart runs) }
@@ -46,37 +45,15 @@ pub fn prescriptive(
     }
     // That runs are of one region and apart rests on what every configuration keeps.
     let _regions = config.regions();
+    let listed = list.as_slice();
     let mut runs = Runs::new(alloc);
-    match try_each(map, config, host, region, list.as_slice(), &mut runs) {
-        Ok(()) => Ok(runs),
-        Err(refusal) => Err(refusal),
-    }
-}
-
-/// The runs of the extents, or the first rule that one of them breaks.
-fn try_each(
-    map: &GranuleMap,
-    config: &Config,
-    host: HostId,
-    region: RegionId,
-    list: &[Extent],
-    runs: &mut Runs,
-) -> Result<(), Refusal>
-    requires host { host < config.now.hosts }
-    requires granules { length map.now.states ≡ granule_total config.now }
-    requires few { length list.now < 2 ^ 32 }
-    requires empty { runs.old ≡ [] }
-    ensures { ByRow (each_in list.now (extent_rule config.now host (is_free_at map.now.states) region))
-        (λ _. runs.new ≡ listed_runs config.now host list.now) result }
-{
-    for i in 0..list.len() {
-        let (before, _) = list.split_at(i);
-        match try_extent(map, config, host, region, before, &list[i]) {
+    for i in 0..listed.len() {
+        match try_extent(map, config, host, region, &listed[..i], &listed[i]) {
             Ok(run) => runs.push(run)?,
             Err(rule) => return Err(Refusal::Broken(rule)),
         }
     }
-    Ok(())
+    Ok(runs)
 }
 
 /// The run of an extent, or the first rule that it breaks behind those before it.
@@ -91,9 +68,7 @@ fn try_extent(
     requires host { host < config.now.hosts }
     requires granules { length map.now.states ≡ granule_total config.now }
     requires few { length before.now < 2 ^ 32 }
-    ensures answer { MatchResult result
-        (λ run. extent_rule config.now host (is_free_at map.now.states) region before.now extent.now ≡ None)
-        (λ rule. extent_rule config.now host (is_free_at map.now.states) region before.now extent.now ≡ Some rule) }
+    ensures answer { TriesExtent config.now host map.now.states region before.now extent.now result }
     ensures run { IfOk result (λ run. run ≡ run_of config.now host extent.now) }
 {
     let index = before.len() as u32;

@@ -1,9 +1,9 @@
 //! The policy Free: the lowest free blocks, wherever they lie.
 
-ghost use Rattle.dcd_codes.specs.Rules.{ByRow};
 ghost use Rattle.granule_map.specs.Blocks.{IsArea, block_count, free_block_count, is_block_free};
 ghost use Rattle.granule_map.specs.StateLists.{is_free_at};
-ghost use Rattle.selection.specs.Selections.{AreApart, AreBetween, NextRun, are_free, free_runs, too_few_free};
+ghost use Rattle.selection.specs.Picks.{PicksLowest};
+ghost use Rattle.selection.specs.Selections.{AreApart, AreBetween, NextRun, are_free, free_runs};
 ghost use Rattle.std.specs.Prelude.{◌≡◌, ◌+◌, ◌<◌, IfOk, IsTrue, OnOk, [], length};
 
 use crate::blocks::{free_from, next_free, run_of_blocks};
@@ -26,8 +26,7 @@ pub fn free(
 ) -> Result<Runs, Refusal>
     requires area { IsArea map.now.states area per_block }
     requires some { 0 < blocks }
-    ensures answer { ByRow (too_few_free blocks (free_block_count map.now.states area per_block))
-        (λ runs. runs ≡ free_runs (is_free_at map.now.states) area per_block blocks) result }
+    ensures answer { PicksLowest map.now.states area per_block blocks result }
     ensures some { IfOk result (λ runs. 0 < length runs) }
     ensures within { IfOk result (λ runs. AreBetween area.first (area.first + area.count) runs) }
     ensures apart { IfOk result (λ runs. AreApart runs) }

@@ -9,7 +9,7 @@ use Rattle.dcd_base.specs.declared.steps.LogId.{LogId}
 use Rattle.dcd_codes.specs.Rules.{◌breaks◌}
 use Rattle.dcd_codes.specs.declared.rules.Rule.{Rule}
 use Rattle.event_log.proofs.Histories.{stays}
-use Rattle.event_log.specs.LogStates.{clear_fault, misplaced}
+use Rattle.event_log.specs.LogStates.{clear_fault, handle_fault}
 use Rattle.event_log.specs.declared.faults.ClearFault.{ClearFault}
 use Rattle.event_log.specs.Logs.{IsHistory, Log, cleared_of, empty_log, records_in, reset}
 use Rattle.event_records.specs.declared.events.Event.{Event}
@@ -36,7 +36,7 @@ in_place_few (h ∷ handles) (e ∷ records) none = elim (cases_Bool (h == e.han
 ]
   where
     other : ClearFault
-    other = misplaced h e.handle (e ∷ records)
+    other = handle_fault h e.handle (e ∷ records)
 
 -- ---- the log that is cleared
 

@@ -26,7 +26,7 @@ use Rattle.device_rules.specs.Answers.{host_outcome, host_rule, manager_outcome,
 use Rattle.device_rules.specs.EventCommands.{clear_changes, clear_outcome, clear_rule}
 use Rattle.device_rules.specs.Legal.{Legal, Meets}
 use Rattle.device_rules.specs.Logs.{log_after, log_of, same_log}
-use Rattle.device_rules.specs.Outcomes.{effects_of, entered_all, log_full, no_extent, notice, notices_of}
+use Rattle.device_rules.specs.Outcomes.{effects_of, entered_all, log_full, no_extent, record_for, records_of_extents}
 use Rattle.device_rules.specs.ReleaseOutcomes.{is_cleaning, is_forced, removals, remove_outcome, remove_rule, removed}
 use Rattle.device_rules.specs.Settings.{set_outcome}
 use Rattle.device_rules.specs.TagCommands.{add_reference_outcome, remove_reference_outcome}
@@ -39,7 +39,7 @@ use Rattle.device_rules.proofs.Leaving.{both_pass}
 use Rattle.device_rules.proofs.LegalSteps.{Cases, by_steps, step_case}
 use Rattle.step_laws.proofs.LogHistories.{leaves_logs, told, entered_all-history, entered_all-other, entered_all-spares, none_missed}
 use Rattle.step_laws.specs.Logs.{LogsKept, spares_hosts}
-use Rattle.step_laws.proofs.LogOutcomes.{Keeps, held_leaves, kept_host, kept_release, kept_response, kept_still, kept_told, last_of, length-notices, room_for}
+use Rattle.step_laws.proofs.LogOutcomes.{Keeps, held_leaves, kept_host, kept_release, kept_response, kept_still, kept_told, last_of, length-log_records, room_for}
 
 -- ---- a record for each host
 
@@ -117,9 +117,9 @@ module _ (c : Configuration) (before : List Entry) (all : (l : LogId) → IsHist
       Keeps (effects before) (effects_of c (effects before) (add_outcome c (effects before) (λ h. view_of c h before) host policy r bytes tag xs))
   kept_add host policy r bytes tag xs rule =
       let new : List Extent = offered c (effects before) host policy r bytes tag xs in
-      let events : List Event = notices_of host (view_after c host (view_of c host before) (Effect.Offer host new ∷ [])) EventKind.Add new in
+      let events : List Event = records_of_extents host (view_after c host (view_of c host before) (Effect.Offer host new ∷ [])) EventKind.Add new in
       kept_told c (effects before) all (add_outcome c (effects before) (λ h. view_of c h before) host policy r bytes tag xs) refl
-      (kept_host c (effects before) all host events (omega (arith, add_room host policy r bytes tag xs rule, length-notices host (view_after c host (view_of c host before) (Effect.Offer host new ∷ [])) EventKind.Add new)))
+      (kept_host c (effects before) all host events (omega (arith, add_room host policy r bytes tag xs rule, length-log_records host (view_after c host (view_of c host before) (Effect.Offer host new ∷ [])) EventKind.Add new)))
 
   remove_room : (host flags r : ℕ) (tag : Tag) (xs : List Extent) → remove_rule c (λ h. view_of c h before) host flags r tag xs ≡ None →
       length (removed (view_of c host before).accepted flags tag xs) ≤ room_in (LogId.Host host) (log_of (LogId.Host host) (effects before))
@@ -133,7 +133,7 @@ module _ (c : Configuration) (before : List Entry) (all : (l : LogId) → IsHist
       let changes : List Effect = if is_forced flags then removals c host (is_cleaning flags) going else [] in
       let kind : EventKind = if is_forced flags then EventKind.Forced else EventKind.Release in
       kept_told c (effects before) all (remove_outcome c (λ h. view_of c h before) host flags tag xs) (removals_pass leaves_logs host (λ run. refl) (λ run. refl) c (is_forced flags) (is_cleaning flags) going)
-      (kept_host c (effects before) all host (notices_of host (view_after c host v changes) kind going) (omega (arith, remove_room host flags r tag xs rule, length-notices host (view_after c host v changes) kind going)))
+      (kept_host c (effects before) all host (records_of_extents host (view_after c host v changes) kind going) (omega (arith, remove_room host flags r tag xs rule, length-log_records host (view_after c host v changes) kind going)))
 
   kept_reference : (tag : Tag) → Keeps (effects before) (effects_of c (effects before) (add_reference_outcome (effects before) tag))
   kept_reference tag = kept_told c (effects before) all (add_reference_outcome (effects before) tag) (reference_passes leaves_logs tag refl (is_referenced tag (effects before))) (kept_still c (effects before) all [] refl)
@@ -146,7 +146,7 @@ module _ (c : Configuration) (before : List Entry) (all : (l : LogId) → IsHist
   manager_kept (FmRequest.GetRegions host count first) rule = kept_still c (effects before) all [] refl
   manager_kept (FmRequest.SetRegion r sanitize size) rule =
       kept_told c (effects before) all (set_outcome c (λ h. view_of c h before) r size) refl
-      (kept_each (effects before) (λ h. record (notice h (view_of c h before) EventKind.RegionUpdated false no_extent) { region = r }) all c.hosts (last_of _ _ rule))
+      (kept_each (effects before) (λ h. record (record_for h (view_of c h before) EventKind.RegionUpdated false no_extent) { region = r }) all c.hosts (last_of _ _ rule))
   manager_kept (FmRequest.GetExtentLists host count first) rule = kept_still c (effects before) all [] refl
   manager_kept (FmRequest.Add host policy r bytes tag xs) rule = kept_add host policy r bytes tag xs rule
   manager_kept (FmRequest.Remove host flags r bytes tag xs) rule = kept_remove host flags r tag xs rule

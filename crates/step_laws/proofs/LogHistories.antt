@@ -72,7 +72,7 @@ entered_all-other k l log other (e ∷ events) apart =
 
 -- the records that a command tells
 abbrev pub told : List Effect → List (LogId × List Event) → List Effect
-told past notices = flat_map (λ n. entered_all n.0 (log_of n.0 past) n.1) notices
+told past log_records = flat_map (λ n. entered_all n.0 (log_of n.0 past) n.1) log_records
 
 pub told_one : (past : List Effect) (k : LogId) (events : List Event) → told past ((k, events) ∷ []) ≡ entered_all k (log_of k past) events
 told_one past k events = append-nil (entered_all k (log_of k past) events)

@@ -18,9 +18,9 @@ use Rattle.region_config.proofs.Searches.{or_parts}
 use Rattle.region_config.specs.Configurations.{Configuration}
 use Rattle.extent_list.specs.ExtentLists.{marked}
 use Rattle.device_rules.specs.Logs.{log_after, log_of}
-use Rattle.device_rules.specs.Outcomes.{Outcome, effects_of, ended, entered_all, log_full, no_extent, notice, notices_of}
+use Rattle.device_rules.specs.Outcomes.{Outcome, effects_of, ended, entered_all, log_full, no_extent, record_for, records_of_extents}
 use Rattle.device_rules.specs.ReleaseOutcomes.{give_back_changes, give_back_outcome}
-use Rattle.device_rules.specs.ResponseOutcomes.{respond_changes, respond_outcome, response_notices}
+use Rattle.device_rules.specs.ResponseOutcomes.{respond_changes, respond_outcome, response_records}
 use Rattle.device_rules.specs.Views.{View, view_after}
 use Rattle.device_rules.proofs.EffectKinds.{PassHeld, PassLists, give_back_passes, respond_passes}
 use Rattle.device_rules.proofs.Leaving.{after_front, all_pass, both_pass, map_passes, over-leaving}
@@ -39,9 +39,9 @@ room_for h log need none = ltb-false (room_in (LogId.Host h) log) need (whole (n
 pub last_of : (front last : Option Rule) → front or last ≡ None → last ≡ None
 last_of front last none = (or_parts front last none).1
 
-pub length-notices : (h : HostId) (v : View) (kind : EventKind) (xs : List Extent) → length (notices_of h v kind xs) ≡ length xs
-length-notices h v kind [] = refl
-length-notices h v kind (x ∷ xs) = ap suc (length-notices h v kind xs)
+pub length-log_records : (h : HostId) (v : View) (kind : EventKind) (xs : List Extent) → length (records_of_extents h v kind xs) ≡ length xs
+length-log_records h v kind [] = refl
+length-log_records h v kind (x ∷ xs) = ap suc (length-log_records h v kind xs)
 
 -- ---- changes that leave logs
 
@@ -67,13 +67,13 @@ module _ (c : Configuration) (past : List Effect) (all : (l : LogId) → IsHisto
   }
 
   -- a command whose records alone change logs
-  pub kept_told : (o : Outcome) → list_all leaves_logs o.changes ≡ true → Keeps past (told past o.notices) → Keeps past (effects_of c past o)
+  pub kept_told : (o : Outcome) → list_all leaves_logs o.changes ≡ true → Keeps past (told past o.log_records) → Keeps past (effects_of c past o)
   kept_told o left kept =
       let front : List Effect = o.changes ++ map Effect.TagEnd (ended c past o.changes o.tags) in
       let still : list_all leaves_logs front ≡ true = both_pass leaves_logs o.changes (map Effect.TagEnd (ended c past o.changes o.tags)) left (map_passes leaves_logs Effect.TagEnd (λ t. refl) (ended c past o.changes o.tags)) in
       record {
-        history = λ l. subst IsHistory (sym (after_front (log_after l) (log_of l past) front (told past o.notices) (over-leaving (log_after l) leaves_logs (log-left l) (log_of l past) front still))) (kept.history l);
-        spared = both_pass spares_hosts front (told past o.notices) (all_pass leaves_logs spares_hosts spares-left front still) kept.spared;
+        history = λ l. subst IsHistory (sym (after_front (log_after l) (log_of l past) front (told past o.log_records) (over-leaving (log_after l) leaves_logs (log-left l) (log_of l past) front still))) (kept.history l);
+        spared = both_pass spares_hosts front (told past o.log_records) (all_pass leaves_logs spares_hosts spares-left front still) kept.spared;
       }
 
   -- records for one log, which is the manager's or has room
@@ -93,12 +93,12 @@ module _ (c : Configuration) (past : List Effect) (all : (l : LogId) → IsHisto
   kept_response h v false xs = kept_told (respond_outcome c h v false xs) (respond_passes leaves_logs h (held_leaves h) (lists_leave h) c v.offers v.responses false xs)
       (by (view_after c h v (respond_changes c h v.offers v.responses false xs)) v.offers (v.responses ++ xs))
     where
-      by : (w : View) (offers : List (List Extent)) (taken : List Extent) → Keeps past (told past (response_notices c h w offers taken))
+      by : (w : View) (offers : List (List Extent)) (taken : List Extent) → Keeps past (told past (response_records c h w offers taken))
       by w [] taken = kept_still [] refl
-      by w (offer ∷ later) [] = kept_manager (notice h w EventKind.AddResponse false no_extent ∷ [])
-      by w (offer ∷ later) (x ∷ ys) = kept_manager (notices_of h w EventKind.AddResponse (map (marked offer) (x ∷ ys)))
+      by w (offer ∷ later) [] = kept_manager (record_for h w EventKind.AddResponse false no_extent ∷ [])
+      by w (offer ∷ later) (x ∷ ys) = kept_manager (records_of_extents h w EventKind.AddResponse (map (marked offer) (x ∷ ys)))
 
   pub kept_release : (h : HostId) (v : View) (more : Bool) (xs : List Extent) → Keeps past (effects_of c past (give_back_outcome c h v more xs))
   kept_release h v true xs = kept_told (give_back_outcome c h v true xs) (give_back_passes leaves_logs h (held_leaves h) (lists_leave h) c v.releases true xs) (kept_still [] refl)
   kept_release h v false xs = kept_told (give_back_outcome c h v false xs) (give_back_passes leaves_logs h (held_leaves h) (lists_leave h) c v.releases false xs)
-      (kept_manager (notices_of h (view_after c h v (give_back_changes c h v.releases false xs)) EventKind.Released (map (marked v.accepted) (v.releases ++ xs))))
+      (kept_manager (records_of_extents h (view_after c h v (give_back_changes c h v.releases false xs)) EventKind.Released (map (marked v.accepted) (v.releases ++ xs))))

@@ -19,8 +19,8 @@ use Rattle.device_rules.proofs.Leaving.{is_quiet}
 quiet_records : (l : LogId) → any_log l ≡ true → PassRecords is_quiet l
 quiet_records l any = record { logged = λ event. refl; missed = refl }
 
-pub told-quiet : (past : List Effect) (notices : List (LogId × List Event)) → list_all is_quiet (flat_map (λ n. entered_all n.0 (log_of n.0 past) n.1) notices) ≡ true
-told-quiet past notices = told_passes is_quiet any_log quiet_records past notices (tells_any notices)
+pub told-quiet : (past : List Effect) (log_records : List (LogId × List Event)) → list_all is_quiet (flat_map (λ n. entered_all n.0 (log_of n.0 past) n.1) log_records) ≡ true
+told-quiet past log_records = told_passes is_quiet any_log quiet_records past log_records (tells_any log_records)
 
 -- ---- nor does the end of a held list
 

@@ -13,7 +13,7 @@ use Rattle.region_config.specs.declared.region_spec.RegionSpec.{RegionSpec}
 use Rattle.journal_core.specs.declared.outcome.Effect.{Effect}
 use Rattle.journal_core.specs.Holders.{is_soiled, is_taken}
 use Rattle.journal_core.proofs.HoldingSteps.{is_soiled-append, is_taken-append}
-use Rattle.device_rules.specs.Tags.{Held, Offered, Tagged, Dirty, Free, dirty_granules, granules_of, is_dirty, is_held, is_offered, is_tagged, status}
+use Rattle.device_rules.specs.Tags.{Held, Offered, Tagged, Dirty, Free, dirty_granules, all_granules, is_dirty, is_held, is_offered, is_tagged, status}
 use Rattle.device_rules.proofs.Leaving.{leaves_holders, leaves_offers, leaves_tags, map_passes}
 use Rattle.device_rules.proofs.RunEffects.{run_from, zeros, soil-zeros, taking-zeros}
 use Rattle.step_laws.proofs.StatusParts.{status_by, status_is, held-left, offered-left, tagged-left}
@@ -89,7 +89,7 @@ status-scrub c g past n =
     let there = joined_has (same_region c) (scrubbed c past n) g in
     elim (cases_Bool (list_any (λ m. m == g) (scrubbed c past n))) [
       | inl here ↦ status-zeroed c g past runs (there ∙ here)
-          (passes_there (λ m. is_dirty (status c m past)) g (granules_of c) (any_taken (λ m. m == g) n (dirty_granules c past) here))
+          (passes_there (λ m. is_dirty (status c m past)) g (all_granules c) (any_taken (λ m. m == g) n (dirty_granules c past) here))
           ∙ sym (ap (λ b. if b then Free else status c g past) here)
       | inr out ↦ status-not_zeroed c g past runs (there ∙ out) ∙ sym (ap (λ b. if b then Free else status c g past) out)
     ]

@@ -12,7 +12,7 @@ use Rattle.journal_core.specs.declared.entries.Entry.{Entry}
 use Rattle.journal_core.specs.declared.outcome.Effect.{Effect}
 use Rattle.journal_core.specs.declared.outcome.HeldKind.{HeldKind}
 use Rattle.extent_list.specs.ExtentLists.{cut}
-use Rattle.media_map.specs.Places.{bytes_in, start_of}
+use Rattle.media_map.specs.Places.{bytes_of_run, start_of}
 use Rattle.region_config.specs.Configurations.{Configuration}
 use Rattle.device_rules.specs.Hosts.{accepted_after, block_after, held_after, moves, offers_after, same_kind}
 use Rattle.device_rules.specs.Logs.{log_after, same_log}
@@ -53,7 +53,7 @@ offers-kept k offers e left = refl
 
 accepted-kept : (c : Configuration) (k : HostId) (accepted : List Extent) (e : Effect) → leaves_view k e ≡ true → accepted_after c k accepted e ≡ accepted
 accepted-kept c k accepted (Effect.Answer h xs) left = else_is (h == k) (accepted ++ xs) accepted left
-accepted-kept c k accepted (Effect.Leave h run) left = else_is (h == k) (cut (start_of c k run) (bytes_in c run) accepted) accepted left
+accepted-kept c k accepted (Effect.Leave h run) left = else_is (h == k) (cut (start_of c k run) (bytes_of_run c run) accepted) accepted left
 accepted-kept c k accepted e left = refl
 
 held-kept : (k : HostId) (kind : HeldKind) (held : List Extent) (e : Effect) → leaves_view k e ≡ true → held_after k kind held e ≡ held
@@ -108,6 +108,6 @@ pub others_records : (k : HostId) (l : LogId) → is_other_log k l ≡ true → 
 others_records k l other = record { logged = λ event. other; missed = other }
 
 -- A command whose changes and records leave a host's view leaves it, whatever tags end.
-pub outcome-leaves : (c : Configuration) (k : HostId) (past : List Effect) (o : Outcome) → list_all (leaves_view k) o.changes ≡ true → tells (is_other_log k) o.notices ≡ true →
+pub outcome-leaves : (c : Configuration) (k : HostId) (past : List Effect) (o : Outcome) → list_all (leaves_view k) o.changes ≡ true → tells (is_other_log k) o.log_records ≡ true →
     list_all (leaves_view k) (effects_of c past o) ≡ true
 outcome-leaves c k past o changes others = outcome_passes (leaves_view k) (is_other_log k) (others_records k) (λ t. refl) c past o changes others

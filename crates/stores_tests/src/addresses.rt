@@ -2,10 +2,11 @@
 
 ghost use Rattle.std.specs.Prelude.{◌≡◌, IfOk};
 
-use dcd_base::{AccessFault, Granule, HostId, Place, RegionId, Tag};
+use dcd_base::{AccessFault, Extent, Granule, HostId, Place, RegionId, Tag};
 use media_map::{dpa_of, extent_of, locate, region_at, run_of};
 use region_config::{Config, ConfigFault, RegionSpec};
 use std::alloc::Global;
+use std::process::Abort;
 use std::test::Fail;
 
 /// 1 MiB.
@@ -34,83 +35,117 @@ fn two_hosts(alloc: Global) -> Result<Config, ConfigFault>
     Config::new(alloc, 2, &regions, &[0, BASE, BASE, 2 * BASE])
 }
 
-fn place(region: u8, granule: u32, word: u64) -> Place {
-    Place {
-        region: RegionId(region),
-        granule: Granule(granule),
-        word,
+/// The region, the granule and the word of an address.
+fn found(config: &Config, host: u8, dpa: u64) -> Result<(u8, u32, u64), AccessFault> {
+    if host >= config.hosts() {
+        return Err(AccessFault::NotGranted);
     }
+    let Place {
+        region,
+        granule,
+        word,
+    } = locate(config, HostId(host), dpa)?;
+    Ok((region.0, granule.0, word))
 }
+
+/// A host, an address, and its place.
+const PLACES: [(u8, u64, Result<(u8, u32, u64), AccessFault>); 14] = [
+    (0, 0, Ok((0, 0, 0))),
+    (0, 0xFF_FFF8, Ok((0, 15, 0x1_FFFF))),
+    (0, 0x100_0000, Err(AccessFault::OutsideRegions)),
+    (0, 0x100_0004, Err(AccessFault::Misaligned)),
+    (0, 1, Err(AccessFault::Misaligned)),
+    (0, BASE, Ok((1, 16, 0))),
+    (0, 0x103F_FFF8, Ok((1, 19, 0x1_FFFF))),
+    (0, 0x1040_0000, Err(AccessFault::OutsideRegions)),
+    (1, BASE, Ok((0, 0, 0))),
+    (1, 0x10FF_FFF8, Ok((0, 15, 0x1_FFFF))),
+    (1, 0x1100_0000, Err(AccessFault::OutsideRegions)),
+    (1, 2 * BASE, Ok((1, 16, 0))),
+    (1, 0x203F_FFF8, Ok((1, 19, 0x1_FFFF))),
+    (1, 0x2040_0000, Err(AccessFault::OutsideRegions)),
+];
 
 #[test]
 fn addresses_of_two_hosts_have_places(rt: HostRuntime) -> Result<(), Fail> {
     let config = two_hosts(rt.alloc())?;
-    for (host, dpa, found) in [
-        (0, 0, Ok(place(0, 0, 0))),
-        (0, 0xFF_FFF8, Ok(place(0, 15, 0x1_FFFF))),
-        (0, 0x100_0000, Err(AccessFault::OutsideRegions)),
-        (0, 0x100_0004, Err(AccessFault::Misaligned)),
-        (0, 1, Err(AccessFault::Misaligned)),
-        (0, BASE, Ok(place(1, 16, 0))),
-        (0, 0x103F_FFF8, Ok(place(1, 19, 0x1_FFFF))),
-        (0, 0x1040_0000, Err(AccessFault::OutsideRegions)),
-        (1, BASE, Ok(place(0, 0, 0))),
-        (1, 0x10FF_FFF8, Ok(place(0, 15, 0x1_FFFF))),
-        (1, 0x1100_0000, Err(AccessFault::OutsideRegions)),
-        (1, 2 * BASE, Ok(place(1, 16, 0))),
-        (1, 0x203F_FFF8, Ok(place(1, 19, 0x1_FFFF))),
-        (1, 0x2040_0000, Err(AccessFault::OutsideRegions)),
-    ] {
-        if host < config.hosts() {
-            assert_eq!(rt;
-                locate(&config, HostId(host), dpa),
-                found,
-                "{host}, {dpa:x}"
-            );
-        }
+    for (host, dpa, expected) in PLACES {
+        assert_eq!(rt; found(&config, host, dpa), expected, "{host}, {dpa:x}");
     }
     Ok(())
+}
+
+/// The word that host 0 has at 10100008h.
+const WORD: Place = Place {
+    region: RegionId(1),
+    granule: Granule(17),
+    word: 1,
+};
+
+/// Where host 0 has the word, where host 1 has it, and the region of that address.
+fn both(config: &Config) -> (Result<Place, AccessFault>, u64, Option<RegionId>)
+    requires { config.now.hosts ≡ 2 }
+{
+    let Ok(word) = locate(config, HostId(0), 0x1010_0008) else {
+        return (Err(AccessFault::OutsideRegions), 0, None);
+    };
+    (
+        Ok(word),
+        dpa_of(config, HostId(1), &word),
+        region_at(config, HostId(1), 0x2010_0008),
+    )
 }
 
 #[test]
 fn another_host_has_the_word_at_another_address(rt: HostRuntime) -> Result<(), Fail> {
     let config = two_hosts(rt.alloc())?;
-    let Ok(word) = locate(&config, HostId(0), 0x1010_0008) else {
-        return Err(Fail::new("no place"));
-    };
-    assert_eq!(rt; word, place(1, 17, 1));
-    assert_eq!(rt; dpa_of(&config, HostId(1), &word), 0x2010_0008);
-    assert_eq!(rt;
-        region_at(&config, HostId(1), 0x2010_0008),
-        Some(RegionId(1))
-    );
+    let expected = (Ok(WORD), 0x2010_0008, Some(RegionId(1)));
+    assert_eq!(rt; both(&config), expected);
     Ok(())
+}
+
+/// Ranges of host 1, each a start and a length, with the first granule and the count of its run.
+const RANGES: [(u64, u64, Option<(u32, u32)>); 7] = [
+    (BASE, 0, None),
+    (BASE + 8, M, None),
+    (BASE, M + 8, None),
+    (BASE + 15 * M, 2 * M, None),
+    (0, M, None),
+    (u64::MAX - M + 1, 2 * M, None),
+    (2 * BASE + M, 3 * M, Some((17, 3))),
+];
+
+/// Sees the run of each range of the table.
+fn see_runs(rt: &impl Abort, config: &Config)
+    requires { config.now.hosts ≡ 2 }
+{
+    for (start, length, expected) in RANGES {
+        let found = match run_of(config, HostId(1), start, length) {
+            Some(run) => Some((run.first.0, run.count)),
+            None => None,
+        };
+        assert_eq!(rt; found, expected, "{start:x}, {length:x}");
+    }
+}
+
+/// What host 0 has in the place of 3 MiB of host 1 in region 1.
+fn extent_beside(config: &Config) -> Option<Extent>
+    requires { config.now.hosts ≡ 2 }
+{
+    let run = run_of(config, HostId(1), 2 * BASE + M, 3 * M)?;
+    Some(extent_of(config, HostId(0), &run, Tag([7; 16]), 2))
 }
 
 #[test]
 fn a_range_of_whole_granules_of_one_region_has_a_run(rt: HostRuntime) -> Result<(), Fail> {
     let config = two_hosts(rt.alloc())?;
-    let host = HostId(1);
-    for (start, length) in [
-        (BASE, 0),
-        (BASE + 8, M),
-        (BASE, M + 8),
-        (BASE + 15 * M, 2 * M),
-        (0, M),
-        (u64::MAX - M + 1, 2 * M),
-    ] {
-        assert_eq!(rt;
-            run_of(&config, host, start, length),
-            None,
-            "{start:x}, {length:x}"
-        );
-    }
-    let Some(run) = run_of(&config, host, 2 * BASE + M, 3 * M) else {
-        return Err(Fail::new("no run"));
+    see_runs(&rt, &config);
+    let expected = Extent {
+        start: BASE + M,
+        length: 3 * M,
+        tag: Tag([7; 16]),
+        sequence: 2,
     };
-    assert_eq!(rt; (run.first, run.count), (Granule(17), 3));
-    let extent = extent_of(&config, HostId(0), &run, Tag([7; 16]), 2);
-    assert_eq!(rt; (extent.start, extent.length), (BASE + M, 3 * M));
-    assert_eq!(rt; (extent.tag, extent.sequence), (Tag([7; 16]), 2));
+    assert_eq!(rt; extent_beside(&config), Some(expected));
     Ok(())
 }

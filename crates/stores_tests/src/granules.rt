@@ -1,9 +1,11 @@
 //! Which blocks of an area are free, and each call once.
 
-ghost use Rattle.std.specs.Prelude.{◌≡◌, IfOk, length};
+ghost use Rattle.granule_map.specs.Blocks.{IsArea};
+ghost use Rattle.std.specs.Prelude.{◌≡◌, ◌<◌, IfOk, length};
 
 use dcd_base::{Granule, HostId, Run, Tag};
 use granule_map::{GranuleMap, GranuleState};
+use std::process::Abort;
 use std::test::Fail;
 
 pub fn run(first: u32, count: u32) -> Run
@@ -30,23 +32,63 @@ fn sixteen(rt: &HostRuntime) -> Result<GranuleMap, Fail>
     Ok(map)
 }
 
+/// An area, how many granules a block has and how many blocks are wanted; the free blocks, the longest run of them,
+/// and the lowest run of so many.
+const AREAS: [((u32, u32), u32, u32, (u32, u32, Option<(u32, u32)>)); 6] = [
+    ((0, 16), 1, 3, (11, 6, Some((3, 3)))),
+    ((0, 16), 2, 2, (4, 2, Some((4, 4)))),
+    ((0, 16), 2, 3, (4, 2, None)),
+    ((8, 8), 2, 1, (1, 1, Some((10, 2)))),
+    ((9, 1), 1, 1, (0, 0, None)),
+    ((13, 3), 3, 1, (0, 0, None)),
+];
+
+/// The lowest run of so many free blocks of an area, a first granule and a count.
+fn lowest(map: &GranuleMap, area: Run, block: u32, need: u32) -> Option<(u32, u32)>
+    requires area { IsArea map.now.states area block }
+    requires some { 0 < need }
+{
+    match map.lowest_run(area, block, need) {
+        Some(run) => Some((run.first.0, run.count)),
+        None => None,
+    }
+}
+
+/// Sees what is free in each area of the table.
+fn see_areas(rt: &impl Abort, map: &GranuleMap)
+    requires { length map.now.states ≡ 16 }
+{
+    for ((first, count), block, need, expected) in AREAS {
+        let found = (
+            map.free_blocks(run(first, count), block),
+            map.longest(run(first, count), block),
+            lowest(map, run(first, count), block, need),
+        );
+        assert_eq!(rt; found, expected, "{first}, {count}, {block}, {need}");
+    }
+}
+
 #[test]
 fn runs_of_free_blocks_begin_on_the_grid(rt: HostRuntime) -> Result<(), Fail> {
-    let map = sixteen(&rt)?;
-    for (block, free, longest, need, lowest) in [
-        (1, 11, 6, 3, Some(run(3, 3))),
-        (2, 4, 2, 2, Some(run(4, 4))),
-        (2, 4, 2, 3, None),
-    ] {
-        assert_eq!(rt; map.free_blocks(run(0, 16), block), free);
-        assert_eq!(rt; map.longest(run(0, 16), block), longest);
-        assert_eq!(rt; map.lowest_run(run(0, 16), block, need), lowest);
-    }
-    assert_eq!(rt; map.free_blocks(run(8, 8), 2), 1);
-    assert_eq!(rt; map.lowest_run(run(8, 8), 2, 1), Some(run(10, 2)));
-    assert_eq!(rt; map.free_blocks(run(9, 1), 1), 0);
-    assert_eq!(rt; map.longest(run(13, 3), 3), 0);
+    see_areas(&rt, &sixteen(&rt)?);
     Ok(())
+}
+
+/// Each state with the number of granules that have it.
+const STATES: [(GranuleState, u32); 6] = [
+    (GranuleState::Free, 11),
+    (GranuleState::Dirty, 2),
+    (GranuleState::Held(HostId(1)), 1),
+    (GranuleState::Held(HostId(0)), 0),
+    (GranuleState::Tagged(Tag([7; 16])), 1),
+    (GranuleState::Tagged(Tag([8; 16])), 0),
+];
+
+/// Sees how many granules each state of the table has.
+fn see_states(rt: &impl Abort, map: &GranuleMap) {
+    for (state, count) in STATES {
+        assert_eq!(rt; map.count(state), count);
+    }
 }
 
 #[test]
@@ -54,18 +96,8 @@ fn states_are_found_and_counted(rt: HostRuntime) -> Result<(), Fail> {
     let map = sixteen(&rt)?.copy()?;
     assert_eq!(rt; map.len(), 16);
     assert_eq!(rt; map.at(Granule(13)), GranuleState::Reserved(HostId(0)));
-    for (state, count) in [
-        (GranuleState::Free, 11),
-        (GranuleState::Dirty, 2),
-        (GranuleState::Held(HostId(1)), 1),
-        (GranuleState::Held(HostId(0)), 0),
-        (GranuleState::Tagged(Tag([7; 16])), 1),
-        (GranuleState::Tagged(Tag([8; 16])), 0),
-    ] {
-        assert_eq!(rt; map.count(state), count);
-    }
-    for (from, dirty) in [(0, Some(Granule(9))), (10, Some(Granule(15))), (16, None)] {
-        assert_eq!(rt; map.next_dirty(from), dirty);
-    }
+    see_states(&rt, &map);
+    let dirty = [map.next_dirty(0), map.next_dirty(10), map.next_dirty(16)];
+    assert_eq!(rt; dirty, [Some(Granule(9)), Some(Granule(15)), None]);
     Ok(())
 }

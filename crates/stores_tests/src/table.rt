@@ -6,42 +6,66 @@ use granule_map::GranuleState;
 use granule_table::GranuleTable;
 use std::test::Fail;
 
-fn held() -> GranuleState {
-    GranuleState::Held(HostId(1))
+const HELD: GranuleState = GranuleState::Held(HostId(1));
+
+/// The granules that are free, those that are dirty, and the lowest dirty one.
+fn counts(table: &GranuleTable) -> (u32, u32, Option<Granule>) {
+    (table.free(), table.dirty(), table.states().next_dirty(0))
+}
+
+/// Gives granules 2 to 4, soils and settles some, zeroes one and gives it again: the counts after each change that
+/// they tell of.
+fn changed(table: &mut GranuleTable) -> [(u32, u32, Option<Granule>); 5] {
+    table.give(run(2, 3), HELD);
+    let given = counts(table);
+    table.soil(run(3, 2));
+    let soiled = counts(table);
+    table.settle(run(2, 3));
+    let settled = counts(table);
+    table.zero(run(3, 1));
+    let zeroed = counts(table);
+    table.give(run(3, 2), HELD);
+    table.settle(run(3, 2));
+    [given, soiled, settled, zeroed, counts(table)]
 }
 
 #[test]
 fn granules_come_back_as_they_were_left(rt: HostRuntime) -> Result<(), Fail> {
     let mut table = GranuleTable::new(rt.alloc(), 8)?;
-    assert_eq!(rt; (table.len(), table.free(), table.dirty()), (8, 8, 0));
-    table.give(run(2, 3), held());
-    assert_eq!(rt; (table.free(), table.dirty()), (5, 0));
-    assert_eq!(rt; table.states().count(held()), 3);
-    table.soil(run(3, 2));
-    assert_eq!(rt; (table.free(), table.dirty()), (5, 0));
-    table.settle(run(2, 3));
-    assert_eq!(rt; (table.free(), table.dirty()), (6, 2));
-    assert_eq!(rt; table.states().next_dirty(0), Some(Granule(3)));
-    table.zero(run(3, 1));
-    assert_eq!(rt; (table.free(), table.dirty()), (7, 1));
-    assert_eq!(rt; table.states().next_dirty(0), Some(Granule(4)));
-    table.give(run(3, 2), held());
-    table.settle(run(3, 2));
-    assert_eq!(rt; (table.free(), table.dirty()), (7, 1));
+    assert_eq!(rt; (table.len(), counts(&table)), (8, (8, 0, None)));
+    let expected = [
+        (5, 0, None),
+        (5, 0, None),
+        (6, 2, Some(Granule(3))),
+        (7, 1, Some(Granule(4))),
+        (7, 1, Some(Granule(4))),
+    ];
+    assert_eq!(rt; changed(&mut table), expected);
     Ok(())
+}
+
+/// Changes runs that reach past the table or are empty: the counts after some.
+fn changed_past_the_end(table: &mut GranuleTable) -> [(u32, u32, Option<Granule>); 3] {
+    table.soil(run(6, u32::MAX));
+    table.settle(run(0, u32::MAX));
+    let settled = counts(table);
+    table.give(run(8, 1), GranuleState::Dirty);
+    table.zero(run(u32::MAX, u32::MAX));
+    table.soil(run(5, 0));
+    let outside = counts(table);
+    table.zero(run(7, 2));
+    [settled, outside, counts(table)]
 }
 
 #[test]
 fn a_run_past_the_table_changes_what_is_there(rt: HostRuntime) -> Result<(), Fail> {
     let mut table = GranuleTable::new(rt.alloc(), 8)?;
-    table.soil(run(6, u32::MAX));
-    table.settle(run(0, u32::MAX));
-    assert_eq!(rt; (table.free(), table.dirty()), (6, 2));
-    table.give(run(8, 1), GranuleState::Dirty);
-    table.zero(run(u32::MAX, u32::MAX));
-    table.soil(run(5, 0));
-    assert_eq!(rt; (table.len(), table.free(), table.dirty()), (8, 6, 2));
-    table.zero(run(7, 2));
-    assert_eq!(rt; (table.free(), table.dirty()), (7, 1));
+    let expected = [
+        (6, 2, Some(Granule(6))),
+        (6, 2, Some(Granule(6))),
+        (7, 1, Some(Granule(6))),
+    ];
+    assert_eq!(rt; changed_past_the_end(&mut table), expected);
+    assert_eq!(rt; table.len(), 8);
     Ok(())
 }

@@ -18,7 +18,7 @@ use Rattle.region_config.specs.Configurations.{Configuration}
 use Rattle.region_config.specs.Granules.{hosts_of, region_spec}
 use Rattle.region_config.specs.Soundness.{IsSound}
 use Rattle.tag_refs.specs.Tables.{opened, passes}
-use Rattle.tag_refs.specs.Tables.{is_live as has_entry, is_referenced as entry_referenced}
+use Rattle.tag_refs.specs.Tables.{has_entry, entry_referenced}
 use Rattle.tag_refs.specs.declared.entries.TagEntry.{TagEntry}
 use Rattle.device_rules.specs.Adding.{is_open_in, offered}
 use Rattle.device_rules.specs.Answers.{manager_outcome, manager_rule}
@@ -110,11 +110,11 @@ module _ (c : Configuration) (past : List Effect) (now : Sound c (picture_of c p
 
 module _ (c : Configuration) (sound : IsSound c) (past : List Effect) (now : Sound c (picture_of c past)) (h policy r : ℕ) (tag : Tag) (pick : IsPicked c past policy r tag)
     (entries : List TagEntry) (table : IsTable c past entries) where
-  offered_table : (new : List Extent) → IsAdded c (picture_of c past) h r tag new → (notices : List (LogId × List Event)) →
-      IsOffered c past h r tag new (record { payload = []; changes = Effect.Offer h new ∷ []; tags = []; notices = notices }) entries
-  offered_table [] a notices = absurd (omega (arith, a.some))
-  offered_table (x ∷ xs) a notices =
-      let o : Outcome = record { payload = []; changes = Effect.Offer h (x ∷ xs) ∷ []; tags = []; notices = notices } in
+  offered_table : (new : List Extent) → IsAdded c (picture_of c past) h r tag new → (log_records : List (LogId × List Event)) →
+      IsOffered c past h r tag new (record { payload = []; changes = Effect.Offer h new ∷ []; tags = []; log_records = log_records }) entries
+  offered_table [] a log_records = absurd (omega (arith, a.some))
+  offered_table (x ∷ xs) a log_records =
+      let o : Outcome = record { payload = []; changes = Effect.Offer h (x ∷ xs) ∷ []; tags = []; log_records = log_records } in
       let is_open : has_entry tag entries ≡ true → has_tag (open_tags c past) tag ≡ true = λ live. table_live c past entries table tag ∙ live in
       record {
         private = λ private. unended c past o entries refl (private_table c sound past now h r tag x xs a entries table (shut private) private);
@@ -166,7 +166,7 @@ module _ (c : Configuration) (sound : IsSound c) (before : List Entry) (legal : 
       (manager_outcome c (effects before) (λ k. view_of c k before) (FmRequest.Add h policy r bytes tag list)) entries
   table-add = offered_table c sound (effects before) now h policy r tag (picked c (effects before) now h policy r bytes tag list rules) entries table
       (offered c (effects before) h policy r bytes tag list) (added c sound (effects before) now h r tag bytes list policy rules)
-      (manager_outcome c (effects before) (λ k. view_of c k before) (FmRequest.Add h policy r bytes tag list)).notices
+      (manager_outcome c (effects before) (λ k. view_of c k before) (FmRequest.Add h policy r bytes tag list)).log_records
 
 -- ---- over a legal journal
 

@@ -23,12 +23,12 @@ use Rattle.journal_core.specs.declared.outcome.HeldKind.{HeldKind}
 use Rattle.list_rules.specs.Listing.{incomplete, too_many_extents, too_many_listed}
 use Rattle.media_map.specs.Places.{region_at, run_of}
 use Rattle.offer_core.specs.Offerings.{oldest_of}
-use Rattle.offer_core.specs.Responses.{list_rule, respond_rule}
+use Rattle.offer_core.specs.Responses.{response_list_rule, respond_rule}
 use Rattle.region_config.specs.Configurations.{Configuration}
 use Rattle.region_config.specs.Granules.{granule_size, region_of, region_spec, with_blocks}
 use Rattle.region_config.specs.Soundness.{IsSound}
 use Rattle.release_core.specs.Leaving.{count_after}
-use Rattle.release_core.specs.Removals.{by_tag_rule, listed_rule, tagged}
+use Rattle.release_core.specs.Removals.{by_tag_rule, prescribed_removal_rule, extents_of_tag}
 use Rattle.device_rules.specs.Adding.{add_outcome, add_rule, offered}
 use Rattle.device_rules.specs.Answers.{host_outcome, host_rule, manager_outcome, manager_rule}
 use Rattle.device_rules.specs.EventCommands.{clear_outcome}
@@ -173,7 +173,7 @@ module _ (c : Configuration) (sound : IsSound c) (before : List Entry) (now : So
     responded (offer ∷ later) is list row =
         let v : View = view_of c h before in
         let all : List Extent = v.responses ++ list in
-        let rules = neither (too_many_listed all) (list_rule (with_blocks c v.block) h (length v.accepted) (offer ∷ later) all) row in
+        let rules = neither (too_many_listed all) (response_list_rule (with_blocks c v.block) h (length v.accepted) (offer ∷ later) all) row in
         let a : IsAnswer c (picture_of c (effects before)) h offer later (v.responses ++ list) = answer_of c sound p s h host offer later all rules.1 in
         let first : oldest_of (offers_of h (effects before)) ≡ offer = ap oldest_of is in
         let homes : AllByRecursion (λ x. IsMade c (p.block (region_at c h x.start)) h (region_at c h x.start) x) (oldest_of (offers_of h (effects before))) =
@@ -219,7 +219,7 @@ module _ (c : Configuration) (sound : IsSound c) (before : List Entry) (now : So
 
     -- ---- 5605h
 
-    listed : (r : ℕ) (list : List Extent) (forced : Bool) → listed_rule (with_blocks c p.block) h (p.accepted h) (count_in (p.offers h)) r list forced ≡ None → IsLeaving c (picture_of c (effects before)) h list
+    listed : (r : ℕ) (list : List Extent) (forced : Bool) → prescribed_removal_rule (with_blocks c p.block) h (p.accepted h) (count_in (p.offers h)) r list forced ≡ None → IsLeaving c (picture_of c (effects before)) h list
     listed r list forced row =
         let w : Configuration = with_blocks c p.block in
         let acc : List Extent = p.accepted h in
@@ -227,9 +227,9 @@ module _ (c : Configuration) (sound : IsSound c) (before : List Entry) (now : So
         leaving c p h list (going_of c sound p s h host (λ x. r) list p4.1)
 
     to_remove : (by_tag forced : Bool) (r : ℕ) (tag : Tag) (list : List Extent)
-        → (if by_tag then by_tag_rule (p.accepted h) tag else listed_rule (with_blocks c p.block) h (p.accepted h) (count_in (p.offers h)) r list forced) ≡ None
-        → IsLeaving c (picture_of c (effects before)) h (if by_tag then tagged tag (p.accepted h) else map (marked (p.accepted h)) list)
-    to_remove true forced r tag list row = leaving c p h (tagged tag (p.accepted h)) (some_going c sound p (loose c p s) h host (λ x. same_tag x.tag tag))
+        → (if by_tag then by_tag_rule (p.accepted h) tag else prescribed_removal_rule (with_blocks c p.block) h (p.accepted h) (count_in (p.offers h)) r list forced) ≡ None
+        → IsLeaving c (picture_of c (effects before)) h (if by_tag then extents_of_tag tag (p.accepted h) else map (marked (p.accepted h)) list)
+    to_remove true forced r tag list row = leaving c p h (extents_of_tag tag (p.accepted h)) (some_going c sound p (loose c p s) h host (λ x. same_tag x.tag tag))
     to_remove false forced r tag list row = leaving_marked c p h (p.accepted h) list (listed r list forced row)
 
     by_force : (forced clean : Bool) (ys : List Extent) → IsLeaving c (picture_of c (effects before)) h ys → Keeps c oldest runs g (effects before) (if forced then removals c h clean ys else [])
@@ -240,7 +240,7 @@ module _ (c : Configuration) (sound : IsSound c) (before : List Entry) (now : So
       Keeps c oldest runs g (effects before) (effects_of c (effects before) (remove_outcome c (λ k. view_of c k before) h flags tag list))
   remove_case h flags r bytes tag list row =
       let v : View = view_of c h before in
-      let by_row = if policy_in flags == 0 then by_tag_rule v.accepted tag else listed_rule (with_blocks c v.block) h v.accepted (count_in v.offers) r list (is_forced flags) in
+      let by_row = if policy_in flags == 0 then by_tag_rule v.accepted tag else prescribed_removal_rule (with_blocks c v.block) h v.accepted (count_in v.offers) r list (is_forced flags) in
       let p5 = neither _ (log_full h v.log (length (removed v.accepted flags tag list))) row in
       let p4 = neither _ by_row p5.0 in
       let p3 = neither _ (ltb 1 (policy_in flags) breaks Rule.NoSuchPolicy (policy_in flags)) p4.0 in

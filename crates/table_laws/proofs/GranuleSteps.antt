@@ -56,5 +56,5 @@ module _ (c : Configuration) (oldest : HostId → List Extent) (runs : Tag → L
       Keeps c oldest runs g past (effects_of c past o)
   keeps_outcome past o changes tags =
       let over : List Effect = ends (ended c past o.changes o.tags) in
-      let told : List Effect = flat_map (λ n. entered_all n.0 (log_of n.0 past) n.1) o.notices in
-      keeps_then past (o.changes ++ over) told (keeps_then past o.changes over changes tags) (keeps_quiet (past ++ (o.changes ++ over)) told (told-quiet past o.notices))
+      let told : List Effect = flat_map (λ n. entered_all n.0 (log_of n.0 past) n.1) o.log_records in
+      keeps_then past (o.changes ++ over) told (keeps_then past o.changes over changes tags) (keeps_quiet (past ++ (o.changes ++ over)) told (told-quiet past o.log_records))

@@ -19,7 +19,7 @@ use Rattle.region_config.specs.Granules.{region_spec, with_blocks}
 use Rattle.region_config.specs.Soundness.{IsSound}
 use Rattle.release_core.specs.Leaving.{count_after}
 use Rattle.release_core.specs.Releases.{give_back_rule}
-use Rattle.release_core.specs.Removals.{by_tag_rule, listed_rule, tagged}
+use Rattle.release_core.specs.Removals.{by_tag_rule, prescribed_removal_rule, extents_of_tag}
 use Rattle.device_rules.specs.Outcomes.{log_full}
 use Rattle.device_rules.specs.ReleaseOutcomes.{give_back_changes, is_cleaning, is_forced, leaves, policy_in, removals, remove_rule, removed, soils}
 use Rattle.device_rules.specs.ResponseOutcomes.{unhold}
@@ -126,7 +126,7 @@ module _ (c : Configuration) (sound : IsSound c) (p : Picture) (before : Sound c
   ]
 
   -- by tag
-  tag_told : (clean : Bool) (tag : Tag) → IsGone c h (tags_of (tagged tag (p.accepted h))) p (picture_after c p (removals c h clean (tagged tag (p.accepted h))))
+  tag_told : (clean : Bool) (tag : Tag) → IsGone c h (tags_of (extents_of_tag tag (p.accepted h))) p (picture_after c p (removals c h clean (extents_of_tag tag (p.accepted h))))
   tag_told clean tag =
       let s = loose c p before.stands in
       let test : Extent → Bool = λ x. same_tag x.tag tag in
@@ -134,7 +134,7 @@ module _ (c : Configuration) (sound : IsSound c) (p : Picture) (before : Sound c
       going_told clean ys (tags_of ys) (some_going c sound p s h host test) (λ t e. tags_of-has ys t (own_tags ys (some_owned c sound p s h host test) t e))
 
   -- prescriptive
-  listed_told : (clean : Bool) (r : ℕ) (list : List Extent) → listed_rule (with_blocks c p.block) h (p.accepted h) (count_in (p.offers h)) r list true ≡ None →
+  listed_told : (clean : Bool) (r : ℕ) (list : List Extent) → prescribed_removal_rule (with_blocks c p.block) h (p.accepted h) (count_in (p.offers h)) r list true ≡ None →
       IsGone c h (tags_of (map (marked (p.accepted h)) list)) p (picture_after c p (removals c h clean (map (marked (p.accepted h)) list)))
   listed_told clean r list row =
       let w : Configuration = with_blocks c p.block in
@@ -146,32 +146,32 @@ module _ (c : Configuration) (sound : IsSound c) (p : Picture) (before : Sound c
       subst (IsGone c h (tags_of (map (marked acc) list)) p) (sym told) (going_told clean list (tags_of (map (marked acc) list)) going (marked_has acc list))
 
   forced_told : (clean by_tag : Bool) (r : ℕ) (tag : Tag) (list : List Extent) →
-      (if by_tag then by_tag_rule (p.accepted h) tag else listed_rule (with_blocks c p.block) h (p.accepted h) (count_in (p.offers h)) r list true) ≡ None →
-      IsGone c h (tags_of (if by_tag then tagged tag (p.accepted h) else map (marked (p.accepted h)) list)) p
-      (picture_after c p (removals c h clean (if by_tag then tagged tag (p.accepted h) else map (marked (p.accepted h)) list)))
+      (if by_tag then by_tag_rule (p.accepted h) tag else prescribed_removal_rule (with_blocks c p.block) h (p.accepted h) (count_in (p.offers h)) r list true) ≡ None →
+      IsGone c h (tags_of (if by_tag then extents_of_tag tag (p.accepted h) else map (marked (p.accepted h)) list)) p
+      (picture_after c p (removals c h clean (if by_tag then extents_of_tag tag (p.accepted h) else map (marked (p.accepted h)) list)))
   forced_told clean true r tag list row = tag_told clean tag
   forced_told clean false r tag list row = listed_told clean r list row
 
   -- by force or not
   pub removal_told : (forced clean by_tag : Bool) (r : ℕ) (tag : Tag) (list : List Extent) →
-      (if by_tag then by_tag_rule (p.accepted h) tag else listed_rule (with_blocks c p.block) h (p.accepted h) (count_in (p.offers h)) r list forced) ≡ None →
-      IsGone c h (tags_of (if by_tag then tagged tag (p.accepted h) else map (marked (p.accepted h)) list)) p
-      (picture_after c p (if forced then removals c h clean (if by_tag then tagged tag (p.accepted h) else map (marked (p.accepted h)) list) else []))
+      (if by_tag then by_tag_rule (p.accepted h) tag else prescribed_removal_rule (with_blocks c p.block) h (p.accepted h) (count_in (p.offers h)) r list forced) ≡ None →
+      IsGone c h (tags_of (if by_tag then extents_of_tag tag (p.accepted h) else map (marked (p.accepted h)) list)) p
+      (picture_after c p (if forced then removals c h clean (if by_tag then extents_of_tag tag (p.accepted h) else map (marked (p.accepted h)) list) else []))
   removal_told true clean by_tag r tag list row = forced_told clean by_tag r tag list row
   removal_told false clean by_tag r tag list row = record {
-    told_is = told_same c h (tags_of (if by_tag then tagged tag (p.accepted h) else map (marked (p.accepted h)) list)) p;
+    told_is = told_same c h (tags_of (if by_tag then extents_of_tag tag (p.accepted h) else map (marked (p.accepted h)) list)) p;
     tags_are = refl;
   }
 
 -- the row of a removal
 pub record IsRemovalRow (c : Configuration) (v : View) (h flags r : ℕ) (tag : Tag) (list : List Extent) : Type 0 where
   pub host : h < c.hosts
-  pub inner : (if policy_in flags == 0 then by_tag_rule v.accepted tag else listed_rule (with_blocks c v.block) h v.accepted (count_in v.offers) r list (is_forced flags)) ≡ None
+  pub inner : (if policy_in flags == 0 then by_tag_rule v.accepted tag else prescribed_removal_rule (with_blocks c v.block) h v.accepted (count_in v.offers) r list (is_forced flags)) ≡ None
 
 pub removal_row : (c : Configuration) (view_for : HostId → View) (h flags r : ℕ) (tag : Tag) (list : List Extent) → remove_rule c view_for h flags r tag list ≡ None → IsRemovalRow c (view_for h) h flags r tag list
 removal_row c view_for h flags r tag list row =
     let v : View = view_for h in
-    let by_row = if policy_in flags == 0 then by_tag_rule v.accepted tag else listed_rule (with_blocks c v.block) h v.accepted (count_in v.offers) r list (is_forced flags) in
+    let by_row = if policy_in flags == 0 then by_tag_rule v.accepted tag else prescribed_removal_rule (with_blocks c v.block) h v.accepted (count_in v.offers) r list (is_forced flags) in
     let p5 = neither _ (log_full h v.log (length (removed v.accepted flags tag list))) row in
     let p4 = neither _ by_row p5.0 in
     let p3 = neither _ (ltb 1 (policy_in flags) breaks Rule.NoSuchPolicy (policy_in flags)) p4.0 in

@@ -10,8 +10,8 @@ use Rattle.extent_list.specs.ExtentLists.{has_extent_of}
 use Rattle.journal_core.specs.declared.outcome.Effect.{Effect}
 use Rattle.region_config.specs.Configurations.{Configuration}
 use Rattle.region_config.specs.Granules.{hosts_of}
-use Rattle.tag_refs.specs.Tables.{changed, is_of, is_used, passes, still_used, with_reference}
-use Rattle.tag_refs.specs.Tables.{is_referenced as entry_referenced}
+use Rattle.tag_refs.specs.Tables.{entries_changed, is_entry_of, is_used, passes, still_used, with_reference}
+use Rattle.tag_refs.specs.Tables.{entry_referenced}
 use Rattle.tag_refs.specs.declared.entries.TagEntry.{TagEntry}
 use Rattle.device_rules.specs.Outcomes.{effects_of, ended}
 use Rattle.device_rules.specs.TagCommands.{add_reference_outcome, remove_reference_outcome}
@@ -81,13 +81,13 @@ added c past tag = by (is_referenced tag past) refl
 
 module _ (c : Configuration) (past new : List Effect) (tag : Tag) (on : Bool) (r : IsReferred c past new tag on) (entries : List TagEntry) (table : IsTable c past entries) where
   abbrev set : TagEntry → TagEntry
-  set e = if is_of tag e then with_reference on e else e
+  set e = if is_entry_of tag e then with_reference on e else e
 
   set_tag : (e : TagEntry) (b : Bool) → (if b then with_reference on e else e).tag ≡ e.tag
   set_tag e true = refl
   set_tag e false = refl
 
-  set_entry : (e : TagEntry) → IsEntry c past e → IsEntry c (past ++ new) (if is_of tag e then with_reference on e else e)
+  set_entry : (e : TagEntry) → IsEntry c past e → IsEntry c (past ++ new) (if is_entry_of tag e then with_reference on e else e)
   set_entry e is = by (same_tag tag e.tag) refl
     where
       by : (b : Bool) → same_tag tag e.tag ≡ b → IsEntry c (past ++ new) (if b then with_reference on e else e)
@@ -101,15 +101,15 @@ module _ (c : Configuration) (past new : List Effect) (tag : Tag) (on : Bool) (r
       by false other = entry-moved c past (past ++ new) e (ap (tag_region c) (r.last e.tag)) (ap (tag_runs c) (r.last e.tag)) (r.accepted e.tag) (r.offered e.tag)
           (r.referenced e.tag ∙ ap (λ b. if b then on else is_referenced e.tag past) other) is
 
-  set_table : IsTable c (past ++ new) (changed tag (with_reference on) entries)
-  set_table = mapped c past (past ++ new) entries set (λ e. set_tag e (is_of tag e)) r.tags table (λ e open_tag is. set_entry e is)
+  set_table : IsTable c (past ++ new) (entries_changed tag (with_reference on) entries)
+  set_table = mapped c past (past ++ new) entries set (λ e. set_tag e (is_entry_of tag e)) r.tags table (λ e open_tag is. set_entry e is)
 
 -- ---- 5606h
 
 pub table-add_reference : (c : Configuration) (past : List Effect) (tag : Tag) (entries : List TagEntry) → IsTable c past entries →
-    IsTable c (past ++ effects_of c past (add_reference_outcome past tag)) (changed tag (with_reference true) entries)
+    IsTable c (past ++ effects_of c past (add_reference_outcome past tag)) (entries_changed tag (with_reference true) entries)
 table-add_reference c past tag entries table =
-    unended c past (add_reference_outcome past tag) (changed tag (with_reference true) entries) refl
+    unended c past (add_reference_outcome past tag) (entries_changed tag (with_reference true) entries) refl
     (set_table c past (add_reference_outcome past tag).changes tag true (added c past tag) entries table)
 
 -- ---- 5607h
@@ -129,9 +129,9 @@ module _ (c : Configuration) (past : List Effect) (now : Sound c (picture_of c p
     | inr other ↦ inl ((λ i. hosts_same t i || (r.referenced t ∙ ap (λ b. if b then false else is_referenced t past) other) i) ∙ (open_uses c past now t open_tag).1)
   ]
 
-  pub table-remove_reference : IsTable c (past ++ effects_of c past (remove_reference_outcome tag)) (still_used (changed tag (with_reference false) entries))
+  pub table-remove_reference : IsTable c (past ++ effects_of c past (remove_reference_outcome tag)) (still_used (entries_changed tag (with_reference false) entries))
   table-remove_reference =
-      settled c past (remove_reference_outcome tag) (changed tag (with_reference false) entries) now r.tags (set_table c past (Effect.Ref tag false ∷ []) tag false r entries table) may
+      settled c past (remove_reference_outcome tag) (entries_changed tag (with_reference false) entries) now r.tags (set_table c past (Effect.Ref tag false ∷ []) tag false r entries table) may
 
   -- the tag ends where nothing else uses it
   unused : (e : TagEntry) → has_tag (open_tags c past) e.tag ≡ true → IsEntry c past e → e.tag ≡ tag →

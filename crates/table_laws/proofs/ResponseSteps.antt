@@ -14,7 +14,7 @@ use Rattle.journal_core.specs.declared.outcome.HeldKind.{HeldKind}
 use Rattle.list_rules.specs.Listing.{too_many_listed}
 use Rattle.media_map.specs.Places.{run_of}
 use Rattle.offer_core.specs.Offerings.{oldest_of}
-use Rattle.offer_core.specs.Responses.{list_rule, respond_rule}
+use Rattle.offer_core.specs.Responses.{response_list_rule, respond_rule}
 use Rattle.region_config.specs.Configurations.{Configuration}
 use Rattle.region_config.specs.Granules.{with_blocks}
 use Rattle.region_config.specs.Soundness.{IsSound}
@@ -85,7 +85,7 @@ module _ (c : Configuration) (sound : IsSound c) (p : Picture) (before : Sound c
       subst (Told c h (tags_of (oldest_of [])) p) (sym (quiet_front c p (unhold h HeldKind.Responses held) [] (unhold_quiet h HeldKind.Responses held))) (told_same c h (tags_of (oldest_of [])) p)
   response_told (offer ∷ later) is held list row =
       let all : List Extent = held ++ list in
-      let rules = neither (too_many_listed all) (list_rule (with_blocks c p.block) h (length (p.accepted h)) (offer ∷ later) all) row in
+      let rules = neither (too_many_listed all) (response_list_rule (with_blocks c p.block) h (length (p.accepted h)) (offer ∷ later) all) row in
       let a = answer_of c sound p before.stands h host offer later (held ++ list) rules.1 in
       let told : picture_after c p (unhold h HeldKind.Responses held ++ (Effect.Answer h (map (marked offer) (held ++ list)) ∷ map (λ x. Effect.Take h (run_of c h x)) (held ++ list))) ≡ q c sound p before h host offer later is (held ++ list) a =
       quiet_front c p (unhold h HeldKind.Responses held) (Effect.Answer h (map (marked offer) (held ++ list)) ∷ map (λ x. Effect.Take h (run_of c h x)) (held ++ list)) (unhold_quiet h HeldKind.Responses held)

@@ -8,7 +8,7 @@ use Rattle.dcd_base.specs.declared.ids.HostId.{HostId}
 use Rattle.journal_core.specs.declared.outcome.Effect.{Effect}
 use Rattle.region_config.specs.Configurations.{Configuration}
 use Rattle.region_config.specs.Granules.{hosts_of}
-use Rattle.tag_refs.specs.Tables.{is_live, is_used, passes}
+use Rattle.tag_refs.specs.Tables.{has_entry, is_used, passes}
 use Rattle.tag_refs.specs.declared.entries.TagEntry.{TagEntry}
 use Rattle.device_rules.specs.Tags.{is_accepted_by, is_offered_to, is_referenced, last_offer, open_tags, tag_region, tag_runs}
 use Rattle.device_rules.specs.Tags.{is_live as tag_lives}
@@ -88,7 +88,7 @@ table_passes c past entries table t test b step =
     found_passes t test b entries (each_open c past entries table (λ e. e.tag ≡ t → test e ≡ b) step)
     ∙ ap (λ tags. has_tag tags t && b) table.tags_are
 
-found_live : (t : Tag) (entries : List TagEntry) → is_live t entries ≡ has_tag (tags_in entries) t
+found_live : (t : Tag) (entries : List TagEntry) → has_entry t entries ≡ has_tag (tags_in entries) t
 found_live t [] = refl
 found_live t (e ∷ entries) = elim (cases_Bool (same_tag t e.tag)) [
   | inl here ↦ rw here refl
@@ -96,7 +96,7 @@ found_live t (e ∷ entries) = elim (cases_Bool (same_tag t e.tag)) [
 ]
 
 -- a tag has an entry just where it is open
-pub table_live : (c : Configuration) (past : List Effect) (entries : List TagEntry) → IsTable c past entries → (t : Tag) → has_tag (open_tags c past) t ≡ is_live t entries
+pub table_live : (c : Configuration) (past : List Effect) (entries : List TagEntry) → IsTable c past entries → (t : Tag) → has_tag (open_tags c past) t ≡ has_entry t entries
 table_live c past entries table t = sym (found_live t entries ∙ ap (λ tags. has_tag tags t) table.tags_are)
 
 -- and each entry is used

@@ -11,7 +11,7 @@ use Rattle.journal_core.specs.declared.outcome.Effect.{Effect}
 use Rattle.region_config.specs.Configurations.{Configuration}
 use Rattle.region_config.specs.Granules.{hosts_of}
 use Rattle.dcd_base.specs.Hosts.{with_host, without_host}
-use Rattle.tag_refs.specs.Tables.{changed, is_of, is_used, passes, set_by, still_used}
+use Rattle.tag_refs.specs.Tables.{entries_changed, is_entry_of, is_used, passes, set_by, still_used}
 use Rattle.tag_refs.specs.declared.entries.TagEntry.{TagEntry}
 use Rattle.device_rules.specs.Outcomes.{Outcome, effects_of, ended}
 use Rattle.device_rules.specs.Tags.{is_accepted_by, is_live, is_offered_to, open_tags, tag_region, tag_runs}
@@ -85,7 +85,7 @@ module _ (h : HostId) (held offered : Tag → Bool) where
   ]
 
   one_told : (t : Tag) (told : List Tag) (e : TagEntry) (rest : List TagEntry) → is_used e ≡ true →
-      (if is_used (if is_of t e then set_by h (held t) (offered t) e else e) then keep (tell told (if is_of t e then set_by h (held t) (offered t) e else e)) rest else rest)
+      (if is_used (if is_entry_of t e then set_by h (held t) (offered t) e else e) then keep (tell told (if is_entry_of t e then set_by h (held t) (offered t) e else e)) rest else rest)
       ≡ keep (tell (t ∷ told) e) rest
   one_told t told e rest used = by (same_tag t e.tag) refl
     where
@@ -107,20 +107,20 @@ module _ (h : HostId) (held offered : Tag → Bool) where
           ∙ ap (λ x. keep x rest) (sym (elsewhere (same_tag-back e.tag t ∙ other)))
 
   merge : (t : Tag) (told : List Tag) (entries : List TagEntry) → AllByRecursion (λ e. is_used e ≡ true) entries →
-      still_used (map (tell told) (still_used (changed t (set_by h (held t) (offered t)) entries))) ≡ still_used (map (tell (t ∷ told)) entries)
+      still_used (map (tell told) (still_used (entries_changed t (set_by h (held t) (offered t)) entries))) ≡ still_used (map (tell (t ∷ told)) entries)
   merge t told [] used = refl
   merge t told (e ∷ entries) used =
-      let now : TagEntry = if is_of t e then set_by h (held t) (offered t) e else e in
-      after_keep told now (still_used (changed t (set_by h (held t) (offered t)) entries))
-      ∙ one_told t told e (still_used (map (tell told) (still_used (changed t (set_by h (held t) (offered t)) entries)))) used.0
+      let now : TagEntry = if is_entry_of t e then set_by h (held t) (offered t) e else e in
+      after_keep told now (still_used (entries_changed t (set_by h (held t) (offered t)) entries))
+      ∙ one_told t told e (still_used (map (tell told) (still_used (entries_changed t (set_by h (held t) (offered t)) entries)))) used.0
       ∙ ap (λ rest. keep (tell (t ∷ told) e) rest) (merge t told entries used.1)
 
   pub told_anew-is : (told : List Tag) (entries : List TagEntry) → AllByRecursion (λ e. is_used e ≡ true) entries →
       told_anew h held offered told entries ≡ still_used (map (tell told) entries)
   told_anew-is [] entries used = sym (used_stay entries used) ∙ ap still_used (none_told entries)
   told_anew-is (t ∷ told) entries used =
-      let first : List TagEntry = still_used (changed t (set_by h (held t) (offered t)) entries) in
-      told_anew-is told first (still_used_are (changed t (set_by h (held t) (offered t)) entries)) ∙ merge t told entries used
+      let first : List TagEntry = still_used (entries_changed t (set_by h (held t) (offered t)) entries) in
+      told_anew-is told first (still_used_are (entries_changed t (set_by h (held t) (offered t)) entries)) ∙ merge t told entries used
 
 -- ---- what the changes leave
 

@@ -8,7 +8,7 @@ use Rattle.journal_core.specs.declared.outcome.Effect.{Effect}
 use Rattle.region_config.specs.Configurations.{Configuration}
 use Rattle.region_config.specs.Granules.{hosts_of}
 use Rattle.tag_refs.specs.Tables.{is_used, passes}
-use Rattle.tag_refs.specs.Tables.{is_live as has_entry, is_referenced as entry_referenced, view_of as entry_view}
+use Rattle.tag_refs.specs.Tables.{has_entry, entry_referenced, tag_view as entry_view}
 use Rattle.tag_refs.specs.declared.entries.TagEntry.{TagEntry}
 use Rattle.device_rules.specs.Adding.{is_open_in}
 use Rattle.device_rules.specs.Hosts.{accepted_of, offers_of}

@@ -8,7 +8,7 @@ use Rattle.region_config.specs.Configurations.{Configuration}
 use Rattle.extent_list.specs.ExtentLists.{has_extent_of}
 use Rattle.journal_core.specs.declared.outcome.Effect.{Effect}
 use Rattle.tag_refs.specs.declared.entries.TagEntry.{TagEntry}
-use Rattle.tag_refs.specs.Tables.{changed, is_used, passes, set_by, still_used}
+use Rattle.tag_refs.specs.Tables.{entries_changed, is_used, passes, set_by, still_used}
 use Rattle.device_rules.specs.TagCommands.{host_bits}
 use Rattle.device_rules.specs.Tags.{is_accepted_by, is_offered_to, is_referenced, last_offer, open_tags, tag_region, tag_runs}
 
@@ -30,7 +30,7 @@ pub record IsTable (c : Configuration) (past : List Effect) (entries : List TagE
 -- what a host has of these tags is told anew, tag by tag: whether it holds them and whether it is offered them
 abbrev pub told_anew : HostId → (Tag → Bool) → (Tag → Bool) → List Tag → List TagEntry → List TagEntry
 told_anew h held offered tags entries =
-    fold (λ (now : List TagEntry) t. still_used (changed t (set_by h (held t) (offered t)) now)) entries tags
+    fold (λ (now : List TagEntry) t. still_used (entries_changed t (set_by h (held t) (offered t)) now)) entries tags
 
 -- which of the tags end by that
 abbrev pub ending : HostId → (Tag → Bool) → (Tag → Bool) → List TagEntry → List Tag → List Tag

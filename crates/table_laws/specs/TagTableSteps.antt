@@ -7,7 +7,7 @@ use Rattle.journal_core.specs.declared.outcome.Effect.{Effect}
 use Rattle.media_map.specs.Places.{run_of}
 use Rattle.region_config.specs.Configurations.{Configuration}
 use Rattle.region_config.specs.Granules.{region_spec}
-use Rattle.tag_refs.specs.Tables.{changed, is_live, is_used, opened, passes, still_used, with_reference}
+use Rattle.tag_refs.specs.Tables.{entries_changed, has_entry, is_used, opened, passes, still_used, with_reference}
 use Rattle.tag_refs.specs.declared.entries.TagEntry.{TagEntry}
 use Rattle.device_rules.specs.Adding.{offered}
 use Rattle.device_rules.specs.Hosts.{accepted_of, offers_of}
@@ -28,11 +28,11 @@ pub record IsToldAnew (c : Configuration) (past : List Effect) (h : HostId) (o :
 -- told anew, and does not end; else it gets an entry behind the others.
 pub record IsOffered (c : Configuration) (past : List Effect) (h : HostId) (r : ℕ) (tag : Tag) (new : List Extent) (o : Outcome) (entries : List TagEntry) : Type 0 where
   pub private : (region_spec c r).shareable ≡ false → IsTable c (past ++ effects_of c past o) entries
-  pub shared : (region_spec c r).shareable ≡ true → is_live tag entries ≡ true →
+  pub shared : (region_spec c r).shareable ≡ true → has_entry tag entries ≡ true →
       IsTable c (past ++ effects_of c past o) (told_anew h (among (accepted_of c h past)) (λ t. true) (tag ∷ []) entries)
-  pub none_ends : (region_spec c r).shareable ≡ true → is_live tag entries ≡ true →
+  pub none_ends : (region_spec c r).shareable ≡ true → has_entry tag entries ≡ true →
       ending h (among (accepted_of c h past)) (λ t. true) entries (tag ∷ []) ≡ []
-  pub begun : (region_spec c r).shareable ≡ true → is_live tag entries ≡ false →
+  pub begun : (region_spec c r).shareable ≡ true → has_entry tag entries ≡ false →
       IsTable c (past ++ effects_of c past o) (entries ++ opened tag r (map (run_of c h) new) h ∷ [])
 
 -- ---- over a legal journal
@@ -51,10 +51,10 @@ FollowsOffer t o a = IsOffered t.config (past_of t) a.host a.region a.tag
 -- A new reference is set in the tag's entry (5606h).
 abbrev pub SetsReference : Configuration → List Effect → Tag → Type 0
 SetsReference c past tag = (entries : List TagEntry) → IsTable c past entries →
-    IsTable c (past ++ effects_of c past (add_reference_outcome past tag)) (changed tag (with_reference true) entries)
+    IsTable c (past ++ effects_of c past (add_reference_outcome past tag)) (entries_changed tag (with_reference true) entries)
 
 -- A reference that goes is taken out of the tag's entry, and the tag ends where nothing else uses it (5607h).
 pub record DropsReference (c : Configuration) (past : List Effect) (tag : Tag) (entries : List TagEntry) : Type 0 where
-  pub table : IsTable c (past ++ effects_of c past (remove_reference_outcome tag)) (still_used (changed tag (with_reference false) entries))
+  pub table : IsTable c (past ++ effects_of c past (remove_reference_outcome tag)) (still_used (entries_changed tag (with_reference false) entries))
   pub ended_are : ended c past (Effect.Ref tag false ∷ []) (tag ∷ [])
       ≡ (if passes tag (λ e. not (is_used (with_reference false e))) entries then tag ∷ [] else [])

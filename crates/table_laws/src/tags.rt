@@ -21,7 +21,7 @@ ghost use Rattle.table_laws.specs.TagTable.{IsTable};
 ghost use Rattle.table_laws.specs.TagTableSteps.{DropsReference, FollowsOffer, SetsReference, TellsAnew};
 ghost use Rattle.table_laws.specs.Tabled.{HostDoes, OfferDoes, RemovalDoes, Tabled, past_of};
 ghost use Rattle.tag_refs.specs.Tables.{passes};
-ghost use Rattle.tag_refs.specs.Tables.{is_live as has_entry, is_referenced as entry_referenced};
+ghost use Rattle.tag_refs.specs.Tables.{has_entry, entry_referenced};
 ghost use Rattle.tag_refs.specs.declared.entries.TagEntry.{TagEntry};
 
 /// After every legal journal a tag to which the manager has a reference is open. It does nothing.

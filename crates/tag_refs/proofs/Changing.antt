@@ -1,11 +1,11 @@
 -- No change touches the tag.
 use Rattle.std.proofs.Common.{◌≡◌, refl}
-use Rattle.tag_refs.specs.Changes.{applied}
+use Rattle.tag_refs.specs.Changes.{entry_changed}
 use Rattle.tag_refs.specs.declared.changes.Change.{Change}
 use Rattle.tag_refs.specs.declared.changes.Change.TheVariants.{Offer, Settle, Leave, Host, Refer, Soil}
 use Rattle.tag_refs.specs.declared.entries.TagEntry.{TagEntry}
 
-pub tag_stays : (change : Change) (e : TagEntry) → (applied change e).tag ≡ e.tag
+pub tag_stays : (change : Change) (e : TagEntry) → (entry_changed change e).tag ≡ e.tag
 tag_stays (Offer h) e = refl
 tag_stays (Settle h accepted) e = refl
 tag_stays (Leave h) e = refl

@@ -1,23 +1,27 @@
 -- What a change makes of an entry.
-use Rattle.std.specs.Prelude.{◌<◌}
-use Rattle.tag_refs.specs.Tables.{offered_to, settled_by, dropped_by, set_by, with_reference, with_soil}
+use Rattle.std.specs.Prelude.{◌≡◌, ◌<◌, true}
+use Rattle.tag_refs.specs.Tables.{is_used, entry_with_offer, settled_by, left_by, set_by, with_reference, with_soil}
 use Rattle.tag_refs.specs.declared.changes.Change.{Change}
 use Rattle.tag_refs.specs.declared.changes.Change.TheVariants.{Offer, Settle, Leave, Host, Refer, Soil}
 use Rattle.tag_refs.specs.declared.entries.TagEntry.{TagEntry}
 
-abbrev pub applied : Change → TagEntry → TagEntry
-applied (Offer h) e = offered_to h e
-applied (Settle h accepted) e = settled_by h accepted e
-applied (Leave h) e = dropped_by h e
-applied (Host h held offered) e = set_by h held offered e
-applied (Refer on) e = with_reference on e
-applied Soil e = with_soil e
+abbrev pub entry_changed : Change → TagEntry → TagEntry
+entry_changed (Offer h) e = entry_with_offer h e
+entry_changed (Settle h accepted) e = settled_by h accepted e
+entry_changed (Leave h) e = left_by h e
+entry_changed (Host h held offered) e = set_by h held offered e
+entry_changed (Refer on) e = with_reference on e
+entry_changed Soil e = with_soil e
 
 -- the host of the change is one of the sixteen
-abbrev pub IsOfHost : Change → Type 0
-IsOfHost (Offer h) = h < 16
-IsOfHost (Settle h accepted) = h < 16
-IsOfHost (Leave h) = h < 16
-IsOfHost (Host h held offered) = h < 16
-IsOfHost (Refer on) = Unit {0}
-IsOfHost Soil = Unit {0}
+abbrev pub IsHostsChange : Change → Type 0
+IsHostsChange (Offer h) = h < 16
+IsHostsChange (Settle h accepted) = h < 16
+IsHostsChange (Leave h) = h < 16
+IsHostsChange (Host h held offered) = h < 16
+IsHostsChange (Refer on) = Unit {0}
+IsHostsChange Soil = Unit {0}
+
+-- The change leaves each entry used that is.
+abbrev pub StaysUsed : Change → Type 0
+StaysUsed change = (e : TagEntry) → is_used e ≡ true → is_used (entry_changed change e) ≡ true

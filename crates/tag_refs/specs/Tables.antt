@@ -9,7 +9,7 @@ use Rattle.tag_refs.specs.declared.entries.TagEntry.{TagEntry}
 use Rattle.dcd_base.specs.declared.tags.TagView.{TagView}
 
 -- the entries in the order of opening, and for how many tags more there is memory
-pub record Table : Type 0 where
+pub record TagTable : Type 0 where
   pub entries : List TagEntry
   pub spare : ℕ
 
@@ -19,8 +19,8 @@ some_passes test None = false
 some_passes test (Some e) = test e
 
 -- whether the entry is that of the tag
-abbrev pub is_of : Tag → TagEntry → Bool
-is_of t e = same_tag t e.tag
+abbrev pub is_entry_of : Tag → TagEntry → Bool
+is_entry_of t e = same_tag t e.tag
 
 -- whether a host holds the tag, is offered it, or the Fabric Manager has a reference to it
 abbrev pub is_used : TagEntry → Bool
@@ -32,27 +32,27 @@ pub record AreTags (entries : List TagEntry) : Type 0 where
   pub apart : IsDistinct same_tag (map (λ e. e.tag) entries)
 
 -- the entry of the tag
-abbrev pub entry_of : Tag → List TagEntry → Option TagEntry
-entry_of t entries = find (is_of t) entries
+abbrev pub entry_with : Tag → List TagEntry → Option TagEntry
+entry_with t entries = find (is_entry_of t) entries
 
-abbrev pub is_live : Tag → List TagEntry → Bool
-is_live t entries = is_some (entry_of t entries)
+abbrev pub has_entry : Tag → List TagEntry → Bool
+has_entry t entries = is_some (entry_with t entries)
 
 -- whether the tag is live, and its entry passes the test
 abbrev pub passes : Tag → (TagEntry → Bool) → List TagEntry → Bool
-passes t test entries = some_passes test (entry_of t entries)
+passes t test entries = some_passes test (entry_with t entries)
 
 abbrev pub is_held_by : ℕ → TagEntry → Bool
 is_held_by h e = has_host e.holders h
 
-abbrev pub is_offered_to : ℕ → TagEntry → Bool
-is_offered_to h e = has_host e.offered h
+abbrev pub entry_offers : ℕ → TagEntry → Bool
+entry_offers h e = has_host e.offered h
 
-abbrev pub is_referenced : TagEntry → Bool
-is_referenced e = e.referenced
+abbrev pub entry_referenced : TagEntry → Bool
+entry_referenced e = e.referenced
 
-abbrev pub is_soiled : TagEntry → Bool
-is_soiled e = e.soiled
+abbrev pub entry_soiled : TagEntry → Bool
+entry_soiled e = e.soiled
 
 -- ---- changes of an entry
 
@@ -68,8 +68,8 @@ opened t region runs h = record {
   soiled = false;
 }
 
-abbrev pub offered_to : ℕ → TagEntry → TagEntry
-offered_to h e = record e { offered = with_host e.offered h }
+abbrev pub entry_with_offer : ℕ → TagEntry → TagEntry
+entry_with_offer h e = record e { offered = with_host e.offered h }
 
 -- the host answered its offer
 abbrev pub settled_by : ℕ → Bool → TagEntry → TagEntry
@@ -78,8 +78,8 @@ settled_by h accepted e = record e {
   holders = if accepted then with_host e.holders h else e.holders;
 }
 
-abbrev pub dropped_by : ℕ → TagEntry → TagEntry
-dropped_by h e = record e { holders = without_host e.holders h }
+abbrev pub left_by : ℕ → TagEntry → TagEntry
+left_by h e = record e { holders = without_host e.holders h }
 
 -- the host holds the tag or not, and is offered it or not
 abbrev pub set_by : ℕ → Bool → Bool → TagEntry → TagEntry
@@ -97,13 +97,13 @@ with_soil e = record e { soiled = true }
 -- ---- changes of the table
 
 -- the entries with this change of the tag's
-abbrev pub changed : Tag → (TagEntry → TagEntry) → List TagEntry → List TagEntry
-changed t change entries = map (λ e. if is_of t e then change e else e) entries
+abbrev pub entries_changed : Tag → (TagEntry → TagEntry) → List TagEntry → List TagEntry
+entries_changed t change entries = map (λ e. if is_entry_of t e then change e else e) entries
 
 -- the entries that are used, in order; the others have ended
 abbrev pub still_used : List TagEntry → List TagEntry
 still_used entries = filter is_used entries
 
 -- what the Fabric Manager is shown of an entry
-abbrev pub view_of : TagEntry → TagView
-view_of e = record { tag = e.tag; holders = e.holders; offered = e.offered; referenced = e.referenced }
+abbrev pub tag_view : TagEntry → TagView
+tag_view e = record { tag = e.tag; holders = e.holders; offered = e.offered; referenced = e.referenced }

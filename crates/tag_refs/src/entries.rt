@@ -1,8 +1,8 @@
 //! What the device keeps of a live tag.
 
 ghost use Rattle.std.specs.Prelude.{◌≡◌, ◌<◌, IfOk, false, not};
-ghost use Rattle.tag_refs.specs.Changes.{IsOfHost, applied};
-ghost use Rattle.tag_refs.specs.Tables.{is_held_by, is_offered_to, is_used, set_by, view_of, with_reference};
+ghost use Rattle.tag_refs.specs.Changes.{IsHostsChange, entry_changed};
+ghost use Rattle.tag_refs.specs.Tables.{is_held_by, entry_offers, is_used, set_by, tag_view, with_reference};
 
 use crate::changes::Change;
 use dcd_base::host_bits::{has, set, with, without};
@@ -44,7 +44,7 @@ impl TagEntry {
 
     /// What the Fabric Manager is shown of it.
     pub fn view(&self) -> TagView
-        ensures { result ≡ view_of self.now }
+        ensures { result ≡ tag_view self.now }
     {
         TagView {
             tag: self.tag,
@@ -65,7 +65,7 @@ impl TagEntry {
     /// Whether an offer of the tag to the host is unanswered.
     pub fn is_offered_to(&self, host: HostId) -> bool
         requires { host < 16 }
-        ensures { result ≡ is_offered_to host self.now }
+        ensures { result ≡ entry_offers host self.now }
     {
         has(self.offered, host)
     }
@@ -96,8 +96,8 @@ impl TagEntry {
 
     /// Makes the change.
     pub(crate) fn apply(&mut self, change: Change)
-        requires { IsOfHost change }
-        ensures { self.new ≡ applied change self.old }
+        requires { IsHostsChange change }
+        ensures { self.new ≡ entry_changed change self.old }
     {
         match change {
             Change::Offer(host) => self.offered = with(self.offered, host),

@@ -2,8 +2,8 @@
 
 ghost use Rattle.std.specs.Option.{option_copied, option_map};
 ghost use Rattle.std.specs.Prelude.{◌≡◌, ◌==◌, ◌+◌, ◌<◌, ◌≤◌, ◌++◌, ◌∷◌, [], IfErr, IfOk, IsTrue, OnErr, OnOk, Some, false, length, not, slice_get, true};
-ghost use Rattle.tag_refs.specs.Changes.{IsOfHost, applied};
-ghost use Rattle.tag_refs.specs.Tables.{AreTags, changed, dropped_by, entry_of, is_held_by, is_live, is_offered_to, is_referenced, is_soiled, is_used, offered_to, opened, passes, set_by, settled_by, still_used, view_of, with_reference, with_soil};
+ghost use Rattle.tag_refs.specs.Changes.{IsHostsChange, StaysUsed, entry_changed};
+ghost use Rattle.tag_refs.specs.Tables.{AreTags, entries_changed, left_by, entry_with, is_held_by, has_entry, entry_offers, entry_referenced, entry_soiled, is_used, entry_with_offer, opened, passes, set_by, settled_by, still_used, tag_view, with_reference, with_soil};
 ghost use Rattle.tag_refs.specs.declared.entries.TagEntry.{TagEntry};
 
 use crate::changes::Change;
@@ -26,9 +26,9 @@ pub struct Tags {
 impl Model for Tags {
     ghost use Rattle.indexmap.specs.IndexMap.{spare, values};
     ghost use Rattle.tag_refs.specs.Stored.{IsStored};
-    ghost use Rattle.tag_refs.specs.Tables.{Table};
+    ghost use Rattle.tag_refs.specs.Tables.{TagTable};
 
-    ghost Value = { Table };
+    ghost Value = { TagTable };
 
     ghost view = { λ tags. record { entries = values tags.entries; spare = spare tags.entries } };
 
@@ -73,14 +73,14 @@ impl Tags {
 
     /// The entry of the tag; None exactly where the tag is not live.
     pub fn find(&self, tag: &Tag) -> Option<&TagEntry>
-        ensures { option_copied result ≡ entry_of tag.now self.now.entries }
+        ensures { option_copied result ≡ entry_with tag.now self.now.entries }
     {
         self.entries.get(tag)
     }
 
     /// Whether the tag is live.
     pub fn is_live(&self, tag: &Tag) -> bool
-        ensures { result ≡ is_live tag.now self.now.entries }
+        ensures { result ≡ has_entry tag.now self.now.entries }
     {
         self.find(tag).is_some()
     }
@@ -99,7 +99,7 @@ impl Tags {
     /// Whether the tag is live and an offer of it to the host is unanswered.
     pub fn is_offered_to(&self, tag: &Tag, host: HostId) -> bool
         requires { host < 16 }
-        ensures { result ≡ passes tag.now (is_offered_to host) self.now.entries }
+        ensures { result ≡ passes tag.now (entry_offers host) self.now.entries }
     {
         match self.find(tag) {
             Some(entry) => entry.is_offered_to(host),
@@ -109,7 +109,7 @@ impl Tags {
 
     /// Whether the tag is live and the Fabric Manager has a reference to it.
     pub fn is_referenced(&self, tag: &Tag) -> bool
-        ensures { result ≡ passes tag.now is_referenced self.now.entries }
+        ensures { result ≡ passes tag.now entry_referenced self.now.entries }
     {
         match self.find(tag) {
             Some(entry) => entry.referenced,
@@ -141,7 +141,7 @@ impl Tags {
     /// What the Fabric Manager is shown of the entry at an index below the length, in the order of opening.
     pub fn at(&self, index: usize) -> TagView
         requires { index < length self.now.entries }
-        ensures { option_map view_of (slice_get self.now.entries index) ≡ Some result }
+        ensures { option_map tag_view (slice_get self.now.entries index) ≡ Some result }
     {
         self.entry(index).view()
     }
@@ -149,7 +149,7 @@ impl Tags {
     /// Whether the tag's granules are dirty once it ends, also where the region does not sanitize. It is false
     /// for a tag that is not live.
     pub fn soiled(&self, tag: &Tag) -> bool
-        ensures { result ≡ passes tag.now is_soiled self.now.entries }
+        ensures { result ≡ passes tag.now entry_soiled self.now.entries }
     {
         match self.find(tag) {
             Some(entry) => entry.soiled,
@@ -177,7 +177,7 @@ impl Tags {
         host: HostId,
     ) -> Result<(), NoMemory>
         requires host { host < 16 }
-        requires new { is_live tag self.old.entries ≡ false }
+        requires new { has_entry tag self.old.entries ≡ false }
         ensures begun { OnOk result (self.new.entries ≡ self.old.entries ++ opened tag region runs host ∷ []) }
         ensures kept { OnErr result (self.new.entries ≡ self.old.entries) }
         ensures full { OnErr result (self.old.spare ≡ 0) }
@@ -197,10 +197,10 @@ impl Tags {
     /// Offers a live tag to a host that neither holds it nor is offered it.
     pub fn share(&mut self, tag: &Tag, host: HostId)
         requires host { host < 16 }
-        requires live { IsTrue (is_live tag.now self.old.entries) }
+        requires live { IsTrue (has_entry tag.now self.old.entries) }
         requires not_held { passes tag.now (is_held_by host) self.old.entries ≡ false }
-        requires not_offered { passes tag.now (is_offered_to host) self.old.entries ≡ false }
-        ensures offered { self.new.entries ≡ changed tag.now (offered_to host) self.old.entries }
+        requires not_offered { passes tag.now (entry_offers host) self.old.entries ≡ false }
+        ensures offered { self.new.entries ≡ entries_changed tag.now (entry_with_offer host) self.old.entries }
         ensures spare { self.old.spare ≤ self.new.spare }
     {
         self.change(tag, Change::Offer(host));
@@ -210,9 +210,9 @@ impl Tags {
     /// Answers true exactly where the tag ended, and its entry is gone.
     pub fn settle(&mut self, tag: &Tag, host: HostId, accepted: bool) -> bool
         requires host { host < 16 }
-        requires offered { IsTrue (passes tag.now (is_offered_to host) self.old.entries) }
-        ensures settled { self.new.entries ≡ still_used (changed tag.now (settled_by host accepted) self.old.entries) }
-        ensures ended { result ≡ not (is_live tag.now self.new.entries) }
+        requires offered { IsTrue (passes tag.now (entry_offers host) self.old.entries) }
+        ensures settled { self.new.entries ≡ still_used (entries_changed tag.now (settled_by host accepted) self.old.entries) }
+        ensures ended { result ≡ not (has_entry tag.now self.new.entries) }
         ensures spare { self.old.spare ≤ self.new.spare }
     {
         self.change(tag, Change::Settle(host, accepted))
@@ -222,8 +222,8 @@ impl Tags {
     pub fn drop_holder(&mut self, tag: &Tag, host: HostId) -> bool
         requires host { host < 16 }
         requires held { IsTrue (passes tag.now (is_held_by host) self.old.entries) }
-        ensures dropped { self.new.entries ≡ still_used (changed tag.now (dropped_by host) self.old.entries) }
-        ensures ended { result ≡ not (is_live tag.now self.new.entries) }
+        ensures dropped { self.new.entries ≡ still_used (entries_changed tag.now (left_by host) self.old.entries) }
+        ensures ended { result ≡ not (has_entry tag.now self.new.entries) }
         ensures spare { self.old.spare ≤ self.new.spare }
     {
         self.change(tag, Change::Leave(host))
@@ -233,7 +233,7 @@ impl Tags {
     /// its entry is gone. Where the tag is not live nothing changes.
     pub fn set_host(&mut self, tag: &Tag, host: HostId, held: bool, offered: bool)
         requires { host < 16 }
-        ensures set { self.new.entries ≡ still_used (changed tag.now (set_by host held offered) self.old.entries) }
+        ensures set { self.new.entries ≡ still_used (entries_changed tag.now (set_by host held offered) self.old.entries) }
         ensures spare { self.old.spare ≤ self.new.spare }
     {
         // Each entry that is there is used, so that none ends where the tag is not live.
@@ -247,11 +247,11 @@ impl Tags {
     ///
     /// `UnknownTag` comes exactly where the tag is not live; nothing changes then.
     pub fn add_reference(&mut self, tag: &Tag) -> Result<bool, TagFault>
-        ensures referenced { OnOk result (self.new.entries ≡ changed tag.now (with_reference true) self.old.entries) }
-        ensures new { IfOk result (λ new. new ≡ not (passes tag.now is_referenced self.old.entries)) }
-        ensures live { OnOk result (is_live tag.now self.old.entries ≡ true) }
+        ensures referenced { OnOk result (self.new.entries ≡ entries_changed tag.now (with_reference true) self.old.entries) }
+        ensures new { IfOk result (λ new. new ≡ not (passes tag.now entry_referenced self.old.entries)) }
+        ensures live { OnOk result (has_entry tag.now self.old.entries ≡ true) }
         ensures fault { IfErr result (λ fault. fault ≡ TagFault.UnknownTag) }
-        ensures unknown { OnErr result (is_live tag.now self.old.entries ≡ false) }
+        ensures unknown { OnErr result (has_entry tag.now self.old.entries ≡ false) }
         ensures kept { OnErr result (self.new ≡ self.old) }
         ensures spare { self.old.spare ≤ self.new.spare }
     {
@@ -271,11 +271,11 @@ impl Tags {
     /// `NotReferenced` comes exactly where there is no reference to the tag, also where it is not live; nothing
     /// changes then.
     pub fn remove_reference(&mut self, tag: &Tag) -> Result<bool, TagFault>
-        ensures removed { OnOk result (self.new.entries ≡ still_used (changed tag.now (with_reference false) self.old.entries)) }
-        ensures ended { IfOk result (λ ended. ended ≡ not (is_live tag.now self.new.entries)) }
-        ensures referenced { OnOk result (passes tag.now is_referenced self.old.entries ≡ true) }
+        ensures removed { OnOk result (self.new.entries ≡ still_used (entries_changed tag.now (with_reference false) self.old.entries)) }
+        ensures ended { IfOk result (λ ended. ended ≡ not (has_entry tag.now self.new.entries)) }
+        ensures referenced { OnOk result (passes tag.now entry_referenced self.old.entries ≡ true) }
         ensures fault { IfErr result (λ fault. fault ≡ TagFault.NotReferenced) }
-        ensures none { OnErr result (passes tag.now is_referenced self.old.entries ≡ false) }
+        ensures none { OnErr result (passes tag.now entry_referenced self.old.entries ≡ false) }
         ensures kept { OnErr result (self.new ≡ self.old) }
         ensures spare { self.old.spare ≤ self.new.spare }
     {
@@ -289,8 +289,8 @@ impl Tags {
     /// Makes a live tag's granules dirty once it ends, also where the region does not sanitize. It is there for callers
     /// that keep this of tags; the device keeps it of granules.
     pub fn soil(&mut self, tag: &Tag)
-        requires { IsTrue (is_live tag.now self.old.entries) }
-        ensures soiled { self.new.entries ≡ changed tag.now with_soil self.old.entries }
+        requires { IsTrue (has_entry tag.now self.old.entries) }
+        ensures soiled { self.new.entries ≡ entries_changed tag.now with_soil self.old.entries }
         ensures spare { self.old.spare ≤ self.new.spare }
     {
         self.change(tag, Change::Soil);
@@ -306,7 +306,7 @@ impl Tags {
 
     /// Puts an entry at the end that is used, of a tag that is not live.
     fn push(&mut self, entry: TagEntry) -> Result<(), NoMemory>
-        requires new { is_live entry.tag self.old.entries ≡ false }
+        requires new { has_entry entry.tag self.old.entries ≡ false }
         requires used { is_used entry ≡ true }
         ensures pushed { OnOk result (self.new.entries ≡ self.old.entries ++ entry ∷ []) }
         ensures kept { OnErr result (self.new.entries ≡ self.old.entries) }
@@ -319,11 +319,11 @@ impl Tags {
 
     /// Changes the entry of a live tag, and takes it out where it is no longer used, which it answers.
     fn change(&mut self, tag: &Tag, change: Change) -> bool
-        requires live { IsTrue (is_live tag.now self.old.entries) }
-        requires host { IsOfHost change }
-        ensures changed { self.new.entries ≡ still_used (changed tag.now (applied change) self.old.entries) }
-        ensures ended { result ≡ not (is_live tag.now self.new.entries) }
-        ensures kept { ((e : TagEntry) → is_used e ≡ true → is_used (applied change e) ≡ true) → self.new.entries ≡ changed tag.now (applied change) self.old.entries }
+        requires live { IsTrue (has_entry tag.now self.old.entries) }
+        requires host { IsHostsChange change }
+        ensures changed { self.new.entries ≡ still_used (entries_changed tag.now (entry_changed change) self.old.entries) }
+        ensures ended { result ≡ not (has_entry tag.now self.new.entries) }
+        ensures kept { StaysUsed change → self.new.entries ≡ entries_changed tag.now (entry_changed change) self.old.entries }
         ensures spare { self.old.spare ≤ self.new.spare }
     {
         let entry = self.entries.get_mut(tag).unwrap();

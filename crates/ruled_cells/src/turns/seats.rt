@@ -1,5 +1,5 @@
 //! Making the cells, their seats, and taking all of it apart again.
-ghost use Rattle.std.specs.Prelude.{◌≡◌, ◌≢◌, ℕ, ◌+◌, ◌^◌, ◌<◌, [], ◌∷◌, true, length, replicate, slice_set, IfOk};
+ghost use Rattle.std.specs.Prelude.{◌≡◌, ◌≢◌, ℕ, ◌+◌, ◌^◌, ◌<◌, [], true, length, replicate, slice_set, IfOk};
 ghost use Rattle.core.specs.Mem.Slots.{slots_items, slots_len, IsFull};
 ghost use Rattle.ruled_cells.specs.Turning.{Admits, HoldsAtFirst, IsIn, MergesSeats, NoTurn, SettledBy, enrolled, joint, newcomer, opener};
 
@@ -31,8 +31,11 @@ pub fn open<X, V, K, P: Protocol<X, V, K>>(
     requires cells { (cells ≡ length (P.given about.now)) × (cells < 2 ^ 62) }
     requires seats { (0 < P.seats about.now) × (P.seats about.now < 2 ^ 32) }
     requires rule { HoldsAtFirst (P.holds about.now) cells (P.given about.now) (P.first about.now) }
-    ensures { IfOk result (λ made. (made.0.shared.table_id.words ≡ cells + 1) × (made.0.shared.table_id.slots ≡ cells) × (made.1.table_id ≡ made.0.shared.table_id)
-        × (made.1.me ≡ (opener (P.seats about.now) (P.given about.now) (P.first about.now), [])) × (made.0.shared.key ≡ about.now)) }
+    ensures words { IfOk result (λ made. made.0.shared.table_id.words ≡ cells + 1) }
+    ensures slots { IfOk result (λ made. made.0.shared.table_id.slots ≡ cells) }
+    ensures table { IfOk result (λ made. made.1.table_id ≡ made.0.shared.table_id) }
+    ensures seat { IfOk result (λ made. made.1.me ≡ (opener (P.seats about.now) (P.given about.now) (P.first about.now), [])) }
+    ensures key { IfOk result (λ made. made.0.shared.key ≡ about.now) }
 {
     let words = first_words(alloc, cells)?;
     Ok(Table::vacant(alloc, words.as_slice(), cells, about)?)

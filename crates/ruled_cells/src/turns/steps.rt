@@ -1,6 +1,6 @@
 //! Taking a turn, giving it back, and setting the user's word.
 ghost use Rattle.std.specs.Prelude.{◌≡◌, ◌+◌, ◌<◌, [], ◌∷◌, IfErr, IfOk, None, Some};
-ghost use Rattle.ruled_cells.specs.Turning.{Gives, GivesFrom, HasTurn, IsGiven, IsMissed, IsMoving, IsResting, IsTaken, IsTakenInTheEnd, Marks, NoTurn, Takes, marked, moving_at, still, tried};
+ghost use Rattle.ruled_cells.specs.Turning.{GivesFrom, HasTurn, IsGiven, IsMissed, IsMoving, IsResting, IsTaken, IsTakenInTheEnd, Marks, NoTurn, Takes, marked, moving_at, still, tried};
 ghost use Rattle.atomic_table.specs.Table.{step};
 ghost use mathlib.Core.Option.{none};
 

@@ -10,8 +10,8 @@ returns c = λ before new o kept of drafts.
     let cfg = c.args.config.now in
     let update : c.in_ok-update.update ≡ record { lists = lists_for c.args.asked.now.host c.args.parts.lists; tags = c.in_ok-change.change } =
     c.in_ok-update.ensures ∙ (λ i. record { lists = c.new_lists.ensures i; tags = c.in_ok-change.change }) in
-    subst (λ (u : NewParts). IsDone cfg before c.args.request.now o (record { reply = c.answer.result; effects = c.put_notices.new.effects; update = u })) (sym update)
+    subst (λ (u : NewParts). IsDone cfg before c.args.request.now o (record { reply = c.answer.result; effects = c.put_records_of_logs.new.effects; update = u })) (sym update)
     (offer_done cfg before c.args.state.now kept c.args.asked.now.host c.args.asked.now.region c.args.asked.now.tag new o of c.args.request.now c.args.parts drafts
-    c.answer.result c.put_notices.new.effects c.in_ok-change.change c.answer.ensures
-    (c.in_ok-put_notices.ensures cfg before kept)
+    c.answer.result c.put_records_of_logs.new.effects c.in_ok-change.change c.answer.ensures
+    (c.in_ok-put_records_of_logs.ensures cfg before kept)
     (c.in_ok-change.ensures new (drafts.changes ∙ of.changes)))

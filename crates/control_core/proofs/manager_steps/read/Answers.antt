@@ -1,12 +1,12 @@
 use Rattle.std.proofs.Common.{◌∙◌, [], All, IfOk, length, ap, subst, sym}
 use Rattle.device_state.specs.Updates.{IsOfLog}
 use Rattle.device_state.specs.declared.updates.TagChange.{TagChange}
-use Rattle.device_commands.specs.DraftContents.{parts_in}
+use Rattle.device_commands.specs.DraftContents.{parts_of_content}
 use Rattle.device_commands.specs.Drafts.{IsOutcome}
 use Rattle.device_commands.specs.declared.draft.DraftParts.{DraftParts}
-use Rattle.device_commands.specs.declared.log_records.Notice.{Notice}
+use Rattle.device_commands.specs.declared.log_records.LogRecords.{LogRecords}
 use Rattle.control_core.specs.Doing.{IsDone}
-use Rattle.control_core.specs.Managing.{Enters}
+use Rattle.control_core.specs.Managing.{EntersDraft}
 use Rattle.control_core.specs.declared.decided.Decided.{Decided}
 use Rattle.control_core.proofs.Managed.{replied_entered}
 use Rattle.control_core.proofs.manager_steps.read.Goals as goal
@@ -14,16 +14,16 @@ use Rattle.control_core.proofs.manager_steps.read.Goals as goal
 pub entered-requires : goal.entered-requires
 entered-requires c = record {
   known =
-      subst (λ (d : DraftParts). All (λ (n : Notice). IsOfLog (length c.args.state.now.hosts.items) n.log) d.notices)
-      (sym c.into_content.ensures ∙ ap parts_in c.in-Parts.is ∙ sym c.into_inner-parts.ensures) c.requires.known;
+      subst (λ (d : DraftParts). All (λ (n : LogRecords). IsOfLog (length c.args.state.now.hosts.items) n.log) d.log_records)
+      (sym c.into_content.ensures ∙ ap parts_of_content c.in-Parts.is ∙ sym c.into_inner-parts.ensures) c.requires.known;
 }
 
 pub returns-in-Reply : goal.returns-in-Reply
 returns-in-Reply c = λ cfg before o kept of is.
     subst (λ (d : Decided). IsDone cfg before c.args.request.now o d) (sym c.replied.ensures)
-    (replied_entered cfg before c.args.request.now o of c.in-Reply.payload (subst (IsOutcome o) (sym c.into_content.ensures ∙ ap parts_in c.in-Reply.is) is))
+    (replied_entered cfg before c.args.request.now o of c.in-Reply.payload (subst (IsOutcome o) (sym c.into_content.ensures ∙ ap parts_of_content c.in-Reply.is) is))
 
 pub returns-in-Parts : goal.returns-in-Parts
 returns-in-Parts c =
-    subst (λ (d : DraftParts). IfOk c.entered.result (Enters c.args.state.now c.args.request.now d [] TagChange.Nothing))
-    (c.into_inner-parts.ensures ∙ sym (ap parts_in c.in-Parts.is) ∙ c.into_content.ensures) c.entered.ensures
+    subst (λ (d : DraftParts). IfOk c.entered.result (EntersDraft c.args.state.now c.args.request.now d [] TagChange.Nothing))
+    (c.into_inner-parts.ensures ∙ sym (ap parts_of_content c.in-Parts.is) ∙ c.into_content.ensures) c.entered.ensures

@@ -2,7 +2,7 @@ use Rattle.device_commands.specs.Drafts.{IsOutcome}
 use Rattle.journal_core.specs.Entries.{effects}
 use Rattle.device_rules.specs.Answers.{manager_outcome}
 use Rattle.device_rules.specs.Views.{view_of}
-use Rattle.control_core.proofs.Managed.{decided_manager, manages_err, quiet_drafts, quiet_notices, quiet_of}
+use Rattle.control_core.proofs.Managed.{decided_manager, manages_err, quiet_drafts, quiet_log_records, quiet_of}
 use Rattle.control_core.proofs.Shortness.{short_manager}
 use Rattle.control_core.proofs.manager_steps.step_read.Goals as goal
 
@@ -10,7 +10,7 @@ pub read-requires : goal.read-requires
 read-requires c = record {
   known =
       let reached = c.requires.reached in
-      quiet_notices c.args.config.now reached.journal c.args.state.now reached.kept c.args.asked.now c.requires.quiet c.in-Ok.draft
+      quiet_log_records c.args.config.now reached.journal c.args.state.now reached.kept c.args.asked.now c.requires.quiet c.in-Ok.draft
       (quiet_drafts c.args.config.now reached.journal c.args.asked.now c.requires.quiet (manager_outcome c.args.config.now (effects reached.journal) (λ h. view_of c.args.config.now h reached.journal) c.args.asked.now)
       c.in-Ok.draft (c.in-Ok.ensures reached.journal reached.legal reached.kept).1);
 }

@@ -4,7 +4,7 @@ use Rattle.device_commands.specs.Drafts.{IsOutcome}
 use Rattle.journal_core.specs.Entries.{effects}
 use Rattle.device_rules.specs.Answers.{manager_outcome}
 use Rattle.device_rules.specs.Views.{view_of}
-use Rattle.control_core.proofs.Managed.{decided_manager, manages_err, no_notices, refer_of}
+use Rattle.control_core.proofs.Managed.{decided_manager, manages_err, no_log_records, refer_of}
 use Rattle.control_core.proofs.manager_steps.step_refer.Goals as goal
 
 pub entered-requires : goal.entered-requires
@@ -14,7 +14,7 @@ entered-requires c = record {
       let reached = c.requires.reached in
       let is = subst (IsOutcome (manager_outcome cfg (effects reached.journal) (λ h. view_of cfg h reached.journal) (FmRequest.AddReference c.args.tag.now))) (sym c.into_parts-parts.ensures)
       (c.in-Ok.ensures reached.journal reached.legal reached.kept).1 in
-      no_notices (length c.args.state.now.hosts.items) c.into_parts-parts.result is.notices;
+      no_log_records (length c.args.state.now.hosts.items) c.into_parts-parts.result is.log_records;
 }
 
 pub returns-in-Err : goal.returns-in-Err

@@ -4,7 +4,7 @@ use Rattle.device_commands.specs.Drafts.{IsOutcome}
 use Rattle.journal_core.specs.Entries.{effects}
 use Rattle.device_rules.specs.Answers.{manager_outcome}
 use Rattle.device_rules.specs.Views.{view_of}
-use Rattle.control_core.proofs.Managed.{decided_manager, manages_err, no_notices, unrefer_of}
+use Rattle.control_core.proofs.Managed.{decided_manager, manages_err, no_log_records, unrefer_of}
 use Rattle.control_core.proofs.manager_steps.step_unrefer.Goals as goal
 
 pub entered-requires : goal.entered-requires
@@ -14,7 +14,7 @@ entered-requires c = record {
       let reached = c.requires.reached in
       let is = subst (IsOutcome (manager_outcome cfg (effects reached.journal) (λ h. view_of cfg h reached.journal) (FmRequest.RemoveReference c.args.tag.now))) (sym c.into_parts-parts.ensures)
       (c.in-Ok.ensures reached.journal reached.legal reached.kept).1 in
-      no_notices (length c.args.state.now.hosts.items) c.into_parts-parts.result is.notices;
+      no_log_records (length c.args.state.now.hosts.items) c.into_parts-parts.result is.log_records;
 }
 
 pub returns : goal.returns
@@ -31,6 +31,6 @@ returns-in-Ok c = λ before legal kept.
     let it = c.in-Ok.ensures before legal kept in
     decided_manager cfg before c.args.request.now q c.requires.asked it.0 c.in_ok-entered-in-Ok.field-0
     (c.in_ok-entered-in-Ok.ensures cfg before (manager_outcome cfg (effects before) (λ h. view_of cfg h before) q) kept
-    (unrefer_of cfg before c.requires.reached.sound legal c.args.state.now kept c.args.tag.now c.as_slice-over.result.now (c.as_slice-over.ensures ∙ c.in_ok-over.ensures))
+    (unrefer_of cfg before c.requires.reached.sound legal c.args.state.now kept c.args.tag.now c.as_slice-ended.result.now (c.as_slice-ended.ensures ∙ c.in_ok-ended.ensures))
     (subst (IsOutcome (manager_outcome cfg (effects before) (λ h. view_of cfg h before) q)) (sym c.into_parts-parts.ensures) it.1))
     (omega arith)

@@ -25,7 +25,7 @@ returns-clause-drafts c = λ cfg v is lists.
             ∙ (λ i. configuration_payload (total i) (views i) (counts i));
         changes = ap (λ (d : DraftParts). d.changes) c.only.ensures;
         tags = ap (λ (d : DraftParts). d.tags) c.only.ensures;
-        notices = ap (λ (d : DraftParts). map told_in d.notices) c.only.ensures;
+        log_records = ap (λ (d : DraftParts). map told_in d.log_records) c.only.ensures;
         lists = ap (λ (d : DraftParts). d.lists) c.only.ensures;
       },
     )

@@ -4,8 +4,8 @@ use Rattle.device_rules.specs.Adding.{add_outcome, add_rule}
 use Rattle.device_rules.specs.Views.{view_of}
 use Rattle.device_commands.specs.Drafts.{Drafts}
 use Rattle.journal_core.specs.Entries.{effects}
-use Rattle.device_commands.specs.InitiateDynamicCapacityAdd.{IsOffered, chosen_rule, offered_now, room_rule}
-use Rattle.device_state.specs.Kept.{part_of}
+use Rattle.device_commands.specs.InitiateDynamicCapacityAdd.{DraftOffers, chosen_rule, offered_now, room_rule}
+use Rattle.device_state.specs.StateAfter.{part_of}
 use Rattle.device_commands.proofs.Rows.{made_of, passed_on}
 use Rattle.device_commands.proofs.Reached.{few_extents, states_count}
 use Rattle.device_commands.proofs.initiate_dynamic_capacity_add.add.Goals as goal
@@ -25,18 +25,18 @@ new_extents-requires-clause-granules c = states_count c.args.config.now c.args.s
 
 pub returns-in-Some : goal.returns-in-Some
 returns-in-Some c journal legal kept =
-    row_names c.args.config.now c.requires.reached.sound journal legal c.args.state.now kept c.args.request.now.host c.args.request.now.policy c.args.request.now.region c.args.request.now.length c.args.request.now.tag c.args.list.now c.in-Some.rule (sym c.named_rule.ensures ∙ c.in-Some.is)
+    row_names c.args.config.now c.requires.reached.sound journal legal c.args.state.now kept c.args.request.now.host c.args.request.now.policy c.args.request.now.region c.args.request.now.length c.args.request.now.tag c.args.list.now c.in-Some.rule (sym c.target_rule.ensures ∙ c.in-Some.is)
 
 pub returns-in-Some-tag_rule : goal.returns-in-Some-tag_rule
 returns-in-Some-tag_rule c journal legal kept =
-    row_tag c.args.config.now c.requires.reached.sound journal legal c.args.state.now kept c.args.request.now.host c.args.request.now.policy c.args.request.now.region c.args.request.now.length c.args.request.now.tag c.args.list.now (sym c.named_rule.ensures ∙ c.in_default.is)
+    row_tag c.args.config.now c.requires.reached.sound journal legal c.args.state.now kept c.args.request.now.host c.args.request.now.policy c.args.request.now.region c.args.request.now.length c.args.request.now.tag c.args.list.now (sym c.target_rule.ensures ∙ c.in_default.is)
     c.in-Some-tag_rule.rule (sym c.tag_rule.ensures ∙ c.in-Some-tag_rule.is)
 
 pub offer_of-requires-clause-few : goal.offer_of-requires-clause-few
 offer_of-requires-clause-few c =
     let q = c.requires.reached in
     few_extents c.args.config.now c.args.state.now q c.args.request.now.host
-    (named_parts c.args.config.now q.sound q.journal q.legal c.args.state.now q.kept c.args.request.now.host c.args.request.now.policy c.args.request.now.region c.args.request.now.length c.args.request.now.tag c.args.list.now (sym c.named_rule.ensures ∙ c.in_default.is)).host
+    (named_parts c.args.config.now q.sound q.journal q.legal c.args.state.now q.kept c.args.request.now.host c.args.request.now.policy c.args.request.now.region c.args.request.now.length c.args.request.now.tag c.args.list.now (sym c.target_rule.ensures ∙ c.in_default.is)).host
 
 pub returns-in-Err : goal.returns-in-Err
 returns-in-Err c journal legal kept =
@@ -48,7 +48,7 @@ returns-in-Err c journal legal kept =
     (λ new. new ≡ offered_now s c.args.request.now.host c.args.request.now.policy c.args.request.now.region c.args.request.now.length c.args.request.now.tag c.args.list.now)
     (λ d. Drafts cfg c.args.request.now.host v (add_outcome cfg (effects journal) (λ k. view_of cfg k journal) c.args.request.now.host c.args.request.now.policy c.args.request.now.region c.args.request.now.length c.args.request.now.tag c.args.list.now) d)
     c.in-Err.refusal
-    (row_choice cfg c.requires.reached.sound journal legal s kept c.args.request.now.host c.args.request.now.policy c.args.request.now.region c.args.request.now.length c.args.request.now.tag c.args.list.now (sym c.named_rule.ensures ∙ c.in_default.is)
+    (row_choice cfg c.requires.reached.sound journal legal s kept c.args.request.now.host c.args.request.now.policy c.args.request.now.region c.args.request.now.length c.args.request.now.tag c.args.list.now (sym c.target_rule.ensures ∙ c.in_default.is)
     c.regions-regions.ensures.sound (sym c.tag_rule.ensures ∙ c.in_default-tag_rule.is))
     c.in-Err.ensures.row
 
@@ -58,12 +58,12 @@ returns-in-Ok c journal legal kept =
     let s = c.args.state.now in
     let h = c.args.request.now.host in
     let v = view_of cfg h journal in
-    let named = sym c.named_rule.ensures ∙ c.in_default.is in
+    let named = sym c.target_rule.ensures ∙ c.in_default.is in
     let tag_kept = sym c.tag_rule.ensures ∙ c.in_default-tag_rule.is in
     let known : h < cfg.hosts = (named_parts cfg c.requires.reached.sound journal legal s kept h c.args.request.now.policy c.args.request.now.region c.args.request.now.length c.args.request.now.tag c.args.list.now named).host in
     made_of (room_rule h (part_of s h).lists v.log c.in-Ok.extents)
     (add_rule cfg (effects journal) (λ k. view_of cfg k journal) h c.args.request.now.policy c.args.request.now.region c.args.request.now.length c.args.request.now.tag c.args.list.now)
-    (IsOffered h (part_of s h).lists c.in-Ok.extents)
+    (DraftOffers h (part_of s h).lists c.in-Ok.extents)
     (λ d. Drafts cfg h v (add_outcome cfg (effects journal) (λ k. view_of cfg k journal) h c.args.request.now.policy c.args.request.now.region c.args.request.now.length c.args.request.now.tag c.args.list.now) d)
     c.offer_of.result
     (row_room cfg c.requires.reached.sound journal legal s kept h c.args.request.now.policy c.args.request.now.region c.args.request.now.length c.args.request.now.tag c.args.list.now named c.regions-regions.ensures.sound tag_kept c.in-Ok.ensures.row.0 c.in-Ok.extents c.in-Ok.ensures.row.1)

@@ -4,7 +4,7 @@ use Rattle.std.proofs.lemmas.List.FromFn.{get_or-range_with_len, length-range_wi
 use Rattle.std.proofs.lemmas.List.Folds.{list_any-append, list_any_at}
 use Rattle.device_commands.proofs.ListPages.{from_zero}
 use Rattle.device_commands.specs.InitiateDynamicCapacityAdd.{lists_have}
-use Rattle.device_state.specs.Kept.{part_of}
+use Rattle.device_state.specs.StateAfter.{part_of}
 use Rattle.device_commands.proofs.initiate_dynamic_capacity_add.is_with_a_host.Goals as goal
 
 pub returns-then-has_tag : goal.returns-then-has_tag

@@ -10,8 +10,8 @@ use Rattle.device_commands.proofs.Reached.{few_extents, hosts_known}
 use Rattle.device_commands.specs.InitiateDynamicCapacityRelease.{removal_outcome}
 use Rattle.device_commands.proofs.initiate_dynamic_capacity_release.remove.Goals as goal
 
-pub meant-requires-clause-few : goal.meant-requires-clause-few
-meant-requires-clause-few c =
+pub extents_meant-requires-clause-few : goal.extents_meant-requires-clause-few
+extents_meant-requires-clause-few c =
     few_extents c.args.config.now c.args.state.now c.requires.reached c.args.request.now.host
     (omega (arith, hosts_known c.args.config.now c.args.state.now c.requires.reached, chosen_host c.args.state.now.present.hosts c.args.request.now.host c.args.request.now.flags (sym c.in_default.ensures)))
 

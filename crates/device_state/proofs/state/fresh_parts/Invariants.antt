@@ -1,5 +1,5 @@
 use Rattle.std.proofs.Common.{◌≡◌, replicate}
-use Rattle.device_state.specs.Kept.{no_part}
+use Rattle.device_state.specs.StateAfter.{no_part}
 use Rattle.device_state.proofs.state.fresh_parts.Given as goal
 
 abbrev pub invariant-loop : goal.invariant-loop

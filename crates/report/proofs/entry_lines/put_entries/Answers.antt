@@ -1,15 +1,29 @@
-use Rattle.std.proofs.Common.{◌+◌, [], ◌∷◌, ◌++◌, take, ap, sym, ◌∙◌}
+use Rattle.std.proofs.Common.{◌+◌, [], ◌∷◌, ◌++◌, sym, ap, ◌∙◌, arith}
 use Rattle.std.specs.List.{enumerate_from}
-use Rattle.std.proofs.lemmas.List.{take_more}
+use Rattle.std.proofs.lemmas.List.{length_push}
+use Rattle.control_core.specs.Deciding.{IsShort}
+use Rattle.journal_core.specs.declared.entries.Entry.{Entry}
+use Rattle.journal_core.specs.Lending.{lent, lent_entry}
+use Rattle.journal_core.proofs.Lists.{next_has, one_more_done}
 use Rattle.report.specs.Texts.{entry_line}
 use Rattle.report.proofs.Parts.{entries_push, prints_each}
 use Rattle.report.proofs.entry_lines.put_entries.Goals as goal
 
-pub loop-i-preserved : goal.loop-i-preserved
-loop-i-preserved g c =
-    let journal = c.args.journal.now in
-    let i = c.loop-i.i in
-    let entry = c.index-journal-i.result in
-    let more = take_more journal i entry c.loop-i-test.true ∙ ap (λ e. take i journal ++ e ∷ []) (sym c.index-journal-i.is) in
-    prints_each entry_line (enumerate_from 1 (take i journal)) (i + 1, entry) c.loop-i.invariant c.put_entry.ensures
-    (entries_push journal i entry more c.loop-i-test.true)
+pub loop-entry-preserved : goal.loop-entry-preserved
+loop-entry-preserved g c =
+    let done = c.loop-entry.invariant.done in
+    let rest = g.J.Lender.rest c.loop-entry.journal in
+    let e : Entry = lent_entry c.in-Some.entry in
+    let first = ap lent (sym c.in-Some.is) ∙ c.peek.ensures in
+    record {
+      done = done ++ e ∷ [];
+      number = omega (arith, c.loop-entry.invariant.number, length_push done e);
+      parts = one_more_done done rest (g.J.Lender.rest c.skip.new.self) (g.J.Lender.rest c.args.journal.now) e first c.skip.ensures c.loop-entry.invariant.parts;
+      puts = prints_each entry_line (enumerate_from 1 done) (c.loop-entry.number + 1, e) c.loop-entry.invariant.puts c.put_entry.ensures
+          (entries_push done e ∙ ap (λ n. enumerate_from 1 done ++ (n + 1, e) ∷ []) (sym c.loop-entry.invariant.number));
+    }
+
+pub put_entry-requires : goal.put_entry-requires
+put_entry-requires g c =
+    next_has (λ (e : Entry). IsShort e.reply) c.loop-entry.invariant.done (g.J.Lender.rest c.loop-entry.journal) (g.J.Lender.rest c.args.journal.now)
+    (lent_entry c.in-Some.entry) (ap lent (sym c.in-Some.is) ∙ c.peek.ensures) c.loop-entry.invariant.parts c.requires.short

@@ -2,7 +2,7 @@ use Rattle.std.proofs.Common.{◌≡◌, ◌∙◌, ℕ, ap, sym, subst, List, t
 use Rattle.dcd_base.specs.Words.{has_in_runs}
 use Rattle.dcd_base.specs.declared.media.Run.{Run}
 use Rattle.granule_map.specs.StateLists.{is_dirty_at}
-use Rattle.sanitizer.specs.Turns.{granules_in, scrubbed}
+use Rattle.sanitizer.specs.Turns.{granules_of_runs, lowest_dirty}
 use Rattle.region_config.specs.Granules.{same_region}
 use Rattle.sanitizer.proofs.Counting.{joined_count}
 use Rattle.sanitizer.proofs.Scrubbed.{scrubbed_dirty}
@@ -10,7 +10,7 @@ use Rattle.sanitizer.proofs.scrubbing.dirty_runs.Goals as goal
 
 pub returns-clause-count : goal.returns-clause-count
 returns-clause-count c =
-    ap granules_in c.in_ok-find_dirty.ensures.runs ∙ joined_count (same_region c.args.config.now) (scrubbed c.args.config.now (is_dirty_at c.args.map.now.states) c.args.n)
+    ap granules_of_runs c.in_ok-find_dirty.ensures.runs ∙ joined_count (same_region c.args.config.now) (lowest_dirty c.args.config.now (is_dirty_at c.args.map.now.states) c.args.n)
 
 pub returns-clause-dirty : goal.returns-clause-dirty
 returns-clause-dirty c =

@@ -3,13 +3,13 @@ use Rattle.std.specs.Prelude.{All}
 use Rattle.granule_map.specs.Choices.{joined, lowest_from}
 use Rattle.granule_map.specs.StateLists.{is_dirty_at}
 use Rattle.region_config.specs.Granules.{granule_total, same_region}
-use Rattle.sanitizer.specs.Turns.{IsInRegion, granules_of, scrub_runs}
+use Rattle.sanitizer.specs.Turns.{IsInRegion, run_of_pair, scrub_runs}
 use Rattle.sanitizer.proofs.scrubbing.find_dirty.Given as goal
 
 -- the runs that were found, and those of what is left, are all of them
 abbrev pub invariant-loop-run : goal.invariant-loop-run
 invariant-loop-run l = record {
-  runs : l.runs ++ map granules_of (joined (same_region l.config) (lowest_from (is_dirty_at l.map.states) (granule_total l.config) l.at l.left))
+  runs : l.runs ++ map run_of_pair (joined (same_region l.config) (lowest_from (is_dirty_at l.map.states) (granule_total l.config) l.at l.left))
       ≡ scrub_runs l.config (is_dirty_at l.map.states) l.n;
   regions : All (IsInRegion l.config) l.runs;
   few : length l.runs + l.left ≤ l.n;

@@ -7,7 +7,7 @@ use Rattle.region_config.specs.Granules.{first_granule, granule_total, region_of
 use Rattle.region_config.proofs.GranuleLemmas.{of_region}
 use Rattle.granule_map.proofs.Joining.{IsFound, few, found_next, found_run, lowest_found, none_left}
 use Rattle.sanitizer.proofs.Regions.{apart, together}
-use Rattle.sanitizer.specs.Turns.{IsNext}
+use Rattle.sanitizer.specs.Turns.{IsNextDirtyRun}
 use Rattle.sanitizer.proofs.search.next_run.Goals as goal
 
 -- the search of the states is one below the number of granules
@@ -18,7 +18,7 @@ found_below : (p : ℕ → Bool) (from n first : ℕ) → find p (range_with_len
 found_below p from n first found = let low = lowest_found p from (n - from) first found in omega (arith, low.from_below, low.below)
 
 next_is : (c : Configuration) (p : ℕ → Bool) (from most first count : ℕ) → IsFound p (granule_total c) from most first (first_granule c (suc (region_of c first))) count
-    → IsNext c p from most (record { first = first; count = count })
+    → IsNextDirtyRun c p from most (record { first = first; count = count })
 next_is c p from most first count f =
     let n : ℕ = granule_total c in
     let end : ℕ = first_granule c (suc (region_of c first)) in

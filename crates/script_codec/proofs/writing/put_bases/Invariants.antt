@@ -1,11 +1,11 @@
 use Rattle.std.proofs.Common.{take, map, length, ◌+◌, ◌*◌}
 use Rattle.std.specs.Int.{w64}
 use Rattle.field_bytes.specs.Layouts.{Number}
-use Rattle.script_codec.specs.Writing.{Appends}
+use Rattle.script_codec.specs.Writing.{AppendsLines}
 use Rattle.script_codec.proofs.writing.put_bases.Given as goal
 
 abbrev pub invariant-loop-host : goal.invariant-loop-host
-invariant-loop-host l = Appends l.fn.out l.out (map (λ base. Number w64 base) (take (l.host * length l.config.regions) l.config.bases))
+invariant-loop-host l = AppendsLines l.fn.out l.out (map (λ base. Number w64 base) (take (l.host * length l.config.regions) l.config.bases))
 
 abbrev pub invariant-loop-region : goal.invariant-loop-region
-invariant-loop-region l = Appends l.fn.out l.out (map (λ base. Number w64 base) (take (l.host * length l.config.regions + l.region) l.config.bases))
+invariant-loop-region l = AppendsLines l.fn.out l.out (map (λ base. Number w64 base) (take (l.host * length l.config.regions + l.region) l.config.bases))

@@ -1,13 +1,13 @@
 use Rattle.std.proofs.lemmas.Result.{on_ok_weaker}
 use Rattle.cci_codec.specs.Messages.{request_fields}
-use Rattle.script_codec.specs.Writing.{Appends}
+use Rattle.script_codec.specs.Writing.{AppendsLines}
 use Rattle.script_codec.proofs.Adding.{appends_then}
 use Rattle.script_codec.proofs.writing.put_command.Goals as goal
 
 pub returns : goal.returns
 returns c =
     on_ok_weaker c.put_request.result
-    (λ (last : Appends c.put_u16.new.out c.put_request.new.out (request_fields c.args.request.now)).
+    (λ (last : AppendsLines c.put_u16.new.out c.put_request.new.out (request_fields c.args.request.now)).
     appends_then c.in_ok-put_u8.ensures
     (appends_then (rw c.byte_of.ensures at c.in_ok-put_u8-2.ensures)
     (appends_then (rw c.as_slice.ensures at c.in_ok-put_u16.ensures) last)))

@@ -1,5 +1,5 @@
 use Rattle.std.proofs.lemmas.Result.{on_ok_weaker}
-use Rattle.script_codec.specs.Writing.{Appends}
+use Rattle.script_codec.specs.Writing.{AppendsLines}
 use Rattle.field_bytes.specs.Layouts.{Reserved}
 use Rattle.std.proofs.Common.{[], ◌∷◌}
 use Rattle.script_codec.proofs.Adding.{appends_then}
@@ -8,7 +8,7 @@ use Rattle.script_codec.proofs.writing.put_region.Goals as goal
 pub returns : goal.returns
 returns c =
     on_ok_weaker c.put_3_reserved.result
-    (λ (last : Appends c.put_flags.new.out c.put_3_reserved.new.out (Reserved 3 ∷ [])).
+    (λ (last : AppendsLines c.put_flags.new.out c.put_3_reserved.new.out (Reserved 3 ∷ [])).
     appends_then c.in_ok-put_u64.ensures
     (appends_then c.in_ok-put_u64-2.ensures
     (appends_then c.in_ok-put_u64-3.ensures

@@ -4,7 +4,7 @@ use Rattle.std.specs.Int.{w8}
 use Rattle.std.specs.List.{All}
 use Rattle.std.proofs.lemmas.Result.{on_ok_weaker}
 use Rattle.field_bytes.specs.Layouts.{Number}
-use Rattle.script_codec.specs.Writing.{Appends, has_spelling}
+use Rattle.script_codec.specs.Writing.{AppendsLines, has_spelling}
 use Rattle.script_codec.proofs.Adding.{appends_then}
 use Rattle.script_codec.proofs.Writable.{writable_lines}
 use Rattle.script_codec.proofs.writing.put_script.Goals as goal
@@ -15,6 +15,6 @@ put_lines-requires c = subst (λ lines. All (λ line. IsTrue (has_spelling line)
 pub returns : goal.returns
 returns c =
     on_ok_weaker c.put_u8.result
-    (λ (last : Appends c.put_lines.new.out c.put_u8.new.out (Number w8 0 ∷ [])).
+    (λ (last : AppendsLines c.put_lines.new.out c.put_u8.new.out (Number w8 0 ∷ [])).
     appends_then (appends_then c.in_ok-put_head.ensures (rw c.as_slice.ensures at c.in_ok-put_lines.ensures)) last)
     c.put_u8.ensures

@@ -2,14 +2,14 @@ use Rattle.std.proofs.Common.{[], ◌∷◌}
 use Rattle.std.specs.Int.{w64}
 use Rattle.std.proofs.lemmas.Result.{on_ok_weaker}
 use Rattle.field_bytes.specs.Layouts.{Number}
-use Rattle.script_codec.specs.Writing.{Appends}
+use Rattle.script_codec.specs.Writing.{AppendsLines}
 use Rattle.script_codec.proofs.Adding.{appends_then}
 use Rattle.script_codec.proofs.writing.put_store.Goals as goal
 
 pub returns : goal.returns
 returns c =
     on_ok_weaker c.put_u64-2.result
-    (λ (last : Appends c.put_u64.new.out c.put_u64-2.new.out (Number w64 c.args.value ∷ [])).
+    (λ (last : AppendsLines c.put_u64.new.out c.put_u64-2.new.out (Number w64 c.args.value ∷ [])).
     appends_then c.in_ok-put_u8.ensures
     (appends_then (rw c.byte_of.ensures at c.in_ok-put_u8-2.ensures)
     (appends_then c.in_ok-put_u64.ensures last)))

@@ -1,7 +1,7 @@
 use Rattle.std.proofs.Common.{◌≡◌, ◌+◌, ◌∷◌, [], ◌++◌, Ok, ap, arith, subst, sym, ◌∙◌}
 use Rattle.std.proofs.lemmas.List.{length_push}
 use Rattle.region_config.specs.Configurations.{Configuration}
-use Rattle.script_codec.specs.LineByLine.{IsNext, Takes}
+use Rattle.script_codec.specs.LineByLine.{IsNext, TakesLine}
 use Rattle.script_codec.specs.declared.script_line.Line.{Line}
 use Rattle.script_codec.proofs.Lists.{lines_go_on, with_lines}
 use Rattle.script_runner.specs.Fronts.{RunsLine}
@@ -12,7 +12,7 @@ pub loop-line-preserved : goal.loop-line-preserved
 loop-line-preserved c =
     let line : Line = c.in-Some.line in
     let done = c.loop-line.invariant.done in
-    let taken : Takes c.loop-line.reader c.next.new.self line = subst (λ found. IsNext c.loop-line.reader c.next.new.self (Ok found)) c.in-Some.is c.in_ok-line.ensures.next in
+    let taken : TakesLine c.loop-line.reader c.next.new.self line = subst (λ found. IsNext c.loop-line.reader c.next.new.self (Ok found)) c.in-Some.is c.in_ok-line.ensures.next in
     let hosts : c.loop-line.device.config.hosts ≡ c.args.device.now.config.hosts = ap (λ (k : Configuration). k.hosts) c.loop-line.invariant.config in
     let ran : RunsLine c.args.device.now.config.hosts c.args.lanes (c.loop-line.number + 1) line c.loop-line.device.journal c.run_line.new.device.journal =
     subst (λ n. RunsLine n c.args.lanes (c.loop-line.number + 1) line c.loop-line.device.journal c.run_line.new.device.journal) hosts c.in_ok-run_line.ensures.ran in

@@ -1,6 +1,6 @@
 use Rattle.std.proofs.Common.{None, refl, inl}
 use Rattle.report.specs.Refusals.{usage_line}
-use Rattle.script_runner.specs.Words.{words_of}
+use Rattle.edge_io.specs.Words.{words_of}
 use Rattle.script_runner.specs.declared.status.Status.{Status}
 use Rattle.script_runner.proofs.Choices.{complete_refused}
 use Rattle.script_runner.proofs.top.run_by.Goals as goal

@@ -1,7 +1,7 @@
 use Rattle.std.proofs.Common.{◌≡◌, ◌<◌, length, ap, sym, subst, ◌∙◌, arith}
 use Rattle.journal_core.specs.Entries.{effects}
 use Rattle.device_rules.specs.Counts.{extent_count}
-use Rattle.device_state.specs.Kept.{part_of}
+use Rattle.device_state.specs.StateAfter.{part_of}
 use Rattle.control_core.specs.Steps.{Controlled}
 use Rattle.device_state.specs.declared.parts.HostPart.{HostPart}
 use Rattle.control_core.proofs.Reading.{accepted_told, extents_told, held_in_kept}

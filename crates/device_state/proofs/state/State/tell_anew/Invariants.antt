@@ -2,7 +2,7 @@ use Rattle.std.proofs.Common.{◌≡◌, ◌≤◌, take}
 use Rattle.std.specs.List.{list_any}
 use Rattle.extent_list.specs.ExtentLists.{has_extent_of}
 use Rattle.table_laws.specs.TagTable.{told_anew}
-use Rattle.device_state.specs.Kept.{part_of}
+use Rattle.device_state.specs.StateAfter.{part_of}
 use Rattle.device_state.proofs.state.State.tell_anew.Given as goal
 
 abbrev pub invariant-loop-i : goal.invariant-loop-i

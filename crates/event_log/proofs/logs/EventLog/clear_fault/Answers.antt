@@ -9,7 +9,7 @@ returns-in-None-clause-fault c =
 
 pub returns-then-handle-oldest-clause-fault : goal.returns-then-handle-oldest-clause-fault
 returns-then-handle-oldest-clause-fault c =
-    rw c.misplaced.ensures (out_of_place _ _ _ _ c.loop-i-test.true (sym c.in-Some.ensures) c.if-handle-oldest.true ∙ c.loop-i.invariant.rest)
+    rw c.handle_fault.ensures (out_of_place _ _ _ _ c.loop-i-test.true (sym c.in-Some.ensures) c.if-handle-oldest.true ∙ c.loop-i.invariant.rest)
 
 pub loop-i-preserved : goal.loop-i-preserved
 loop-i-preserved c = record {

@@ -1,7 +1,7 @@
 use Rattle.std.proofs.Common.{◌<◌, ◌∙◌, ap, sym, length, arith, set}
 use Rattle.std.proofs.lemmas.Option.{slice_get_within}
 use Rattle.std.proofs.Math.ListN.{length-set}
-use Rattle.granule_table.specs.Changes.{applied}
+use Rattle.granule_table.specs.Changes.{cell_changed}
 use Rattle.granule_table.proofs.Ranges.{cell_read}
 use Rattle.granule_table.proofs.Counting.{recounts_dirty, recounts_free, with_one}
 use Rattle.granule_table.proofs.tables.GranuleTable.change_at.Goals as goal
@@ -45,4 +45,4 @@ returns-clause-states c =
     let below : c.args.granule < length c.self.inside.map.states = slice_get_within c.self.inside.map.states c.args.granule c.at-was.result c.at-was.ensures in
     let states = c.set_run.ensures.states ∙ with_one c.self.inside.map.states c.args.granule c.state-now.result below in
     let cell = cell_read _ c.args.granule c.at-was.result c.index-unclean.result.now c.self.invariant.each c.at-was.ensures c.index-unclean.ensures in
-    rw (← c.self.view_is) (states ∙ ap (set c.self.inside.map.states c.args.granule) (c.state-now.ensures ∙ ap (λ cell. (applied c.args.change.now cell).state) cell))
+    rw (← c.self.view_is) (states ∙ ap (set c.self.inside.map.states c.args.granule) (c.state-now.ensures ∙ ap (λ cell. (cell_changed c.args.change.now cell).state) cell))

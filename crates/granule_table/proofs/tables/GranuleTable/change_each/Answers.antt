@@ -1,21 +1,21 @@
 use Rattle.std.proofs.Common.{◌≡◌, ◌<◌, ◌-◌, ℕ, length, arith, subst, ap, sym, ◌∙◌, inl, inr}
 use Rattle.std.proofs.lemmas.Bool.{cases_lt}
 use Rattle.std.proofs.Math.ListN.{length-set}
-use Rattle.granule_table.specs.Changes.{applied}
+use Rattle.granule_table.specs.Changes.{cell_changed}
 use Rattle.granule_table.specs.Tables.{IsChanged, cell_at}
 use Rattle.granule_table.proofs.Ranges.{none_changed, one_more}
 use Rattle.granule_table.proofs.tables.GranuleTable.change_each.Goals as goal
 
 pub loop-granule-init : goal.loop-granule-init
 loop-granule-init c = record {
-  so_far = none_changed (applied c.args.change.now) c.args.first c.args.self.now;
+  so_far = none_changed (cell_changed c.args.change.now) c.args.first c.args.self.now;
   each = c.requires.each;
   place = λ _. omega arith;
 }
 
 pub loop-granule-preserved : goal.loop-granule-preserved
 loop-granule-preserved c =
-    let f = applied c.args.change.now in
+    let f = cell_changed c.args.change.now in
     let mid = c.loop-granule.self in
     let k = c.loop-granule.granule in
     let below : k < length mid.states = omega (arith, c.requires.within, c.loop-granule.invariant.so_far.granules) in
@@ -33,4 +33,4 @@ returns c =
       | inl past ↦ (let low = c.loop-granule.invariant.place past in omega (arith, low, past))
       | inr reached ↦ omega (arith, reached)
     ] in
-    subst (λ (n : ℕ). IsChanged (applied c.args.change.now) (record { first = c.args.first; count = n }) c.args.self.now c.loop-granule.self) same c.loop-granule.invariant.so_far
+    subst (λ (n : ℕ). IsChanged (cell_changed c.args.change.now) (record { first = c.args.first; count = n }) c.args.self.now c.loop-granule.self) same c.loop-granule.invariant.so_far

@@ -1,6 +1,6 @@
 use Rattle.std.proofs.Common.{◌≡◌, ◌++◌, ap, arith, length, length-append, sym, ◌∙◌}
 use Rattle.std.proofs.lemmas.List.{length-map}
-use Rattle.host_lists.specs.Lists.{Lists, extents_in}
+use Rattle.host_lists.specs.Lists.{Lists, extents_of_lists}
 use Rattle.offer_core.specs.declared.offer.Offer.{Offer}
 use Rattle.offer_core.specs.Offerings.{lists_of}
 use Rattle.host_lists.specs.Tags.{capped, extents_before, tag_count}
@@ -13,9 +13,9 @@ returns c =
     let offers = c.self.inside.offers.offers in
     let more = c.args.more.now in
     let all : c.len.result ≡ length (lists_of offers) = c.len.ensures ∙ sym (length-map offers (λ (o : Offer). o.extents)) in
-    let own : extents_before c.as_slice-accepted.result.now (lists_of offers) c.len.result ≡ extents_in c.args.self.now =
+    let own : extents_before c.as_slice-accepted.result.now (lists_of offers) c.len.result ≡ extents_of_lists c.args.self.now =
     ap (λ xs. extents_before xs (lists_of offers) c.len.result) c.as_slice-accepted.ensures
     ∙ extents_before_all c.self.inside.accepted.extents (lists_of offers) c.len.result all
-    ∙ ap (λ (l : Lists). extents_in l) c.self.view_is in
-    let count : c.more_tags.result ≡ capped (tag_count (extents_in c.args.self.now ++ more)) = c.more_tags.ensures ∙ ap (λ xs. capped (tag_count (xs ++ more))) own in
-    omega (arith, count, tag_count_le (extents_in c.args.self.now ++ more), length-append (extents_in c.args.self.now) more, length_extents c.args.self.now)
+    ∙ ap (λ (l : Lists). extents_of_lists l) c.self.view_is in
+    let count : c.more_tags.result ≡ capped (tag_count (extents_of_lists c.args.self.now ++ more)) = c.more_tags.ensures ∙ ap (λ xs. capped (tag_count (xs ++ more))) own in
+    omega (arith, count, tag_count_le (extents_of_lists c.args.self.now ++ more), length-append (extents_of_lists c.args.self.now) more, length_extents c.args.self.now)

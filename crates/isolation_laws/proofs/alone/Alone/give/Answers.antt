@@ -1,6 +1,6 @@
 use Rattle.std.proofs.Common.{◌≡◌, ◌+◌, ◌≤◌, List, length, inl, refl, ap, ◌∙◌, arith}
 use Rattle.dcd_base.specs.declared.capacity.Extent.{Extent}
-use Rattle.device_rules.specs.Outcomes.{notices_of}
+use Rattle.device_rules.specs.Outcomes.{records_of_extents}
 use Rattle.event_records.specs.declared.events.EventKind.{EventKind}
 use Rattle.host_lists.specs.Lists.{extent_total}
 use Rattle.isolation_laws.specs.declared.items.Item.{Item}
@@ -20,7 +20,7 @@ returns c = λ c'.
     let total : extent_total c.offer.new.self ≡ extent_total c.args.self.now.lists + length c.args.extents.now = ap extent_total is ∙ offered_total c.args.extents.now c.args.self.now.lists in
     let few : extent_total c.offer.new.self ≤ 64 =
     omega (arith, total, c.if-len-total.false, c.len.ensures, ap (λ (xs : List Extent). length xs) c.accepted.ensures, c.offered.ensures, c.len-2.ensures, c.requires) in
-    takes_told c' c.args.host (Item.Given c.args.extents.now) (λ v. notices_of c.args.host v EventKind.Add c.args.extents.now) (with_offer c.args.extents.now)
+    takes_told c' c.args.host (Item.Given c.args.extents.now) (λ v. records_of_extents c.args.host v EventKind.Add c.args.extents.now) (with_offer c.args.extents.now)
     c.args.self.now (record c.args.self.now { lists = c.offer.new.self }) c.tell.new.self
     (keeps_offer c' c.args.host c.args.extents.now c.args.self.now c.offer.new.self few is)
     (λ v word alone. refl) (λ d v n. refl)

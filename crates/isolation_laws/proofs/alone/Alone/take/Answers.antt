@@ -2,7 +2,7 @@ use Rattle.std.proofs.Common.{◌≡◌, ◌+◌, ◌<◌, ◌≤◌, List, leng
 use Rattle.std.specs.Prelude.{◌^◌, All, IsTrue}
 use Rattle.std.proofs.lemmas.Bool.{false≢true}
 use Rattle.dcd_base.specs.declared.capacity.Extent.{Extent}
-use Rattle.device_rules.specs.Outcomes.{notices_of}
+use Rattle.device_rules.specs.Outcomes.{records_of_extents}
 use Rattle.event_records.specs.declared.events.EventKind.{EventKind}
 use Rattle.host_lists.specs.Lists.{Lists, extent_total}
 use Rattle.isolation_laws.specs.declared.items.Item.{Item}
@@ -21,7 +21,7 @@ returns c = λ c'.
     let total : extent_total c.take_out.new.self ≡ extent_total (taken_from c.args.extents.now c.args.self.now.lists) = ap extent_total is in
     let few : extent_total c.take_out.new.self ≤ 64 =
     omega (arith, total, c.if-len-offered.false, c.len.ensures, ap (λ (xs : List Extent). length xs) c.accepted.ensures, ap (λ (l : Lists). length l.accepted) is, c.offered-offered.ensures, c.requires) in
-    takes_told c' c.args.host (Item.Taken c.args.extents.now) (λ v. notices_of c.args.host v EventKind.Forced c.args.extents.now) (without_taken c.args.extents.now)
+    takes_told c' c.args.host (Item.Taken c.args.extents.now) (λ v. records_of_extents c.args.host v EventKind.Forced c.args.extents.now) (without_taken c.args.extents.now)
     c.args.self.now (record c.args.self.now { lists = c.take_out.new.self }) c.tell.new.self
     (keeps_taken c' c.args.host c.args.extents.now c.args.self.now c.take_out.new.self few is)
     (λ v word alone. refl) (λ d v n. refl)

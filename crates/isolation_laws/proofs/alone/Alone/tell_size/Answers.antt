@@ -1,5 +1,5 @@
 use Rattle.std.proofs.Common.{ℕ, [], ◌∷◌, false, ◌∙◌, ap}
-use Rattle.device_rules.specs.Outcomes.{notice, no_extent}
+use Rattle.device_rules.specs.Outcomes.{record_for, no_extent}
 use Rattle.event_records.specs.declared.events.Event.{Event}
 use Rattle.event_records.specs.declared.events.EventKind.{EventKind}
 use Rattle.isolation_laws.specs.Telling.{resized}
@@ -10,6 +10,6 @@ pub returns : goal.returns
 returns c = λ c'.
     logs_put c' c.args.host (resized c.args.host c.args.region) c.args.self.now c.put_all.new.log (record c.event_for-event.result { region = c.region.inside.0 } ∷ [])
     (λ v are.
-    ap (λ (e : Event). record e { region = c.region.inside.0 } ∷ []) (c.event_for-event.ensures v are ∙ ap (notice c.args.host v EventKind.RegionUpdated false) c.no_extent.ensures)
-    ∙ ap (λ (n : ℕ). record (notice c.args.host v EventKind.RegionUpdated false no_extent) { region = n } ∷ []) c.region.view_is)
+    ap (λ (e : Event). record e { region = c.region.inside.0 } ∷ []) (c.event_for-event.ensures v are ∙ ap (record_for c.args.host v EventKind.RegionUpdated false) c.no_extent.ensures)
+    ∙ ap (λ (n : ℕ). record (record_for c.args.host v EventKind.RegionUpdated false no_extent) { region = n } ∷ []) c.region.view_is)
     c.put_all.result c.put_all.ensures.put c.put_all.ensures.full

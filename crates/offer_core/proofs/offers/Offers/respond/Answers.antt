@@ -6,8 +6,8 @@ use Rattle.offer_core.specs.Offerings.{lists_of}
 use Rattle.offer_core.specs.Responses.{respond_rule}
 use Rattle.offer_core.proofs.offers.Offers.respond.Goals as goal
 
-pub take-requires : goal.take-requires
-take-requires c =
+pub answer-requires : goal.answer-requires
+answer-requires c =
     let row : None ≡ respond_rule c.args.config.now c.args.host c.args.accepted (lists_of c.args.self.now.offers) c.args.self.now.held c.args.more c.args.list.now = search rules in
     record { offered = λ last none. nothing_listed c.args.config.now c.args.host c.args.accepted c.args.self.now.offers c.args.self.now.held c.args.more c.args.list.now last none (sym row) }
 

@@ -15,12 +15,12 @@ open-requires-clause-rule g c =
     opens_counted w _ c.args.first c.args.rest.items (count_is w _ c.args.first c.args.rest.items row) c.requires.contents
 
 pub fill-requires-clause-filling : goal.fill-requires-clause-filling
-fill-requires-clause-filling g c = opener_fills _ _ c.args.first c.args.rest.items c.in-Ok-open.token.me c.in-Ok-open.ensures.3
+fill-requires-clause-filling g c = opener_fills _ _ c.args.first c.args.rest.items c.in-Ok-open.token.me c.in-Ok-open.ensures.seat
 
 pub returns-clause-each : goal.returns-clause-each
 returns-clause-each g c =
     let maker = c.enroll_all.ensures.maker in
-    let place = c.enroll_all.ensures.board.0 ∙ (c.fill.ensures.board.0 ∙ c.in-Ok-open.ensures.2) in
+    let place = c.enroll_all.ensures.board.0 ∙ (c.fill.ensures.board.0 ∙ c.in-Ok-open.ensures.table) in
     let bare : (k : ℕ) → NoTurn c.enroll_all.new.token.me.0.taken k = λ k x h. c.fill.ensures.no_turns k x (ap (λ t. get_elem? t k) (sym c.enroll_all.ensures.taken) ∙ h) in
-    let key = ap (λ k. k.first) c.in-Ok-open.ensures.4 in
+    let key = ap (λ k. k.first) c.in-Ok-open.ensures.key in
     all_new _ _ _ _ _ _ (ap (about_of g.F.Chief.reads) key) c.put_first.ensures (first_seat _ _ _ _ maker place refl bare) c.enroll_all.ensures.each

@@ -1,0 +1,28 @@
+use Rattle.std.proofs.Common.{◌∙◌, All, IfOk, length, ap, subst, sym}
+use Rattle.device_rules.specs.Views.{view_of}
+use Rattle.device_state.specs.Updates.{IsOfLog}
+use Rattle.device_commands.specs.DraftContents.{parts_of_content}
+use Rattle.device_commands.specs.Drafts.{Drafts}
+use Rattle.device_commands.specs.declared.draft.DraftParts.{DraftParts}
+use Rattle.device_commands.specs.declared.log_records.LogRecords.{LogRecords}
+use Rattle.control_core.specs.Doing.{Does, IsDone}
+use Rattle.control_core.specs.declared.decided.Decided.{Decided}
+use Rattle.control_core.proofs.Doing.{replied_done}
+use Rattle.control_core.proofs.host_steps.recorded.Goals as goal
+
+pub recorded_parts-requires-clause-known : goal.recorded_parts-requires-clause-known
+recorded_parts-requires-clause-known c =
+    subst (λ (d : DraftParts). All (λ (n : LogRecords). IsOfLog (length c.args.state.now.hosts.items) n.log) d.log_records)
+    (sym c.into_content.ensures ∙ ap parts_of_content c.in-Parts.is ∙ sym c.into_inner.ensures) c.requires.known
+
+pub returns-in-Reply : goal.returns-in-Reply
+returns-in-Reply c = λ cfg before o kept of drafts.
+    let h = c.args.host in
+    subst (λ (d : Decided). IsDone cfg before c.args.request.now o d) (sym c.replied.ensures)
+    (replied_done cfg before c.args.state.now kept c.args.request.now h o of c.in-Reply.payload
+    (subst (Drafts cfg h (view_of cfg h before) o) (sym c.into_content.ensures ∙ ap parts_of_content c.in-Reply.is) drafts))
+
+pub returns-in-Parts : goal.returns-in-Parts
+returns-in-Parts c =
+    subst (λ (d : DraftParts). IfOk c.recorded_parts.result (Does c.args.state.now c.args.host c.args.request.now d))
+    (c.into_inner.ensures ∙ sym (ap parts_of_content c.in-Parts.is) ∙ c.into_content.ensures) c.recorded_parts.ensures

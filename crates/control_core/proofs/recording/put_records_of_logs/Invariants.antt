@@ -1,0 +1,11 @@
+use Rattle.std.proofs.Common.{◌≡◌, List, ◌++◌, take}
+use Rattle.journal_core.specs.Entries.{effects}
+use Rattle.journal_core.specs.declared.entries.Entry.{Entry}
+use Rattle.region_config.specs.Configurations.{Configuration}
+use Rattle.device_state.specs.StateAfter.{IsStateAfter}
+use Rattle.control_core.specs.Recording.{records_entered}
+use Rattle.control_core.proofs.recording.put_records_of_logs.Given as goal
+
+-- The records so far are told.
+abbrev pub invariant-loop-i : goal.invariant-loop-i
+invariant-loop-i l = (c : Configuration) (journal : List Entry) → IsStateAfter c journal l.state → l.effects ≡ l.fn.effects ++ records_entered (effects journal) (take l.i l.log_records)

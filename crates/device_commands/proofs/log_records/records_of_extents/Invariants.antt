@@ -1,0 +1,9 @@
+use Rattle.std.proofs.Common.{◌≡◌, ◌++◌, drop}
+use Rattle.device_rules.specs.Outcomes.{records_of_extents}
+use Rattle.device_rules.specs.Views.{View}
+use Rattle.device_state.specs.StateAfter.{lists_in}
+use Rattle.device_commands.proofs.log_records.records_of_extents.Given as goal
+
+-- The records so far, and those of the rest, are all.
+abbrev pub invariant-loop-i : goal.invariant-loop-i
+invariant-loop-i l = (v : View) → l.lists ≡ lists_in v → l.events ++ records_of_extents l.fn.host v l.kind (drop l.i l.extents) ≡ records_of_extents l.fn.host v l.kind l.extents

@@ -1,0 +1,70 @@
+-- That what the device keeps is what the journal says.
+use Rattle.std.specs.Prelude.{◌≡◌, ℕ, ◌<◌, ◌≤◌, false, List, length, slice_index, slice_index_or}
+use Rattle.dcd_base.specs.declared.ids.HostId.{HostId}
+use Rattle.dcd_base.specs.declared.steps.LogId.{LogId}
+use Rattle.region_config.specs.Configurations.{Configuration}
+use Rattle.region_config.specs.Granules.{granule_total}
+use Rattle.region_config.specs.Soundness.{IsSound}
+use Rattle.event_log.specs.LogStates.{LogState, new_log}
+use Rattle.event_log.specs.Logs.{IsHistory, Log, places_in, state_of}
+use Rattle.journal_core.specs.Entries.{effects}
+use Rattle.journal_core.specs.Holders.{holds}
+use Rattle.journal_core.specs.declared.entries.Entry.{Entry}
+use Rattle.dcd_base.specs.Hosts.{has_host}
+use Rattle.granule_table.specs.Tables.{cell_at}
+use Rattle.table_laws.specs.GranuleCells.{IsCell}
+use Rattle.table_laws.specs.TagTable.{IsTable}
+use Rattle.host_lists.specs.Lists.{Lists, no_lists}
+use Rattle.device_rules.specs.Adding.{present}
+use Rattle.device_rules.specs.Legal.{Legal}
+use Rattle.device_rules.specs.Logs.{log_of}
+use Rattle.device_rules.specs.Views.{View, generation_in, view_of}
+use Rattle.device_state.specs.declared.parts.HostPart.{HostPart}
+use Rattle.device_state.specs.declared.state.State.{State}
+
+-- the part of a host that has nothing, and the part of a host by its number
+abbrev pub no_part : HostPart
+no_part = record { lists = no_lists; log = new_log 64 }
+
+abbrev pub part_of : State → HostId → HostPart
+part_of s h = slice_index_or s.hosts.items h no_part
+
+-- the lists that a view shows
+abbrev pub lists_in : View → Lists
+lists_in v = record {
+  accepted = v.accepted;
+  offers = v.offers;
+  responses = v.responses;
+  releases = v.releases;
+  generation = generation_in v;
+}
+
+-- The log is the one of this history.
+pub record IsLogOf (l : LogId) (history : Log) (log : LogState) : Type 0 where
+  pub is : log ≡ state_of (places_in l) history
+  pub told : IsHistory history
+
+-- What is kept of a host is what it sees.
+pub record IsPart (h : HostId) (v : View) (part : HostPart) : Type 0 where
+  pub lists_are : part.lists ≡ lists_in v
+  pub log_is : IsLogOf (LogId.Host h) v.log part.log
+
+-- Everything that is kept is what the entries so far say.
+pub record IsStateAfter (c : Configuration) (journal : List Entry) (s : State) : Type 0 where
+  pub present_is : s.present ≡ present c (effects journal)
+  pub host_count : length s.hosts.items ≡ c.hosts
+  pub parts : (h : HostId) → h < c.hosts → IsPart h (view_of c h journal) (part_of s h)
+  pub manager_log : IsLogOf LogId.Manager (log_of LogId.Manager (effects journal)) s.manager
+  pub granule_count : length s.granules.states ≡ granule_total c
+  pub cells : (g : ℕ) → g < granule_total c → IsCell c (effects journal) g (cell_at s.granules g)
+  pub holder_count : length s.holders ≡ granule_total c
+  pub held : (g : ℕ) (h : HostId) → g < granule_total c → h < c.hosts → has_host (slice_index s.holders g) h ≡ holds h g (effects journal)
+  pub no_others : (g : ℕ) (h : HostId) → g < granule_total c → c.hosts ≤ h → has_host (slice_index s.holders g) h ≡ false
+  pub tags_are : IsTable c (effects journal) s.tags.entries
+
+-- The state is one that a legal journal of the device leads to.
+pub record IsReached (c : Configuration) (s : State) : Type 0 where
+  pub journal : List Entry
+  pub sound : IsSound c
+  pub legal : Legal c journal
+  pub kept : IsStateAfter c journal s

@@ -1,0 +1,3 @@
+mod Digits
+pub mod Fronts
+pub mod WordNumbers

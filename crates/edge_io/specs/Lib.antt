@@ -1,0 +1,2 @@
+pub mod ReadEnds
+pub mod Words

@@ -1,0 +1,149 @@
+-- What is next of two lists that rise, put in order as one.
+use Rattle.std.proofs.Common.{◌≡◌, ◌+◌, Bool, true, false, cond, not, List, [], ◌∷◌, ◌++◌, drop, length, refl, sym, ap, ◌∙◌, append-nil, length-append}
+use Rattle.std.specs.Prelude.{fold, All, IsFalse, Option}
+use Rattle.std.proofs.lemmas.Bool.Decides.{nat_tests}
+use Rattle.std.proofs.Common.{arith}
+use Rattle.std.proofs.lemmas.List.Elements.{All-append, All-cons, All-head, All-tail, All-weaker}
+use Rattle.std.proofs.lemmas.List.Sums.{fold-append}
+use Rattle.dcd_base.specs.declared.steps.Stamp.{Stamp}
+use Rattle.journal_core.specs.declared.entries.Entry.{Entry}
+use Rattle.journal_core.specs.Lending.{AreNext, first_entry, first_stamp, goes_first}
+use Rattle.journal_core.specs.Merging.{Rising, in_order, insert_entry, is_later}
+use Rattle.journal_core.proofs.Lists.{rising_drop, rising_head, rising_tail}
+use Rattle.journal_core.proofs.Merges.{in_order-length, in_order-rising}
+
+abbrev insert_all : List Entry → List Entry → List Entry
+insert_all done entries = fold (λ journal e. insert_entry e journal) done entries
+
+-- an entry stays in front of all that are not earlier
+first_stays : (x : Entry) (done zs : List Entry) → All (λ (z : Entry). IsFalse (is_later x.stamp z.stamp)) zs → insert_all (x ∷ done) zs ≡ x ∷ insert_all done zs
+first_stays x done [] all = refl
+first_stays x done (z ∷ zs) all =
+    ap (λ b. insert_all (cond b (z ∷ x ∷ done) (x ∷ insert_entry z done)) zs) (All-head (λ (z : Entry). IsFalse (is_later x.stamp z.stamp)) z zs all)
+    ∙ first_stays x (insert_entry z done) zs (All-tail (λ (z : Entry). IsFalse (is_later x.stamp z.stamp)) z zs all)
+
+-- a list that rises is in order
+pub in_order_alone : (xs : List Entry) → Rising xs → in_order xs ≡ xs
+in_order_alone [] up = refl
+in_order_alone (x ∷ xs) up = first_stays x [] xs (rising_head x xs up) ∙ ap (λ ys. x ∷ ys) (in_order_alone xs (rising_tail x xs up))
+
+pub in_order_before_none : (xs : List Entry) → Rising xs → in_order (xs ++ []) ≡ xs
+in_order_before_none xs up = ap in_order (append-nil xs) ∙ in_order_alone xs up
+
+not_before : (x y z : Stamp) → is_later x y ≡ false → is_later y z ≡ false → is_later x z ≡ false
+not_before x y z first second = grind (arith, nat_tests)
+
+is_not : (b : Bool) → not b ≡ true → b ≡ false
+is_not true e = cc
+is_not false e = refl
+
+is_so : (b : Bool) → not b ≡ false → b ≡ true
+is_so true e = refl
+is_so false e = cc
+
+-- where no entry of the second list is earlier, the first of both is that of the first list
+first_of_first : (x : Entry) (xs : List Entry) (y : Entry) (ys : List Entry) → Rising (x ∷ xs) → Rising (y ∷ ys) → is_later x.stamp y.stamp ≡ false →
+    in_order (x ∷ xs ++ y ∷ ys) ≡ x ∷ in_order (xs ++ y ∷ ys)
+first_of_first x xs y ys up up' apart =
+    first_stays x [] (xs ++ y ∷ ys) (All-append (λ (z : Entry). IsFalse (is_later x.stamp z.stamp)) xs (y ∷ ys) (rising_head x xs up)
+    (All-cons (λ (z : Entry). IsFalse (is_later x.stamp z.stamp)) y ys apart
+    (All-weaker (λ (z : Entry). IsFalse (is_later y.stamp z.stamp)) (λ (z : Entry). IsFalse (is_later x.stamp z.stamp)) (λ z h. not_before x.stamp y.stamp z.stamp apart h) ys (rising_head y ys up'))))
+
+-- where it is earlier, the first of both is that of the second list
+first_of_second : (x : Entry) (xs : List Entry) (y : Entry) (ys : List Entry) → Rising (x ∷ xs) → Rising (y ∷ ys) → is_later x.stamp y.stamp ≡ true →
+    in_order (x ∷ xs ++ y ∷ ys) ≡ y ∷ in_order (x ∷ xs ++ ys)
+first_of_second x xs y ys up up' later =
+    fold-append (λ journal e. insert_entry e journal) [] (x ∷ xs) (y ∷ ys)
+    ∙ ap (λ j. insert_all (insert_entry y j) ys) (in_order_alone (x ∷ xs) up)
+    ∙ ap (λ b. insert_all (cond b (y ∷ x ∷ xs) (x ∷ insert_entry y xs)) ys) later
+    ∙ first_stays y (x ∷ xs) ys (rising_head y ys up')
+    ∙ ap (λ j. y ∷ insert_all j ys) (sym (in_order_alone (x ∷ xs) up))
+    ∙ ap (λ j. y ∷ j) (sym (fold-append (λ journal e. insert_entry e journal) [] (x ∷ xs) ys))
+
+-- ---- what is next
+
+-- The first of both is the first of these, and what is left of them is what is left of both.
+pub record IsNextOf (both these : List Entry) (left : List Entry) : Type 0 where
+  pub head : first_entry these ≡ first_entry both
+  pub stamp : first_stamp these ≡ first_stamp both
+  pub tail : left ≡ drop 1 both
+
+pub next_of_first : (xs ys : List Entry) → Rising xs → Rising ys → goes_first (first_stamp xs) (first_stamp ys) ≡ true → IsNextOf (in_order (xs ++ ys)) xs (in_order (drop 1 xs ++ ys))
+next_of_first xs [] up up' goes =
+    let whole = in_order_before_none xs up in
+    record {
+      head = sym (ap first_entry whole);
+      stamp = sym (ap first_stamp whole);
+      tail = in_order_before_none (drop 1 xs) (rising_drop xs up) ∙ sym (ap (drop 1) whole);
+    }
+next_of_first [] (y ∷ ys) up up' goes = absurd (never goes)
+  where
+    never : false ≡ true → ⊥
+    never e = cc
+next_of_first (x ∷ xs) (y ∷ ys) up up' goes =
+    let whole = first_of_first x xs y ys up up' (is_not (is_later x.stamp y.stamp) goes) in
+    record {
+      head = sym (ap first_entry whole);
+      stamp = sym (ap first_stamp whole);
+      tail = sym (ap (drop 1) whole);
+    }
+
+pub next_of_second : (xs ys : List Entry) → Rising xs → Rising ys → goes_first (first_stamp xs) (first_stamp ys) ≡ false → IsNextOf (in_order (xs ++ ys)) ys (in_order (xs ++ drop 1 ys))
+next_of_second [] [] up up' goes = absurd (never goes)
+  where
+    never : true ≡ false → ⊥
+    never e = cc
+next_of_second (x ∷ xs) [] up up' goes = absurd (never goes)
+  where
+    never : true ≡ false → ⊥
+    never e = cc
+next_of_second [] (y ∷ ys) up up' goes =
+    let whole = in_order_alone (y ∷ ys) up' in
+    record {
+      head = sym (ap first_entry whole);
+      stamp = sym (ap first_stamp whole);
+      tail = in_order_alone ys (rising_tail y ys up') ∙ sym (ap (drop 1) whole);
+    }
+next_of_second (x ∷ xs) (y ∷ ys) up up' goes =
+    let whole = first_of_second x xs y ys up up' (is_so (is_later x.stamp y.stamp) goes) in
+    record {
+      head = sym (ap first_entry whole);
+      stamp = sym (ap first_stamp whole);
+      tail = sym (ap (drop 1) whole);
+    }
+
+-- ---- the same of two that lend
+
+module _ (xs ys : List Entry) (a b : Option Stamp) (next : AreNext xs ys a b) where
+  goes_is : (r : Bool) → goes_first a b ≡ r → goes_first (first_stamp xs) (first_stamp ys) ≡ r
+  goes_is r is = sym (λ i. goes_first (next.first_is i) (next.second_is i)) ∙ is
+
+  pub if_first : goes_first a b ≡ true → IsNextOf (in_order (xs ++ ys)) xs (in_order (drop 1 xs ++ ys))
+  if_first goes = next_of_first xs ys next.first_rises next.second_rises (goes_is true goes)
+
+  pub if_second : goes_first a b ≡ false → IsNextOf (in_order (xs ++ ys)) ys (in_order (xs ++ drop 1 ys))
+  if_second goes = next_of_second xs ys next.first_rises next.second_rises (goes_is false goes)
+
+  pub stamp_of_first : goes_first a b ≡ true → a ≡ first_stamp (in_order (xs ++ ys))
+  stamp_of_first goes = next.first_is ∙ (if_first goes).stamp
+
+  pub stamp_of_second : goes_first a b ≡ false → b ≡ first_stamp (in_order (xs ++ ys))
+  stamp_of_second goes = next.second_is ∙ (if_second goes).stamp
+
+  pub peek_first : goes_first a b ≡ true → (e : Option Entry) → e ≡ first_entry xs → e ≡ first_entry (in_order (xs ++ ys))
+  peek_first goes e is = is ∙ (if_first goes).head
+
+  pub peek_second : goes_first a b ≡ false → (e : Option Entry) → e ≡ first_entry ys → e ≡ first_entry (in_order (xs ++ ys))
+  peek_second goes e is = is ∙ (if_second goes).head
+
+  pub skip_first : goes_first a b ≡ true → (left : List Entry) → left ≡ drop 1 xs → in_order (left ++ ys) ≡ drop 1 (in_order (xs ++ ys))
+  skip_first goes left is = ap (λ zs. in_order (zs ++ ys)) is ∙ (if_first goes).tail
+
+  pub skip_second : goes_first a b ≡ false → (left : List Entry) → left ≡ drop 1 ys → in_order (xs ++ left) ≡ drop 1 (in_order (xs ++ ys))
+  skip_second goes left is = ap (λ zs. in_order (xs ++ zs)) is ∙ (if_second goes).tail
+
+pub length_of_both : (xs ys : List Entry) → length (in_order (xs ++ ys)) ≡ length xs + length ys
+length_of_both xs ys = in_order-length (xs ++ ys) ∙ length-append xs ys
+
+pub both_rise : (xs ys : List Entry) → Rising (in_order (xs ++ ys))
+both_rise xs ys = in_order-rising (xs ++ ys)

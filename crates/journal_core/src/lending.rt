@@ -1,0 +1,70 @@
+//! Entries that are lent one after another, from where they are kept.
+
+ghost use Rattle.journal_core.specs.Lending.{first_entry, first_stamp, goes_first, lent, lent_entry};
+ghost use Rattle.journal_core.specs.Merging.{Rising};
+ghost use Rattle.journal_core.specs.declared.entries.Entry.{Entry};
+ghost use Rattle.std.specs.Prelude.{◌≡◌, ◌<◌, ◌^◌, IfOk, List, drop, length};
+
+use crate::entries::Entry;
+use crate::loads_and_stores::Access;
+use dcd_base::{NoMemory, Stamp};
+
+/// An entry that is lent.
+#[derive(Clone, Copy, Debug)]
+pub enum Lent<'a> {
+    /// Any entry.
+    Full(&'a Entry),
+    /// That of a load or a store.
+    Small(&'a Access),
+}
+
+impl Lent<'_> {
+    /// An entry of its own, with all of this.
+    pub fn copy(&self) -> Result<Entry, NoMemory>
+        ensures { IfOk result (λ copy. copy ≡ lent_entry self.now) }
+    {
+        match self {
+            Lent::Full(entry) => entry.copy(),
+            Lent::Small(access) => Ok(access.entry()),
+        }
+    }
+}
+
+/// Entries that are lent one after another, by rising stamps. It takes no memory, and copies none of them.
+pub trait Lender {
+    /// The entries that are still to come.
+    ghost rest: { Self → List Entry };
+
+    /// The stamp of the next one, or none behind the last.
+    fn stamp(&self) -> Option<Stamp>
+        ensures value { result ≡ first_stamp (rest self.now) }
+        ensures rising { Rising (rest self.now) };
+
+    /// The next one, or none behind the last.
+    fn peek(&self) -> Option<Lent<'_>>
+        ensures { lent result ≡ first_entry (rest self.now) };
+
+    /// Goes on behind the next one, if there is one.
+    fn skip(&mut self)
+        ensures { rest self.new ≡ drop 1 (rest self.old) };
+
+    /// How many are still to come.
+    fn len(&self) -> u64
+        requires { length (rest self.now) < 2 ^ 64 }
+        ensures { result ≡ length (rest self.now) };
+}
+
+/// Whether what has the first stamp goes before what has the second: it does where the second is not earlier, and before
+/// what has none.
+pub(crate) fn goes_first(first: Option<Stamp>, second: Option<Stamp>) -> bool
+    ensures { result ≡ goes_first first second }
+{
+    match (first, second) {
+        (_, None) => true,
+        (None, Some(_)) => false,
+        (Some(first), Some(second)) => {
+            first.number < second.number
+                || (first.number == second.number && first.count <= second.count)
+        }
+    }
+}

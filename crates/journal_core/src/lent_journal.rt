@@ -1,0 +1,22 @@
+//! The whole journal of a device, lent.
+
+ghost use Rattle.journal_core.specs.Merging.{Rising, merged};
+ghost use Rattle.std.specs.Prelude.{◌≡◌, ◌∷◌, []};
+
+use crate::both::Both;
+use crate::entries::Entry;
+use crate::lent_lists::{LentAccesses, LentEntries};
+use crate::loads_and_stores::Access;
+
+/// The entries of a device whose loads and stores are one list, in the order of their stamps.
+pub type Whole<'a> = Both<LentEntries<'a>, LentAccesses<'a>>;
+
+/// Lends the entries of a control and a list of loads and stores as one journal. The stamps of both rise.
+#[tactic(auto, using(crate::proofs::Pushing::merged_of_one))]
+pub fn whole<'a>(control: &'a [Entry], accesses: &'a [Access]) -> Whole<'a>
+    requires control { Rising control.now }
+    requires accesses { Rising accesses.now }
+    ensures { result ≡ merged control.now (accesses.now ∷ []) }
+{
+    Both::new(LentEntries::new(control), LentAccesses::new(accesses))
+}

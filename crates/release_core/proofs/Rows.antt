@@ -1,0 +1,29 @@
+-- Rows of which the first rules are not broken.
+use Rattle.std.proofs.Common.{◌≡◌, ℕ, Bool, false, List, length, Some, None, refl}
+use Rattle.std.specs.Prelude.{nat_le}
+use Rattle.dcd_base.specs.declared.capacity.Extent.{Extent}
+use Rattle.dcd_base.specs.declared.ids.HostId.{HostId}
+use Rattle.dcd_base.specs.Words.{is_empty}
+use Rattle.dcd_codes.specs.declared.rules.Rule.{Rule}
+use Rattle.dcd_codes.specs.Rules.{each_in}
+use Rattle.list_rules.specs.Listing.{incomplete, too_many_extents, too_many_listed}
+use Rattle.region_config.specs.Configurations.{Configuration}
+use Rattle.release_core.specs.declared.leaving.Within.{Within}
+use Rattle.release_core.specs.Leaving.{count_after, leaving_rule}
+use Rattle.release_core.specs.Releases.{give_back_rule}
+use Rattle.release_core.specs.Removals.{prescribed_removal_rule}
+
+module _ (c : Configuration) (h : HostId) (accepted : List Extent) (offered : ℕ) (list : List Extent) (few : too_many_listed list ≡ None) where
+  -- the first rule of a release is that of an extent
+  pub release_broken : (more : Bool) → more ≡ false → (rule : Rule) → each_in list (leaving_rule c h accepted Within.AnyRegion) ≡ Some rule → give_back_rule c h accepted offered list more ≡ Some rule
+  release_broken more last rule broken = rw (last, few, broken) refl
+
+  -- it is that of the number of extents
+  pub release_counted : (more : Bool) → more ≡ false → each_in list (leaving_rule c h accepted Within.AnyRegion) ≡ None → incomplete c h accepted list ≡ None
+      → give_back_rule c h accepted offered list more ≡ too_many_extents (count_after accepted offered list)
+  release_counted more last each whole = rw (last, few, each, whole) refl
+
+  -- the first rule of a removal is that of an extent
+  pub removal_broken : (r : ℕ) (forced : Bool) → nat_le (length c.regions) r ≡ false → is_empty list ≡ false → (rule : Rule) → each_in list (leaving_rule c h accepted (Within.Region r)) ≡ Some rule
+      → prescribed_removal_rule c h accepted offered r list forced ≡ Some rule
+  removal_broken r forced known some rule broken = rw (known, some, few, broken) refl

@@ -1,0 +1,120 @@
+//! A script line by line, whose bytes are let go as it is read.
+
+ghost use Rattle.script_codec.specs.LineByLine.{HasBegun, IsNext};
+ghost use Rattle.std.specs.Prelude.{◌≡◌, ◌≤◌, IfOk, drop, length};
+
+use crate::faults::ScriptFault;
+use crate::heads::Head;
+use crate::reader::{MOST_LINES, begin_at, next_at};
+use crate::script_line::Line;
+use dcd_base::{Bytes, NoMemory};
+use std::alloc::Global;
+use std::marker::Model;
+
+/// How many bytes are let go at a time at least.
+const AT_ONCE: usize = 65_536;
+
+/// What is still to come of a script whose bytes are the reader's own: each line is read when it is asked for, and each time
+/// that half of the bytes are read, that half is let go.
+///
+/// Contracts see how many lines may still come, and those that come or their first fault.
+#[derive(Drop)]
+pub struct OwnReader {
+    alloc: Global,
+    hosts: u8,
+    lanes: u8,
+    /// How many bytes were let go.
+    before: u64,
+    /// Those that were not.
+    bytes: Bytes,
+    /// Where the next line begins among them.
+    place: usize,
+    /// How many lines may still come.
+    left: u32,
+}
+
+impl Model for OwnReader {
+    ghost use Rattle.script_codec.specs.Lines.{lines_from};
+    ghost use Rattle.script_codec.specs.Moving.{moved};
+    ghost use Rattle.script_codec.specs.Unread.{Unread};
+    ghost use Rattle.std.specs.Prelude.{◌+◌, ◌≤◌, length};
+
+    ghost Value = { Unread };
+
+    ghost view = { λ r. record {
+      hosts = r.hosts;
+      lanes = r.lanes;
+      left = r.left;
+      rest = moved r.before (lines_from r.left r.hosts r.lanes r.bytes r.place);
+    } };
+
+    ghost invariant = { λ r. (r.place ≤ length r.bytes) × (r.before + length r.bytes ≤ 16777216) };
+}
+
+impl OwnReader {
+    /// Reads the head of the script, and answers it with the reader of its lines, as `Reader::begin` does.
+    pub fn begin(alloc: Global, bytes: Bytes) -> Result<(Head, OwnReader), ScriptFault>
+        ensures { HasBegun bytes result }
+    {
+        let (head, place) = begin_at(alloc, bytes.as_slice())?;
+        let hosts = head.config.hosts();
+        let lanes = head.lanes;
+        let reader = OwnReader {
+            alloc,
+            hosts,
+            lanes,
+            before: 0,
+            bytes,
+            place,
+            left: MOST_LINES,
+        };
+        Ok((head, reader))
+    }
+
+    /// Reads the next line, or answers `None` behind the last one, or the fault that comes first, as `Reader::next` does.
+    pub fn next(&mut self) -> Result<Option<Line>, ScriptFault>
+        ensures next { IsNext self.old self.new result }
+        ensures hosts { self.new.hosts ≡ self.old.hosts }
+        ensures lanes { self.new.lanes ≡ self.old.lanes }
+    {
+        self.let_go()?;
+        match next_at(
+            self.alloc,
+            self.left,
+            self.hosts,
+            self.lanes,
+            self.bytes.as_slice(),
+            self.place,
+        ) {
+            Ok(Some((line, place))) => {
+                self.place = place;
+                self.left -= 1;
+                Ok(Some(line))
+            }
+            Ok(None) => Ok(None),
+            Err(fault) => Err(fault.moved(self.before)),
+        }
+    }
+
+    /// Lets go of the bytes that are read, where they are half of all.
+    fn let_go(&mut self) -> Result<(), NoMemory>
+        ensures { self.new ≡ self.old }
+    {
+        if self.place >= AT_ONCE && self.place >= self.bytes.len() / 2 {
+            let rest = behind(self.alloc, &self.bytes, self.place)?;
+            self.before += self.place as u64;
+            self.place = 0;
+            self.bytes = rest;
+        }
+        Ok(())
+    }
+}
+
+/// The bytes behind a place, in memory of their own.
+fn behind(alloc: Global, bytes: &Bytes, place: usize) -> Result<Bytes, NoMemory>
+    requires { place ≤ length bytes.now }
+    ensures { IfOk result (λ rest. rest ≡ drop place bytes.now) }
+{
+    let (_, rest) = bytes.as_slice().split_at(place);
+    Bytes::from_slice(alloc, rest)
+}

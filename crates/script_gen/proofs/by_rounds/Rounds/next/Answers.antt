@@ -1,0 +1,13 @@
+use Rattle.std.proofs.Common.{◌<◌, ◌++◌, ap, ◌∙◌, arith}
+use Rattle.script_gen.specs.Drawing.{draws_after, round_by}
+use Rattle.script_gen.proofs.RoundSteps.{next_round}
+use Rattle.script_gen.proofs.by_rounds.Rounds.next.Goals as goal
+
+pub returns-clause-next : goal.returns-clause-next
+returns-clause-next c =
+    let r = c.self.inside in
+    let below : r.round < 256 = omega (arith, c.if-self-eq-ROUNDS.false, c.self.invariant) in
+    let state_is = c.in_ok-put_round.ensures.draws ∙ ap (λ x. draws_after x 128) c.copy-draws.ensures in
+    let none = c.from_vec-lines.ensures ∙ c.in_ok-with_capacity.ensures.items in
+    let lines_are = c.in_ok-put_round.ensures.lines ∙ (λ i. none i ++ round_by r.round (c.copy-draws.ensures i)) in
+    rw (← c.self.view_is) (next_round r.round r.draws c.put_round.new.draws c.put_round.new.lines below state_is lines_are)
