@@ -23,7 +23,7 @@ use Rattle.journal_core.specs.declared.entries.Entry.{Entry}
 use Rattle.journal_core.specs.declared.outcome.Effect.{Effect}
 use Rattle.journal_core.specs.declared.outcome.HeldKind.{HeldKind}
 use Rattle.device_state.specs.StateAfter.{lists_in}
-use Rattle.device_commands.specs.Drafts.{told_in}
+use Rattle.device_commands.specs.Drafts.{as_records}
 use Rattle.device_commands.specs.declared.log_records.LogRecords.{LogRecords}
 use Rattle.device_rules.specs.Answers.{dropped, effects_with, host_outcome, host_result, host_result_in, host_rule, reply_with, response, unless}
 use Rattle.device_rules.specs.Outcomes.{Outcome}
@@ -41,11 +41,11 @@ use Rattle.control_core.proofs.Doing.{others_stay}
 
 -- ---- the logs that are told are of the device
 
-known_map : (hosts : ℕ) (log_records : List LogRecords) → AllByRecursion (λ (n : LogId × List Event). IsOfLog hosts n.0) (map told_in log_records) → AllByRecursion (λ (n : LogRecords). IsOfLog hosts n.log) log_records
+known_map : (hosts : ℕ) (log_records : List LogRecords) → AllByRecursion (λ (n : LogId × List Event). IsOfLog hosts n.0) (map as_records log_records) → AllByRecursion (λ (n : LogRecords). IsOfLog hosts n.log) log_records
 known_map hosts [] each = tt
 known_map hosts (n ∷ log_records) each = (each.0, known_map hosts log_records each.1)
 
-pub records_known : (hosts : ℕ) (log_records : List LogRecords) (told : List (LogId × List Event)) → map told_in log_records ≡ told → AllByRecursion (λ (n : LogId × List Event). IsOfLog hosts n.0) told → All (λ (n : LogRecords). IsOfLog hosts n.log) log_records
+pub records_known : (hosts : ℕ) (log_records : List LogRecords) (told : List (LogId × List Event)) → map as_records log_records ≡ told → AllByRecursion (λ (n : LogId × List Event). IsOfLog hosts n.0) told → All (λ (n : LogRecords). IsOfLog hosts n.log) log_records
 records_known hosts log_records told is each =
     All-from_recursion (λ (n : LogRecords). IsOfLog hosts n.log) log_records
     (known_map hosts log_records (subst (AllByRecursion (λ (n : LogId × List Event). IsOfLog hosts n.0)) (sym is) each))

@@ -30,7 +30,7 @@ use Rattle.device_rules.proofs.EffectKinds.{any_log, tells_any, told_passes}
 use Rattle.device_rules.proofs.Leaving.{both_pass, map_passes, over-leaving}
 use Rattle.device_rules.proofs.OutcomeSteps.{over-outcome}
 use Rattle.step_laws.proofs.ViewsLeft.{leaves_view, view_after-left}
-use Rattle.table_laws.specs.TagTable.{IsTable, among, among_offers, ending, told_anew}
+use Rattle.table_laws.specs.TagTable.{IsTable, among, among_offers, ending, host_of_tags_set}
 use Rattle.tag_refs.specs.declared.entries.TagEntry.{TagEntry}
 use Rattle.control_core.specs.Doing.{IsDone, IsOfHost}
 use Rattle.device_commands.specs.TagChanges.{told_change}
@@ -97,7 +97,7 @@ others_stay c k v new all = over-leaving (lists_by k) (leaves_view k) (lists-kep
 
 -- ---- the update
 
--- to tell no tags anew is to change none
+-- to set no tags is to change none
 told_less : (c : Configuration) (before : List Entry) (new : List Effect) (lists : Option NewLists) (h : HostId) (tags : List Tag) →
     IsUpdate c before new (record { lists = lists; tags = TagChange.OfHost h tags }) → IsUpdate c before new (record { lists = lists; tags = told_change h tags })
 told_less c before new lists h [] update = record {
@@ -132,10 +132,10 @@ module _ (c : Configuration) (before : List Entry) (h : HostId) (o : Outcome) (o
 
   its_table : (entries : List TagEntry) → IsTable c (effects before) entries →
       IsTable c (effects before ++ effects_of c (effects before) o)
-      (told_anew h (λ t. has_extent_of t (lists_after c h before (effects_of c (effects before) o)).accepted) (λ t. list_any (has_extent_of t) (lists_after c h before (effects_of c (effects before) o)).offers) o.tags entries)
+      (host_of_tags_set h (λ t. has_extent_of t (lists_after c h before (effects_of c (effects before) o)).accepted) (λ t. list_any (has_extent_of t) (lists_after c h before (effects_of c (effects before) o)).offers) o.tags entries)
   its_table entries table =
-      subst (λ (l : Lists). IsTable c (effects before ++ effects_of c (effects before) o) (told_anew h (among l.accepted) (among_offers l.offers) o.tags entries)) (sym own_after)
-      (subst (λ (x : List Extent × List (List Extent)). IsTable c (effects before ++ effects_of c (effects before) o) (told_anew h (among x.0) (among_offers x.1) o.tags entries))
+      subst (λ (l : Lists). IsTable c (effects before ++ effects_of c (effects before) o) (host_of_tags_set h (among l.accepted) (among_offers l.offers) o.tags entries)) (sym own_after)
+      (subst (λ (x : List Extent × List (List Extent)). IsTable c (effects before ++ effects_of c (effects before) o) (host_of_tags_set h (among x.0) (among_offers x.1) o.tags entries))
       (λ i. (sym its_accepted i, sym its_offers i)) (of.told entries table).table)
 
   -- the lists of the other hosts stay

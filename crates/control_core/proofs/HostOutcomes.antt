@@ -26,8 +26,8 @@ use Rattle.device_rules.specs.Views.{View, view_after, view_of}
 use Rattle.device_rules.proofs.EffectKinds.{PassClearing, clear_passes}
 use Rattle.device_rules.proofs.Leaving.{both_pass, map_passes, over-leaving}
 use Rattle.step_laws.proofs.ViewOthers.{host-leaves}
-use Rattle.table_laws.specs.TagTableSteps.{IsToldAnew}
-use Rattle.table_laws.specs.TagTable.{IsTable, among, among_offers, ending, told_anew}
+use Rattle.table_laws.specs.TagTableSteps.{IsHostOfTagsSet}
+use Rattle.table_laws.specs.TagTable.{IsTable, among, among_offers, ending, host_of_tags_set}
 use Rattle.table_laws.proofs.GivingSteps.{table-release, table-response}
 use Rattle.table_laws.proofs.QuietSteps.{table-host}
 use Rattle.tag_refs.specs.declared.entries.TagEntry.{TagEntry}
@@ -104,10 +104,10 @@ answered_holds c h (offer ∷ later) all = map_passes holds_none (λ x. Effect.T
 -- ---- each command
 
 -- a command by which no tag ends
-pub quiet_told : (c : Configuration) (past : List Effect) (h : HostId) (o : Outcome) → o.tags ≡ [] → (entries : List TagEntry) → IsTable c (past ++ effects_of c past o) entries → IsToldAnew c past h o entries
+pub quiet_told : (c : Configuration) (past : List Effect) (h : HostId) (o : Outcome) → o.tags ≡ [] → (entries : List TagEntry) → IsTable c (past ++ effects_of c past o) entries → IsHostOfTagsSet c past h o entries
 quiet_told c past h o none entries table = record {
   ended_are = ap (ended c past o.changes) none ∙ sym (ap (ending h (among (accepted_of c h (past ++ o.changes))) (among_offers (offers_of h (past ++ o.changes))) entries) none);
-  table = subst (λ tags. IsTable c (past ++ effects_of c past o) (told_anew h (among (accepted_of c h (past ++ o.changes))) (among_offers (offers_of h (past ++ o.changes))) tags entries)) (sym none) table;
+  table = subst (λ tags. IsTable c (past ++ effects_of c past o) (host_of_tags_set h (among (accepted_of c h (past ++ o.changes))) (among_offers (offers_of h (past ++ o.changes))) tags entries)) (sym none) table;
 }
 
 module _ (c : Configuration) (sound : IsSound c) (before : List Entry) (legal : Legal c before) (h : HostId) (known : h < c.hosts) where
@@ -126,7 +126,7 @@ module _ (c : Configuration) (sound : IsSound c) (before : List Entry) (legal : 
   its_own (HostRequest.GiveBack false xs) stay = own_stay c h its (unhold h HeldKind.Releases its.releases ++ leaves c h (its.releases ++ xs))
       (both_pass holds_none (unhold h HeldKind.Releases its.releases) (leaves c h (its.releases ++ xs)) (unhold_holds h HeldKind.Releases its.releases) (map_passes holds_none (λ x. Effect.Leave h (run_of c h x)) (λ x. refl) (its.releases ++ xs))) stay
 
-  its_told : (q : HostRequest) → host_rule c h its q ≡ None → (entries : List TagEntry) → IsTable c (effects before) entries → IsToldAnew c (effects before) h (host_outcome c h its q) entries
+  its_told : (q : HostRequest) → host_rule c h its q ≡ None → (entries : List TagEntry) → IsTable c (effects before) entries → IsHostOfTagsSet c (effects before) h (host_outcome c h its q) entries
   its_told (HostRequest.GetEvents log) row entries table = quiet_told c (effects before) h (host_outcome c h its (HostRequest.GetEvents log)) refl entries (table-host c (effects before) entries table h its (HostRequest.GetEvents log) refl)
   its_told (HostRequest.ClearEvents log all handles) row entries table = quiet_told c (effects before) h (host_outcome c h its (HostRequest.ClearEvents log all handles)) refl entries (table-host c (effects before) entries table h its (HostRequest.ClearEvents log all handles) refl)
   its_told (HostRequest.GetConfiguration count first) row entries table = quiet_told c (effects before) h (host_outcome c h its (HostRequest.GetConfiguration count first)) refl entries (table-host c (effects before) entries table h its (HostRequest.GetConfiguration count first) refl)

@@ -26,7 +26,7 @@ use Rattle.journal_core.specs.declared.acts.Reply.{Reply}
 use Rattle.journal_core.specs.declared.entries.Entry.{Entry}
 use Rattle.journal_core.specs.declared.outcome.Effect.{Effect}
 use Rattle.journal_core.specs.declared.outcome.HeldKind.{HeldKind}
-use Rattle.device_commands.specs.Drafts.{IsOutcome, told_in}
+use Rattle.device_commands.specs.Drafts.{IsOutcome, as_records}
 use Rattle.device_state.specs.StateAfter.{lists_in, IsStateAfter}
 use Rattle.device_commands.specs.declared.draft.DraftParts.{DraftParts}
 use Rattle.device_commands.specs.declared.log_records.LogRecords.{LogRecords}
@@ -266,5 +266,5 @@ quiet_log_records c before s kept q quiet draft is =
     records_known (length s.hosts.items) draft.log_records (manager_outcome c (effects before) (λ h. view_of c h before) q).log_records is.log_records
     (subst (λ hosts. AllByRecursion (λ (n : LogId × List Event). IsOfLog hosts n.0) (manager_outcome c (effects before) (λ h. view_of c h before) q).log_records) (sym kept.host_count) (quiet_known c before q quiet))
 
-pub no_log_records : (hosts : ℕ) (draft : DraftParts) → map told_in draft.log_records ≡ [] → All (λ (n : LogRecords). IsOfLog hosts n.log) draft.log_records
+pub no_log_records : (hosts : ℕ) (draft : DraftParts) → map as_records draft.log_records ≡ [] → All (λ (n : LogRecords). IsOfLog hosts n.log) draft.log_records
 no_log_records hosts draft none = records_known hosts draft.log_records [] none tt

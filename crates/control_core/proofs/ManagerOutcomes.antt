@@ -6,7 +6,7 @@ use Rattle.dcd_base.specs.declared.capacity.Tag.{Tag}
 use Rattle.fm_payloads.specs.declared.requests.FmRequest.{FmRequest}
 use Rattle.region_config.specs.Configurations.{Configuration}
 use Rattle.region_config.specs.Soundness.{IsSound}
-use Rattle.device_commands.specs.Drafts.{told_in}
+use Rattle.device_commands.specs.Drafts.{as_records}
 use Rattle.device_commands.specs.declared.draft.DraftParts.{DraftParts}
 use Rattle.device_commands.specs.declared.log_records.LogRecords.{LogRecords}
 use Rattle.journal_core.specs.Entries.{effects}
@@ -43,7 +43,7 @@ remove_of c sound before legal h flags r bytes tag list row =
     }
 
 pub remove_known : (c : Configuration) (before : List Entry) (s : State) → IsStateAfter c before s → (h flags r bytes : ℕ) (tag : Tag) (list : List Extent) → manager_rule c (effects before) (λ k. view_of c k before) (FmRequest.Remove h flags r bytes tag list) ≡ None →
-    (draft : DraftParts) → map told_in draft.log_records ≡ (manager_outcome c (effects before) (λ k. view_of c k before) (FmRequest.Remove h flags r bytes tag list)).log_records → All (λ (n : LogRecords). IsOfLog (length s.hosts.items) n.log) draft.log_records
+    (draft : DraftParts) → map as_records draft.log_records ≡ (manager_outcome c (effects before) (λ k. view_of c k before) (FmRequest.Remove h flags r bytes tag list)).log_records → All (λ (n : LogRecords). IsOfLog (length s.hosts.items) n.log) draft.log_records
 remove_known c before s kept h flags r bytes tag list row draft is =
     records_known (length s.hosts.items) draft.log_records (manager_outcome c (effects before) (λ k. view_of c k before) (FmRequest.Remove h flags r bytes tag list)).log_records is
     (subst (λ n. h < n) (sym kept.host_count) (remove_host c before h flags r bytes tag list row), tt)

@@ -14,7 +14,7 @@ use Rattle.dcd_codes.specs.declared.codes.Code.{Code}
 use Rattle.extent_list.specs.ExtentLists.{has_extent_of}
 use Rattle.fm_payloads.specs.declared.requests.FmRequest.{FmRequest}
 use Rattle.host_lists.specs.Lists.{Lists}
-use Rattle.device_commands.specs.Drafts.{AreAfter, Drafts, told_in}
+use Rattle.device_commands.specs.Drafts.{AreAfter, Drafts, as_records}
 use Rattle.device_state.specs.StateAfter.{lists_in, IsStateAfter}
 use Rattle.device_commands.specs.declared.draft.DraftParts.{DraftParts}
 use Rattle.device_commands.specs.declared.log_records.LogRecords.{LogRecords}
@@ -73,9 +73,6 @@ module _ (c : Configuration) (before : List Entry) (s : State) (kept : IsStateAf
 
   own_are : fold (lists_by h) (lists_in (view_of c h before)) (effects_of c (effects before) o) ≡ lists_in (view_of c h before)
   own_are = unheld_over c (effects before) o h (lists_in (view_of c h before)) ∙ ap (fold (lists_by h) (lists_in (view_of c h before))) of.changes
-
-  abbrev new_effects : List Effect
-  new_effects = effects_of c (effects before) o
 
   its_lists : (lists : Option Lists) → AreAfter c h (view_of c h before) o lists → (k : HostId) →
       lists_put (lists_for h lists) k (fold (lists_by k) (lists_in (view_of c k before)) (effects_of c (effects before) o)) ≡ lists_after c k before (effects_of c (effects before) o)
@@ -192,7 +189,7 @@ module _ (c : Configuration) (sound : IsSound c) (before : List Entry) (legal : 
     offered = λ entries table. table-add c sound before legal entries table h policy r bytes tag list row;
   }
 
-  pub add_known : (s : State) → IsStateAfter c before s → (draft : DraftParts) → map told_in draft.log_records ≡ (manager_outcome c (effects before) (λ k. view_of c k before) (FmRequest.Add h policy r bytes tag list)).log_records →
+  pub add_known : (s : State) → IsStateAfter c before s → (draft : DraftParts) → map as_records draft.log_records ≡ (manager_outcome c (effects before) (λ k. view_of c k before) (FmRequest.Add h policy r bytes tag list)).log_records →
       All (λ (n : LogRecords). IsOfLog (length s.hosts.items) n.log) draft.log_records
   add_known s kept draft is =
       records_known (length s.hosts.items) draft.log_records (manager_outcome c (effects before) (λ k. view_of c k before) (FmRequest.Add h policy r bytes tag list)).log_records is

@@ -14,7 +14,7 @@ use Rattle.journal_core.specs.declared.entries.Entry.{Entry}
 use Rattle.journal_core.specs.declared.outcome.Effect.{Effect}
 use Rattle.region_config.specs.Configurations.{Configuration}
 use Rattle.device_state.specs.StateAfter.{IsLogOf, IsStateAfter}
-use Rattle.device_commands.specs.Drafts.{told_in}
+use Rattle.device_commands.specs.Drafts.{as_records}
 use Rattle.device_commands.specs.declared.log_records.LogRecords.{LogRecords}
 use Rattle.device_rules.specs.Logs.{log_after, log_of}
 use Rattle.device_rules.specs.Outcomes.{entered, entered_all}
@@ -62,7 +62,7 @@ entered_by l history log of events =
     ap (λ (s : LogState). records_by l s.next (s.capacity - length s.records) events) of.is ∙ records_are l history of.told.sound events
 
 -- the same of records as outcomes have them
-pub told_is : (past : List Effect) (log_records : List LogRecords) → records_entered past log_records ≡ flat_map (λ n. entered_all n.0 (log_of n.0 past) n.1) (map told_in log_records)
+pub told_is : (past : List Effect) (log_records : List LogRecords) → records_entered past log_records ≡ flat_map (λ n. entered_all n.0 (log_of n.0 past) n.1) (map as_records log_records)
 told_is past [] = refl
 told_is past (n ∷ log_records) = ap (λ es. entered_all n.log (log_of n.log past) n.events ++ es) (told_is past log_records)
 

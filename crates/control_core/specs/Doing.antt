@@ -23,7 +23,7 @@ use Rattle.device_rules.specs.Legal.{Legal}
 use Rattle.device_rules.specs.Outcomes.{Outcome, effects_of}
 use Rattle.device_rules.specs.Views.{view_after, view_of}
 use Rattle.step_laws.proofs.ViewsLeft.{leaves_view}
-use Rattle.table_laws.specs.TagTableSteps.{IsToldAnew}
+use Rattle.table_laws.specs.TagTableSteps.{IsHostOfTagsSet}
 use Rattle.table_laws.specs.TagTable.{IsTable}
 use Rattle.tag_refs.specs.declared.entries.TagEntry.{TagEntry}
 use Rattle.device_state.specs.Entered.{lists_by}
@@ -38,13 +38,13 @@ pub record IsDone (c : Configuration) (before : List Entry) (q : Request) (o : O
   pub update : IsUpdate c before d.effects d.update
 
 -- The outcome changes lists of this host alone, and lets none of them go that it does not empty; what the host has of
--- the tags that may end by it is told anew.
+-- the tags that may end by it is set anew.
 pub record IsOfHost (c : Configuration) (before : List Entry) (h : HostId) (o : Outcome) : Type 0 where
   pub host : h < c.hosts
   pub others : (k : HostId) → h ≢ k → list_all (leaves_view k) (effects_of c (effects before) o) ≡ true
   pub own : lists_in (view_after c h (view_of c h before) o.changes) ≡ lists_in (view_of c h before) →
       fold (lists_by h) (lists_in (view_of c h before)) o.changes ≡ lists_in (view_of c h before)
-  pub told : (entries : List TagEntry) → IsTable c (effects before) entries → IsToldAnew c (effects before) h o entries
+  pub told : (entries : List TagEntry) → IsTable c (effects before) entries → IsHostOfTagsSet c (effects before) h o entries
 
 -- The draft is done: for each outcome of the host that it is, by every journal that leads to what is kept.
 abbrev pub Does : State → HostId → Request → DraftParts → Decided → Type 0

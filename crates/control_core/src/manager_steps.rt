@@ -117,9 +117,13 @@ pub(crate) fn manager_command(
                 Err(refusal) => Err(refusal),
             }
         }
-        Ok(FmRequest::AddReference { tag }) => step_refer(alloc, config, state, request, &tag),
-        Ok(FmRequest::RemoveReference { tag }) => step_unrefer(alloc, config, state, request, &tag),
-        Ok(asked) => step_read(alloc, config, state, request, &asked),
+        Ok(FmRequest::AddReference { tag }) => decide_add_reference(
+            alloc, config, state, request, &tag,
+        ),
+        Ok(FmRequest::RemoveReference { tag }) => decide_remove_reference(
+            alloc, config, state, request, &tag,
+        ),
+        Ok(asked) => decide_quiet(alloc, config, state, request, &asked),
         Err(PayloadFault::UnknownOpcode(opcode)) => {
             Err(Refusal::Broken(Rule::UnknownOpcode(opcode)))
         }
@@ -131,7 +135,7 @@ pub(crate) fn manager_command(
 }
 
 /// What a request comes to that changes no extents and no tags.
-fn step_read(
+fn decide_quiet(
     alloc: Global,
     config: &Config,
     state: &State,
@@ -167,7 +171,7 @@ fn read(alloc: Global, state: &State, request: &Request, draft: Draft) -> Result
 }
 
 /// What a 5606h comes to.
-fn step_refer(
+fn decide_add_reference(
     alloc: Global,
     config: &Config,
     state: &State,
@@ -188,7 +192,7 @@ fn step_refer(
 }
 
 /// What a 5607h comes to: the reference is taken away, by which the tag may end.
-fn step_unrefer(
+fn decide_remove_reference(
     alloc: Global,
     config: &Config,
     state: &State,

@@ -193,9 +193,6 @@ module _ (c : Configuration) (sound : IsSound c) (journal : List Entry) (legal :
         or too_many_tags (length (real_tags (extents_in (view_of c h journal) ++ new)))
         or log_full h (view_of c h journal).log (length new)
 
-    abbrev whole_row : Option Rule
-    whole_row = add_rule c past (λ k. view_of c k journal) h policy r bytes tag list
-
     names_same : target_rule c.hosts (length c.regions) h policy r ≡ target_rule s.present.hosts (length s.present.regions) h policy r
     names_same = λ i. target_rule (sym (hosts_kept c journal s kept) i) (sym (regions_kept c journal s kept) i) h policy r
 
@@ -242,9 +239,6 @@ module _ (c : Configuration) (sound : IsSound c) (journal : List Entry) (legal :
       row_tag rule broken = ap (λ first. after_choice (after_tag (after_names first))) names_kept ∙ ap (λ first. after_choice (after_tag first)) (tag_same ∙ broken)
 
       module _ (fine : IsSound s.present) (tag_kept : tag_rule s h policy r tag ≡ None) where
-        abbrev free_kept : ℕ → Bool
-        free_kept = is_free_at s.granules.states
-
         agree : Agree (is_free_at s.granules.states) (is_free_now c (effects journal)) 0 (granule_total s.present)
         agree g low high = free_at c (effects journal) s.granules kept.granule_count kept.cells g (omega (arith, high, total_kept c journal s kept))
 

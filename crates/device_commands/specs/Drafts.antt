@@ -12,8 +12,8 @@ use Rattle.device_commands.specs.declared.draft.DraftParts.{DraftParts}
 use Rattle.device_commands.specs.declared.log_records.LogRecords.{LogRecords}
 
 -- a record as a log and what is told to it
-abbrev pub told_in : LogRecords → LogId × List Event
-told_in n = (n.log, n.events)
+abbrev pub as_records : LogRecords → LogId × List Event
+as_records n = (n.log, n.events)
 
 -- The lists are those after the command's changes; where there are none, they stay as they are.
 abbrev pub AreAfter : Configuration → HostId → View → Outcome → Option Lists → Type 0
@@ -25,7 +25,7 @@ pub record Drafts (c : Configuration) (h : HostId) (v : View) (o : Outcome) (d :
   pub payload : d.payload ≡ o.payload
   pub changes : d.changes ≡ o.changes
   pub tags : d.tags ≡ o.tags
-  pub log_records : map told_in d.log_records ≡ o.log_records
+  pub log_records : map as_records d.log_records ≡ o.log_records
   pub lists : AreAfter c h v o d.lists
 
 -- The draft is this outcome, and changes no lists.
@@ -33,5 +33,5 @@ pub record IsOutcome (o : Outcome) (d : DraftParts) : Type 0 where
   pub payload : d.payload ≡ o.payload
   pub changes : d.changes ≡ o.changes
   pub tags : d.tags ≡ o.tags
-  pub log_records : map told_in d.log_records ≡ o.log_records
+  pub log_records : map as_records d.log_records ≡ o.log_records
   pub lists : d.lists ≡ None

@@ -10,7 +10,7 @@ use Rattle.dcd_codes.specs.declared.rules.Rule.{Rule}
 use Rattle.event_records.specs.declared.events.EventKind.{EventKind}
 use Rattle.extent_list.specs.ExtentLists.{count_in, cut_all, tags_of}
 use Rattle.device_state.specs.StateAfter.{lists_in, IsStateAfter, part_of}
-use Rattle.device_commands.specs.Drafts.{told_in, Drafts}
+use Rattle.device_commands.specs.Drafts.{as_records, Drafts}
 use Rattle.device_commands.specs.declared.draft.DraftParts.{DraftParts}
 use Rattle.host_lists.specs.Answers.{generation_after}
 use Rattle.host_lists.specs.Lists.{Lists}
@@ -61,7 +61,7 @@ pub record IsDrafted (h : HostId) (kind : EventKind) (changes : List Effect) (ne
   pub changes_are : d.changes ≡ changes
   pub tags : d.tags ≡ tags_of leaving
   pub lists_are : d.lists ≡ lists
-  pub log_records : (v : View) → new ≡ lists_in v → map told_in d.log_records ≡ (LogId.Host h, records_of_extents h v kind leaving) ∷ []
+  pub log_records : (v : View) → new ≡ lists_in v → map as_records d.log_records ≡ (LogId.Host h, records_of_extents h v kind leaving) ∷ []
 
 -- what a removal of these does
 abbrev pub removal_outcome : Configuration → HostId → View → ℕ → List Extent → Outcome

@@ -13,7 +13,7 @@ use Rattle.host_lists.specs.Lists.{Lists}
 use Rattle.device_rules.specs.Views.{View}
 use Rattle.device_commands.specs.declared.draft.DraftParts.{DraftParts}
 use Rattle.device_state.specs.StateAfter.{lists_in}
-use Rattle.device_commands.specs.Drafts.{told_in}
+use Rattle.device_commands.specs.Drafts.{as_records}
 
 -- changes, and the lists after them
 abbrev pub lists_changed : List Effect → Lists → DraftParts
@@ -25,9 +25,9 @@ pub record Tells (changes : List Effect) (tags : List Tag) (events : View → Li
   pub payload : d.payload ≡ []
   pub changes_are : d.changes ≡ changes
   pub tags_are : d.tags ≡ tags
-  pub log_records : (w : View) → lists ≡ lists_in w → map told_in d.log_records ≡ (LogId.Manager, events w) ∷ []
+  pub log_records : (w : View) → lists ≡ lists_in w → map as_records d.log_records ≡ (LogId.Manager, events w) ∷ []
   pub lists_are : d.lists ≡ Some lists
 
 -- The records tell the log of a host of each extent, by a view with these lists.
 abbrev pub TellOf : HostId → EventKind → Lists → List Extent → List LogRecords → Type 0
-TellOf h kind lists extents ns = (v : View) → lists ≡ lists_in v → map told_in ns ≡ (LogId.Host h, records_of_extents h v kind extents) ∷ []
+TellOf h kind lists extents ns = (v : View) → lists ≡ lists_in v → map as_records ns ≡ (LogId.Host h, records_of_extents h v kind extents) ∷ []

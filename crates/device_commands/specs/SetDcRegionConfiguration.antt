@@ -16,7 +16,7 @@ use Rattle.region_config.specs.declared.region_spec.RegionSpec.{RegionSpec}
 use Rattle.std.specs.List.{range_with_len}
 use Rattle.std.specs.Prelude.{◌≡◌, ℕ, ◌<◌, Bool, List, [], Option, count_by, false, not, ◌==◌, nat_lt, ◌∷◌, map}
 use Rattle.device_rules.specs.Settings.{set_outcome}
-use Rattle.device_commands.specs.Drafts.{IsOutcome, told_in}
+use Rattle.device_commands.specs.Drafts.{IsOutcome, as_records}
 use Rattle.device_commands.specs.declared.draft.DraftParts.{DraftParts}
 use Rattle.device_commands.specs.declared.log_records.LogRecords.{LogRecords}
 
@@ -48,10 +48,10 @@ IsFirstFull s found = (view_for : HostId → View) → LogsAreOf s view_for → 
 
 -- A host is told, and so are all hosts.
 abbrev pub TellsHost : State → ℕ → HostId → LogRecords → Type 0
-TellsHost s r h n = (view_for : HostId → View) → (part_of s h).lists ≡ lists_in (view_for h) → told_in n ≡ region_record view_for r h
+TellsHost s r h n = (view_for : HostId → View) → (part_of s h).lists ≡ lists_in (view_for h) → as_records n ≡ region_record view_for r h
 
 abbrev pub TellAll : State → ℕ → List LogRecords → Type 0
-TellAll s r ns = (view_for : HostId → View) → ListsAreOf s view_for → map told_in ns ≡ map (region_record view_for r) (hosts_of s.present)
+TellAll s r ns = (view_for : HostId → View) → ListsAreOf s view_for → map as_records ns ≡ map (region_record view_for r) (hosts_of s.present)
 
 -- The draft gives the region other blocks, and tells all hosts.
 abbrev pub IsSet : State → ℕ → ℕ → DraftParts → Type 0

@@ -9,7 +9,7 @@ use Rattle.media_map.specs.Places.{is_granular, run_of}
 use Rattle.journal_core.specs.declared.outcome.Effect.{Effect}
 use Rattle.device_state.specs.declared.updates.TagChange.{TagChange}
 
--- what the host has of the tags is told anew, where there are any
+-- what the host has of the tags is set anew, where there are any
 abbrev pub told_change : HostId → List Tag → TagChange
 told_change h [] = TagChange.Nothing
 told_change h (t ∷ ts) = TagChange.OfHost h (t ∷ ts)
@@ -23,7 +23,7 @@ abbrev pub OffersGranular : Configuration → HostId → List Effect → Type 0
 OffersGranular c h (Effect.Offer k xs ∷ es) = AreGranular c h xs
 OffersGranular c h es = Unit {0}
 
--- what an offer changes of the open tags: nothing outside shareable regions; an open tag is told anew, and another opened
+-- what an offer changes of the open tags: nothing outside shareable regions; an open tag is set anew, and another opened
 abbrev pub offer_change : Configuration → HostId → ℕ → Tag → List Extent → Bool → TagChange
 offer_change c h r tag new live =
     if not (region_spec c r).shareable then TagChange.Nothing

@@ -11,7 +11,7 @@ ghost use Rattle.device_rules.specs.ResponseOutcomes.{hold, unhold};
 ghost use Rattle.device_rules.specs.Views.{View};
 ghost use Rattle.extent_list.specs.ExtentLists.{tags_of};
 ghost use Rattle.dcd_base.specs.declared.steps.LogId.{LogId};
-ghost use Rattle.device_commands.specs.Drafts.{told_in};
+ghost use Rattle.device_commands.specs.Drafts.{as_records};
 ghost use Rattle.device_state.specs.StateAfter.{lists_in};
 ghost use Rattle.device_commands.specs.ListDrafts.{lists_changed};
 ghost use Rattle.host_lists.specs.Lists.{extent_total};
@@ -64,7 +64,9 @@ pub fn add_response(
     match after.answer(list, more)? {
         Responded::Held => Ok(held(alloc, host, list, after)?),
         Responded::Nothing => Ok(nothing(alloc, host, lists, after)?),
-        Responded::Done(accepted) => Ok(done(alloc, present, host, lists, after, accepted)?),
+        Responded::Done(accepted) => Ok(offer_answered(
+            alloc, present, host, lists, after, accepted,
+        )?),
     }
 }
 
@@ -94,7 +96,7 @@ fn nothing(
 }
 
 /// The oldest offer is answered.
-fn done(
+fn offer_answered(
     alloc: Global,
     present: &Config,
     host: HostId,
@@ -140,7 +142,7 @@ fn records_to_manager(
     accepted: &[Extent],
 ) -> Result<Seq<LogRecords>, NoMemory>
     requires { extent_total after.now ≤ 64 }
-    ensures { IfOk result (λ log_records. (w : View) → after.now ≡ lists_in w → map told_in log_records ≡ (LogId.Manager, told_of host w accepted.now) ∷ []) }
+    ensures { IfOk result (λ log_records. (w : View) → after.now ≡ lists_in w → map as_records log_records ≡ (LogId.Manager, told_of host w accepted.now) ∷ []) }
 {
     let events = told(alloc, host, after, accepted)?;
     one_record(alloc, LogId::Manager, events)

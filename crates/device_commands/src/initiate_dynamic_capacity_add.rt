@@ -94,7 +94,7 @@ fn offer_of(alloc: Global, state: &State, asked: &Asked, extents: Extents) -> Re
     if let Some(rule) = room_rule(state, asked.host, &extents) {
         return Err(Refusal::Broken(rule));
     }
-    Ok(draft_of(alloc, state, asked, extents)?)
+    Ok(offer_draft(alloc, state, asked, extents)?)
 }
 
 /// The rule that is broken where there is no such host, policy or region.
@@ -212,7 +212,7 @@ fn room_rule(state: &State, host: HostId, extents: &Extents) -> Option<Rule>
 }
 
 /// The offer, and a record for each extent.
-fn draft_of(
+fn offer_draft(
     alloc: Global,
     state: &State,
     asked: &Asked,

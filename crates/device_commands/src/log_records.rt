@@ -7,7 +7,7 @@ ghost use Rattle.device_state.specs.StateAfter.{lists_in, part_of, IsLogOf};
 ghost use Rattle.host_lists.specs.Lists.{extent_total};
 ghost use Rattle.std.specs.Prelude.{◌≡◌, ◌≤◌, ◌∷◌, [], IfOk, ◌<◌, length, map};
 ghost use Rattle.dcd_base.specs.declared.steps.LogId.{LogId};
-ghost use Rattle.device_commands.specs.Drafts.{told_in};
+ghost use Rattle.device_commands.specs.Drafts.{as_records};
 ghost use Rattle.event_log.specs.Logs.{Log};
 
 use dcd_base::{Extent, HostId, LogId, NoMemory, Seq, no_tag};
@@ -86,7 +86,7 @@ pub fn records_to(
     extents: &[Extent],
 ) -> Result<Seq<LogRecords>, NoMemory>
     requires { extent_total lists.now ≤ 64 }
-    ensures { IfOk result (λ log_records. (v : View) → lists.now ≡ lists_in v → map told_in log_records ≡ (log, records_of_extents host v kind extents.now) ∷ []) }
+    ensures { IfOk result (λ told. (v : View) → lists.now ≡ lists_in v → map as_records told ≡ (log, records_of_extents host v kind extents.now) ∷ []) }
 {
     let events = records_of_extents(alloc, host, lists, kind, extents)?;
     one_record(alloc, log, events)

@@ -60,10 +60,10 @@ pub fn give_back(
         GivenBack::Held => Ok(held(alloc, host, list, after)?),
         GivenBack::Nothing => {
             let leaving = Extents::new(alloc);
-            Ok(done(alloc, present, host, lists, after, leaving.as_slice())?)
+            Ok(extents_released(alloc, present, host, lists, after, leaving.as_slice())?)
         }
         GivenBack::Done(leaving) => {
-            Ok(done(alloc, present, host, lists, after, leaving.as_slice())?)
+            Ok(extents_released(alloc, present, host, lists, after, leaving.as_slice())?)
         }
     }
 }
@@ -79,7 +79,7 @@ fn held(alloc: Global, host: HostId, list: &Extents, after: HostLists) -> Result
 }
 
 /// These extents leave the host.
-fn done(
+fn extents_released(
     alloc: Global,
     present: &Config,
     host: HostId,

@@ -49,7 +49,7 @@ pub(crate) fn set_region(
     if let Some(rule) = first_full(state) {
         return Err(Refusal::Broken(rule));
     }
-    Ok(draft_of(alloc, state, RegionId(region), block)?)
+    Ok(region_draft(alloc, state, RegionId(region), block)?)
 }
 
 /// The rule that a size breaks which the region cannot have now: it is tried on a copy of the configuration.
@@ -119,7 +119,12 @@ fn first_full(state: &State) -> Option<Rule>
 }
 
 /// The new block size, and a record for each host.
-fn draft_of(alloc: Global, state: &State, region: RegionId, block: u64) -> Result<Draft, NoMemory>
+fn region_draft(
+    alloc: Global,
+    state: &State,
+    region: RegionId,
+    block: u64,
+) -> Result<Draft, NoMemory>
     requires parts { length state.now.hosts.items ≡ state.now.present.hosts }
     requires few { (h : HostId) → h < state.now.present.hosts → extent_total (part_of state.now h).lists ≤ 64 }
     ensures { IfOk result (IsSet state.now region block) }

@@ -15,7 +15,7 @@ use journal_core::{Effect, Effects};
 use region_config::Config;
 use std::alloc::Global;
 
-/// What the host has of the tags is told anew, where there are any.
+/// What the host has of the tags is set anew, where there are any.
 pub fn told_change(host: HostId, tags: Seq<Tag>) -> TagChange
     ensures { result ≡ told_change host tags }
 {
@@ -26,7 +26,7 @@ pub fn told_change(host: HostId, tags: Seq<Tag>) -> TagChange
     }
 }
 
-/// What an offer changes of the open tags: nothing outside shareable regions; else the tag is opened, or told anew.
+/// What an offer changes of the open tags: nothing outside shareable regions; else the tag is opened, or set anew.
 pub fn offer_change(
     alloc: Global,
     config: &Config,
@@ -58,7 +58,7 @@ pub fn offer_change(
     }
 }
 
-/// The tag alone is told anew for the host.
+/// The tag alone is set anew for the host.
 fn told_again(alloc: Global, host: HostId, tag: &Tag) -> Result<TagChange, NoMemory>
     ensures { IfOk result (λ change. change ≡ TagChange.OfHost host (tag.now ∷ [])) }
 {

@@ -19,7 +19,7 @@ use Rattle.offer_core.specs.Offerings.{oldest_of}
 use Rattle.region_config.specs.Blocks.{with_block}
 use Rattle.region_config.specs.Configurations.{Configuration}
 use Rattle.device_rules.specs.Logs.{same_log}
-use Rattle.table_laws.specs.TagTable.{told_anew}
+use Rattle.table_laws.specs.TagTable.{host_of_tags_set}
 use Rattle.dcd_base.specs.Hosts.{with_host, without_host}
 use Rattle.tag_refs.specs.Tables.{entries_changed, entry_with, opened, still_used, with_reference, set_by}
 use Rattle.tag_refs.specs.declared.entries.TagEntry.{TagEntry}
@@ -85,7 +85,7 @@ abbrev pub tags_put : TagChange → (HostId → Lists) → List TagEntry → Lis
 tags_put TagChange.Nothing lists entries = entries
 tags_put (TagChange.Begin tag region runs host) lists entries = entries ++ opened tag region runs host ∷ []
 tags_put (TagChange.OfHost host tags) lists entries =
-    told_anew host (λ t. has_extent_of t (lists host).accepted) (λ t. list_any (has_extent_of t) (lists host).offers) tags entries
+    host_of_tags_set host (λ t. has_extent_of t (lists host).accepted) (λ t. list_any (has_extent_of t) (lists host).offers) tags entries
 tags_put (TagChange.Refer tag) lists entries = entries_changed tag (with_reference true) entries
 tags_put (TagChange.Unrefer tag) lists entries = still_used (entries_changed tag (with_reference false) entries)
 
@@ -108,7 +108,7 @@ abbrev pub one_told : HostId → Lists → Tag → List TagEntry → List TagEnt
 one_told h l t entries = still_used (entries_changed t (set_by h (has_extent_of t l.accepted) (list_any (has_extent_of t) l.offers)) entries)
 
 abbrev pub tags_told : HostId → Lists → List Tag → List TagEntry → List TagEntry
-tags_told h l tags entries = told_anew h (λ t. has_extent_of t l.accepted) (λ t. list_any (has_extent_of t) l.offers) tags entries
+tags_told h l tags entries = host_of_tags_set h (λ t. has_extent_of t l.accepted) (λ t. list_any (has_extent_of t) l.offers) tags entries
 
 -- the parts of the hosts with another log of one, or other lists
 abbrev pub with_log : State → HostId → LogState → List HostPart

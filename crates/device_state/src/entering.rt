@@ -125,14 +125,14 @@ impl State {
             } => {
                 let _ = self.tags.begin(tag, region, runs, host);
             }
-            TagChange::OfHost { host, tags } => self.tell_anew(host, tags.as_slice()),
+            TagChange::OfHost { host, tags } => self.set_host_of_tags(host, tags.as_slice()),
             TagChange::Refer(tag) => refer(&mut self.tags, &tag),
             TagChange::Unrefer(tag) => unrefer(&mut self.tags, &tag),
         }
     }
 
     /// Tells what the host has of these tags by its lists.
-    fn tell_anew(&mut self, host: HostId, tags: &[Tag])
+    fn set_host_of_tags(&mut self, host: HostId, tags: &[Tag])
         requires host { host < length self.old.hosts.items }
         requires few { host < 16 }
         ensures tags { self.new.tags.entries ≡ tags_told host (part_of self.old host).lists tags.now self.old.tags.entries }

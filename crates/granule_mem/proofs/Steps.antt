@@ -31,9 +31,6 @@ get_or-set_cond xs i g x d known = elim (cases_eq i g) [
 cond_of : {X Y : Type 0} (f : X → Y) (b : Bool) (x y : X) → f (cond b x y) ≡ cond b (f x) (f y)
 cond_of f b x y = elim b as (λ b. f (cond b x y) ≡ cond b (f x) (f y)) [ true ↦ refl | false ↦ refl ]
 
-cond_and : {X : Type 0} (a b : Bool) (x y : X) → cond a (cond b x y) y ≡ cond (a && b) x y
-cond_and a b x y = elim a as (λ a. cond a (cond b x y) y ≡ cond (a && b) x y) [ true ↦ refl | false ↦ refl ]
-
 -- any word once the words of one granule are others
 pub word_after_set : (maps : List (BTreeMap ℕ ℕ)) (i : ℕ) (new : BTreeMap ℕ ℕ) (g w : ℕ) → i < length maps
     → word_among (get_or (entries_of (set maps i new)) g []) w ≡ cond (eqb i g) (word_among new.entries w) (word_among (get_or (entries_of maps) g []) w)

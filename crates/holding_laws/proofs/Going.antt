@@ -150,7 +150,7 @@ module _ (c : Configuration) (sound : IsSound c) (p : Picture) (s : Loose c p) (
       ]
 
   -- and no two share an address, since that would be a granule
-  all_behind : (xs : List Extent) → AllByRecursion (λ x. IsMade c (p.block (region_at c h x.start)) h (region_at c h x.start) x) xs → ((g : ℕ) → count_on c h g xs ≤ 1) → Behind xs
+  pub all_behind : (xs : List Extent) → AllByRecursion (λ x. IsMade c (p.block (region_at c h x.start)) h (region_at c h x.start) x) xs → ((g : ℕ) → count_on c h g xs ≤ 1) → Behind xs
   all_behind [] made once = tt
   all_behind (x ∷ xs) made once = (
     each-both (λ y. IsMade c (p.block (region_at c h y.start)) h (region_at c h y.start) y) (λ y. (g : ℕ) → has_granule (run_of c h y) g ≡ true → reaches c h xs g ≡ true) (λ y. overlaps y x ≡ false)

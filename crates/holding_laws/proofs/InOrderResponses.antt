@@ -68,19 +68,19 @@ module _ (c : Configuration) (sound : IsSound c) (p : Picture) (s : Stands c p) 
   made = each-both (IsHome c p h) (λ x. region_at c h x.start ≡ r) (IsMade c (p.block r) h r)
       (λ x a at. subst (λ k. IsMade c (p.block k) h k x) at (home_made c sound p s h x host a)) offer (of_offer (IsHome c p h) (s.home h)) in_one
 
-  made_there : AllByRecursion IsMadeThere offer
+  pub made_there : AllByRecursion IsMadeThere offer
   made_there = each-change (IsHome c p h) IsMadeThere (λ x a. home_made c sound p s h x host a) offer (of_offer (IsHome c p h) (s.home h))
 
   lies_same : (k : ℕ) (x : Extent) → lies_in_region (with_blocks c p.block) h k x ≡ lies_in_region c h k x
   lies_same k x = λ i. ltb k (regions_same c p.block i) && leb (base_same c p.block h k i) x.start && leb (x.start + x.length) (base_same c p.block h k i + length_same c p.block k i)
 
-  each_sound : AllByRecursion (IsSoundIn (with_blocks c p.block) h r) offer
+  pub each_sound : AllByRecursion (IsSoundIn (with_blocks c p.block) h r) offer
   each_sound = each-change (IsMade c (p.block r) h r) (IsSoundIn (with_blocks c p.block) h r)
       (λ x m. record { some = m.some; within = lies_same r x ∙ made_lies c (p.block r) h r x m; aligned = made_aligned c p.block h r x m }) offer made
 
   -- ---- they lie apart
 
-  once : (g : ℕ) → count_on c h g offer ≤ 1
+  pub once : (g : ℕ) → count_on c h g offer ≤ 1
   once g =
       let on : Extent → Bool = λ x. has_granule (run_of c h x) g in
       let all = many-append on (p.accepted h) (flat_map (λ xs. xs) (p.offers h)) in
@@ -97,7 +97,7 @@ module _ (c : Configuration) (sound : IsSound c) (p : Picture) (s : Stands c p) 
     none_shares x ys m each.1 (λ g has. (or_parts (has_granule (run_of c h y) g) (reaches c h ys g) (apart g has)).1),
   )
 
-  all_apart : (xs : List Extent) → AllByRecursion IsMadeThere xs → ((g : ℕ) → count_on c h g xs ≤ 1) → AllPairs (λ x y. IsFalse (overlaps x y)) xs
+  pub all_apart : (xs : List Extent) → AllByRecursion IsMadeThere xs → ((g : ℕ) → count_on c h g xs ≤ 1) → AllPairs (λ x y. IsFalse (overlaps x y)) xs
   all_apart [] each single = λ i j d less within. absurd (omega (arith, within))
   all_apart (x ∷ xs) each single =
       let apart : (g : ℕ) → has_granule (run_of c h x) g ≡ true → reaches c h xs g ≡ false = λ g has. false_from_ne_true (reaches c h xs g) (λ more.

@@ -72,7 +72,7 @@ impl Alone {
             &self.log,
             request,
         ) {
-            Ok(draft) => Ok(self.done(alloc, host, request, draft)),
+            Ok(draft) => Ok(self.put_in_place(alloc, host, request, draft)),
             Err(Refusal::Broken(rule)) => {
                 self.drop_held(request.opcode);
                 Ok(refused(alloc, request, &rule))
@@ -82,7 +82,13 @@ impl Alone {
     }
 
     /// Puts in place what a command changes that breaks no rule.
-    fn done(&mut self, alloc: Global, host: HostId, request: &Request, draft: Draft) -> Reply
+    fn put_in_place(
+        &mut self,
+        alloc: Global,
+        host: HostId,
+        request: &Request,
+        draft: Draft,
+    ) -> Reply
         ensures reply { result ≡ response request.now Code.Success draft.payload }
         ensures changed { ChangesAlone host draft.changes draft.lists self.old self.new }
     {

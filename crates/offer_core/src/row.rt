@@ -43,7 +43,7 @@ pub fn broken_rule(
     whole.extend_from_slice(list)?;
     let (offer, whole) = (offers.oldest(), whole.as_slice());
     for i in 0..whole.len() {
-        if let Some(rule) = broken_extent(config, host, offer, &whole[..i], &whole[i]) {
+        if let Some(rule) = broken_answered_extent(config, host, offer, &whole[..i], &whole[i]) {
             return Ok(Some(rule));
         }
     }
@@ -54,7 +54,7 @@ pub fn broken_rule(
 }
 
 /// The first rule that an extent of the list breaks behind those before it, whose number is its index.
-fn broken_extent(
+fn broken_answered_extent(
     config: &Config,
     host: HostId,
     offer: &[Extent],

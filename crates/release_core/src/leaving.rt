@@ -18,7 +18,7 @@ pub(crate) enum Within {
 }
 
 /// The first rule that an extent of the list breaks behind those before it, whose number is its index.
-pub(crate) fn broken_extent(
+pub(crate) fn broken_leaving_extent(
     config: &Config,
     host: HostId,
     accepted: &[Extent],

@@ -4,7 +4,7 @@ ghost use Rattle.release_core.specs.Releases.{AnswersRelease, GivesBack, KeepsHe
 ghost use Rattle.std.specs.Prelude.{◌≡◌, ◌++◌, ◌+◌, ◌<◌, ◌≤◌, [], IfOk, OnErr, length};
 
 use crate::counting::count_rule;
-use crate::leaving::{Within, broken_extent};
+use crate::leaving::{Within, broken_leaving_extent};
 use crate::marking::marked_list;
 use dcd_base::{Extent, Extents, HostId, NoMemory};
 use dcd_codes::{Refusal, Rule};
@@ -169,7 +169,14 @@ pub fn broken_rule(
     let (alloc, whole, owners) = (whole.allocator(), whole.as_slice(), accepted.as_slice());
     let bounds = Within::AnyRegion;
     for i in 0..whole.len() {
-        if let Some(rule) = broken_extent(config, host, owners, &bounds, &whole[..i], &whole[i]) {
+        if let Some(rule) = broken_leaving_extent(
+            config,
+            host,
+            owners,
+            &bounds,
+            &whole[..i],
+            &whole[i],
+        ) {
             return Ok(Some(rule));
         }
     }

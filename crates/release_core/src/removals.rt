@@ -6,7 +6,7 @@ ghost use Rattle.release_core.specs.Removals.{by_tag_rule, prescribed_removal_ru
 ghost use Rattle.std.specs.Prelude.{◌≡◌, ◌+◌, ◌<◌, ◌≤◌, [], IfOk, OnOk, length};
 
 use crate::counting::count_rule;
-use crate::leaving::{Within, broken_extent};
+use crate::leaving::{Within, broken_leaving_extent};
 use crate::marking::marked_list;
 use dcd_base::{Extent, Extents, HostId, NoMemory, RegionId, Tag, is_no_tag};
 use dcd_codes::{Refusal, Rule};
@@ -55,7 +55,14 @@ pub fn removal(
     let bounds = Within::Region(region);
     let (listed, owners) = (list.as_slice(), accepted.as_slice());
     for i in 0..listed.len() {
-        if let Some(rule) = broken_extent(config, host, owners, &bounds, &listed[..i], &listed[i]) {
+        if let Some(rule) = broken_leaving_extent(
+            config,
+            host,
+            owners,
+            &bounds,
+            &listed[..i],
+            &listed[i],
+        ) {
             return Err(Refusal::Broken(rule));
         }
     }

@@ -39,7 +39,7 @@ use Rattle.table_laws.proofs.TagEntries.{open_uses, table_live, table_passes, us
 use Rattle.table_laws.proofs.OfferSteps.{opened_table, private_table, shared_held, shared_now, shared_offered, shared_tags, shared_uses}
 use Rattle.table_laws.proofs.ReferenceSteps.{table_referenced}
 use Rattle.table_laws.proofs.SettledTags.{unended}
-use Rattle.table_laws.proofs.ToldAnew.{anew, ended_ending}
+use Rattle.table_laws.proofs.HostOfTagsSet.{anew, ended_ending}
 
 -- ---- what the rules read
 

@@ -89,9 +89,6 @@ module _ (c : Configuration) (sound : IsSound c) (before : List Entry) (s : Stan
     (one_offered : AllByRecursion (IsOneRun c k) (oldest_of (offers_of k (effects before))))
     (inside : in_extents c k xs g ≡ true → in_extents c k (oldest_of (offers_of k (effects before))) g ≡ true)
     (claimed : in_extents c k (oldest_of (offers_of k (effects before))) g ≡ true → (region_spec c (region_of c g)).shareable ≡ true → is_tagged c g (effects before) ≡ true) where
-  abbrev IsCellThen : Cell → Type 0
-  IsCellThen cell = IsCell c (effects before ++ answering c front k ys xs) g cell
-
   unclean-answer : is_unclean c g (effects before ++ answering c front k ys xs) ≡ (((region_spec c (region_of c g)).sanitize && (is_taken g (effects before) || in_extents c k xs g)) || is_soiled g (effects before))
   unclean-answer = unclean_by c g (effects before ++ answering c front k ys xs) (is_taken g (effects before) || in_extents c k xs g) (is_soiled g (effects before))
       (taken-answer c g (effects before) front quiet k ys xs) (soiled-answer c g (effects before) front quiet k ys xs)

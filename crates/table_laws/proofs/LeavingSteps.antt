@@ -38,7 +38,7 @@ use Rattle.holding_laws.proofs.Quiet.{quiet_front, unhold_quiet}
 use Rattle.device_rules.proofs.EffectKinds.{removals_pass}
 use Rattle.device_rules.proofs.Leaving.{last_offer-over, leaves_tags}
 use Rattle.table_laws.proofs.ResponseSteps.{told_same}
-use Rattle.table_laws.proofs.ToldAnew.{Told}
+use Rattle.table_laws.proofs.HostOfTagsSet.{Told}
 
 both_ways : (a b : Bool) → (a ≡ true → b ≡ true) → (b ≡ true → a ≡ true) → a ≡ b
 both_ways true b there back = sym (there refl)

@@ -18,5 +18,5 @@ pub mod ReferencedTags
 pub mod ResponseSteps
 pub mod SettledTags
 pub mod TagEntries
-pub mod ToldAnew
+pub mod HostOfTagsSet
 pub mod WholeRuns

@@ -33,7 +33,7 @@ use Rattle.device_rules.proofs.TagSteps.{same_tag-back, same_tag-is, same_tag-se
 use Rattle.table_laws.specs.TagTable.{IsEntry, IsTable, among}
 use Rattle.table_laws.proofs.HostBits.{host_bits-change, host_bits-none, host_bits-same}
 use Rattle.table_laws.proofs.TagEntries.{each_open, uses}
-use Rattle.table_laws.proofs.ToldAnew.{Told, told_entry}
+use Rattle.table_laws.proofs.HostOfTagsSet.{Told, told_entry}
 
 -- extents of one tag have no other
 none_of_tag : (t u : Tag) (xs : List Extent) → AllByRecursion (λ x. x.tag ≡ t) xs → same_tag t u ≡ false → has_extent_of u xs ≡ false

@@ -27,7 +27,7 @@ use Rattle.holding_laws.proofs.OpenLive.{has_marked}
 use Rattle.holding_laws.proofs.Overlaps.{neither}
 use Rattle.holding_laws.proofs.Quiet.{quiet_front, unhold_quiet}
 use Rattle.holding_laws.proofs.Responding.{answer_of}
-use Rattle.table_laws.proofs.ToldAnew.{Told}
+use Rattle.table_laws.proofs.HostOfTagsSet.{Told}
 
 -- what follows from what does not hold does not hold
 pub unless_holds : (a b : Bool) → (a ≡ true → b ≡ true) → b ≡ false → a ≡ false

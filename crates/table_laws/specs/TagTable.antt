@@ -27,9 +27,9 @@ pub record IsTable (c : Configuration) (past : List Effect) (entries : List TagE
 
 -- ---- what a step makes of the entries
 
--- what a host has of these tags is told anew, tag by tag: whether it holds them and whether it is offered them
-abbrev pub told_anew : HostId → (Tag → Bool) → (Tag → Bool) → List Tag → List TagEntry → List TagEntry
-told_anew h held offered tags entries =
+-- what a host has of these tags is set anew, tag by tag: whether it holds them and whether it is offered them
+abbrev pub host_of_tags_set : HostId → (Tag → Bool) → (Tag → Bool) → List Tag → List TagEntry → List TagEntry
+host_of_tags_set h held offered tags entries =
     fold (λ (now : List TagEntry) t. still_used (entries_changed t (set_by h (held t) (offered t)) now)) entries tags
 
 -- which of the tags end by that

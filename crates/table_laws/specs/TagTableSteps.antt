@@ -13,23 +13,23 @@ use Rattle.device_rules.specs.Adding.{offered}
 use Rattle.device_rules.specs.Hosts.{accepted_of, offers_of}
 use Rattle.device_rules.specs.Outcomes.{Outcome, effects_of, ended}
 use Rattle.device_rules.specs.TagCommands.{add_reference_outcome, remove_reference_outcome}
-use Rattle.table_laws.specs.TagTable.{IsTable, among, among_offers, ending, told_anew}
+use Rattle.table_laws.specs.TagTable.{IsTable, among, among_offers, ending, host_of_tags_set}
 use Rattle.table_laws.specs.Tabled.{OfferDoes, Tabled, past_of}
 
--- Of the tags that may end by the command, what the host has of them after its changes is told anew: those end of which
+-- Of the tags that may end by the command, what the host has of them after its changes is set anew: those end of which
 -- the entry is used no more, and the table is right after the command.
-pub record IsToldAnew (c : Configuration) (past : List Effect) (h : HostId) (o : Outcome) (entries : List TagEntry) : Type 0 where
+pub record IsHostOfTagsSet (c : Configuration) (past : List Effect) (h : HostId) (o : Outcome) (entries : List TagEntry) : Type 0 where
   pub ended_are : ended c past o.changes o.tags
       ≡ ending h (among (accepted_of c h (past ++ o.changes))) (among_offers (offers_of h (past ++ o.changes))) entries o.tags
   pub table : IsTable c (past ++ effects_of c past o)
-      (told_anew h (among (accepted_of c h (past ++ o.changes))) (among_offers (offers_of h (past ++ o.changes))) o.tags entries)
+      (host_of_tags_set h (among (accepted_of c h (past ++ o.changes))) (among_offers (offers_of h (past ++ o.changes))) o.tags entries)
 
 -- An offer of these extents with the tag. Where nothing is shared the table stays. Where the tag is open its entry is
--- told anew, and does not end; else it gets an entry behind the others.
+-- set anew, and does not end; else it gets an entry behind the others.
 pub record IsOffered (c : Configuration) (past : List Effect) (h : HostId) (r : ℕ) (tag : Tag) (new : List Extent) (o : Outcome) (entries : List TagEntry) : Type 0 where
   pub private : (region_spec c r).shareable ≡ false → IsTable c (past ++ effects_of c past o) entries
   pub shared : (region_spec c r).shareable ≡ true → has_entry tag entries ≡ true →
-      IsTable c (past ++ effects_of c past o) (told_anew h (among (accepted_of c h past)) (λ t. true) (tag ∷ []) entries)
+      IsTable c (past ++ effects_of c past o) (host_of_tags_set h (among (accepted_of c h past)) (λ t. true) (tag ∷ []) entries)
   pub none_ends : (region_spec c r).shareable ≡ true → has_entry tag entries ≡ true →
       ending h (among (accepted_of c h past)) (λ t. true) entries (tag ∷ []) ≡ []
   pub begun : (region_spec c r).shareable ≡ true → has_entry tag entries ≡ false →
@@ -37,9 +37,9 @@ pub record IsOffered (c : Configuration) (past : List Effect) (h : HostId) (r : 
 
 -- ---- over a legal journal
 
--- What the host has of the tags that may end is told anew.
-abbrev pub TellsAnew : Tabled → HostId → Outcome → Type 0
-TellsAnew t h o = IsToldAnew t.config (past_of t) h o t.entries
+-- What the host has of the tags that may end is set anew.
+abbrev pub SetsHostOfTags : Tabled → HostId → Outcome → Type 0
+SetsHostOfTags t h o = IsHostOfTagsSet t.config (past_of t) h o t.entries
 
 -- The table follows the offer, of the extents that are chosen for it.
 abbrev pub FollowsOffer : (t : Tabled) (o : Outcome) → OfferDoes t o → Type 0

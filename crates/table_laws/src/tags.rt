@@ -18,7 +18,7 @@ ghost use Rattle.std.specs.Prelude.{◌≡◌, ◌==◌, [], List, false, true, 
 ghost use Rattle.table_laws.specs.QuietRequests.{HostLeavesTable, LeavesTable, ManagerLeavesTable, is_quiet_host, leaves_table};
 ghost use Rattle.table_laws.specs.ShownTags.{LivesWhereUsed, ReferencedAreOpen, ShowsTags, is_in_use};
 ghost use Rattle.table_laws.specs.TagTable.{IsTable};
-ghost use Rattle.table_laws.specs.TagTableSteps.{DropsReference, FollowsOffer, SetsReference, TellsAnew};
+ghost use Rattle.table_laws.specs.TagTableSteps.{DropsReference, FollowsOffer, SetsReference, SetsHostOfTags};
 ghost use Rattle.table_laws.specs.Tabled.{HostDoes, OfferDoes, RemovalDoes, Tabled, past_of};
 ghost use Rattle.tag_refs.specs.Tables.{passes};
 ghost use Rattle.tag_refs.specs.Tables.{has_entry, entry_referenced};
@@ -49,13 +49,13 @@ pub fn law_tags_shown()
 {}
 
 /// After a response or a release that ends its list, and after a removal, that break no rule, what the host has of the
-/// tags that may end by it is told anew (4802h, 4803h, 5605h). It does nothing.
+/// tags that may end by it is set anew (4802h, 4803h, 5605h). It does nothing.
 pub fn law_tags_of_host()
-    ensures list_ended { (t : Tabled) (h : HostId) (q : HostRequest) (o : Outcome) → is_quiet_host q ≡ false → HostDoes t h q o → TellsAnew t h o }
-    ensures removal { (t : Tabled) (o : Outcome) (a : RemovalDoes t o) → TellsAnew t a.host o }
+    ensures list_ended { (t : Tabled) (h : HostId) (q : HostRequest) (o : Outcome) → is_quiet_host q ≡ false → HostDoes t h q o → SetsHostOfTags t h o }
+    ensures removal { (t : Tabled) (o : Outcome) (a : RemovalDoes t o) → SetsHostOfTags t a.host o }
 {}
 
-/// After an offer that breaks no rule the table is as it was, or the tag's entry is told anew, or it has one more entry
+/// After an offer that breaks no rule the table is as it was, or the tag's entry is set anew, or it has one more entry
 /// (5604h). The tag has an entry before just where the policy is Enable Shared Access. The rules read in the hosts'
 /// lists and in the table whether the tag is in use. It does nothing.
 pub fn law_tags_offered()

@@ -16,8 +16,8 @@ answer-requires c =
           (λ last none. nothing_offered c.args.present.now c.args.host (length lists.accepted) lists.offers lists.responses c.args.more c.args.list.now last none (sym row));
     }
 
-pub done-requires-clause-granular : goal.done-requires-clause-granular
-done-requires-clause-granular c =
+pub offer_answered-requires-clause-granular : goal.offer_answered-requires-clause-granular
+offer_answered-requires-clause-granular c =
     let lists = c.args.lists.now in
     let row : None ≡ respond_rule c.args.present.now c.args.host (length lists.accepted) lists.offers lists.responses c.args.more c.args.list.now = search rules in
     let answered = subst (λ (l : Lists). HostResponds l c.args.more c.args.list.now c.answer.new.self c.in_ok-answer.field-0) c.in_ok-after.ensures c.in_ok-answer.ensures.done in
@@ -35,13 +35,13 @@ returns-in_ok-held-in-Held-clause-drafts c = λ v present shows.
       held_response c.args.config.now c.args.host v lists c.answer.new.self c.args.list.now c.args.more c.in_ok-held-in-Held.field-0 shows held.0 held.1 c.in_ok-held-in-Held.ensures.drafts,
     )
 
-pub returns-in_ok-done-in-Done-clause-drafts : goal.returns-in_ok-done-in-Done-clause-drafts
-returns-in_ok-done-in-Done-clause-drafts c = λ v present shows.
+pub returns-in_ok-offer_answered-in-Done-clause-drafts : goal.returns-in_ok-offer_answered-in-Done-clause-drafts
+returns-in_ok-offer_answered-in-Done-clause-drafts c = λ v present shows.
     let lists = c.args.lists.now in
     let row : None ≡ respond_rule c.args.present.now c.args.host (length lists.accepted) lists.offers lists.responses c.args.more c.args.list.now = search rules in
     let answered = subst (λ (l : Lists). HostResponds l c.args.more c.args.list.now c.answer.new.self c.in_ok-answer.field-0) c.in_ok-after.ensures c.in_ok-answer.ensures.done in
     let done = subst (λ (r : Responded). HostResponds lists c.args.more c.args.list.now c.answer.new.self r) c.in-Done.is answered in (
       response_row c.args.present.now c.args.host lists c.answer.new.self c.args.list.now c.args.more (sym row) c.args.config.now v present shows,
-      answered_drafts c.args.config.now c.args.present.now c.args.host v lists c.answer.new.self c.args.list.now c.in-Done.accepted c.args.more c.in_ok-done-in-Done.field-0
-          present shows done.0 done.1 c.in_ok-done-in-Done.ensures.drafts,
+      answered_drafts c.args.config.now c.args.present.now c.args.host v lists c.answer.new.self c.args.list.now c.in-Done.accepted c.args.more c.in_ok-offer_answered-in-Done.field-0
+          present shows done.0 done.1 c.in_ok-offer_answered-in-Done.ensures.drafts,
     )

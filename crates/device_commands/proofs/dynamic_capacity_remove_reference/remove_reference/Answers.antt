@@ -3,7 +3,7 @@ use Rattle.dcd_base.specs.declared.capacity.Tag.{Tag}
 use Rattle.dcd_codes.specs.Rules.{◌breaks◌}
 use Rattle.dcd_codes.specs.declared.rules.Rule.{Rule}
 use Rattle.journal_core.specs.declared.outcome.Effect.{Effect}
-use Rattle.device_commands.specs.Drafts.{IsOutcome, told_in}
+use Rattle.device_commands.specs.Drafts.{IsOutcome, as_records}
 use Rattle.device_commands.proofs.TagReadings.{tags_referenced}
 use Rattle.device_commands.proofs.dynamic_capacity_remove_reference.remove_reference.Goals as goal
 
@@ -18,7 +18,7 @@ returns c journal legal kept = (
     payload = c.new.ensures;
     changes = c.in_ok-push.ensures.pushed ∙ ap (λ (changes : List Effect). changes ++ Effect.Ref c.args.tag.now false ∷ []) c.new-changes.ensures;
     tags = c.in_ok-push-2.ensures.pushed ∙ ap (λ (tags : List Tag). tags ++ c.args.tag.now ∷ []) c.new-tags.ensures;
-    log_records = ap (map told_in) c.new-2.ensures;
+    log_records = ap (map as_records) c.new-2.ensures;
     lists = refl;
   }),
 )

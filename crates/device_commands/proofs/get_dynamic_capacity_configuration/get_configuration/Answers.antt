@@ -3,7 +3,7 @@ use Rattle.region_config.specs.Configurations.{Configuration}
 use Rattle.host_payloads.specs.HostPayloads.{configuration_payload}
 use Rattle.holding_laws.proofs.Homes.{regions_same}
 use Rattle.device_commands.specs.declared.draft.DraftParts.{DraftParts}
-use Rattle.device_commands.specs.Drafts.{told_in}
+use Rattle.device_commands.specs.Drafts.{as_records}
 use Rattle.device_commands.proofs.ShownRegions.{region_known, region_past}
 use Rattle.device_commands.proofs.get_dynamic_capacity_configuration.get_configuration.Goals as goal
 
@@ -25,7 +25,7 @@ returns-clause-drafts c = λ cfg v is lists.
             ∙ (λ i. configuration_payload (total i) (views i) (counts i));
         changes = ap (λ (d : DraftParts). d.changes) c.only.ensures;
         tags = ap (λ (d : DraftParts). d.tags) c.only.ensures;
-        log_records = ap (λ (d : DraftParts). map told_in d.log_records) c.only.ensures;
+        log_records = ap (λ (d : DraftParts). map as_records d.log_records) c.only.ensures;
         lists = ap (λ (d : DraftParts). d.lists) c.only.ensures;
       },
     )

@@ -26,8 +26,8 @@ returns-in-Some-first_full c journal legal kept =
     set_rule-logs cfg c.requires.reached.sound journal s kept c.args.region known (λ h. view_of cfg h journal) c.args.sanitize c.args.block (Some c.in-Some-first_full.rule) (sym c.in_ok-rule.ensures ∙ c.in_default.is)
     (sym (c.first_full.ensures (λ h. view_of cfg h journal) (logs_kept cfg journal s kept)) ∙ c.in-Some-first_full.is)
 
-pub draft_of-requires-clause-few : goal.draft_of-requires-clause-few
-draft_of-requires-clause-few c h known =
+pub region_draft-requires-clause-few : goal.region_draft-requires-clause-few
+region_draft-requires-clause-few c h known =
     few_extents c.args.config.now c.args.state.now c.requires.reached h (omega (arith, hosts_known c.args.config.now c.args.state.now c.requires.reached, known))
 
 pub returns : goal.returns
@@ -37,6 +37,6 @@ returns c journal legal kept =
     let known : c.args.region < length cfg.regions = omega (arith, regions_kept cfg journal s kept, c.regions.ensures.value, c.if-region-regions.false) in (
       set_rule-logs cfg c.requires.reached.sound journal s kept c.args.region known (λ h. view_of cfg h journal) c.args.sanitize c.args.block None (sym c.in_ok-rule.ensures ∙ c.in_default.is)
           (sym (c.first_full.ensures (λ h. view_of cfg h journal) (logs_kept cfg journal s kept)) ∙ c.in_default-first_full.is),
-      told_all cfg c.requires.reached.sound journal s kept c.args.region known (λ h. view_of cfg h journal) c.args.sanitize c.args.block c.in_ok-draft_of.field-0
-          (c.in_ok-draft_of.ensures (λ h. view_of cfg h journal) (lists_kept cfg journal s kept)),
+      told_all cfg c.requires.reached.sound journal s kept c.args.region known (λ h. view_of cfg h journal) c.args.sanitize c.args.block c.in_ok-region_draft.field-0
+          (c.in_ok-region_draft.ensures (λ h. view_of cfg h journal) (lists_kept cfg journal s kept)),
     )

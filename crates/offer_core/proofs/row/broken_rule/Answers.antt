@@ -12,7 +12,7 @@ returns-in-Some c =
     let whole = c.as_slice-whole.result.now in
     let held = c.args.offers.now.held in
     let check = extent_rule c.args.config.now c.args.host c.oldest-offer.result.now in
-    let found = each_in_found check whole c.loop-i.i no_extent c.in-Some.rule c.loop-i-test.true c.loop-i.invariant (sym c.broken_extent.ensures ∙ c.in-Some.is) in
+    let found = each_in_found check whole c.loop-i.i no_extent c.in-Some.rule c.loop-i-test.true c.loop-i.invariant (sym c.broken_answered_extent.ensures ∙ c.in-Some.is) in
     let is : whole ≡ held ++ c.args.list.now = search rules in
     let few : length held + length c.args.list.now ≤ 64 = omega (arith, c.if-listed-gt-LISTED_EXTENTS.false, ap length (c.as_slice.ensures ∙ c.held.ensures)) in
     sym (one_broken c.args.config.now c.args.host c.args.accepted (lists_of c.args.offers.now.offers) held c.args.list.now whole is few c.args.more c.if-more.false c.in-Some.rule
@@ -21,4 +21,4 @@ returns-in-Some c =
 pub loop-i-preserved : goal.loop-i-preserved
 loop-i-preserved c =
     let check = extent_rule c.args.config.now c.args.host c.oldest-offer.result.now in
-    each_in_more check c.as_slice-whole.result.now c.loop-i.i no_extent c.loop-i-test.true c.loop-i.invariant (sym c.broken_extent.ensures ∙ c.in_default.is)
+    each_in_more check c.as_slice-whole.result.now c.loop-i.i no_extent c.loop-i-test.true c.loop-i.invariant (sym c.broken_answered_extent.ensures ∙ c.in_default.is)

@@ -11,21 +11,21 @@ use Rattle.release_core.proofs.Members.{no_extent}
 use Rattle.release_core.proofs.Rows.{release_broken, release_counted}
 use Rattle.release_core.proofs.releases.broken_rule.Goals as goal
 
-pub returns-in-Some-broken_extent : goal.returns-in-Some-broken_extent
-returns-in-Some-broken_extent c =
+pub returns-in-Some-broken_leaving_extent : goal.returns-in-Some-broken_leaving_extent
+returns-in-Some-broken_leaving_extent c =
     let whole = c.as_slice-whole.result.now in
     let check = leaving_rule c.args.config.now c.args.host c.as_slice-owners.result.now Within.AnyRegion in
-    let found = each_in_found check whole c.loop-i.i no_extent c.in-Some-broken_extent.rule c.loop-i-test.true c.loop-i.invariant (sym c.broken_extent.ensures ∙ c.in-Some-broken_extent.is) in
+    let found = each_in_found check whole c.loop-i.i no_extent c.in-Some-broken_leaving_extent.rule c.loop-i-test.true c.loop-i.invariant (sym c.broken_leaving_extent.ensures ∙ c.in-Some-broken_leaving_extent.is) in
     let is : whole ≡ c.args.held.now ++ c.args.list.now = search rules in
     let few : too_many_listed whole ≡ None = ap too_many_listed (c.as_slice-whole.ensures ∙ sym c.as_slice-2.ensures) ∙ sym c.too_many_listed.ensures ∙ c.in_default.is in
     sym (ap (λ list. give_back_rule c.args.config.now c.args.host c.args.accepted.now.extents c.args.offered list c.args.more) (sym is)
-    ∙ release_broken c.args.config.now c.args.host c.args.accepted.now.extents c.args.offered whole few c.args.more c.if-more.false c.in-Some-broken_extent.rule
+    ∙ release_broken c.args.config.now c.args.host c.args.accepted.now.extents c.args.offered whole few c.args.more c.if-more.false c.in-Some-broken_leaving_extent.rule
     (ap (λ owners. each_in whole (leaving_rule c.args.config.now c.args.host owners Within.AnyRegion)) (sym c.as_slice-owners.ensures) ∙ found))
 
 pub loop-i-preserved : goal.loop-i-preserved
 loop-i-preserved c =
     let check = leaving_rule c.args.config.now c.args.host c.as_slice-owners.result.now Within.AnyRegion in
-    each_in_more check c.as_slice-whole.result.now c.loop-i.i no_extent c.loop-i-test.true c.loop-i.invariant (sym c.broken_extent.ensures ∙ c.in_default-broken_extent.is)
+    each_in_more check c.as_slice-whole.result.now c.loop-i.i no_extent c.loop-i-test.true c.loop-i.invariant (sym c.broken_leaving_extent.ensures ∙ c.in_default-broken_leaving_extent.is)
 
 pub count_rule-requires-clause-leaving : goal.count_rule-requires-clause-leaving
 count_rule-requires-clause-leaving c =

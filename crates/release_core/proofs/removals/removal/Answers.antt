@@ -12,22 +12,22 @@ use Rattle.release_core.proofs.Members.{no_extent}
 use Rattle.release_core.proofs.Rows.{removal_broken}
 use Rattle.release_core.proofs.removals.removal.Goals as goal
 
-pub returns-in-Some-broken_extent : goal.returns-in-Some-broken_extent
-returns-in-Some-broken_extent c =
+pub returns-in-Some-broken_leaving_extent : goal.returns-in-Some-broken_leaving_extent
+returns-in-Some-broken_leaving_extent c =
     let list = c.args.list.now in
     let check = leaving_rule c.args.config.now c.args.host c.as_slice-owners.result.now (Within.Region c.args.region) in
-    let found = each_in_found check c.as_slice-listed.result.now c.loop-i.i no_extent c.in-Some-broken_extent.rule c.loop-i-test.true c.loop-i.invariant (sym c.broken_extent.ensures ∙ c.in-Some-broken_extent.is) in
+    let found = each_in_found check c.as_slice-listed.result.now c.loop-i.i no_extent c.in-Some-broken_leaving_extent.rule c.loop-i-test.true c.loop-i.invariant (sym c.broken_leaving_extent.ensures ∙ c.in-Some-broken_leaving_extent.is) in
     let few : too_many_listed list ≡ None = search rules in
     let some : is_empty list ≡ false = search rules in
     let known : nat_le (length c.args.config.now.regions) c.args.region ≡ false = search rules in
     let broken = ap (λ xs. each_in list (leaving_rule c.args.config.now c.args.host xs (Within.Region c.args.region))) (sym c.as_slice-owners.ensures)
     ∙ ap (λ xs. each_in xs check) (sym c.as_slice-listed.ensures) ∙ found in
-    removal_broken c.args.config.now c.args.host c.args.accepted.now.extents c.args.offered list few c.args.region c.args.forced known some c.in-Some-broken_extent.rule broken
+    removal_broken c.args.config.now c.args.host c.args.accepted.now.extents c.args.offered list few c.args.region c.args.forced known some c.in-Some-broken_leaving_extent.rule broken
 
 pub loop-i-preserved : goal.loop-i-preserved
 loop-i-preserved c =
     let check = leaving_rule c.args.config.now c.args.host c.as_slice-owners.result.now (Within.Region c.args.region) in
-    each_in_more check c.as_slice-listed.result.now c.loop-i.i no_extent c.loop-i-test.true c.loop-i.invariant (sym c.broken_extent.ensures ∙ c.in_default-broken_extent.is)
+    each_in_more check c.as_slice-listed.result.now c.loop-i.i no_extent c.loop-i-test.true c.loop-i.invariant (sym c.broken_leaving_extent.ensures ∙ c.in_default-broken_leaving_extent.is)
 
 pub count_rule-requires-clause-leaving : goal.count_rule-requires-clause-leaving
 count_rule-requires-clause-leaving c =

@@ -5,7 +5,7 @@ use Rattle.journal_core.specs.Entries.{effects}
 use Rattle.device_rules.specs.Answers.{manager_outcome}
 use Rattle.device_rules.specs.Views.{view_of}
 use Rattle.control_core.proofs.Managed.{decided_manager, manages_err, no_log_records, unrefer_of}
-use Rattle.control_core.proofs.manager_steps.step_unrefer.Goals as goal
+use Rattle.control_core.proofs.manager_steps.decide_remove_reference.Goals as goal
 
 pub entered-requires : goal.entered-requires
 entered-requires c = record {

@@ -4,7 +4,7 @@ use Rattle.device_rules.specs.Answers.{manager_outcome}
 use Rattle.device_rules.specs.Views.{view_of}
 use Rattle.control_core.proofs.Managed.{decided_manager, manages_err, quiet_drafts, quiet_log_records, quiet_of}
 use Rattle.control_core.proofs.Shortness.{short_manager}
-use Rattle.control_core.proofs.manager_steps.step_read.Goals as goal
+use Rattle.control_core.proofs.manager_steps.decide_quiet.Goals as goal
 
 pub read-requires : goal.read-requires
 read-requires c = record {

@@ -1,4 +1,4 @@
--- What one host has of some tags is told anew: the table after that, and the tags that end by it.
+-- What one host has of some tags is set anew: the table after that, and the tags that end by it.
 use Rattle.std.proofs.Common.{◌≡◌, ◌⊎◌, ◌<◌, Bool, true, false, ◌&&◌, ◌||◌, not, ◌==◌, List, [], ◌∷◌, ◌++◌, map, refl, sym, ap, subst, ◌∙◌, inl, inr}
 use Rattle.std.specs.Prelude.{if◌then◌else◌, filter}
 use Rattle.std.specs.List.{AllByRecursion, list_any}
@@ -18,7 +18,7 @@ use Rattle.device_rules.specs.Tags.{is_accepted_by, is_live, is_offered_to, open
 use Rattle.holding_laws.specs.Pictures.{Picture, picture_of}
 use Rattle.holding_laws.specs.Standing.{Sound}
 use Rattle.device_rules.proofs.TagSteps.{same_tag-back, same_tag-is, same_tag-self}
-use Rattle.table_laws.specs.TagTable.{IsEntry, IsTable, ending, told_anew}
+use Rattle.table_laws.specs.TagTable.{IsEntry, IsTable, ending, host_of_tags_set}
 use Rattle.table_laws.proofs.HostBits.{Agree, agree_all, host_bits-change, set_by-twice}
 use Rattle.table_laws.proofs.TagEntries.{entry-moved, open_uses, table_passes, table_used, used_is, uses}
 use Rattle.table_laws.proofs.SettledTags.{mapped, settled}
@@ -115,12 +115,12 @@ module _ (h : HostId) (held offered : Tag → Bool) where
       ∙ one_told t told e (still_used (map (tell told) (still_used (entries_changed t (set_by h (held t) (offered t)) entries)))) used.0
       ∙ ap (λ rest. keep (tell (t ∷ told) e) rest) (merge t told entries used.1)
 
-  pub told_anew-is : (told : List Tag) (entries : List TagEntry) → AllByRecursion (λ e. is_used e ≡ true) entries →
-      told_anew h held offered told entries ≡ still_used (map (tell told) entries)
-  told_anew-is [] entries used = sym (used_stay entries used) ∙ ap still_used (none_told entries)
-  told_anew-is (t ∷ told) entries used =
+  pub host_of_tags_set-is : (told : List Tag) (entries : List TagEntry) → AllByRecursion (λ e. is_used e ≡ true) entries →
+      host_of_tags_set h held offered told entries ≡ still_used (map (tell told) entries)
+  host_of_tags_set-is [] entries used = sym (used_stay entries used) ∙ ap still_used (none_told entries)
+  host_of_tags_set-is (t ∷ told) entries used =
       let first : List TagEntry = still_used (entries_changed t (set_by h (held t) (offered t)) entries) in
-      told_anew-is told first (still_used_are (entries_changed t (set_by h (held t) (offered t)) entries)) ∙ merge t told entries used
+      host_of_tags_set-is told first (still_used_are (entries_changed t (set_by h (held t) (offered t)) entries)) ∙ merge t told entries used
 
 -- ---- what the changes leave
 
@@ -198,27 +198,27 @@ module _ (c : Configuration) (past new : List Effect) (h : HostId) (known : h < 
 
 -- ---- a command
 
--- Where each tag that is used no more may end, the table is the one that is told anew.
+-- Where each tag that is used no more may end, the table is the one that is set anew.
 pub anew : (c : Configuration) (past : List Effect) (now : Sound c (picture_of c past)) (o : Outcome) (h : HostId) (known : h < c.hosts) (told : List Tag)
     (r : Told c h told (picture_of c past) (picture_of c (past ++ o.changes))) (held offered : Tag → Bool)
     (held_is : (t : Tag) → has_tag told t ≡ true → held t ≡ is_accepted_by c t (past ++ o.changes) h)
     (offered_is : (t : Tag) → has_tag told t ≡ true → offered t ≡ is_offered_to t (past ++ o.changes) h)
     (entries : List TagEntry) → IsTable c past entries → open_tags c (past ++ o.changes) ≡ open_tags c past →
     ((t : Tag) → has_tag (open_tags c past) t ≡ true → (uses c (past ++ o.changes) t ≡ true) ⊎ (has_tag o.tags t ≡ true)) →
-    IsTable c (past ++ effects_of c past o) (told_anew h held offered told entries)
+    IsTable c (past ++ effects_of c past o) (host_of_tags_set h held offered told entries)
 anew c past now o h known told r held offered held_is offered_is entries table tags may =
-    subst (IsTable c (past ++ effects_of c past o)) (sym (told_anew-is h held offered told entries (table_used c past entries now table)))
+    subst (IsTable c (past ++ effects_of c past o)) (sym (host_of_tags_set-is h held offered told entries (table_used c past entries now table)))
     (settled c past o (map (tell h held offered told) entries) now tags (told_table c past o.changes h known told r held offered held_is offered_is now entries table tags) may)
 
 -- The tags of the command are those that are told.
 module _ (c : Configuration) (past : List Effect) (now : Sound c (picture_of c past)) (o : Outcome) (h : HostId) (known : h < c.hosts)
     (r : Told c h o.tags (picture_of c past) (picture_of c (past ++ o.changes))) (entries : List TagEntry) (table : IsTable c past entries) where
-  pub anew_ended : ended c past o.changes o.tags ≡ ending h (λ t. is_accepted_by c t (past ++ o.changes) h) (λ t. is_offered_to t (past ++ o.changes) h) entries o.tags
-  anew_ended = ended_ending c past o.changes h known o.tags r (λ t. is_accepted_by c t (past ++ o.changes) h) (λ t. is_offered_to t (past ++ o.changes) h) (λ t has. refl) (λ t has. refl) now entries table
+  pub ended_after_set : ended c past o.changes o.tags ≡ ending h (λ t. is_accepted_by c t (past ++ o.changes) h) (λ t. is_offered_to t (past ++ o.changes) h) entries o.tags
+  ended_after_set = ended_ending c past o.changes h known o.tags r (λ t. is_accepted_by c t (past ++ o.changes) h) (λ t. is_offered_to t (past ++ o.changes) h) (λ t has. refl) (λ t has. refl) now entries table
 
-  pub anew_table : open_tags c (past ++ o.changes) ≡ open_tags c past →
-      IsTable c (past ++ effects_of c past o) (told_anew h (λ t. is_accepted_by c t (past ++ o.changes) h) (λ t. is_offered_to t (past ++ o.changes) h) o.tags entries)
-  anew_table tags = anew c past now o h known o.tags r (λ t. is_accepted_by c t (past ++ o.changes) h) (λ t. is_offered_to t (past ++ o.changes) h) (λ t has. refl) (λ t has. refl) entries table tags
+  pub table_after_set : open_tags c (past ++ o.changes) ≡ open_tags c past →
+      IsTable c (past ++ effects_of c past o) (host_of_tags_set h (λ t. is_accepted_by c t (past ++ o.changes) h) (λ t. is_offered_to t (past ++ o.changes) h) o.tags entries)
+  table_after_set tags = anew c past now o h known o.tags r (λ t. is_accepted_by c t (past ++ o.changes) h) (λ t. is_offered_to t (past ++ o.changes) h) (λ t has. refl) (λ t has. refl) entries table tags
       (λ t open_tag. elim (cases_Bool (has_tag o.tags t)) [
         | inl may ↦ inr may
         | inr untold ↦ inl (uses_same c past o.changes h known o.tags r (λ t. is_accepted_by c t (past ++ o.changes) h) (λ t. is_offered_to t (past ++ o.changes) h) (λ t has. refl) (λ t has. refl) t open_tag untold

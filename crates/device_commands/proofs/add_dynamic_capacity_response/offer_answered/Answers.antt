@@ -3,7 +3,7 @@ use Rattle.extent_list.specs.ExtentLists.{tags_of}
 use Rattle.device_commands.specs.AddDynamicCapacityResponse.{IsAnswered}
 use Rattle.device_commands.specs.declared.draft.DraftParts.{DraftParts}
 use Rattle.device_commands.proofs.HostDrafts.{made_as}
-use Rattle.device_commands.proofs.add_dynamic_capacity_response.done.Goals as goal
+use Rattle.device_commands.proofs.add_dynamic_capacity_response.offer_answered.Goals as goal
 
 pub returns-clause-drafts : goal.returns-clause-drafts
 returns-clause-drafts c =
