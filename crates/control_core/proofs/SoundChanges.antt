@@ -10,7 +10,7 @@ use Rattle.journal_core.specs.declared.outcome.Effect.{Effect}
 use Rattle.region_config.specs.Configurations.{Configuration}
 use Rattle.region_config.specs.Granules.{granule_total}
 use Rattle.dcd_base.specs.Hosts.{has_host}
-use Rattle.control_core.specs.ChangedRuns.{IsWithinRegion, IsSoundChange}
+use Rattle.device_rules.specs.ChangedRuns.{IsWithinRegion, IsSoundChange}
 use Rattle.control_core.specs.PutChanges.{NameNoOthers, bits_by, is_zero}
 use Rattle.control_core.proofs.ChangedHolders.{with_other, without_other}
 

@@ -1,4 +1,3 @@
-pub mod ChangedRuns
 pub mod Deciding
 pub mod Doing
 pub mod Fitting

@@ -10,7 +10,7 @@ use Rattle.device_rules.specs.Legal.{is_zeroing}
 use Rattle.region_config.specs.Configurations.{Configuration}
 use Rattle.region_config.specs.Granules.{granule_total}
 use Rattle.dcd_base.specs.Hosts.{has_host, with_host, without_host}
-use Rattle.control_core.specs.ChangedRuns.{IsWithinRegion, holders_after, touches, AreChanges, IsSoundChange, LiesIn}
+use Rattle.device_rules.specs.ChangedRuns.{IsWithinRegion, holders_after, touches, AreChanges, IsSoundChange, LiesIn}
 use Rattle.journal_core.specs.Entries.{effects as effects_of}
 use Rattle.journal_core.specs.declared.entries.Entry.{Entry}
 use Rattle.device_state.specs.StateAfter.{IsStateAfter}

@@ -2,7 +2,7 @@
 
 ghost use Rattle.control_core.specs.PutChanges.{AreChangesFrom, IsRunAdded, StayInside, StaySound, change_by, AreOfOneHost, ArePut};
 ghost use Rattle.control_core.specs.PutChanges.{IsRegionOrNone, NameNoOthers, PutOne, bits_by, is_zero, touched_by};
-ghost use Rattle.control_core.specs.ChangedRuns.{IsWithinRegion, IsSoundChange, LiesIn};
+ghost use Rattle.device_rules.specs.ChangedRuns.{IsWithinRegion, IsSoundChange, LiesIn};
 ghost use Rattle.device_state.specs.Updates.{IsOfDevice};
 ghost use Rattle.region_config.specs.Granules.{granule_total};
 ghost use Rattle.std.specs.Prelude.{◌≡◌, ◌+◌, ◌-◌, ◌<◌, ◌≤◌, All, IfOk, OnOk, Some, slice_index_or, ℕ};

@@ -1,7 +1,7 @@
 //! The control: a configuration and the commands and scrubs so far.
 
 ghost use Rattle.control_core.specs.Steps.{AreChangesOf, IsNextEntry, MayStep, journal_entry};
-ghost use Rattle.control_core.specs.ChangedRuns.{AreChanges, LiesIn};
+ghost use Rattle.device_rules.specs.ChangedRuns.{AreChanges, LiesIn};
 ghost use Rattle.control_core.specs.Deciding.{AreShort, IsDecidedBy, IsShort};
 ghost use Rattle.device_rules.specs.Answers.{answer as answer_to};
 ghost use Rattle.device_rules.specs.Legal.{Legal};

@@ -31,14 +31,14 @@ use Rattle.region_config.specs.Soundness.{IsSound}
 use Rattle.dcd_base.specs.Hosts.{has_host}
 use Rattle.device_rules.specs.Hosts.{changes_of, moves}
 use Rattle.device_rules.specs.Legal.{Meets, access_at, granted_reply, is_zeroing, stored_at, word_after, word_by, word_of, written_by}
-use Rattle.control_core.specs.ChangedRuns.{AreChanges, AreHolders, holders_after}
+use Rattle.device_rules.specs.ChangedRuns.{AreChanges, AreHolders, holders_after}
 use Rattle.control_core.specs.Deciding.{IsShort}
 use Rattle.control_core.specs.Steps.{MayStep, journal_entry}
 use Rattle.journal_core.specs.Accesses.{access_entry, load_said}
 use Rattle.device_plain.specs.Accesses.{AreMade, StoresAt, granted_place, held_at, store_said, word_from}
 use Rattle.device_plain.specs.Keeping.{Keeps}
 use Rattle.device_plain.specs.Numbering.{IsCounted, IsReachedBy, accesses_of}
-use Rattle.device_plain.proofs.Answered.{answer_same}
+use Rattle.device_rules.proofs.Answered.{answer_same}
 use Rattle.device_plain.proofs.Numbered.{accesses-push, before_access, before_command, commands-push, reached_access, reached_command, since-push}
 
 never : IsTrue false → ⊥

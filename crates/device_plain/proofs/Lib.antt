@@ -1,4 +1,3 @@
-pub mod Answered
 pub mod Keeping
 pub mod MadeChanges
 pub mod Merged

@@ -13,7 +13,7 @@ use Rattle.media_map.specs.Places.{IsWord}
 use Rattle.region_config.specs.Configurations.{Configuration}
 use Rattle.region_config.specs.Granules.{granule_total}
 use Rattle.region_config.proofs.Faultless.{granules_rise}
-use Rattle.control_core.specs.ChangedRuns.{holders_after}
+use Rattle.device_rules.specs.ChangedRuns.{holders_after}
 use Rattle.device_plain.specs.Accesses.{AreMade}
 
 -- a word's granule is one of the device

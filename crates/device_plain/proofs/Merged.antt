@@ -19,7 +19,7 @@ use Rattle.media_map.specs.Places.{locate}
 use Rattle.region_config.specs.Configurations.{Configuration}
 use Rattle.region_config.specs.Granules.{granule_total}
 use Rattle.region_config.specs.Soundness.{IsSound}
-use Rattle.control_core.specs.ChangedRuns.{AreChanges}
+use Rattle.device_rules.specs.ChangedRuns.{AreChanges}
 use Rattle.control_core.specs.Deciding.{IsShort}
 use Rattle.control_core.specs.Steps.{MayStep, journal_entry}
 use Rattle.device_plain.specs.Accesses.{AreMade, StoresAt, granted_place, store_said, word_from}

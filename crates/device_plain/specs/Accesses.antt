@@ -14,7 +14,7 @@ use Rattle.journal_core.specs.declared.acts.Reply.{Reply}
 use Rattle.media_map.specs.Places.{locate}
 use Rattle.region_config.specs.Configurations.{Configuration}
 use Rattle.dcd_base.specs.Hosts.{has_host}
-use Rattle.control_core.specs.ChangedRuns.{holders_after}
+use Rattle.device_rules.specs.ChangedRuns.{holders_after}
 use Rattle.device_rules.specs.Legal.{stored_at}
 
 -- the place, where the host is among the holders of its granule

@@ -10,7 +10,7 @@ use Rattle.journal_core.specs.Entries.{Each, effects}
 use Rattle.journal_core.specs.Merging.{Numbered, commands_in, merged}
 use Rattle.device_rules.specs.Hosts.{changes_of}
 use Rattle.device_rules.specs.Legal.{Legal, word_of}
-use Rattle.control_core.specs.ChangedRuns.{AreHolders}
+use Rattle.device_rules.specs.ChangedRuns.{AreHolders}
 use Rattle.control_core.specs.Deciding.{AreShort}
 use Rattle.device_plain.specs.Numbering.{IsCounted, IsReachedBy, accesses_of, accesses_since, commands_of}
 

@@ -1,6 +1,6 @@
 //! What a command changes of holders and words.
 
-ghost use Rattle.control_core.specs.ChangedRuns.{LiesIn};
+ghost use Rattle.device_rules.specs.ChangedRuns.{LiesIn};
 ghost use Rattle.device_plain.specs.Accesses.{AreMade};
 ghost use Rattle.std.specs.Prelude.{◌∷◌, [], All, length};
 

@@ -1,3 +1,4 @@
+pub mod Answered
 pub mod EffectKinds
 pub mod HostSearches
 pub mod Leaving

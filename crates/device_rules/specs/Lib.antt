@@ -1,5 +1,6 @@
 pub mod Adding
 pub mod Answers
+pub mod ChangedRuns
 pub mod Counts
 pub mod EventCommands
 pub mod Hosts

@@ -1,9 +1,14 @@
+pub mod EachPlaces
 pub mod EachSteps
+pub mod Filters
 pub mod HoldingSteps
+pub mod Inserting
 pub mod JournalSteps
 pub mod Lists
+pub mod MergedFilters
 pub mod Merges
 pub mod Pairs
 pub mod Parts
 pub mod Pushing
 pub mod Sorting
+pub mod Splits

@@ -25,6 +25,9 @@ folded_all P done [] before all = before
 folded_all P done (e ∷ entries) before all =
     folded_all P (insert_entry e done) entries (inserted_all P e done (All-head P e entries all) before) (All-tail P e entries all)
 
+pub all_in_order : (P : Entry → Type 0) (entries : List Entry) → All P entries → All P (in_order entries)
+all_in_order P entries all = folded_all P [] entries (All-nil P) all
+
 -- one list in the place of the shards
 pub merged_of_one : (control shard : List Entry) → merged control (shard ∷ []) ≡ in_order (control ++ shard)
 merged_of_one control shard = ap (λ es. in_order (control ++ es)) (append-nil shard)

@@ -4,7 +4,7 @@ use Rattle.journal_core.specs.declared.entries.Entry.{Entry}
 use Rattle.journal_core.specs.Entries.{effects}
 use Rattle.journal_core.specs.Merging.{merged}
 use Rattle.region_config.specs.Configurations.{Configuration}
-use Rattle.control_core.specs.ChangedRuns.{AreChanges}
+use Rattle.device_rules.specs.ChangedRuns.{AreChanges}
 use Rattle.control_core.specs.Deciding.{IsShort}
 use Rattle.control_core.specs.Steps.{MayStep, journal_entry}
 use Rattle.device_plain.specs.Devices.{Plain}
