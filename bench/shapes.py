@@ -304,6 +304,14 @@ def long_reads(count):
     return start, lines
 
 
+# Short replies
+
+
+def get_configurations(count):
+    """4800h of both hosts of a small device in turn, one region in each reply."""
+    return two_regions(), [command(n % 2, get_configuration(8, 1)) for n in range(count)]
+
+
 # A mix that is the same from its first round to its last
 
 
@@ -335,3 +343,39 @@ def mixed(count):
         lines.manager(get_info())
     del lines[count:]
     return device([(GRANULES, 2)]), lines
+
+
+# All of them
+
+
+def one_load(made, address):
+    """The same lines, but one load in the middle, by host 0 of a word that it holds."""
+
+    def with_load(count):
+        start, lines = made(count)
+        lines[len(lines) // 2] = load(0, address)
+        return start, lines
+
+    return with_load
+
+
+# Of each kind: its name, what it is, how many lines or commands, and its shapes.
+KINDS = [
+    ("replies", "65,536 lines, replies of about 2 KiB", MOST_LINES, [
+        ("4801h, 50 of 64 extents", extent_pages),
+        ("5603h, 50 of 64 extents", host_extent_pages),
+        ("0100h, 15 of 64 records", log_pages),
+        ("5608h, 84 of 512 tags", tag_pages)]),
+    ("accesses", "65,536 lines, loads and stores", MOST_LINES, [
+        ("all hosts, eight regions", spread_accesses),
+        ("words of one granule", crowded_accesses)]),
+    ("changes", "about 15,000 offers, answers, releases, forced removals and scrubs, and lines that clear logs", 15000, [
+        ("extents of 256 granules", whole_device),
+        ("63 extents each, and one more", full_lists),
+        ("64 fragments an offer", fragments),
+        ("127 blocks cut into 64", cuts),
+        ("64 extents that 16 hosts share", shared_device)]),
+    ("reads", "48,000 commands that read lists and logs", 48000, [
+        ("lists of one, empty logs", short_reads),
+        ("lists of 64, full logs, 512 tags", long_reads)]),
+]

@@ -1,0 +1,60 @@
+"""Runs programs and measures what they take, for bench/run and bench/beside."""
+import os
+import subprocess
+import sys
+import tempfile
+import time
+
+TOP = os.path.dirname(os.path.dirname(os.path.abspath(__file__)))
+
+
+def program(name):
+    """The path of a program, which is proved and built where that is needed."""
+    crate = os.path.join(TOP, "crates", name)
+    path = os.path.join(crate, "out", name)
+    if not os.path.exists(path):
+        print(f"proving and building {name}", file=sys.stderr)
+        subprocess.run(["rt", "run"], cwd=crate, stdin=subprocess.DEVNULL, stdout=subprocess.DEVNULL, check=True)
+    return path
+
+
+def timed(path, words, stdin, stdout, feed=lambda: None):
+    """The time of one run in seconds, from its start to its end; once it has started it is fed."""
+    files = [(os.POSIX_SPAWN_DUP2, stdin, 0), (os.POSIX_SPAWN_DUP2, stdout.fileno(), 1)]
+    start = time.perf_counter()
+    run = os.posix_spawn(path, [path, *words], os.environ, file_actions=files)
+    feed()
+    _, status = os.waitpid(run, 0)
+    took = time.perf_counter() - start
+    if status != 0:
+        sys.exit(f"{path} ended with status {os.waitstatus_to_exitcode(status)}")
+    return took
+
+
+def once(path, source, stdout, words=()):
+    """The time of one run whose script is in a file."""
+    with open(source, "rb") as stdin:
+        return timed(path, words, stdin.fileno(), stdout)
+
+
+def piped(path, script, stdout, words=()):
+    """The time of one run whose script comes through a pipe."""
+    source, pipe = os.pipe()
+
+    def feed():
+        os.close(source)
+        with open(pipe, "wb") as file:
+            file.write(script)
+
+    return timed(path, words, source, stdout, feed)
+
+
+def peak_of(path, source, words=()):
+    """The peak memory of one run in millions of bytes.
+
+    /usr/bin/time starts the run, so that the peak is the program's and not that of this one. A run that it starts is not timed.
+    """
+    with tempfile.NamedTemporaryFile() as peak, open(source, "rb") as stdin, open(os.devnull, "wb") as null:
+        subprocess.run(["/usr/bin/time", "-f", "%M", "-o", peak.name, path, *words], stdin=stdin, stdout=null, check=True)
+        with open(peak.name) as lines:
+            return int(lines.read()) * 1024 / 1e6
