@@ -4,6 +4,8 @@
 #[cfg(test)]
 mod codes;
 #[cfg(test)]
+mod edges;
+#[cfg(test)]
 mod ends;
 #[cfg(test)]
 mod generated;
@@ -21,6 +23,14 @@ mod manager_requests;
 mod messages;
 #[cfg(test)]
 mod names;
+#[cfg(test)]
+mod qemu;
+#[cfg(test)]
+mod qemu_messages;
+#[cfg(test)]
+mod qemu_records;
+#[cfg(test)]
+mod qemu_replies;
 #[cfg(test)]
 mod records;
 #[cfg(test)]

@@ -76,6 +76,11 @@ def scrub(most):
     return struct.pack("<BH", 4, most)
 
 
+def mark():
+    """The end of a phase. The lanes of a host are told in the actor byte: host + 16 * lane."""
+    return b"\5"
+
+
 # Requests of hosts and of the Fabric Manager
 
 

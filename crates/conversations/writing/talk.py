@@ -64,7 +64,7 @@ class Talk:
 
     def mark(self):
         """The end of a phase, which has no entry."""
-        self.lines.append(b"\5")
+        self.lines.append(mark())
         self.marks += 1
 
     def command(self, actor, name, request, answer, tag=None):

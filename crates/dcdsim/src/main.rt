@@ -1,27 +1,100 @@
-//! `dcdsim`: reads a script from standard input, runs it on the device, and prints its replies, logs and holdings.
+//! `dcdsim`: reads a script from standard input, runs it on the device, and prints its replies, logs and holdings. Where
+//! it ends otherwise, it says on standard error why.
 #![tactic(auto)]
 
+mod fault_words;
+mod line_starts;
+mod watched;
+
+use crate::fault_words::{FaultWords, place_in_lines};
+use crate::watched::Watched;
 use dcd_base::NoGate;
 use edge_io::{StdSink, StdSource, words};
+use script_codec::ScriptFault;
 use script_runner::{Status, run_and_leave};
+use std::fmt::Display;
+use std::io::{IsTerminal, Stdin, Stdout};
 use std::process::ExitCode;
 
-/// Hands `run_and_leave` the words of the command line, standard input and standard output, and exits with its status.
+/// Runs what the words of the command line ask for, and exits with its status.
 fn main(rt: HostRuntime) -> ExitCode {
     let status = match words(&rt) {
-        Ok(words) => {
-            let mut source = StdSource::new(rt.stdin());
-            let mut sink = StdSink::new(rt.stdout());
-            run_and_leave(
-                &rt,
-                rt.alloc(),
-                words.as_slice(),
-                &mut source,
-                &mut sink,
-                &NoGate,
-            )
+        Ok(words) => run_words(&rt, words.as_slice()),
+        Err(_) => {
+            say(&rt, NO_MEMORY);
+            Status::NoMemory
         }
-        Err(_) => Status::NoMemory,
     };
     ExitCode::from(status.number())
+}
+
+/// Hands `run_and_leave` the words, standard input and standard output, and answers its status.
+fn run_words(rt: &HostRuntime, words: &[String]) -> Status {
+    if words.is_empty() && rt.stdin().is_terminal() {
+        say(rt, "it waits for a script on standard input");
+    }
+    let mut source = Watched::new(rt.alloc(), StdSource::new(rt.stdin()));
+    let mut sink = StdSink::new(rt.stdout());
+    let status = run_and_leave(rt, rt.alloc(), words, &mut source, &mut sink, &NoGate);
+    say_why(rt, status, &source, &sink);
+    status
+}
+
+/// What is said where memory was wanted.
+const NO_MEMORY: &str = "memory was wanted and not to be had; nothing is written";
+
+/// What is said where the words are refused.
+const USAGE: &str =
+    "it takes no words and a script on standard input, or --gen N with 1 to 18 digits";
+
+/// Says why a run ended that is not done.
+fn say_why(
+    rt: &HostRuntime,
+    status: Status,
+    source: &Watched<StdSource<Stdin>>,
+    sink: &StdSink<Stdout>,
+) {
+    match status {
+        Status::Done => {}
+        Status::Usage => say(rt, USAGE),
+        Status::ScriptRefused(fault) => say_fault(rt, fault, source),
+        Status::NoMemory => say(rt, NO_MEMORY),
+        Status::ReadFault => match source.source().error() {
+            Some(error) => say(rt, format_args!("standard input cannot be read: {error}")),
+            None => say(rt, "standard input cannot be read"),
+        },
+        Status::WriteFault => match sink.error() {
+            Some(error) => say(
+                rt,
+                format_args!("standard output cannot be written: {error}"),
+            ),
+            None => say(rt, "standard output cannot be written"),
+        },
+    }
+}
+
+/// Says why a script is refused, with the line of the script where there is one.
+fn say_fault(rt: &HostRuntime, fault: ScriptFault, source: &Watched<StdSource<Stdin>>) {
+    let line = match place_in_lines(fault) {
+        Some(place) => source.line_at(place),
+        None => None,
+    };
+    match line {
+        Some(line) => say(
+            rt,
+            format_args!(
+                "the script is refused in line {line}: {}",
+                FaultWords(fault)
+            ),
+        ),
+        None => say(
+            rt,
+            format_args!("the script is refused: {}", FaultWords(fault)),
+        ),
+    }
+}
+
+/// Says something in one line on standard error. That it cannot be said changes nothing.
+fn say<D: Display + Drop>(rt: &HostRuntime, words: D) {
+    let _ = eprintln!(rt; "dcdsim: {words}");
 }

@@ -1,3 +1,4 @@
 mod Digits
 pub mod Fronts
+pub mod Keeping
 pub mod WordNumbers

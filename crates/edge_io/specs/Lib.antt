@@ -1,2 +1,3 @@
 pub mod ReadEnds
+pub mod Untold
 pub mod Words

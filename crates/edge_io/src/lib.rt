@@ -3,6 +3,7 @@
 #![tactic(auto)]
 
 mod command_line;
+mod interruptions;
 mod numbers;
 mod reading;
 mod std_sink;
