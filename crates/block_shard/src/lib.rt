@@ -1,0 +1,11 @@
+//! A shard of the device: who holds every sixteenth granule, its words, and the loads and stores there.
+#![tactic(auto)]
+
+mod accesses;
+mod changing;
+mod numbers;
+mod shard;
+mod touching;
+
+pub use shard::Shard;
+pub use touching::touches;

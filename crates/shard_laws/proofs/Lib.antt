@@ -1,0 +1,15 @@
+pub mod AccessReplies
+pub mod AccessSteps
+pub mod AtRest
+pub mod ChangedShards
+pub mod CommandSteps
+pub mod ControlLogs
+pub mod LawfulMerge
+pub mod LeftOut
+pub mod LegalMerge
+pub mod Members
+pub mod NextStamps
+pub mod NumberedMerge
+pub mod OwnGranules
+pub mod ShardParts
+pub mod Untouched
