@@ -1,3 +1,4 @@
+pub mod HexPairs
 pub mod Printing
 pub mod Refusals
 pub mod Texts

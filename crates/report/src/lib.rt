@@ -4,6 +4,7 @@
 #![tactic(auto)]
 
 mod entry_lines;
+mod hex_pairs;
 mod places;
 mod printing;
 mod refusals;
