@@ -1,4 +1,4 @@
-//! Tests of cells under a rule: a small first cell and a small cell, a counter, by one thread and by two.
+//! Tests of cells under a rule, by one thread and by two, over a small first cell and a counter; and of shards.
 #![tactic(auto)]
 
 #[cfg(test)]
@@ -9,5 +9,7 @@ mod ledger;
 mod runs;
 #[cfg(test)]
 mod scrubs;
+#[cfg(test)]
+mod shards;
 #[cfg(test)]
 mod waiting;
