@@ -116,16 +116,16 @@ told_goes frame u actor lane message tells =
     subst (LineRead frame u) line
     (line_read frame u Opening.Command (line_by spoken.speaker (Act.Command message)) t.1 (opens frame u Opening.Command (codes "command") t.1 (word_first u.words t.0 t.1 (codes "command") t.2 t.3) (opens_command frame))
     (λ left here.
-      goes_then (λ a. bytes_ahead a.1 >>= (λ b. message_said a.1.line a.1.word b.0 >>= (λ q. Ok (line_by a.0 (Act.Command q), b.1)))) (line_by spoken.speaker (Act.Command message)) []
-      (actor_goes frame spoken.speaker left who.0 t.4.1 (here ∙ word_first t.1 t.4.0 t.4.1 who.0 t.4.2 who.1) spoken.said)
-      (λ next there.
-        goes_then (λ b. message_said next.line next.word b.0 >>= (λ q. Ok (line_by spoken.speaker (Act.Command q), b.1))) (line_by spoken.speaker (Act.Command message)) []
-        (bytes_goes tells.bytes next list.0 (there ∙ word_last t.4.1 list.0 list.1 list.2 list.4 ∙ append-nil list.0) list.3.0 list.3.1 list.3.2)
-        (λ last end. record {
-          left = last;
-          is = ap (λ (r : Result Request TextFault). r >>= (λ q. Ok (line_by spoken.speaker (Act.Command q), last))) (message_goes next.line next.word tells.bytes message tells.message_is);
-          words = end;
-        }))))
+    goes_then (λ a. bytes_ahead a.1 >>= (λ b. message_said a.1.line a.1.word b.0 >>= (λ q. Ok (line_by a.0 (Act.Command q), b.1)))) (line_by spoken.speaker (Act.Command message)) []
+    (actor_goes frame spoken.speaker left who.0 t.4.1 (here ∙ word_first t.1 t.4.0 t.4.1 who.0 t.4.2 who.1) spoken.said)
+    (λ next there.
+    goes_then (λ b. message_said next.line next.word b.0 >>= (λ q. Ok (line_by spoken.speaker (Act.Command q), b.1))) (line_by spoken.speaker (Act.Command message)) []
+    (bytes_goes tells.bytes next list.0 (there ∙ word_last t.4.1 list.0 list.1 list.2 list.4 ∙ append-nil list.0) list.3.0 list.3.1 list.3.2)
+    (λ last end. record {
+      left = last;
+      is = ap (λ (r : Result Request TextFault). r >>= (λ q. Ok (line_by spoken.speaker (Act.Command q), last))) (message_goes next.line next.word tells.bytes message tells.message_is);
+      words = end;
+    }))))
 
 -- ---- what hosts do
 host_acts : (frame : Frame) (host : HostId) (lane : ℕ) (u : UnreadWords) (act : Act) (w : List ℕ) (rest : List (List ℕ)) → u.words ≡ w ∷ rest → actor_of_word frame Wanted.Actor w ≡ Ok (Speaker.Host host lane)
@@ -171,7 +171,7 @@ load_goes frame host lane dpa u reads =
     let n = k.4 in
     host_acts frame host lane u (Act.Load dpa) t.3.0 t.1 (word_first u.words t.0 t.1 t.3.0 t.2 t.3.1) t.3.2
     (λ left here. host_act_goes left HostWord.Load (Act.Load dpa) (codes "load") k.1 (here ∙ word_first t.1 k.0 k.1 (codes "load") k.2 k.3) load_known
-      (λ next there. goes_made (number_ahead most_64 next) dpa [] (λ d. Act.Load d) (number_goes Form.Size most_64 dpa next n.0 [] (there ∙ word_last k.1 n.0 n.1 n.2 n.4) n.3)))
+    (λ next there. goes_made (number_ahead most_64 next) dpa [] (λ d. Act.Load d) (number_goes Form.Size most_64 dpa next n.0 [] (there ∙ word_last k.1 n.0 n.1 n.2 n.4) n.3)))
 
 store_goes : (frame : Frame) (host : HostId) (lane dpa value : ℕ) (u : UnreadWords) → ReadsParts u.words (store_parts frame (Actor.Host host) lane dpa value) → LineRead frame u (Line.Do (Actor.Host host) lane (Act.Store dpa value))
 unfolding store_ahead
@@ -182,9 +182,9 @@ store_goes frame host lane dpa value u reads =
     let m = n.4 in
     host_acts frame host lane u (Act.Store dpa value) t.3.0 t.1 (word_first u.words t.0 t.1 t.3.0 t.2 t.3.1) t.3.2
     (λ left here. host_act_goes left HostWord.Store (Act.Store dpa value) (codes "store") k.1 (here ∙ word_first t.1 k.0 k.1 (codes "store") k.2 k.3) store_known
-      (λ next there.
-        goes_then (λ d. number_ahead most_64 d.1 >>= (λ v. Ok (Act.Store d.0 v.0, v.1))) (Act.Store dpa value) [] (number_goes Form.Size most_64 dpa next n.0 n.1 (there ∙ n.2) n.3)
-        (λ last end. goes_made (number_ahead most_64 last) value [] (λ v. Act.Store dpa v) (number_goes Form.Size most_64 value last m.0 [] (end ∙ word_last n.1 m.0 m.1 m.2 m.4) m.3))))
+    (λ next there.
+    goes_then (λ d. number_ahead most_64 d.1 >>= (λ v. Ok (Act.Store d.0 v.0, v.1))) (Act.Store dpa value) [] (number_goes Form.Size most_64 dpa next n.0 n.1 (there ∙ n.2) n.3)
+    (λ last end. goes_made (number_ahead most_64 last) value [] (λ v. Act.Store dpa v) (number_goes Form.Size most_64 value last m.0 [] (end ∙ word_last n.1 m.0 m.1 m.2 m.4) m.3))))
 
 -- ---- the message tag
 tag_stops : (tag : ℕ) (words : List (List ℕ)) → Takes words (tag_part tag ∷ []) [] → Stops words
@@ -221,7 +221,7 @@ host_named_goes frame host lane message u names =
     subst (λ m. LineRead frame u (Line.Do (Actor.Host host) lane (Act.Command m))) (sym names.message_is)
     (host_acts frame host lane u (Act.Command (host_message names.tag q)) t.3.0 t.1 (word_first u.words t.0 t.1 t.3.0 t.2 t.3.1) t.3.2
     (λ left here. host_act_goes left (HostWord.Ask (host_command_of q)) (Act.Command (host_message names.tag q)) name k.1 (here ∙ word_first t.1 k.0 k.1 name k.2 k.3) (host_word_known (host_command_of q))
-      (λ next there. host_asked_goes q names.tag next (subst (λ ws. Takes ws (host_tail q ++ tag_part names.tag ∷ []) []) (sym there) k.4))))
+    (λ next there. host_asked_goes q names.tag next (subst (λ ws. Takes ws (host_tail q ++ tag_part names.tag ∷ []) []) (sym there) k.4))))
 
 manager_act_goes : (u : UnreadWords) (command : ManagerCommand) (act : Act) (rest : List (List ℕ)) → u.words ≡ manager_command_text command ∷ rest → ((left : UnreadWords) → left.words ≡ rest → Goes (manager_asked_ahead command left) act []) → Goes (manager_act_ahead u) act []
 unfolding manager_act_ahead
@@ -238,7 +238,7 @@ manager_named_goes frame lane message u names =
     (subst (λ n. LineRead frame u (Line.Do Actor.Manager n (Act.Command (manager_message names.tag q)))) (sym t.3.2.0)
     (manager_acts frame u (Act.Command (manager_message names.tag q)) t.3.0 t.1 (word_first u.words t.0 t.1 t.3.0 t.2 t.3.1) t.3.2.1
     (λ left here. manager_act_goes left (manager_command_of q) (Act.Command (manager_message names.tag q)) k.1 (here ∙ word_first t.1 k.0 k.1 name k.2 k.3)
-      (λ next there. manager_asked_goes q names.tag next (subst (λ ws. Takes ws (manager_tail q ++ tag_part names.tag ∷ []) []) (sym there) k.4)))))
+    (λ next there. manager_asked_goes q names.tag next (subst (λ ws. Takes ws (manager_tail q ++ tag_part names.tag ∷ []) []) (sym there) k.4)))))
 
 -- ---- words that say a line are read as it
 pub line_goes : (frame : Frame) (line : Line) (u : UnreadWords) → SaysLine frame line u.words → LineRead frame u line
@@ -283,10 +283,10 @@ host_word_is w n is =
     elim (chosen_word w (codes "load") HostWord.Load n _ is) [
       | inl p ↦ subst (HostWordOf w) p.1 p.0
       | inr a ↦
-      elim (chosen_word w (codes "store") HostWord.Store n _ a) [
-        | inl p ↦ subst (HostWordOf w) p.1 p.0
-        | inr b ↦ asked_word w n (host_command_said w) refl b
-      ]
+          elim (chosen_word w (codes "store") HostWord.Store n _ a) [
+            | inl p ↦ subst (HostWordOf w) p.1 p.0
+            | inr b ↦ asked_word w n (host_command_said w) refl b
+          ]
     ]
 
 manager_word_is : (w : List ℕ) (n : ManagerCommand) (o : Option ManagerCommand) → manager_command_said w ≡ o → manager_word o ≡ Ok n → w ≡ manager_command_text n

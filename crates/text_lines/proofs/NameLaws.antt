@@ -31,27 +31,27 @@ host_command_named word command is =
     elim (chosen word (host_command_text HostCommand.GetEventRecords) HostCommand.GetEventRecords command _ is) [
       | inl p ↦ p.0 ∙ ap host_command_text p.1
       | inr a ↦
-      elim (chosen word (host_command_text HostCommand.ClearEventRecords) HostCommand.ClearEventRecords command _ a) [
-        | inl p ↦ p.0 ∙ ap host_command_text p.1
-        | inr b ↦
-        elim (chosen word (host_command_text HostCommand.GetConfiguration) HostCommand.GetConfiguration command _ b) [
-          | inl p ↦ p.0 ∙ ap host_command_text p.1
-          | inr d ↦
-          elim (chosen word (host_command_text HostCommand.GetExtentList) HostCommand.GetExtentList command _ d) [
+          elim (chosen word (host_command_text HostCommand.ClearEventRecords) HostCommand.ClearEventRecords command _ a) [
             | inl p ↦ p.0 ∙ ap host_command_text p.1
-            | inr e ↦
-            elim (chosen word (host_command_text HostCommand.AddResponse) HostCommand.AddResponse command _ e) [
-              | inl p ↦ p.0 ∙ ap host_command_text p.1
-              | inr f ↦
-              elim (chosen word (host_command_text HostCommand.Release) HostCommand.Release command _ f) [
-                | inl p ↦ p.0 ∙ ap host_command_text p.1
-                | inr g ↦
-                  cc
-              ]
-            ]
+            | inr b ↦
+                elim (chosen word (host_command_text HostCommand.GetConfiguration) HostCommand.GetConfiguration command _ b) [
+                  | inl p ↦ p.0 ∙ ap host_command_text p.1
+                  | inr d ↦
+                      elim (chosen word (host_command_text HostCommand.GetExtentList) HostCommand.GetExtentList command _ d) [
+                        | inl p ↦ p.0 ∙ ap host_command_text p.1
+                        | inr e ↦
+                            elim (chosen word (host_command_text HostCommand.AddResponse) HostCommand.AddResponse command _ e) [
+                              | inl p ↦ p.0 ∙ ap host_command_text p.1
+                              | inr f ↦
+                                  elim (chosen word (host_command_text HostCommand.Release) HostCommand.Release command _ f) [
+                                    | inl p ↦ p.0 ∙ ap host_command_text p.1
+                                    | inr g ↦
+                                        cc
+                                  ]
+                            ]
+                      ]
+                ]
           ]
-        ]
-      ]
     ]
 
 pub manager_command_known : (command : ManagerCommand) → manager_command_said (manager_command_text command) ≡ Some command
@@ -74,45 +74,45 @@ manager_command_named word command is =
     elim (chosen word (manager_command_text ManagerCommand.GetEventRecords) ManagerCommand.GetEventRecords command _ is) [
       | inl p ↦ p.0 ∙ ap manager_command_text p.1
       | inr a ↦
-      elim (chosen word (manager_command_text ManagerCommand.ClearEventRecords) ManagerCommand.ClearEventRecords command _ a) [
-        | inl p ↦ p.0 ∙ ap manager_command_text p.1
-        | inr b ↦
-        elim (chosen word (manager_command_text ManagerCommand.GetInfo) ManagerCommand.GetInfo command _ b) [
-          | inl p ↦ p.0 ∙ ap manager_command_text p.1
-          | inr d ↦
-          elim (chosen word (manager_command_text ManagerCommand.GetRegionConfiguration) ManagerCommand.GetRegionConfiguration command _ d) [
+          elim (chosen word (manager_command_text ManagerCommand.ClearEventRecords) ManagerCommand.ClearEventRecords command _ a) [
             | inl p ↦ p.0 ∙ ap manager_command_text p.1
-            | inr e ↦
-            elim (chosen word (manager_command_text ManagerCommand.SetRegionConfiguration) ManagerCommand.SetRegionConfiguration command _ e) [
-              | inl p ↦ p.0 ∙ ap manager_command_text p.1
-              | inr f ↦
-              elim (chosen word (manager_command_text ManagerCommand.GetRegionExtentLists) ManagerCommand.GetRegionExtentLists command _ f) [
-                | inl p ↦ p.0 ∙ ap manager_command_text p.1
-                | inr g ↦
-                elim (chosen word (manager_command_text ManagerCommand.InitiateAdd) ManagerCommand.InitiateAdd command _ g) [
+            | inr b ↦
+                elim (chosen word (manager_command_text ManagerCommand.GetInfo) ManagerCommand.GetInfo command _ b) [
                   | inl p ↦ p.0 ∙ ap manager_command_text p.1
-                  | inr h ↦
-                  elim (chosen word (manager_command_text ManagerCommand.InitiateRelease) ManagerCommand.InitiateRelease command _ h) [
-                    | inl p ↦ p.0 ∙ ap manager_command_text p.1
-                    | inr j ↦
-                    elim (chosen word (manager_command_text ManagerCommand.AddReference) ManagerCommand.AddReference command _ j) [
-                      | inl p ↦ p.0 ∙ ap manager_command_text p.1
-                      | inr k ↦
-                      elim (chosen word (manager_command_text ManagerCommand.RemoveReference) ManagerCommand.RemoveReference command _ k) [
+                  | inr d ↦
+                      elim (chosen word (manager_command_text ManagerCommand.GetRegionConfiguration) ManagerCommand.GetRegionConfiguration command _ d) [
                         | inl p ↦ p.0 ∙ ap manager_command_text p.1
-                        | inr l ↦
-                        elim (chosen word (manager_command_text ManagerCommand.ListTags) ManagerCommand.ListTags command _ l) [
-                          | inl p ↦ p.0 ∙ ap manager_command_text p.1
-                          | inr m ↦
-                            cc
-                        ]
+                        | inr e ↦
+                            elim (chosen word (manager_command_text ManagerCommand.SetRegionConfiguration) ManagerCommand.SetRegionConfiguration command _ e) [
+                              | inl p ↦ p.0 ∙ ap manager_command_text p.1
+                              | inr f ↦
+                                  elim (chosen word (manager_command_text ManagerCommand.GetRegionExtentLists) ManagerCommand.GetRegionExtentLists command _ f) [
+                                    | inl p ↦ p.0 ∙ ap manager_command_text p.1
+                                    | inr g ↦
+                                        elim (chosen word (manager_command_text ManagerCommand.InitiateAdd) ManagerCommand.InitiateAdd command _ g) [
+                                          | inl p ↦ p.0 ∙ ap manager_command_text p.1
+                                          | inr h ↦
+                                              elim (chosen word (manager_command_text ManagerCommand.InitiateRelease) ManagerCommand.InitiateRelease command _ h) [
+                                                | inl p ↦ p.0 ∙ ap manager_command_text p.1
+                                                | inr j ↦
+                                                    elim (chosen word (manager_command_text ManagerCommand.AddReference) ManagerCommand.AddReference command _ j) [
+                                                      | inl p ↦ p.0 ∙ ap manager_command_text p.1
+                                                      | inr k ↦
+                                                          elim (chosen word (manager_command_text ManagerCommand.RemoveReference) ManagerCommand.RemoveReference command _ k) [
+                                                            | inl p ↦ p.0 ∙ ap manager_command_text p.1
+                                                            | inr l ↦
+                                                                elim (chosen word (manager_command_text ManagerCommand.ListTags) ManagerCommand.ListTags command _ l) [
+                                                                  | inl p ↦ p.0 ∙ ap manager_command_text p.1
+                                                                  | inr m ↦
+                                                                      cc
+                                                                ]
+                                                          ]
+                                                    ]
+                                              ]
+                                        ]
+                                  ]
+                            ]
                       ]
-                    ]
-                  ]
                 ]
-              ]
-            ]
           ]
-        ]
-      ]
     ]

@@ -116,14 +116,14 @@ opened_by frame word o is =
     elim (chosen_opening word (codes "mark") Opening.Mark o _ is) [
       | inl p ↦ subst (OpenedBy frame word) p.1 p.0
       | inr a ↦
-      elim (chosen_opening word (codes "scrub") Opening.Scrub o _ a) [
-        | inl p ↦ subst (OpenedBy frame word) p.1 p.0
-        | inr b ↦
-        elim (chosen_opening word (codes "command") Opening.Command o _ b) [
-          | inl p ↦ subst (OpenedBy frame word) p.1 p.0
-          | inr d ↦ opened_actor frame word o (actor_of_word frame Wanted.Line word) refl d
-        ]
-      ]
+          elim (chosen_opening word (codes "scrub") Opening.Scrub o _ a) [
+            | inl p ↦ subst (OpenedBy frame word) p.1 p.0
+            | inr b ↦
+                elim (chosen_opening word (codes "command") Opening.Command o _ b) [
+                  | inl p ↦ subst (OpenedBy frame word) p.1 p.0
+                  | inr d ↦ opened_actor frame word o (actor_of_word frame Wanted.Line word) refl d
+                ]
+          ]
     ]
 
 -- ---- no line of the head opens a line of the script

@@ -59,7 +59,7 @@ page_goes most first count u rest takes =
     let next : takes.1 ≡ keyword_text Keyword.Count ∷ takes.4.1 = takes.4.2 ∙ ap (λ ws. ws ++ takes.4.1) takes.4.3 in
     goes_then _ _ rest (may_goes Keyword.First Form.Count most first u takes.0 takes.1 takes.2 takes.3 (is_key Keyword.First Keyword.Count takes.1 takes.4.1 next refl))
     (λ left here. goes_made (named_ahead Keyword.Count most left) count rest (λ n. record { first = first; count = n })
-      (named_goes Keyword.Count Form.Count most count left rest (subst (λ ws. Takes ws (key Keyword.Count ∷ Part.Number Form.Count most count ∷ []) rest) (sym here) takes.4)))
+    (named_goes Keyword.Count Form.Count most count left rest (subst (λ ws. Takes ws (key Keyword.Count ∷ Part.Number Form.Count most count ∷ []) rest) (sym here) takes.4)))
 
 pub page_sound : (most : ℕ) (u : UnreadWords) (x : Page × UnreadWords) → page_ahead most u ≡ Ok x → Took u.words (page_parts most x.0.first x.0.count) x.1.words
 unfolding page_ahead
@@ -90,11 +90,11 @@ clearing_goes log all handles u rest takes stops =
     let list = set.4 in
     goes_then _ _ rest (named_goes Keyword.Log Form.Count 255 log u number.1 (takes.0, takes.1, takes.2, takes.3, (number.0, number.1, number.2, number.3, refl)))
     (λ left here.
-      flag_then (λ (set : Bool × UnreadWords). handles_ahead set.1 >>= (λ hs. Ok (record { log = log; all = set.0; handles = hs.0 }, hs.1))) _ rest
-      (flag_goes Keyword.All left all set.0 set.1 (here ∙ set.2) set.3 (handles_not handles set.1 list.0 list.1 list.2 list.3 (subst Stops (sym list.4) stops)))
-      (λ next there.
-        goes_made (handles_ahead next) handles rest (λ hs. record { log = log; all = all; handles = hs })
-        (handles_goes handles next list.0 rest (there ∙ list.2 ∙ ap (λ ws. list.0 ++ ws) list.4) list.3 stops (stops_not Keyword.Handles rest handles_inner stops))))
+    flag_then (λ (set : Bool × UnreadWords). handles_ahead set.1 >>= (λ hs. Ok (record { log = log; all = set.0; handles = hs.0 }, hs.1))) _ rest
+    (flag_goes Keyword.All left all set.0 set.1 (here ∙ set.2) set.3 (handles_not handles set.1 list.0 list.1 list.2 list.3 (subst Stops (sym list.4) stops)))
+    (λ next there.
+    goes_made (handles_ahead next) handles rest (λ hs. record { log = log; all = all; handles = hs })
+    (handles_goes handles next list.0 rest (there ∙ list.2 ∙ ap (λ ws. list.0 ++ ws) list.4) list.3 stops (stops_not Keyword.Handles rest handles_inner stops))))
 
 clearing_sound : (u : UnreadWords) (x : Clearing × UnreadWords) → clearing_ahead u ≡ Ok x → Took u.words (clearing_parts x.0.log x.0.all x.0.handles) x.1.words
 unfolding clearing_ahead
@@ -173,7 +173,7 @@ unfolding host_page_ahead
 host_page_goes most host first count u rest takes =
     goes_then _ _ rest (host_goes host u takes.0 takes.1 takes.2 takes.3)
     (λ left here. goes_made (page_ahead most left) (record { first = first; count = count }) rest (λ (p : Page). record { host = host; page = p })
-      (page_goes most first count left rest (subst (λ ws. Takes ws (page_parts most first count) rest) (sym here) takes.4)))
+    (page_goes most first count left rest (subst (λ ws. Takes ws (page_parts most first count) rest) (sym here) takes.4)))
 
 host_page_sound : (most : ℕ) (u : UnreadWords) (x : HostPage × UnreadWords) → host_page_ahead most u ≡ Ok x → Took u.words (Part.HostOf x.0.host ∷ page_parts most x.0.page.first x.0.page.count) x.1.words
 unfolding host_page_ahead
@@ -196,11 +196,11 @@ setting_goes region block sanitize u rest takes stops =
     let set = size.4 in
     goes_then _ _ rest (named_goes Keyword.Region Form.Count 255 region u number.1 (takes.0, takes.1, takes.2, takes.3, (number.0, number.1, number.2, number.3, refl)))
     (λ left here.
-      goes_then _ _ rest (named_goes Keyword.Block Form.Size most_64 block left size.1 (key_block.0, key_block.1, here ∙ key_block.2, key_block.3, (size.0, size.1, size.2, size.3, refl)))
-      (λ next there.
-        flag_then (λ (set : Bool × UnreadWords). Ok (record { region = region; block = block; sanitize = set.0 }, set.1)) _ rest
-        (flag_goes Keyword.Sanitize next sanitize set.0 rest (there ∙ set.2 ∙ ap (λ ws. set.0 ++ ws) set.4) set.3 (stops_not Keyword.Sanitize rest sanitize_inner stops))
-        (λ last end. record { left = last; is = refl; words = end })))
+    goes_then _ _ rest (named_goes Keyword.Block Form.Size most_64 block left size.1 (key_block.0, key_block.1, here ∙ key_block.2, key_block.3, (size.0, size.1, size.2, size.3, refl)))
+    (λ next there.
+    flag_then (λ (set : Bool × UnreadWords). Ok (record { region = region; block = block; sanitize = set.0 }, set.1)) _ rest
+    (flag_goes Keyword.Sanitize next sanitize set.0 rest (there ∙ set.2 ∙ ap (λ ws. set.0 ++ ws) set.4) set.3 (stops_not Keyword.Sanitize rest sanitize_inner stops))
+    (λ last end. record { left = last; is = refl; words = end })))
 
 setting_sound : (u : UnreadWords) (x : Setting × UnreadWords) → setting_ahead u ≡ Ok x → Took u.words (setting_parts x.0.region x.0.block x.0.sanitize) x.1.words
 unfolding setting_ahead
@@ -218,7 +218,7 @@ unfolding spot_ahead
 spot_goes host region u rest takes =
     goes_then _ _ rest (host_goes host u takes.0 takes.1 takes.2 takes.3)
     (λ left here. goes_made (named_ahead Keyword.Region 255 left) region rest (λ r. record { host = host; region = r })
-      (named_goes Keyword.Region Form.Count 255 region left rest (subst (λ ws. Takes ws (key Keyword.Region ∷ Part.Number Form.Count 255 region ∷ []) rest) (sym here) takes.4)))
+    (named_goes Keyword.Region Form.Count 255 region left rest (subst (λ ws. Takes ws (key Keyword.Region ∷ Part.Number Form.Count 255 region ∷ []) rest) (sym here) takes.4)))
 
 spot_sound : (u : UnreadWords) (x : Spot × UnreadWords) → spot_ahead u ≡ Ok x → Took u.words (spot_parts x.0.host x.0.region) x.1.words
 unfolding spot_ahead
@@ -261,8 +261,8 @@ capacity_goes bytes tag xs u rest takes stops =
     let end : mark.1 ≡ list.0 ++ rest = list.2 ∙ ap (λ ws. list.0 ++ ws) list.4 in
     goes_then _ _ rest (may_goes Keyword.Length Form.Size most_64 bytes u takes.0 takes.1 takes.2 takes.3 (tag_not Keyword.Length tag xs takes.1 mark.0 mark.1 list.0 rest length_inner refl mark.2 mark.3 end list.3 stops))
     (λ left here.
-      goes_then _ _ rest (may_tag_goes tag left mark.0 mark.1 (here ∙ mark.2) mark.3 (subst (IsNot Keyword.Tag) (sym end) (extents_not Keyword.Tag xs list.0 rest tag_inner list.3.1 stops)))
-      (λ next there. goes_made (extents_ahead 1637 next) xs rest (λ ys. record { length = bytes; tag = tag; extents = ys }) (extents_goes 1637 xs next list.0 rest (there ∙ end) list.3 stops)))
+    goes_then _ _ rest (may_tag_goes tag left mark.0 mark.1 (here ∙ mark.2) mark.3 (subst (IsNot Keyword.Tag) (sym end) (extents_not Keyword.Tag xs list.0 rest tag_inner list.3.1 stops)))
+    (λ next there. goes_made (extents_ahead 1637 next) xs rest (λ ys. record { length = bytes; tag = tag; extents = ys }) (extents_goes 1637 xs next list.0 rest (there ∙ end) list.3 stops)))
 
 capacity_sound : (u : UnreadWords) (x : Capacity × UnreadWords) → capacity_ahead u ≡ Ok x → Took u.words (capacity_parts x.0.length x.0.tag x.0.extents) x.1.words
 unfolding capacity_ahead
@@ -290,9 +290,9 @@ add_goes host policy region bytes tag xs u rest takes stops =
     let p = spot_front host region u.words rest (Part.AddPolicy policy ∷ capacity_parts bytes tag xs) takes in
     goes_then _ _ rest (spot_goes host region u p.0 p.1)
     (λ left here.
-      goes_then _ _ rest (add_policy_goes policy left p.2.0 p.2.1 (here ∙ p.2.2) p.2.3)
-      (λ next there. goes_made (capacity_ahead next) (record { length = bytes; tag = tag; extents = xs }) rest (λ (y : Capacity). FmRequest.Add host policy region y.length y.tag y.extents)
-        (capacity_goes bytes tag xs next rest (subst (λ ws. Takes ws (capacity_parts bytes tag xs) rest) (sym there) p.2.4) stops)))
+    goes_then _ _ rest (add_policy_goes policy left p.2.0 p.2.1 (here ∙ p.2.2) p.2.3)
+    (λ next there. goes_made (capacity_ahead next) (record { length = bytes; tag = tag; extents = xs }) rest (λ (y : Capacity). FmRequest.Add host policy region y.length y.tag y.extents)
+    (capacity_goes bytes tag xs next rest (subst (λ ws. Takes ws (capacity_parts bytes tag xs) rest) (sym there) p.2.4) stops)))
 
 remove_goes : (host flags region bytes : ℕ) (tag : Tag) (xs : List Extent) (u : UnreadWords) (rest : List (List ℕ)) → Takes u.words (spot_parts host region ++ Part.ReleaseFlags flags ∷ capacity_parts bytes tag xs) rest → Stops rest → Goes (remove_ahead u) (FmRequest.Remove host flags region bytes tag xs) rest
 unfolding remove_ahead
@@ -300,10 +300,10 @@ remove_goes host flags region bytes tag xs u rest takes stops =
     let p = spot_front host region u.words rest (Part.ReleaseFlags flags ∷ capacity_parts bytes tag xs) takes in
     goes_then _ _ rest (spot_goes host region u p.0 p.1)
     (λ left here.
-      goes_then _ _ rest (release_flags_goes flags left p.2.0 p.2.1 (here ∙ p.2.2) p.2.3
-        (capacity_not Keyword.Forced bytes tag xs p.2.1 rest forced_inner refl refl p.2.4 stops) (capacity_not Keyword.Sanitize bytes tag xs p.2.1 rest sanitize_inner refl refl p.2.4 stops))
-      (λ next there. goes_made (capacity_ahead next) (record { length = bytes; tag = tag; extents = xs }) rest (λ (y : Capacity). FmRequest.Remove host flags region y.length y.tag y.extents)
-        (capacity_goes bytes tag xs next rest (subst (λ ws. Takes ws (capacity_parts bytes tag xs) rest) (sym there) p.2.4) stops)))
+    goes_then _ _ rest (release_flags_goes flags left p.2.0 p.2.1 (here ∙ p.2.2) p.2.3
+    (capacity_not Keyword.Forced bytes tag xs p.2.1 rest forced_inner refl refl p.2.4 stops) (capacity_not Keyword.Sanitize bytes tag xs p.2.1 rest sanitize_inner refl refl p.2.4 stops))
+    (λ next there. goes_made (capacity_ahead next) (record { length = bytes; tag = tag; extents = xs }) rest (λ (y : Capacity). FmRequest.Remove host flags region y.length y.tag y.extents)
+    (capacity_goes bytes tag xs next rest (subst (λ ws. Takes ws (capacity_parts bytes tag xs) rest) (sym there) p.2.4) stops)))
 
 pub manager_request_goes : (q : FmRequest) (u : UnreadWords) (rest : List (List ℕ)) → Takes u.words (manager_tail q) rest → Stops rest → Goes (manager_request_ahead (manager_command_of q) u) q rest
 unfolding manager_request_ahead

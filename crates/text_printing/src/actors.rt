@@ -6,10 +6,10 @@ ghost use Rattle.text_lines.specs.Actors.{actor_text, seat_text};
 ghost use Rattle.text_lines.specs.Parts.{Part};
 ghost use Rattle.text_printing.specs.Printing.{AddsParts, IsSmall, StartsLine, has_word};
 
-use text_lines::Frame;
 use crate::words::put_h;
 use dcd_base::{Actor, Bytes, NoMemory};
 use field_bytes::fits_8;
+use text_lines::Frame;
 use text_words::put_decimal;
 
 /// Appends a host of the script, and its lane behind a dot in version 2.

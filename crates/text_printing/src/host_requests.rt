@@ -8,12 +8,11 @@ ghost use Rattle.text_lines.specs.Commands.{host_command_text};
 ghost use Rattle.text_lines.specs.Parts.{Part};
 ghost use Rattle.text_printing.specs.Printing.{AddsParts};
 
-use text_lines::HostCommand;
-use text_lines::Keyword;
 use crate::lists::{put_extents, put_handles};
-use crate::words::{put_flag, put_may_count, put_named_count, put_fixed};
+use crate::words::{put_fixed, put_flag, put_may_count, put_named_count};
 use dcd_base::{Bytes, Extent, NoMemory};
 use host_payloads::HostRequest;
+use text_lines::{HostCommand, Keyword};
 
 /// Appends a log.
 pub fn put_log(log: u8, out: &mut Bytes) -> Result<(), NoMemory>
@@ -23,12 +22,7 @@ pub fn put_log(log: u8, out: &mut Bytes) -> Result<(), NoMemory>
 }
 
 /// Appends which records to clear.
-pub fn put_clearing(
-    log: u8,
-    all: bool,
-    handles: &[u16],
-    out: &mut Bytes,
-) -> Result<(), NoMemory>
+pub fn put_clearing(log: u8, all: bool, handles: &[u16], out: &mut Bytes) -> Result<(), NoMemory>
     requires { length handles.now ≤ 255 }
     ensures { OnOk result (AddsParts out.old out.new (clearing_parts log all handles.now)) }
 {

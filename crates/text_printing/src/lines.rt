@@ -11,9 +11,7 @@ ghost use Rattle.text_lines.specs.Parts.{Form, Part};
 ghost use Rattle.text_printing.specs.Printing.{AddsLine, AddsParts, PrintsAct, PrintsHostCommand, PrintsLine, PrintsManagerCommand, has_word};
 
 use crate::actors::{begin_actor, put_actor};
-use text_lines::Frame;
 use crate::host_requests::put_host_request;
-use text_lines::Keyword;
 use crate::lists::put_bytes;
 use crate::manager_requests::put_manager_request;
 use crate::naming::{named_by_host, named_by_manager};
@@ -25,6 +23,7 @@ use host_payloads::HostRequest;
 use journal_core::Act;
 use script_codec::Line;
 use std::alloc::Global;
+use text_lines::{Frame, Keyword};
 
 /// Appends a mark.
 fn put_mark(out: &mut Bytes) -> Result<(), NoMemory>
@@ -253,12 +252,7 @@ fn put_act(
 
 /// Appends a line of a script: the words that say it, with one space between them, and a line feed.
 #[tactic(auto, unfolding(text_lines::specs::Layouts::line_parts))]
-pub fn put_line(
-    alloc: Global,
-    frame: Frame,
-    line: &Line,
-    out: &mut Bytes,
-) -> Result<(), NoMemory>
+pub fn put_line(alloc: Global, frame: Frame, line: &Line, out: &mut Bytes) -> Result<(), NoMemory>
     requires lanes { IsTrue (are_lanes frame.version frame.lanes) }
     requires sound { IsTrue (is_sound_line frame.hosts frame.lanes line.now) }
     requires short { IsTrue (has_short_message line.now) }

@@ -7,10 +7,10 @@ ghost use Rattle.text_lines.specs.Parts.{Part, SaysExtent, SaysNumber};
 ghost use Rattle.text_printing.specs.Printing.{AddsItems, AddsParts};
 ghost use Rattle.text_words.specs.Extents.{extent_text};
 
-use text_lines::Keyword;
 use crate::words::put_key;
 use dcd_base::{Bytes, Extent, NoMemory};
 use field_bytes::{are_bytes, fits_64};
+use text_lines::Keyword;
 use text_words::{law_decimal, law_extent, put_decimal, put_extent, put_pairs};
 
 /// Appends a handle.

@@ -8,14 +8,16 @@ ghost use Rattle.text_lines.specs.Layouts.{capacity_parts, manager_command_of as
 ghost use Rattle.text_lines.specs.Parts.{Part};
 ghost use Rattle.text_printing.specs.Printing.{AddsParts};
 
-use text_lines::ManagerCommand;
 use crate::host_requests::{put_clearing, put_log, put_page};
-use text_lines::Keyword;
 use crate::lists::put_extents;
 use crate::policies::{put_add_policy, put_release_flags};
-use crate::words::{put_flag, put_host, put_may_number, put_may_tag, put_named_count, put_named_number, put_tag_word, put_fixed};
+use crate::words::{
+    put_fixed, put_flag, put_host, put_may_number, put_may_tag, put_named_count, put_named_number,
+    put_tag_word,
+};
 use dcd_base::{Bytes, Extent, NoMemory, Tag};
 use fm_payloads::FmRequest;
+use text_lines::{Keyword, ManagerCommand};
 
 /// Appends a host, the first item that is asked for of it, and how many.
 fn put_host_page(
@@ -54,12 +56,7 @@ fn put_spot(host: u16, region: u8, out: &mut Bytes) -> Result<(), NoMemory>
 }
 
 /// Appends a length in bytes, a tag and extents.
-fn put_capacity(
-    size: u64,
-    tag: &Tag,
-    extents: &[Extent],
-    out: &mut Bytes,
-) -> Result<(), NoMemory>
+fn put_capacity(size: u64, tag: &Tag, extents: &[Extent], out: &mut Bytes) -> Result<(), NoMemory>
     requires few { length extents.now ≤ 1637 }
     requires untagged { IsTrue (list_all is_untagged extents.now) }
     ensures { OnOk result (AddsParts out.old out.new (capacity_parts size tag.now extents.now)) }
@@ -151,17 +148,49 @@ fn put_tail(request: &FmRequest, out: &mut Bytes) -> Result<(), NoMemory>
         FmRequest::GetRegions { host, count, first } => {
             put_host_page(*host, 255, *first as u64, *count as u64, out)
         }
-        FmRequest::SetRegion { region, sanitize, block } => {
-            put_setting(*region, *block, *sanitize, out)
-        }
+        FmRequest::SetRegion {
+            region,
+            sanitize,
+            block,
+        } => { put_setting(*region, *block, *sanitize, out) }
         FmRequest::GetExtentLists { host, count, first } => {
             put_host_page(*host, 0xFFFF_FFFF, *first as u64, *count as u64, out)
         }
-        FmRequest::Add { host, policy, region, length, tag, extents } => {
-            put_add(*host, *region, *policy, *length, tag, extents.as_slice(), out)
+        FmRequest::Add {
+            host,
+            policy,
+            region,
+            length,
+            tag,
+            extents,
+        } => {
+            put_add(
+                *host,
+                *region,
+                *policy,
+                *length,
+                tag,
+                extents.as_slice(),
+                out,
+            )
         }
-        FmRequest::Remove { host, flags, region, length, tag, extents } => {
-            put_remove(*host, *region, *flags, *length, tag, extents.as_slice(), out)
+        FmRequest::Remove {
+            host,
+            flags,
+            region,
+            length,
+            tag,
+            extents,
+        } => {
+            put_remove(
+                *host,
+                *region,
+                *flags,
+                *length,
+                tag,
+                extents.as_slice(),
+                out,
+            )
         }
         FmRequest::AddReference { tag } => put_tag_word(tag, out),
         FmRequest::RemoveReference { tag } => put_tag_word(tag, out),

@@ -17,7 +17,9 @@ use std::alloc::Global;
 fn are_untagged(extents: &[Extent]) -> bool
     ensures { result ≡ list_all is_untagged extents.now }
 {
-    extents.iter().all(|extent| is_no_tag(&extent.tag) && extent.sequence == 0)
+    extents
+        .iter()
+        .all(|extent| is_no_tag(&extent.tag) && extent.sequence == 0)
 }
 
 /// Whether a line says all of these extents, at most so many.

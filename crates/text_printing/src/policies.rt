@@ -5,9 +5,9 @@ ghost use Rattle.text_lines.specs.Parts.{Part};
 ghost use Rattle.text_lines.specs.Policies.{add_policy_text, are_named, release_policy_text};
 ghost use Rattle.text_printing.specs.Printing.{AddsParts};
 
-use text_lines::Keyword;
 use crate::words::{put_flag, put_key, put_named_count, put_word};
 use dcd_base::{Bytes, NoMemory};
+use text_lines::Keyword;
 use text_words::{law_hexadecimal, put_hexadecimal};
 
 /// The name of a policy of an add, below 4.

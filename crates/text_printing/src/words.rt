@@ -7,9 +7,11 @@ ghost use Rattle.text_printing.specs.Printing.{AddsParts, StartsLine};
 ghost use Rattle.text_words.specs.Characters.{IsTextWord};
 ghost use Rattle.text_words.specs.Words.{spaced};
 
-use text_lines::Keyword;
 use dcd_base::{Bytes, NoMemory, Tag, is_no_tag};
-use text_words::{law_decimal, law_size, law_sizes, law_tag, put_decimal, put_size, put_sizes, put_tag};
+use text_lines::Keyword;
+use text_words::{
+    law_decimal, law_size, law_sizes, law_tag, put_decimal, put_size, put_sizes, put_tag,
+};
 
 /// Appends a space and a word.
 pub fn put_word(word: &[u8], out: &mut Bytes) -> Result<(), NoMemory>
