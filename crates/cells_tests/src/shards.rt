@@ -156,18 +156,29 @@ fn grant(
 
 /// What is told of an address before and after host 0 holds it, by different seen stamps, and after it is zeroed; and
 /// the clock once it is granted.
+fn steps_of_one(
+    alloc: Global,
+    shard: &mut Shard,
+    config: &Config,
+) -> Result<([(Told, Stamp); 5], Stamp), Fail>
+    requires shard { (shard.old.config ≡ config.now) × (shard.old.index ≡ 0) }
+    requires hosts { config.now.hosts ≡ 2 }
+{
+    let refused = load(shard, 0, config, stamp(0, 0), 0)?;
+    grant(alloc, shard, config, 1, 0, false)?;
+    let granted = shard.clock();
+    let stored = store(shard, 0, config, stamp(0, 1), 0)?;
+    let ahead = load(shard, 0, config, stamp(1, 4), 0)?;
+    let behind = load(shard, 0, config, stamp(0, 9), 0)?;
+    grant(alloc, shard, config, 2, 0, true)?;
+    let zeroed = load(shard, 0, config, stamp(1, 6), 0)?;
+    Ok(([refused, stored, ahead, behind, zeroed], granted))
+}
+
 fn one_shard(alloc: Global) -> Result<([(Told, Stamp); 5], Stamp), Fail> {
     let config = two_hosts(alloc)?;
     let mut shard = Shard::new(alloc, 0, &config)?;
-    let refused = load(&mut shard, 0, &config, stamp(0, 0), 0)?;
-    grant(alloc, &mut shard, &config, 1, 0, false)?;
-    let granted = shard.clock();
-    let stored = store(&mut shard, 0, &config, stamp(0, 1), 0)?;
-    let ahead = load(&mut shard, 0, &config, stamp(1, 4), 0)?;
-    let behind = load(&mut shard, 0, &config, stamp(0, 9), 0)?;
-    grant(alloc, &mut shard, &config, 2, 0, true)?;
-    let zeroed = load(&mut shard, 0, &config, stamp(1, 6), 0)?;
-    Ok(([refused, stored, ahead, behind, zeroed], granted))
+    steps_of_one(alloc, &mut shard, &config)
 }
 
 #[test]
@@ -196,21 +207,40 @@ fn journal_of(alloc: Global, accesses: &[Access]) -> Result<Journal, Fail> {
     Ok(journal)
 }
 
-/// Shard 0 after loads by the stamps (0, 1) and (1, 2), and shard 1 after loads by (1, 1) and (1, 2).
+/// Loads by the stamps (0, 1) and (1, 2) of shard 0, and by (1, 1) and (1, 2) of shard 1.
+fn steps_of_two(
+    alloc: Global,
+    first: &mut Shard,
+    second: &mut Shard,
+    config: &Config,
+) -> Result<(), Fail>
+    requires first { (first.old.config ≡ config.now) × (first.old.index ≡ 0) }
+    requires second { (second.old.config ≡ config.now) × (second.old.index ≡ 1) }
+    requires hosts { config.now.hosts ≡ 2 }
+{
+    load(first, 0, config, stamp(0, 0), 0)?;
+    grant(alloc, first, config, 1, 0, false)?;
+    grant(alloc, second, config, 1, 1, false)?;
+    load(second, 1, config, stamp(0, 0), M)?;
+    load(first, 0, config, stamp(1, 1), 0)?;
+    load(second, 1, config, stamp(1, 1), M)?;
+    Ok(())
+}
+
+/// The journals of both.
+fn journals_of(alloc: Global, first: &[Access], second: &[Access]) -> Result<Vec<Journal>, Fail> {
+    let mut journals = Vec::new(alloc);
+    journals.push(journal_of(alloc, first)?)?;
+    journals.push(journal_of(alloc, second)?)?;
+    Ok(journals)
+}
+
 fn two_shards(alloc: Global) -> Result<Vec<Journal>, Fail> {
     let config = two_hosts(alloc)?;
     let mut first = Shard::new(alloc, 0, &config)?;
     let mut second = Shard::new(alloc, 1, &config)?;
-    load(&mut first, 0, &config, stamp(0, 0), 0)?;
-    grant(alloc, &mut first, &config, 1, 0, false)?;
-    grant(alloc, &mut second, &config, 1, 1, false)?;
-    load(&mut second, 1, &config, stamp(0, 0), M)?;
-    load(&mut first, 0, &config, stamp(1, 1), 0)?;
-    load(&mut second, 1, &config, stamp(1, 1), M)?;
-    let mut journals = Vec::new(alloc);
-    journals.push(journal_of(alloc, first.entries())?)?;
-    journals.push(journal_of(alloc, second.into_entries().as_slice())?)?;
-    Ok(journals)
+    steps_of_two(alloc, &mut first, &mut second, &config)?;
+    journals_of(alloc, first.entries(), second.into_entries().as_slice())
 }
 
 /// A scrub with this number, in line 9.
@@ -226,18 +256,29 @@ fn scrub(number: u64) -> Entry {
     }
 }
 
-/// The line and the stamp of each entry of two scrubs and two shards.
-fn merged(alloc: Global) -> Result<Vec<(u32, Stamp)>, Fail> {
+/// Two scrubs.
+fn two_scrubs(alloc: Global) -> Result<Journal, Fail> {
     let mut control = Journal::new(alloc);
     control.push(scrub(1))?;
     control.push(scrub(2))?;
-    let shards = two_shards(alloc)?;
-    let journal = merge(alloc, &control, shards.as_slice())?;
+    Ok(control)
+}
+
+/// The line and the stamp of each entry.
+fn lines_of(alloc: Global, entries: &[Entry]) -> Result<Vec<(u32, Stamp)>, Fail> {
     let mut lines = Vec::new(alloc);
-    for entry in journal.as_slice() {
+    for entry in entries {
         lines.push((entry.line, entry.stamp))?;
     }
     Ok(lines)
+}
+
+/// The line and the stamp of each entry of two scrubs and two shards.
+fn merged(alloc: Global) -> Result<Vec<(u32, Stamp)>, Fail> {
+    let control = two_scrubs(alloc)?;
+    let shards = two_shards(alloc)?;
+    let journal = merge(alloc, &control, shards.as_slice())?;
+    lines_of(alloc, journal.as_slice())
 }
 
 #[test]
