@@ -1,5 +1,5 @@
 //! A handler that keeps the calls of each pass.
-ghost use Rattle.workers_tests.specs.Desks.{DeskState, desk_reads};
+ghost use Rattle.workers_tests.specs.Desks.{desk_reads};
 
 use dcd_base::{Actor, NoMemory, Stamp};
 use journal_core::{Act, Entry, EntryEffects, Journal, Reply};
@@ -18,6 +18,7 @@ pub struct Desk {
 impl Model for Desk {
     ghost use Rattle.std.specs.Prelude.{map};
     ghost use Rattle.journal_core.specs.Merging.{call_of};
+    ghost use Rattle.workers_tests.specs.Desks.{DeskState};
 
     ghost Value = { DeskState };
 

@@ -13,7 +13,6 @@ use std::thread::Threads;
 use workers::run_phase;
 
 /// Runs the lines in one phase.
-#[tactic(auto, using(crate::proofs::DeskSteps::desks_ready, crate::proofs::DeskSteps::desks_after))]
 pub fn run_together<R: Threads + Wait + Sync + AllocGlobal, G: Gate>(
     rt: &R,
     keeper: &Keeper,

@@ -4,8 +4,11 @@ use crate::keeper::{Desk, Keeper};
 use crate::marked::{run_apart, run_together};
 use crate::threads::{Watch, threads_now};
 use dcd_base::{NoGate, NoMemory};
+use std::alloc::AllocGlobal;
+use std::sync::Wait;
 use std::sync::atomic::{AtomicU64, Ordering};
 use std::test::*;
+use std::thread::Threads;
 
 /// The numbers of the lines of each pass, of ten lines in one phase.
 const TOGETHER: [&[u32]; 6] = [&[1, 9], &[3, 7], &[2, 6], &[4, 8], &[], &[5, 10]];
@@ -33,8 +36,8 @@ fn have_lines(desks: &[Desk], lines: &[&[u32]]) -> bool {
 }
 
 /// The passes after ten lines, the first of which has the number 1.
-fn after_ten(
-    rt: &HostRuntime,
+fn after_ten<R: Threads + Wait + Sync + AllocGlobal>(
+    rt: &R,
     refused: u32,
 ) -> Result<(Vec<Desk>, Result<(), NoMemory>), NoMemory> {
     let alloc = rt.alloc();

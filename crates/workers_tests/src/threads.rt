@@ -18,6 +18,7 @@ pub fn threads_now(rt: &HostRuntime) -> u64 {
 }
 
 /// A gate that remembers the most threads that there were before a line.
+#[derive(Drop)]
 pub struct Watch<'a> {
     pub rt: &'a HostRuntime,
     pub most: AtomicU64,
