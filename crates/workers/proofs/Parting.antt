@@ -4,7 +4,7 @@ use Rattle.std.proofs.Math.Nat.{mul_comm}
 use Rattle.std.proofs.lemmas.Nat.{mul-add-lt}
 use Rattle.std.proofs.lemmas.List.{drop_more, get_or-replicate, length-replicate, length-set, get_or-set_same, get_or-set_other, get_or_default}
 use Rattle.std.proofs.lemmas.Bool.{and_parts, both_ways, cases_eq, eqb-true, eq-eqb, ltb-true, ne_eqb}
-use Rattle.std.specs.Prelude.{slice_index, ◌==◌, nat_lt, Bool, true, false, if◌then◌else◌}
+use Rattle.std.specs.Prelude.{slice_index, nat_lt, false, if◌then◌else◌}
 use Rattle.dcd_base.specs.declared.steps.Actor.{Actor}
 use Rattle.journal_core.specs.Entries.{fits}
 use Rattle.journal_core.specs.declared.acts.Act.{Act}
@@ -14,7 +14,7 @@ use Rattle.script_codec.specs.Scripts.{is_sound_line}
 use Rattle.workers.specs.Phases.{is_line_of, tasks}
 use Rattle.std.specs.List.{list_all}
 use Rattle.workers.proofs.Standing.{all_at}
-use Rattle.workers.specs.Worklists.{IsPlaceOf, IsNextOf, AreHeads, AreLinked, ArePartedFrom}
+use Rattle.workers.specs.Worklists.{IsPlaceOf, IsNextOf, ArePartedFrom}
 
 host_fits : (hosts h : ℕ) (act : Act) → IsTrue (fits hosts (Actor.Host h) act) → h < hosts
 host_fits hosts h (Act.Command q) is = ltb-true h hosts is

@@ -1,12 +1,11 @@
 -- A pass stands at a place of its lines: it has done those before it.
-use Rattle.std.proofs.Common.{◌≡◌, ◌⊎◌, inl, inr, ℕ, suc, ◌+◌, ◌<◌, ◌≤◌, ◌^◌, List, [], ◌∷◌, ◌++◌, length, get_or, drop, refl, ap, sym, subst, ◌∙◌, arith, IsTrue}
+use Rattle.std.proofs.Common.{◌≡◌, ◌⊎◌, inl, inr, ℕ, suc, ◌+◌, ◌<◌, ◌≤◌, List, [], ◌∷◌, ◌++◌, length, get_or, drop, refl, ap, sym, subst, ◌∙◌, arith, IsTrue}
 use Rattle.std.proofs.lemmas.List.{length-append, drop_more, drop_all}
 use Rattle.std.proofs.lemmas.Bool.{both_ways, cases_Bool}
 use Rattle.std.proofs.lemmas.List.Folds.{list_all_at}
 use Rattle.std.specs.Prelude.{slice_index, Bool, true, false}
 use Rattle.std.specs.List.{list_all}
 use Rattle.script_codec.specs.declared.script_line.Line.{Line}
-use Rattle.script_codec.specs.Scripts.{is_sound_line}
 use Rattle.workers.specs.Handling.{HandlerReads}
 use Rattle.workers.specs.Phases.{GrownTo, Grown, is_line_of, phase, tasks}
 use Rattle.workers.specs.Serving.{IsReady, IsSamePass, HasServed, HasServedSome}

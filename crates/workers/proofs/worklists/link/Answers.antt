@@ -1,4 +1,4 @@
-use Rattle.std.proofs.Common.{◌≡◌, ◌<◌, ◌∙◌, length, subst, sym}
+use Rattle.std.proofs.Common.{◌<◌, length, subst, sym}
 use Rattle.workers.proofs.Parting.{act_linked, pass_inside}
 use Rattle.workers.proofs.worklists.link.Goals as goal
 
