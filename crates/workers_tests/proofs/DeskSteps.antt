@@ -16,7 +16,7 @@ use Rattle.script_codec.specs.declared.script_line.Line.{Line}
 use Rattle.script_codec.specs.Covering.{pass_of}
 use Rattle.script_codec.specs.Scripts.{is_sound_line}
 use Rattle.workers.specs.Phases.{Task, task_of, tasks, phase}
-use Rattle.workers.specs.Serving.{EachReady, EachServed, IsReady, HasServed}
+use Rattle.workers.specs.Serving.{EachReady, EachServed, IsReady}
 use Rattle.workers_tests.specs.Desks.{AreDesks, DeskState, IsDesk, actor_at, desk_reads}
 
 pub host_below : (hosts lanes number : ℕ) → 0 < lanes → hosts < 256 → number < hosts * lanes → number / lanes < 256

@@ -9,4 +9,4 @@ run_phase-requires-clause-ready g c κs within =
 pub returns : goal.returns
 returns g c =
     desks_after c.run_phase.result (λ (keeper : Keeper). keeper.hosts) c.args.keeper.now c.args.most c.args.number c.args.lines.now c.args.desks.now c.run_phase.new.passes c.requires.hosts c.requires.desks
-      c.run_phase.ensures.served
+    c.run_phase.ensures.served
