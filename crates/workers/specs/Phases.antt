@@ -1,5 +1,5 @@
 -- The lines of a phase, and which of them are a pass's.
-use Rattle.std.specs.Prelude.{◌≡◌, ℕ, ◌+◌, ◌==◌, Bool, false, List, [], ◌∷◌, ◌++◌, map, if◌then◌else◌}
+use Rattle.std.specs.Prelude.{◌≡◌, ℕ, suc, ◌+◌, ◌==◌, Bool, false, List, [], ◌∷◌, ◌++◌, map, if◌then◌else◌}
 use Rattle.journal_core.specs.declared.acts.Act.{Act}
 use Rattle.journal_core.specs.Merging.{Call}
 use Rattle.script_codec.specs.declared.script_line.Line.{Line}
@@ -50,3 +50,9 @@ phase hosts lanes first lines = record { hosts = hosts; lanes = lanes; first = f
 
 abbrev pub tasks_in : Phase → ℕ → List Task
 tasks_in f pass = tasks f.hosts f.lanes pass f.first f.lines
+
+-- how many lines the first phase of these lines has, with the mark that ends it
+abbrev pub phase_length : List Line → ℕ
+phase_length [] = 0
+phase_length (Line.Mark ∷ lines) = 1
+phase_length (Line.Do actor lane act ∷ lines) = suc (phase_length lines)
