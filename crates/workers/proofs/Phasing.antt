@@ -1,5 +1,5 @@
 -- Phases one after another.
-use Rattle.std.proofs.Common.{◌≡◌, ℕ, suc, ◌+◌, ◌<◌, ◌≤◌, ◌^◌, List, [], ◌∷◌, ◌++◌, length, map, drop, get_or, refl, ap, sym, subst, ◌∙◌, arith, IsTrue}
+use Rattle.std.proofs.Common.{◌≡◌, ℕ, suc, ◌+◌, ◌<◌, ◌≤◌, List, [], ◌∷◌, ◌++◌, length, map, ap, sym, subst, ◌∙◌, arith, IsTrue}
 use Rattle.std.proofs.lemmas.Bool.{and_parts}
 use Rattle.std.proofs.lemmas.List.{append_assoc, length-append, map-append, nil_from_length}
 use Rattle.std.proofs.lemmas.List.Folds.{list_all-append}
@@ -9,9 +9,9 @@ use Rattle.journal_core.specs.Merging.{Call}
 use Rattle.script_codec.specs.declared.script_line.Line.{Line}
 use Rattle.workers.specs.Handling.{HandlerReads}
 use Rattle.workers.specs.Phases.{GrownTo, Task, phase, phase_length, task_of, tasks}
-use Rattle.workers.specs.Serving.{EachPair, EachReady, EachServed, EachServedSome, IsReady, IsSamePass, HasServed, HasServedSome}
+use Rattle.workers.specs.Serving.{EachPair, EachReady, EachServed, EachServedSome, IsReady, IsSamePass}
 use Rattle.workers.proofs.Growing.{grown_more, grown_none, room_left, tasks_parts}
-use Rattle.workers.proofs.Standing.{rest_is, same_itself, same_pass}
+use Rattle.workers.proofs.Standing.{same_itself, same_pass}
 
 pub some_lines : (lines : List Line) → 0 < length lines → 0 < phase_length lines
 some_lines [] some = some

@@ -1,4 +1,4 @@
-use Rattle.std.proofs.Common.{rules, ◌≡◌, ◌+◌, ◌∙◌, arith, length, refl}
+use Rattle.std.proofs.Common.{rules, ◌+◌, ◌∙◌, arith, length, refl}
 use Rattle.script_codec.specs.Scripts.{is_sound_line}
 use Rattle.workers.proofs.Phasing.{all_served, phase_ready, phase_served, phase_stopped, some_served, sound_parts}
 use Rattle.workers.proofs.phases.run_phases.Goals as goal
