@@ -24,26 +24,45 @@ impl Conversation {
         folder: &str,
         name: &str,
     ) -> Result<Conversation, anyhow::Error> {
-        let alloc: Global = rt.alloc();
-        let script = bytes_of(rt, format!(in alloc; "{folder}/{name}.dcds")?.as_str())?;
-        let words = bytes_of(rt, format!(in alloc; "{folder}/{name}.words")?.as_str())?;
-        let status = bytes_of(rt, format!(in alloc; "{folder}/{name}.status")?.as_str())?;
-        let text = fs::read(rt, format!(in alloc; "{folder}/{name}.txt")?.as_str())?;
+        let words = words_of(rt, folder, name)?;
+        let status = status_of(rt, folder, name)?;
+        let text = text_of(rt, folder, name)?;
         Ok(Conversation {
-            script,
-            words: lines_of(alloc, str::from_utf8(words.as_slice())?)?,
-            status: number_of(str::from_utf8(status.as_slice())?)?,
+            script: bytes_of(rt, folder, name, "dcds")?,
+            words,
+            status,
             text,
         })
     }
 }
 
-/// The bytes of a file, none where there is no such file.
-fn bytes_of(rt: &HostRuntime, file: &str) -> io::Result<Vec<u8>> {
-    match fs::read(rt, file) {
-        Err(error) if error.kind() == ErrorKind::NotFound => Ok(Vec::new(rt.alloc())),
+/// The bytes of the conversation's file with this ending, none where there is no such file.
+fn bytes_of(rt: &HostRuntime, folder: &str, name: &str, ending: &str) -> io::Result<Vec<u8>> {
+    let alloc: Global = rt.alloc();
+    let file = format!(in alloc; "{folder}/{name}.{ending}")?;
+    match fs::read(rt, file.as_str()) {
+        Err(error) if error.kind() == ErrorKind::NotFound => Ok(Vec::new(alloc)),
         read => read,
     }
+}
+
+/// The bytes of the file that each conversation has.
+fn text_of(rt: &HostRuntime, folder: &str, name: &str) -> io::Result<Vec<u8>> {
+    let alloc: Global = rt.alloc();
+    let file = format!(in alloc; "{folder}/{name}.txt")?;
+    fs::read(rt, file.as_str())
+}
+
+/// The words, one a line.
+fn words_of(rt: &HostRuntime, folder: &str, name: &str) -> Result<Vec<String>, anyhow::Error> {
+    let words = bytes_of(rt, folder, name, "words")?;
+    Ok(lines_of(rt.alloc(), str::from_utf8(words.as_slice())?)?)
+}
+
+/// The exit status.
+fn status_of(rt: &HostRuntime, folder: &str, name: &str) -> Result<u8, anyhow::Error> {
+    let status = bytes_of(rt, folder, name, "status")?;
+    number_of(str::from_utf8(status.as_slice())?)
 }
 
 /// The lines of a text, without their ends.
