@@ -1,0 +1,4 @@
+pub mod Closing
+pub mod Commanding
+pub mod Passing
+pub mod Trying

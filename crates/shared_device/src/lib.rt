@@ -1,0 +1,16 @@
+//! The device that several threads use at once.
+#![tactic(auto)]
+
+mod access;
+mod cells;
+mod close;
+mod command;
+mod faults;
+mod pass;
+mod shared;
+mod start;
+mod tries;
+
+pub use faults::TryFault;
+pub use pass::Pass;
+pub use shared::Shared;
