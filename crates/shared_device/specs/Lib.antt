@@ -2,3 +2,4 @@ pub mod Closing
 pub mod Commanding
 pub mod Passing
 pub mod Trying
+pub mod Visiting

@@ -1,8 +1,18 @@
 //! What the cells of the device hold. Both are boxes: a turn moves the value out of its slot and into it, and that is a word.
 
+ghost use Rattle.dcd_base.specs.declared.steps.Actor.TheVariants.{Host};
+ghost use Rattle.journal_core.specs.Accesses.{access_entry};
+ghost use Rattle.journal_core.specs.Entries.{is_control};
+ghost use Rattle.media_map.specs.Places.{locate};
+ghost use Rattle.shard_laws.specs.Accessing.{AddsAccess, IsAccess};
+ghost use Rattle.shard_laws.specs.Belonging.{asked_at, shard_at};
+ghost use Rattle.shard_laws.specs.Clocks.{IsNextStamp};
+ghost use Rattle.std.specs.Prelude.{◌≡◌, ◌+◌, ◌<◌, ◌^◌, IfOk, OnErr, OnOk, false};
+
 use block_shard::Shard;
 use control_core::Control;
-use dcd_base::{Actor, Seq};
+use dcd_base::{AccessFault, Actor, HostId, NoMemory, Place, Seq, Stamp};
+use journal_core::{Act, Reply};
 use ruled_cells::{Chief, Member};
 use std::marker::Model;
 
@@ -54,6 +64,32 @@ impl Model for ShardCell {
     ghost Value = { Stripe };
 
     ghost view = { λ s. s.shard.value };
+}
+
+impl ShardCell {
+    /// A load or a store at the shard, as `Shard::access`.
+    pub(crate) fn access(
+        &mut self,
+        seen: Stamp,
+        pass: u32,
+        line: u32,
+        host: HostId,
+        act: &Act,
+        at: Result<Place, AccessFault>,
+    ) -> Result<(Reply, Stamp), NoMemory>
+        requires act { is_control act.now ≡ false }
+        requires host { host < self.old.config.hosts }
+        requires at { at ≡ locate self.old.config host (asked_at act.now) }
+        requires seen { seen.count + 1 < 2 ^ 64 }
+        requires clock { self.old.clock.count + 1 < 2 ^ 64 }
+        ensures next { OnOk result (IsNextStamp seen self.old.clock self.new.clock) }
+        ensures entered { IfOk result
+            (λ done. AddsAccess self.old self.new (access_entry pass line host act.now done.0 done.1)) }
+        ensures cells { IfOk result (λ done. IsAccess (shard_at at) pass (Host host) self.old self.new) }
+        ensures kept { OnErr result (self.new ≡ self.old) }
+    {
+        self.shard.as_mut().access(seen, pass, line, host, act, at)
+    }
 }
 
 impl Member for ShardCell {

@@ -9,6 +9,7 @@ mod faults;
 mod pass;
 mod shared;
 mod start;
+mod target;
 mod tries;
 
 pub use faults::TryFault;
