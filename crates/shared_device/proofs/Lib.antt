@@ -1,2 +1,5 @@
+mod ActorLists
+mod Fresh
+mod Rests
 mod Turns
 mod Visits

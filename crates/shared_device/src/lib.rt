@@ -2,10 +2,12 @@
 #![tactic(auto)]
 
 mod access;
+mod actors;
 mod cells;
 mod close;
 mod command;
 mod faults;
+mod making;
 mod pass;
 mod shared;
 mod start;

@@ -1,0 +1,28 @@
+-- Fresh cells.
+use Rattle.std.proofs.Common.{◌≡◌, ℕ, suc, List, [], ◌∷◌, ◌++◌, length, sym, ap, ◌∙◌, subst, ⊎_elim}
+use mathlib.Core.Option.{some}
+use lib.ListN.{get_elem?}
+use Rattle.device_rules.specs.Legal.{Legal}
+use Rattle.region_config.specs.Configurations.{Configuration}
+use Rattle.ruled_cells.specs.Ruling.{names}
+use Rattle.ruled_cells.specs.Telling.{MayOpen}
+use Rattle.ruled_cells.proofs.Places.{at_push}
+use Rattle.shard_laws.specs.Changing.{IsFreshStripe}
+use Rattle.shard_laws.specs.Right.{IsRight, stripe_reads}
+use Rattle.shard_laws.specs.Stripes.{Stripe}
+use Rattle.shared_device.specs.Commanding.{Commanding, commanding_reads}
+
+-- what holds of each item and its place, once there is one more
+pub each_more : {A : Type 0} (P : ℕ → A → Type 0) (l m : List A) (a : A) (n : ℕ) → m ≡ l ++ a ∷ [] → length l ≡ n → ((k : ℕ) (x : A) → get_elem? l k ≡ some x → P k x) → P n a
+    → (k : ℕ) (x : A) → get_elem? m k ≡ some x → P k x
+each_more {A} P l m a n is long each last k x e = ⊎_elim (λ (p : get_elem? l k ≡ some x). each k x p)
+    (λ (p : (a ≡ x) × (k ≡ length l)). subst (λ (t : ℕ × A). P t.0 t.1) (λ i. (sym (p.1 ∙ long) i, p.0 i)) last)
+    (at_push l a x k (ap (λ (z : List A). get_elem? z k) (sym is) ∙ e))
+
+pub may_open : (c : Configuration) (first : Commanding) (rest : List Stripe) → first.config ≡ c → first.entries ≡ [] → ((k : ℕ) (x : Stripe) → get_elem? rest k ≡ some x → IsFreshStripe c k x × IsRight k x [])
+    → MayOpen (names commanding_reads stripe_reads) first rest
+may_open c first rest config empty fresh = record {
+  sound = subst (Legal first.config) (sym empty) tt;
+  empty = empty;
+  bare = λ k x at. let f = fresh k x at in (f.0.entries_are, f.0.clock_is, f.0.config_is ∙ sym config, f.1);
+}
