@@ -39,8 +39,12 @@ lanes_count lanes (h ∷ hosts) =
     let d = suc-mul (length hosts) lanes in
     omega (arith, a, b, c, d)
 
+-- as many as the hosts have lanes
+pub lanes_below : (lanes n : ℕ) → length (lanes_of lanes (range_with_len 0 n)) ≡ n * lanes
+lanes_below lanes n = lanes_count lanes (range_with_len 0 n) ∙ ap (λ m. m * lanes) (length-range_with_len 0 n)
+
 pub actors_count : (c : Configuration) (lanes : ℕ) → length (actors_of c lanes) ≡ c.hosts * lanes + 2
 actors_count c lanes =
     let a = length-append (lanes_of lanes (hosts_of c)) (Actor.Manager ∷ Actor.Sanitizer ∷ []) in
-    let b = lanes_count lanes (hosts_of c) ∙ ap (λ n. n * lanes) (length-range_with_len 0 c.hosts) in
+    let b = lanes_below lanes c.hosts in
     omega (arith, a, b)

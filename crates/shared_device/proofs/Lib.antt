@@ -1,4 +1,5 @@
 mod ActorLists
+mod Actors
 mod Fresh
 mod Rests
 mod Turns
