@@ -1,6 +1,6 @@
 mod ActorLists
-mod Actors
 mod Fresh
+mod NewPasses
 mod Rests
 mod Turns
 mod Visits
