@@ -26,8 +26,8 @@ pub each_led : {A : Type 0} (P : ℕ → A → Type 0) (l m : List A) (a : A) (n
 each_led {A} P l m a n next is one first rest k x e =
     let zero : n ≡ n + 0 = omega arith in
     each_front (λ j y. P (n + j) y) a l (subst (λ j. P j a) zero first)
-        (λ j y at. let moved : next + j ≡ n + suc j = omega (arith, one) in subst (λ i. P i y) moved (rest j y at))
-        k x (ap (λ (z : List A). get_elem? z k) (sym is) ∙ e)
+    (λ j y at. let moved : next + j ≡ n + suc j = omega (arith, one) in subst (λ i. P i y) moved (rest j y at))
+    k x (ap (λ (z : List A). get_elem? z k) (sym is) ∙ e)
 
 pub may_open : (c : Configuration) (first : Commanding) (rest : List Stripe) → first.config ≡ c → first.entries ≡ [] → ((k : ℕ) (x : Stripe) → get_elem? rest k ≡ some x → IsFreshStripe c k x × IsRight k x [])
     → MayOpen (names commanding_reads stripe_reads) first rest

@@ -1,5 +1,5 @@
 -- A load or a store at a shard that was taken, and what the seat knows once the shard is given back.
-use Rattle.std.proofs.Common.{◌≡◌, ◌⊎◌, inl, inr, ⊎_elim, ℕ, suc, ◌+◌, ◌^◌, ◌<◌, ◌≤◌, true, false, List, [], ◌∷◌, ◌++◌, map, length, Option, Some, None, sym, ap, ◌∙◌, subst, arith}
+use Rattle.std.proofs.Common.{◌≡◌, ◌⊎◌, inl, inr, ⊎_elim, ℕ, suc, ◌+◌, ◌^◌, ◌<◌, ◌≤◌, true, false, List, [], ◌∷◌, ◌++◌, map, length, Option, None, sym, ap, ◌∙◌, subst, arith}
 use Rattle.std.specs.Prelude.{IfOk, OnErr, OnOk}
 use Rattle.std.specs.declared.result.Result.{Result}
 use Rattle.std.specs.declared.result.Result.TheVariants.{Ok, Err}
@@ -14,7 +14,7 @@ use Rattle.journal_core.specs.Accesses.{access_entry}
 use Rattle.journal_core.specs.declared.acts.Act.{Act}
 use Rattle.journal_core.specs.declared.acts.Reply.{Reply}
 use Rattle.journal_core.specs.declared.entries.Entry.{Entry}
-use Rattle.journal_core.specs.Merging.{Call, call_of}
+use Rattle.journal_core.specs.Merging.{call_of}
 use Rattle.region_config.specs.Configurations.{Configuration}
 use Rattle.ruled_cells.specs.declared.about.SeatView.{SeatView}
 use Rattle.ruled_cells.specs.declared.cell_value.CellValue.{CellValue}
@@ -22,7 +22,7 @@ use Rattle.ruled_cells.specs.declared.seat.Seat.{Seat}
 use Rattle.ruled_cells.specs.Ruling.{Names, access_cell, names}
 use Rattle.ruled_cells.specs.Seats.{IsSameSeat, seat_number, seat_view}
 use Rattle.ruled_cells.specs.Stamps.{Below, pending}
-use Rattle.ruled_cells.specs.Telling.{Alike, GaveCell, MayEnter, MayGive, changed_view, entered_view}
+use Rattle.ruled_cells.specs.Telling.{Alike, GaveCell, MayGive, changed_view, entered_view}
 use Rattle.ruled_cells.proofs.Order.{never}
 use Rattle.shard_laws.specs.Accessing.{AddsAccess, IsAccess}
 use Rattle.shard_laws.specs.Changing.{ChangedBy}

@@ -1,8 +1,7 @@
-use Rattle.std.proofs.Common.{◌≡◌, ℕ, ◌+◌, ◌∷◌, length, sym, ap, ◌∙◌, subst, arith}
+use Rattle.std.proofs.Common.{◌≡◌, ◌+◌, length, ap, ◌∙◌, subst, arith}
 use Rattle.std.proofs.lemmas.List.{length_push}
 use Rattle.ruled_cells.proofs.ClosingSteps.{at_end, in_front}
 use Rattle.ruled_cells.specs.Calls.{IsNew}
-use Rattle.shared_device.specs.declared.pass.Pass.{Pass}
 use Rattle.shared_device.specs.Passing.{IsNewPass}
 use Rattle.shared_device.proofs.Fresh.{each_led}
 use Rattle.shared_device.proofs.shared.Shared.passes.Goals as goal
@@ -14,7 +13,7 @@ pass-requires-clause-new c =
     let is = c.len-in-Some.ensures in
     let len : length rest ≡ c.len-in-Some.result = omega (arith, ok, is) in
     subst (λ n. IsNew c.args.self.now.cells (record { config = c.args.self.now.config; actors = c.args.actors.now }) n c.in-Some.seat) len
-        (c.loop-seat.invariant.left (length rest) c.in-Some.seat (at_end c.loop-seat.seats.items rest c.in-Some.seat c.in-Some.ensures.items))
+    (c.loop-seat.invariant.left (length rest) c.in-Some.seat (at_end c.loop-seat.seats.items rest c.in-Some.seat c.in-Some.ensures.items))
 
 pub loop-seat-preserved : goal.loop-seat-preserved
 loop-seat-preserved c =
