@@ -25,8 +25,6 @@ use Rattle.ruled_cells.specs.Stamps.{Below, has_index, pending, stamp, stamps_af
 use Rattle.ruled_cells.specs.Telling.{GaveCell, MayGive, MayGiveFirst, MayNote, changed_view, entered_view, last_of, noted_view}
 use Rattle.ruled_cells.specs.Turning.{HasTurn}
 use Rattle.ruled_cells.proofs.Order.{never, two}
-use Rattle.ruled_cells.proofs.Places.{some_some}
-use Rattle.ruled_cells.proofs.RuleSteps.{rest_same}
 use Rattle.shard_laws.specs.Belonging.{touches_shard}
 use Rattle.shard_laws.specs.Changing.{ChangedBy, MakesChanges}
 use Rattle.shard_laws.specs.Owed.{FollowsEffects}
@@ -34,6 +32,7 @@ use Rattle.shard_laws.specs.Right.{stripe_reads}
 use Rattle.shard_laws.specs.Stripes.{Stripe}
 use Rattle.shared_device.specs.Commanding.{Commanding, commanding_reads}
 use Rattle.shared_device.specs.Entering.{HasNoted, HasOneMore, HasOnlyFirst, HasTouched, IsSameControl, MayEnterStep}
+use Rattle.shared_device.proofs.Turns.{same_cell, still_there}
 use Rattle.shared_device.proofs.TurnsBack.{last_given}
 
 abbrev Worker : Type 0
@@ -62,7 +61,7 @@ pub may_after : (s t : Worker) (index : ℕ) (o : Option (CellValue Commanding S
     → MayEnterStep s c plan → MayEnterStep t c plan
 may_after s t index o c plan same turns view may = record {
   taken = may.taken;
-  turn = ap (λ l. get_elem? l 0) turns ∙ (set_else (turns_of s) (suc index) 0 o (λ e. omega (arith, e)) ∙ may.turn);
+  turn = still_there (turns_of s) (turns_of t) (suc index) 0 o _ turns (λ e. omega (arith, e)) may.turn;
   about_is = may.about_is ∙ ap (λ (v : SeatView). v.about) (sym view);
   same = may.same;
   step = may.step;
@@ -115,20 +114,22 @@ may_note cells s c d plan sixteen may touched more =
     let e : Entry = plan.entry in
     let longer = longer_by s c d plan may more in
     let last : last_of d.entries ≡ e = ap last_of longer ∙ last_is may.taken.entries e in
-    let long : length d.entries ≡ length may.taken.entries + 1 = ap length longer ∙ length_push may.taken.entries e in
-    (may.taken, subst (λ (z : Entry). MayNote w (suc (row_of cells)) (seat_number s) (turns_of s) (seat_view s) may.taken d z) (sym last) record {
-      turn = may.turn;
-      not_yet = may.idle;
-      about_is = same_about s c d plan may more;
-      sound = more.legal;
-      longer = longer;
-      control = may.step.next.may.control;
-      stamp_is = entry_stamp s c plan may ∙ ap (λ (n : ℕ). stamp n 0) (sym long);
-      pass = may.pass_is;
-      actor = may.actor_is;
-      room = may.room;
-      turns = λ k pos lt. turn_at s e touched k pos (omega (arith, lt, sixteen));
-    })
+    let long : length d.entries ≡ length may.taken.entries + 1 = ap length longer ∙ length_push may.taken.entries e in (
+      may.taken,
+      subst (λ (z : Entry). MayNote w (suc (row_of cells)) (seat_number s) (turns_of s) (seat_view s) may.taken d z) (sym last) record {
+        turn = may.turn;
+        not_yet = may.idle;
+        about_is = same_about s c d plan may more;
+        sound = more.legal;
+        longer = longer;
+        control = may.step.next.may.control;
+        stamp_is = entry_stamp s c plan may ∙ ap (λ (n : ℕ). stamp n 0) (sym long);
+        pass = may.pass_is;
+        actor = may.actor_is;
+        room = may.room;
+        turns = λ k pos lt. turn_at s e touched k pos (omega (arith, lt, sixteen));
+      },
+    )
 
 -- nothing is given back yet
 pub noted_first : (e : Entry) (l : List Entry) (d : Commanding) (v v' : SeatView) → d.entries ≡ l ++ e ∷ [] → v' ≡ noted_view (last_of d.entries) v → Below v.seen (last_of d.entries).stamp → HasNoted 16 e v v'
@@ -161,16 +162,19 @@ may_give s t c plan index x y may has config turns noted touch made follows =
     let log : List Entry = may.taken.entries in
     let at = entry_stamp s c plan may in
     let changes : AreChanges x.config (effects log) e.effects plan.changes =
-        subst (λ (l : List Entry). AreChanges x.config (effects l) e.effects plan.changes) may.same.entries_are
-        (subst (λ (d : Configuration). AreChanges d (effects c.entries) e.effects plan.changes) (config_by s c plan x may config) may.step.changes) in
-    let first : HasFirst t may.taken = ap (λ l. get_elem? l 0) turns ∙ may.turn in
-    (x, ap (λ l. get_elem? l (suc index)) turns ∙ has, record {
-      at_pending = λ f is p right.
-          let same : e ≡ f = (let q : Some e ≡ Some f = ap (λ (u : SeatView). u.entry) (sym noted.view_is) ∙ is in cc) in
-          subst (λ (z : Entry). ChangedBy z x y) same
-          (follows index log (right may.taken first) changes at (subst (λ (n : ℕ). MakesChanges x y n plan.changes) (ap (λ s. s.number) at) made));
-      at_others = λ p. never (pending w.touches (seat_view t).entry (seat_view t).changed (suc index)) wait p;
-    })
+    subst (λ (l : List Entry). AreChanges x.config (effects l) e.effects plan.changes) may.same.entries_are
+    (subst (λ (d : Configuration). AreChanges d (effects c.entries) e.effects plan.changes) (config_by s c plan x may config) may.step.changes) in
+    let first : HasFirst t may.taken = ap (λ l. get_elem? l 0) turns ∙ may.turn in (
+      x,
+      ap (λ l. get_elem? l (suc index)) turns ∙ has,
+      record {
+        at_pending = λ f is p right.
+            let same : e ≡ f = (let q : Some e ≡ Some f = ap (λ (u : SeatView). u.entry) (sym noted.view_is) ∙ is in cc) in
+            subst (λ (z : Entry). ChangedBy z x y) same
+            (follows index log (right may.taken first) changes at (subst (λ (n : ℕ). MakesChanges x y n plan.changes) (ap (λ s. s.number) at) made));
+        at_others = λ p. never (pending w.touches (seat_view t).entry (seat_view t).changed (suc index)) wait p;
+      },
+    )
 
 gave_view : (index : ℕ) (v v' : SeatView) (a x y : Stripe) → pending w.touches v.entry v.changed (suc index) ≡ true → a ≡ x → y.entries ≡ x.entries → GaveCell w (suc index) v a y v' → v' ≡ changed_view (suc index) v
 gave_view index v v' a x y wait same entries gave =
@@ -190,7 +194,7 @@ pub noted_more : (s t u : Worker) (c : Commanding) (plan : Plan) (index : ℕ) (
     → HasNoted (index + 1) plan.entry (seat_view s) (seat_view t) → GaveIn commanding_reads stripe_reads t index y (seat_view u) → HasNoted index plan.entry (seat_view s) (seat_view u)
 noted_more s t u c plan index x y has touch entries noted gave =
     let e : Entry = plan.entry in
-    let same : gave.0 ≡ x = rest_same gave.0 x (some_some (Rest gave.0) (Rest x) (sym gave.1 ∙ has)) in
+    let same = same_cell (turns_of t) (suc index) gave.0 x gave.1 has in
     let view = gave_view index (seat_view t) (seat_view u) gave.0 x y (waits index e (seat_view s) (seat_view t) noted touch) same entries gave.2 in
     record {
       changed = suc index ∷ noted.changed;
@@ -228,28 +232,32 @@ none_waits e changed done (suc k) pos lt = ⊎_elim
 pub may_end : (cells : Cells Commanding Stripe) (s t : Worker) (c d : Commanding) (plan : Plan) → row_of cells ≡ 16 → MayEnterStep s c plan → turns_of t ≡ turns_of s
     → HasNoted 0 plan.entry (seat_view s) (seat_view t) → HasOneMore c d plan.entry → MayGiveFirstIn commanding_reads stripe_reads cells t d
 may_end cells s t c d plan sixteen may turns noted more =
-    let e : Entry = plan.entry in
-    (may.taken, ap (λ l. get_elem? l 0) turns ∙ may.turn, record {
-      about_is = same_about s c d plan may more;
-      sound = more.legal;
-      journal_is = longer_by s c d plan may more ∙ ap (λ (u : SeatView). stamps_after may.taken.entries u.entry) (sym noted.view_is);
-      none_left = λ k pos lt. ap (λ (u : SeatView). pending w.touches u.entry u.changed k) noted.view_is ∙ none_waits e noted.changed noted.done k pos (omega (arith, lt, sixteen));
-    })
+    let e : Entry = plan.entry in (
+      may.taken,
+      ap (λ l. get_elem? l 0) turns ∙ may.turn,
+      record {
+        about_is = same_about s c d plan may more;
+        sound = more.legal;
+        journal_is = longer_by s c d plan may more ∙ ap (λ (u : SeatView). stamps_after may.taken.entries u.entry) (sym noted.view_is);
+        none_left = λ k pos lt. ap (λ (u : SeatView). pending w.touches u.entry u.changed k) noted.view_is ∙ none_waits e noted.changed noted.done k pos (omega (arith, lt, sixteen));
+      },
+    )
 
 pub may_give_up : (cells : Cells Commanding Stripe) (s : Worker) (c : Commanding) → (seat_view s).entry ≡ None → HasOnlyFirst s c → MayGiveFirstIn commanding_reads stripe_reads cells s c
-may_give_up cells s c idle only = (only.taken, only.turn, record {
-  about_is = λ i. record { config = only.same.config_is i; actors = only.same.actors_are i };
-  sound = subst (λ (l : List Entry). Legal c.config l) (sym only.same.entries_are) (subst (λ (d : Configuration). Legal d only.taken.entries) (sym only.same.config_is) only.legal);
-  journal_is = only.same.entries_are ∙ ap (stamps_after only.taken.entries) (sym idle);
-  none_left = λ k pos lt. ap (λ o. pending w.touches o (seat_view s).changed k) idle;
-})
+may_give_up cells s c idle only = (
+  only.taken,
+  only.turn,
+  record {
+    about_is = λ i. record { config = only.same.config_is i; actors = only.same.actors_are i };
+    sound = subst (λ (l : List Entry). Legal c.config l) (sym only.same.entries_are) (subst (λ (d : Configuration). Legal d only.taken.entries) (sym only.same.config_is) only.legal);
+    journal_is = only.same.entries_are ∙ ap (stamps_after only.taken.entries) (sym idle);
+    none_left = λ k pos lt. ap (λ o. pending w.touches o (seat_view s).changed k) idle;
+  },
+)
 
 -- with the last turn no other is left
 pub bare_after : (s t u : Worker) → turns_of t ≡ turns_of s → ((k : ℕ) → NoCell s k) → turns_of u ≡ set (turns_of t) 0 None → NoTurns u
 bare_after s t u turns bare gave k = subst (λ l. (x : CellValue Commanding Stripe) → get_elem? l k ≢ some (Some x)) (sym (gave ∙ ap (λ l. set l 0 None) turns)) (last_given (turns_of s) bare k)
-
-pub same_twice : (s t u : Worker) → IsSameSeat s t → IsSameSeat t u → IsSameSeat s u
-same_twice s t u p q = record { number = q.number ∙ p.number; among = q.among ∙ p.among; place = q.place ∙ p.place }
 
 -- the control alone was taken
 pub others_free : (s t : Worker) (o : Option (CellValue Commanding Stripe)) → NoTurns s → turns_of t ≡ set (turns_of s) 0 o → (k : ℕ) → NoCell t k

@@ -19,6 +19,25 @@ use journal_core::{Act, Reply};
 use ruled_cells::{Cells, Seat};
 use std::sync::Wait;
 
+/// Enters the step of the plan and notes its entry. It takes no memory.
+fn note(
+    cells: &Cells<ControlCell, ShardCell>,
+    seat: &mut Seat<ControlCell, ShardCell>,
+    control: &mut ControlCell,
+    plan: Plan,
+)
+    requires of { IsOf cells.now seat.old × (row_of cells.now ≡ 16) }
+    requires may { MayEnterStep seat.old control.old plan }
+    requires touched { HasTouched seat.old 16 plan.entry }
+    ensures seat { IsSameSeat seat.old seat.new }
+    ensures turns { turns_of seat.new ≡ turns_of seat.old }
+    ensures view { HasNoted 16 plan.entry (seat_view seat.old) (seat_view seat.new) }
+    ensures control { HasOneMore control.old control.new plan.entry }
+{
+    entered(control, plan);
+    cells.note(seat, control);
+}
+
 /// Takes and changes each shard from an index on that the plan's entry touches, enters and notes the entry, and gives
 /// the shards back, the last one first. It takes no memory.
 fn enter_from<R: Wait>(
@@ -39,8 +58,7 @@ fn enter_from<R: Wait>(
     ensures control { HasOneMore control.old control.new plan.entry }
 {
     if index == 16 {
-        entered(control, plan);
-        cells.note(seat, control);
+        note(cells, seat, control, plan);
         return;
     }
     if !touches(plan.entry(), index) {

@@ -3,24 +3,10 @@ use lib.ListN.{get_elem?}
 use Rattle.ruled_cells.specs.Seats.{HasCell, seat_view, turns_of}
 use Rattle.shard_laws.specs.Belonging.{touches_shard}
 use Rattle.shard_laws.specs.Stripes.{Stripe}
-use Rattle.shared_device.specs.Entering.{HasNoted, HasTouched}
-use Rattle.shared_device.proofs.EnteringSteps.{longer_by, may_after, may_give, may_note, noted_first, noted_more, noted_none, still_of, touched_more, touched_none}
+use Rattle.shared_device.specs.Entering.{HasNoted}
+use Rattle.shared_device.proofs.EnteringSteps.{may_after, may_give, noted_more, noted_none, still_of, touched_more, touched_none}
 use Rattle.shared_device.proofs.TurnsBack.{set_back}
 use Rattle.shared_device.proofs.command.entering.+enter_from.Goals as goal
-
-pub note-requires-clause-may : goal.note-requires-clause-may
-note-requires-clause-may g t c =
-    let r = c.requires in
-    let touched = subst (λ n. HasTouched c.args.seat.now n c.args.plan.entry) c.if-index-eq16.true r.touched in
-    may_note c.args.cells.now c.args.seat.now c.args.control.now c.entered.new.cell c.args.plan r.of.1 r.may touched c.entered.ensures
-
-pub returns-then-index-eq16-clause-view : goal.returns-then-index-eq16-clause-view
-returns-then-index-eq16-clause-view g t c =
-    let r = c.requires in
-    let view = c.note.ensures.view in
-    let longer = longer_by c.args.seat.now c.args.control.now c.entered.new.cell c.args.plan r.may c.entered.ensures in
-    subst (λ n. HasNoted n c.args.plan.entry (seat_view c.args.seat.now) (seat_view c.note.new.seat)) (sym c.if-index-eq16.true)
-    (noted_first c.args.plan.entry r.may.taken.entries c.entered.new.cell (seat_view c.args.seat.now) (seat_view c.note.new.seat) longer view.0 view.1)
 
 pub enter_from-requires : goal.enter_from-requires
 enter_from-requires g t c κs within =
