@@ -56,6 +56,10 @@ last_is (x ∷ y ∷ l) e = last_is (y ∷ l) e
 
 -- ---- a shard is taken, or not
 
+-- what was told of an equal entry
+pub told_touch : (index : ℕ) (e f : Entry) (told b : Bool) → f ≡ e → told ≡ touches_shard index f → told ≡ b → touches_shard index e ≡ b
+told_touch index e f told b same is answer = ap (λ (z : Entry). touches_shard index z) (sym same) ∙ sym is ∙ answer
+
 -- with one shard more it still may
 pub may_after : (s t : Worker) (index : ℕ) (o : Option (CellValue Commanding Stripe)) (c : Commanding) (plan : Plan) → IsSameSeat s t → turns_of t ≡ set (turns_of s) (suc index) o → seat_view t ≡ seat_view s
     → MayEnterStep s c plan → MayEnterStep t c plan
@@ -190,10 +194,9 @@ has_more : (k j : ℕ) (changed : List ℕ) → has_index k changed ≡ true →
 has_more k j changed h = or_right (k == j) (has_index k changed) h
 
 -- the shard of the index is given back
-pub noted_more : (s t u : Worker) (c : Commanding) (plan : Plan) (index : ℕ) (x y : Stripe) → HasCell t index x → touches_shard index plan.entry ≡ true → y.entries ≡ x.entries
-    → HasNoted (index + 1) plan.entry (seat_view s) (seat_view t) → GaveIn commanding_reads stripe_reads t index y (seat_view u) → HasNoted index plan.entry (seat_view s) (seat_view u)
-noted_more s t u c plan index x y has touch entries noted gave =
-    let e : Entry = plan.entry in
+pub noted_more : (s t u : Worker) (e : Entry) (index : ℕ) (x y : Stripe) → HasCell t index x → touches_shard index e ≡ true → y.entries ≡ x.entries
+    → HasNoted (index + 1) e (seat_view s) (seat_view t) → GaveIn commanding_reads stripe_reads t index y (seat_view u) → HasNoted index e (seat_view s) (seat_view u)
+noted_more s t u e index x y has touch entries noted gave =
     let same = same_cell (turns_of t) (suc index) gave.0 x gave.1 has in
     let view = gave_view index (seat_view t) (seat_view u) gave.0 x y (waits index e (seat_view s) (seat_view t) noted touch) same entries gave.2 in
     record {
