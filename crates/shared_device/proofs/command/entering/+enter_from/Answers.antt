@@ -1,7 +1,6 @@
-use Rattle.std.proofs.Common.{◌≡◌, ◌+◌, ◌≤◌, rules, true, false, suc, set, None, arith, ap, sym, subst, ◌∙◌}
+use Rattle.std.proofs.Common.{◌+◌, ◌≤◌, rules, true, false, suc, set, None, arith, ap, sym, subst, ◌∙◌}
 use lib.ListN.{get_elem?}
 use Rattle.ruled_cells.specs.Seats.{HasCell, seat_view, turns_of}
-use Rattle.shard_laws.specs.Stripes.{Stripe}
 use Rattle.shared_device.specs.Entering.{HasNoted}
 use Rattle.shared_device.proofs.EnteringSteps.{may_after, may_give, noted_more, noted_none, still_of, told_touch, touched_more, touched_none}
 use Rattle.shared_device.proofs.TurnsBack.{set_back}

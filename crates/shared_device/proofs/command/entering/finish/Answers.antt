@@ -1,5 +1,4 @@
-use Rattle.std.proofs.Common.{◌∙◌, arith}
-use Rattle.ruled_cells.specs.Seats.{IsSameSeat}
+use Rattle.std.proofs.Common.{arith}
 use Rattle.shared_device.proofs.EnteringSteps.{bare_after}
 use Rattle.shared_device.proofs.Turns.{same_twice}
 use Rattle.shared_device.proofs.command.entering.finish.Goals as goal
