@@ -4,6 +4,10 @@ ghost use Rattle.control_core.specs.Steps.{MayStep};
 ghost use Rattle.shared_device.specs.Passing.{Called, IsOneOf, IsSamePass, Uncalled, pass_actor, pass_calls};
 ghost use Rattle.std.specs.Prelude.{◌^◌, ◌<◌, IfOk, OnErr, length};
 
+mod entering;
+mod planning;
+
+use crate::command::entering::enter;
 use crate::pass::Pass;
 use crate::shared::Shared;
 use dcd_base::NoMemory;
@@ -27,6 +31,10 @@ impl Shared {
         ensures called { IfOk result (λ reply. Called line act.now reply pass.old pass.new) }
         ensures kept { OnErr result (Uncalled pass.old pass.new) }
     {
-        Err(NoMemory)
+        let act = act.copy()?;
+        let (reply, stamp) = enter(rt, &self.cells, &mut pass.seat, line, pass.actor, act)?;
+        pass.seen = stamp;
+        pass.calls += 1;
+        Ok(reply)
     }
 }
