@@ -1,5 +1,5 @@
 -- What the cells leave once all turns are given back is one journal, with the calls of each pass in it.
-use Rattle.std.proofs.Common.{◌≡◌, ◌⊎◌, inl, inr, ℕ, zero, suc, ◌+◌, ◌<◌, ◌≤◌, Bool, true, ◌&&◌, ◌||◌, ◌==◌, List, [], ◌∷◌, length, map, refl, sym, ap, ◌∙◌, subst, eq-eqb, arith}
+use Rattle.std.proofs.Common.{◌≡◌, inl, inr, ℕ, zero, suc, ◌<◌, true, ◌&&◌, ◌==◌, List, [], ◌∷◌, map, refl, sym, ap, ◌∙◌, subst, eq-eqb, arith}
 use Rattle.std.specs.Prelude.{All, flat_map, nat_lt}
 use Rattle.std.proofs.lemmas.Bool.{and_from, lt-ltb, or_left, or_right}
 use mathlib.Core.Logic.{dite}
@@ -10,23 +10,23 @@ use Rattle.dcd_base.specs.declared.steps.Stamp.{Stamp}
 use Rattle.device_rules.specs.Legal.{Legal}
 use Rattle.holding_laws.proofs.ExclusiveHolding.{legal_exclusive}
 use Rattle.journal_core.specs.declared.entries.Entry.{Entry}
-use Rattle.journal_core.specs.Merging.{Numbered, call_of, calls_of, is_later, merged}
+use Rattle.journal_core.specs.Lending.{AllRise}
+use Rattle.journal_core.specs.Merging.{Numbered, Rising, call_of, calls_of, is_later, merged}
 use Rattle.journal_core.proofs.Filters.{all_flat}
 use Rattle.journal_core.proofs.MergedFilters.{merged-all}
 use Rattle.journal_core.proofs.Splits.{all_at, all_from_places}
-use Rattle.region_config.specs.Configurations.{Configuration}
 use Rattle.region_config.specs.Soundness.{IsSound}
 use Rattle.ruled_cells.specs.declared.about.About.{About}
-use Rattle.ruled_cells.specs.declared.cell_value.CellValue.{CellValue}
-use Rattle.ruled_cells.specs.declared.cell_value.CellValue.TheVariants.{First, Rest}
+use Rattle.ruled_cells.specs.declared.cell_value.CellValue.TheVariants.{Rest}
 use Rattle.ruled_cells.specs.declared.seat.Seat.{Seat}
-use Rattle.ruled_cells.specs.Booking.{own, weigh, weigh_all, weight_one}
+use Rattle.ruled_cells.specs.Booking.{Fits, own, weigh, weigh_all, weight_one}
 use Rattle.ruled_cells.specs.Calls.{AccountFor, AreAll, IsOf, NoOthers, opened_with, seats_of}
 use Rattle.ruled_cells.specs.Reads.{about_of}
 use Rattle.ruled_cells.specs.Resting.{Accounts, IsAtRest}
 use Rattle.ruled_cells.specs.Ruling.{Names, names}
 use Rattle.ruled_cells.specs.Seats.{NoTurns, seat_view}
 use Rattle.ruled_cells.specs.Stamps.{Below, Rise}
+use Rattle.ruled_cells.specs.Telling.{values}
 use Rattle.ruled_cells.proofs.Places.{map_at}
 use Rattle.ruled_cells.proofs.Weights.{own-same}
 use Rattle.shard_laws.specs.Lawful.{AreShardLogs, IsShardLog}
@@ -40,7 +40,7 @@ use Rattle.shared_device.specs.declared.pass.Pass.{Pass}
 use Rattle.shared_device.specs.declared.shared.Shared.{Shared}
 use Rattle.shared_device.specs.Closing.{AreAllPasses, HasCalls, IsClosed}
 use Rattle.shared_device.specs.Commanding.{Commanding, commanding_reads}
-use Rattle.shared_device.specs.Passing.{IsOneOf, pass_actor, pass_calls, pass_number}
+use Rattle.shared_device.specs.Passing.{pass_actor, pass_number}
 use Rattle.shared_device.proofs.WeighedCalls.{Climbs, calls_in_merge, weigh_append, weigh_merged, weighs_least}
 
 -- ---- the seats of the passes
@@ -58,7 +58,7 @@ are_all_seats s passes all = record {
   some_seat = let some_pass = all.some_pass in let l = length-map passes (λ (p : Pass). p.seat) in omega (arith, some_pass, l);
   of = λ k seat at. let found = map_at (λ (p : Pass). p.seat) passes k seat at in subst (λ z. IsOf s.cells z) found.2 (all.of k found.0 found.1).seat;
   no_turns = λ k seat at. let found = map_at (λ (p : Pass). p.seat) passes k seat at in subst (λ (z : Seat Commanding Stripe). NoTurns z) found.2 found.0.resting;
-  each = λ i under. let found = all.each i under in (found.0, (found.1.seat, (at_mapped (λ (p : Pass). p.seat) passes found.0 found.1 found.2, found.3)));
+  each = λ i under. let found = all.each i under in (found.0, found.1.seat, at_mapped (λ (p : Pass). p.seat) passes found.0 found.1 found.2, found.3);
 }
 
 -- ---- stamps
@@ -95,8 +95,14 @@ module _ (about : About) (first : Commanding) (row : List Stripe) (rest : IsAtRe
       let found = map_at (λ (x : Stripe). x.entries) row k entries at in
       subst (λ es. IsShardLog about.config first.entries k es) found.2 (rests_lawful commanding_reads about first.entries k found.0 (rest.shard k found.0 found.1))
 
+  pub lists_rise : AllRise (entry_lists row)
+  lists_rise = all_from_places Rising (entry_lists row) (λ k entries at. (are_logs k entries at).rising)
+
   control_legal : Legal about.config first.entries
   control_legal = subst (λ (a : About). Legal a.config first.entries) rest.about_is rest.sound
+
+  law : Legal about.config journal × Numbered journal
+  law = merges_legally about.config first.entries (entry_lists row) rest.control control_legal are_logs
 
   -- each entry has the actor of the pass with its number
   abbrev HasItsActor : Entry → Type 0
@@ -119,12 +125,12 @@ module _ (about : About) (first : Commanding) (row : List Stripe) (rest : IsAtRe
   has_calls p about_is number_is told = record {
     calls = ap (λ n. calls_of n journal) (sym number_is) ∙ calls_are (seat_view p.seat).number (seat_view p.seat).calls told;
     actor = λ k e at mine.
-    some-injective e.actor (pass_actor p)
-    (sym (all_at HasItsActor journal k e at their_actors) ∙ (λ i. get_elem? (sym about_is i).actors (mine i)) ∙ p.acts);
+        some-injective e.actor (pass_actor p)
+        (sym (all_at HasItsActor journal k e at their_actors) ∙ (λ i. get_elem? (sym about_is i).actors (mine i)) ∙ p.acts);
   }
 
   -- a number of no pass is that of no entry
-  not_there : (number : ℕ) (k : ℕ) (e : Entry) → get_elem? journal k ≡ some e → e.pass ≡ number → ((h : Entry → ℕ) → 0 ≡ weigh (own number h) first.entries + weigh_all w (own number h) (map (λ x. Rest x) row)) → ⊥
+  not_there : (number : ℕ) (k : ℕ) (e : Entry) → get_elem? journal k ≡ some e → e.pass ≡ number → Fits w first.entries (values first row) number [] → ⊥
   not_there number k e at mine none =
       let zero_all = none weight_one in
       let q = weigh_merged (own number weight_one) first.entries (entry_lists row) in
@@ -133,21 +139,19 @@ module _ (about : About) (first : Commanding) (row : List Stripe) (rest : IsAtRe
       let one : own number weight_one e ≡ 1 = own-same number weight_one e mine in
       omega (arith, zero_all, q, r, least, one)
 
-pub is_closed : (s : Shared) (passes : List Pass) (first : Commanding) (row : List Stripe) → IsSound s.config → AreAllPasses s passes → IsAtRest w (about_of commanding_reads (opened_with s.cells)) first row →
+-- what never changes of the cells of the device
+abbrev pub about_device : Shared → About
+about_device s = about_of commanding_reads (opened_with s.cells)
+
+pub is_closed : (s : Shared) (passes : List Pass) (first : Commanding) (row : List Stripe) → IsSound s.config → AreAllPasses s passes → IsAtRest w (about_device s) first row →
     AccountFor commanding_reads stripe_reads first row (seat_list passes) → NoOthers commanding_reads stripe_reads s.cells first row → IsClosed s.config (seats_of s.cells) passes first.entries (entry_lists row)
 is_closed s passes first row sound all rest calls others =
     subst (λ c. IsClosed c (seats_of s.cells) passes first.entries (entry_lists row)) s.config_is record {
-      legal = law.0;
-      exclusive = legal_exclusive about.config (subst IsSound (sym s.config_is) sound) (journal about first row rest) law.0;
-      numbered = law.1;
-      commands = control_of_merged first.entries (entry_lists row) rest.control (all_accesses about.config first.entries rest.control (entry_lists row) (are_logs about first row rest));
-      each = λ k p at. has_calls about first row rest p (all.of k p at).about (all.of k p at).number (calls k p.seat (at_mapped (λ (p : Pass). p.seat) passes k p at));
+      legal = (law (about_device s) first row rest).0;
+      exclusive = legal_exclusive (about_device s).config (subst IsSound (sym s.config_is) sound) (journal (about_device s) first row rest) (law (about_device s) first row rest).0;
+      numbered = (law (about_device s) first row rest).1;
+      commands = control_of_merged first.entries (entry_lists row) rest.control (all_accesses (about_device s).config first.entries rest.control (entry_lists row) (are_logs (about_device s) first row rest));
+      each = λ k p at. has_calls (about_device s) first row rest p (all.of k p at).about (all.of k p at).number (calls k p.seat (at_mapped (λ (p : Pass). p.seat) passes k p at));
       no_others = λ k e at. dite (dec_lt e.pass (seats_of s.cells)) (λ (under : e.pass < seats_of s.cells). under)
-      (λ above. absurd (not_there about first row rest e.pass k e at refl (others e.pass (omega (arith, above)))));
+          (λ above. absurd (not_there (about_device s) first row rest e.pass k e at refl (others e.pass (omega (arith, above)))));
     }
-  where
-    abbrev about : About
-    about = about_of commanding_reads (opened_with s.cells)
-
-    law : Legal about.config (journal about first row rest) × Numbered (journal about first row rest)
-    law = merges_legally about.config first.entries (entry_lists row) rest.control (control_legal about first row rest) (are_logs about first row rest)

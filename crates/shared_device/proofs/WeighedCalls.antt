@@ -1,6 +1,6 @@
 -- What the entries of a merge weigh, and the calls that weigh what a pass's entries of it weigh.
 use Rattle.std.proofs.Common.{◌≡◌, inl, inr, ℕ, zero, suc, ◌+◌, ◌≤◌, Bool, true, false, cond, ◌==◌, List, [], ◌∷◌, ◌++◌, sym, ap, ◌∙◌, refl, arith}
-use Rattle.std.specs.Prelude.{fold, flat_map, map, All, AllPairs, IsFalse, if◌then◌else◌}
+use Rattle.std.specs.Prelude.{fold, flat_map, map, All, IsFalse, if◌then◌else◌}
 use Rattle.std.specs.List.{filter}
 use Rattle.std.proofs.lemmas.Bool.{cases_Bool}
 use Rattle.std.proofs.lemmas.Bool.Decides.{nat_tests}
@@ -14,7 +14,7 @@ use Rattle.journal_core.specs.Merging.{Rising, call_of, calls_of, insert_entry, 
 use Rattle.journal_core.proofs.Merges.{merged-rising}
 use Rattle.journal_core.proofs.Splits.{pairs_head, pairs_tail}
 use Rattle.ruled_cells.specs.Booking.{own, weigh, weight_one}
-use Rattle.shared_device.proofs.ToldCalls.{Alike, same_call}
+use Rattle.shared_device.proofs.ToldCalls.{same_call}
 
 pub weigh_append : (h : Entry → ℕ) (a b : List Entry) → weigh h (a ++ b) ≡ weigh h a + weigh h b
 weigh_append h [] b = omega arith
@@ -81,12 +81,11 @@ counts s h e low = ap (λ b. if b then 0 else h e) low
 counts_not : (s : Stamp) (h : Entry → ℕ) (es : List Entry) → All (λ (f : Entry). is_later f.stamp s ≡ true) es → weigh (upto s h) es ≡ 0
 counts_not s h es all = weighs_none (upto s h) es (All-weaker (λ (f : Entry). is_later f.stamp s ≡ true) (λ (f : Entry). upto s h f ≡ 0) (λ f later. ap (λ b. if b then 0 else h f) later) es all)
 
-
 no_zero : (s : Stamp) (f : Entry) → upto s weight_one f ≡ 0 → is_later f.stamp s ≡ true
 no_zero s f none = elim (cases_Bool (is_later f.stamp s)) [
-    | inl later ↦ later
-    | inr low ↦ absurd (let q = counts s weight_one f low in omega (arith, q, none))
-  ]
+  | inl later ↦ later
+  | inr low ↦ absurd (let q = counts s weight_one f low in omega (arith, q, none))
+]
 
 pub same_calls : (calls entries : List Entry) → Climbs calls → Rising entries → ((h : Entry → ℕ) → weigh h calls ≡ weigh h entries) → map call_of calls ≡ map call_of entries
 same_calls [] [] climbs up same = refl
@@ -102,12 +101,12 @@ same_calls (e ∷ cs) (x ∷ xs) climbs up same = λ i. same_call e x alike i �
 
     low : is_later x.stamp e.stamp ≡ false
     low = elim (cases_Bool (is_later x.stamp e.stamp)) [
-        | inr not_later ↦ not_later
-        | inl later ↦ absurd (
-            let none = counts_not e.stamp weight_one (x ∷ xs) (All-cons (λ (f : Entry). is_later f.stamp e.stamp ≡ true) x xs later
-                (All-weaker (λ (y : Entry). IsFalse (is_later x.stamp y.stamp)) (λ (f : Entry). is_later f.stamp e.stamp ≡ true) (λ y b. later_still e.stamp x.stamp y.stamp later b) xs behind)) in
-            let q = same (upto e.stamp weight_one) in let r = first in omega (arith, none, q, r))
-      ]
+      | inr not_later ↦ not_later
+      | inl later ↦ absurd (
+          let none = counts_not e.stamp weight_one (x ∷ xs) (All-cons (λ (f : Entry). is_later f.stamp e.stamp ≡ true) x xs later
+          (All-weaker (λ (y : Entry). IsFalse (is_later x.stamp y.stamp)) (λ (f : Entry). is_later f.stamp e.stamp ≡ true) (λ y b. later_still e.stamp x.stamp y.stamp later b) xs behind)) in
+          let q = same (upto e.stamp weight_one) in let r = first in omega (arith, none, q, r))
+    ]
 
     rest_later : All (λ (f : Entry). is_later f.stamp e.stamp ≡ true) xs
     rest_later =

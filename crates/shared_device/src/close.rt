@@ -1,6 +1,7 @@
 //! Taking the device apart.
 
-ghost use Rattle.ruled_cells.specs.Calls.{row_of, seats_of};
+ghost use Rattle.journal_core.specs.Lending.{AllRise};
+ghost use Rattle.ruled_cells.specs.Calls.{seats_of};
 ghost use Rattle.shared_device.specs.Closing.{AreAllPasses, IsClosed};
 ghost use Rattle.std.specs.Prelude.{◌≡◌, ◌≤◌, [], IfErr, IfOk, length, map, vec_capacity};
 
@@ -74,7 +75,8 @@ fn accesses_in(row: Vec<ShardCell>, mut accesses: Vec<Accesses>) -> Vec<Accesses
 fn control_in(cell: ControlCell) -> Control
     ensures { (result.config ≡ cell.config) × (result.entries ≡ cell.entries) }
 {
-    let Commands { control, actors: _ } = Box::into_inner(cell.commands);
+    let ControlCell { commands } = cell;
+    let Commands { control, actors: _ } = Box::into_inner(commands);
     control
 }
 
@@ -86,6 +88,7 @@ fn take_apart(shared: Shared, passes: Vec<Pass>, spare: Spare) -> (Control, Vec<
     requires accesses { (spare.accesses.items ≡ []) × (16 ≤ vec_capacity spare.accesses) }
     ensures config { result.0.config ≡ shared.config }
     ensures shards { length result.1.items ≡ 16 }
+    ensures rise { AllRise result.1.items }
     ensures journal { IsClosed shared.config (seats_of shared.cells) passes.items result.0.entries result.1.items }
 {
     // The configuration is sound.
@@ -105,8 +108,8 @@ fn take_apart(shared: Shared, passes: Vec<Pass>, spare: Spare) -> (Control, Vec<
 }
 
 impl Shared {
-    /// Takes the device apart, once all its passes came back: the control, and the loads and stores of each of the 16 shards.
-    /// `NoMemory` comes before anything is taken apart, and hands all back. No entry is copied.
+    /// Takes the device apart, once all its passes came back: the control, and the loads and stores of each of the 16 shards
+    /// by rising stamps. `NoMemory` comes before anything is taken apart, and hands all back. No entry is copied.
     pub fn close(
         self,
         passes: Vec<Pass>,
@@ -114,6 +117,7 @@ impl Shared {
         requires all { AreAllPasses self passes.items }
         ensures config { IfOk result (λ left. left.0.config ≡ self.config) }
         ensures shards { IfOk result (λ left. length left.1.items ≡ 16) }
+        ensures rise { IfOk result (λ left. AllRise left.1.items) }
         ensures journal { IfOk result (λ left. IsClosed self.config (seats_of self.cells) passes.items left.0.entries left.1.items) }
         ensures kept { IfErr result (λ back. (back.1 ≡ self) × (back.2.items ≡ passes.items)) }
     {
