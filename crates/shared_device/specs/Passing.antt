@@ -7,9 +7,11 @@ use Rattle.dcd_base.specs.declared.steps.Stamp.{Stamp}
 use Rattle.journal_core.specs.declared.acts.Act.{Act}
 use Rattle.journal_core.specs.declared.acts.Reply.{Reply}
 use Rattle.journal_core.specs.Merging.{Call, call_of}
-use Rattle.ruled_cells.specs.Calls.{IsOf}
+use Rattle.ruled_cells.specs.Calls.{IsOf, opened_with}
+use Rattle.ruled_cells.specs.Reads.{about_of}
 use Rattle.ruled_cells.specs.Seats.{saw_of, seat_view, tries_of}
 use Rattle.ruled_cells.specs.Stamps.{Below, stamp}
+use Rattle.shared_device.specs.Commanding.{commanding_reads}
 use Rattle.shared_device.specs.declared.pass.Pass.{Pass}
 use Rattle.shared_device.specs.declared.shared.Shared.{Shared}
 
@@ -39,6 +41,8 @@ pass_saw p = saw_of p.seat
 pub record IsOneOf (s : Shared) (p : Pass) : Type 0 where
   pub seat : IsOf s.cells p.seat
   pub config : (seat_view p.seat).about.config ≡ s.config
+  pub about : (seat_view p.seat).about ≡ about_of commanding_reads (opened_with s.cells)
+  pub number : (seat_view p.seat).number ≡ pass_number p
 
 -- it is the same pass
 pub record IsSamePass (s : Shared) (p q : Pass) : Type 0 where

@@ -33,6 +33,7 @@ pub(crate) fn fresh_cells(
 >
     requires count { (0 < length actors.now) × (length actors.now < 2 ^ 32) }
     ensures config { IfOk result (λ made. (opened_with made.0).config ≡ config.now) }
+    ensures actors { IfOk result (λ made. (opened_with made.0).actors ≡ actors.now) }
     ensures row { IfOk result (λ made. row_of made.0 ≡ 16) }
     ensures seats { IfOk result (λ made. seats_of made.0 ≡ length actors.now) }
     ensures count { IfOk result (λ made. length made.1.items ≡ length actors.now) }

@@ -2,7 +2,7 @@
 
 ghost use lib.ListN.{get_elem?};
 ghost use mathlib.Core.Option.{some};
-ghost use Rattle.ruled_cells.specs.Calls.{AreNew, IsNew, seats_of};
+ghost use Rattle.ruled_cells.specs.Calls.{AreNew, IsNew, opened_with, seats_of};
 ghost use Rattle.shared_device.specs.Commanding.{actors_of as all_actors};
 ghost use Rattle.shared_device.specs.declared.pass.Pass.{Pass};
 ghost use Rattle.shared_device.specs.Passing.{IsNewPass};
@@ -47,6 +47,7 @@ impl Shared {
     ) -> Result<Vec<Pass>, NoMemory>
         requires count { length seats.items ≡ length actors.now }
         requires new { AreNew self.now.cells (record { config = self.now.config; actors = actors.now }) seats.items }
+        requires opened { (opened_with self.now.cells).actors ≡ actors.now }
         ensures count { IfOk result (λ passes. length passes.items ≡ length actors.now) }
         ensures each { IfOk result (λ passes. (k : _) (p : Pass) → get_elem? passes.items k ≡ some p → IsNewPass self.now actors.now k p) }
     {
@@ -61,6 +62,7 @@ impl Shared {
     fn pass(&self, seat: Seat<ControlCell, ShardCell>, actors: &[Actor], number: usize) -> Pass
         requires number { number < length actors.now }
         requires new { IsNew self.now.cells (record { config = self.now.config; actors = actors.now }) number seat }
+        requires opened { (opened_with self.now.cells).actors ≡ actors.now }
         ensures { IsNewPass self.now actors.now number result }
     {
         Pass {
