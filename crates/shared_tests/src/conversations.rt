@@ -18,7 +18,7 @@ use std::test::Fail;
 
 /// What is left of a conversation.
 #[derive(Drop)]
-struct Left {
+struct Outcome {
     /// The first line that was told something else, and what.
     wrong: Option<(u32, Told)>,
     rows: Vec<Row>,
@@ -27,17 +27,17 @@ struct Left {
 }
 
 /// What is left once a device is taken apart.
-fn left(
+fn outcome_of(
     alloc: Global,
     wrong: Option<(u32, Told)>,
     control: &Control,
     shards: &[Accesses],
-) -> Result<Left, Trouble>
+) -> Result<Outcome, Trouble>
     requires { control.now.config.hosts ≡ 2 }
 {
     let counts = (control.dirty(), control.records(LogId::Host(HostId(0))));
     let rows = rows_of(alloc, control.entries(), shards)?;
-    Ok(Left {
+    Ok(Outcome {
         wrong,
         rows,
         counts,
@@ -45,18 +45,18 @@ fn left(
 }
 
 /// Has a conversation with a fresh device, and takes it apart.
-fn played_once<R: Wait>(rt: &R, alloc: Global, lines: &[Line]) -> Result<Left, Trouble> {
+fn played_once<R: Wait>(rt: &R, alloc: Global, lines: &[Line]) -> Result<Outcome, Trouble> {
     let mut device = two_hosts(alloc)?;
     let wrong = play(rt, alloc, &mut device, lines)?;
     let (control, shards) = closed(alloc, device)?;
-    left(alloc, wrong, &control, shards.as_slice())
+    outcome_of(alloc, wrong, &control, shards.as_slice())
 }
 
 /// The same, and anew where memory was wanted for anything but a call of the device.
-fn played<R: Wait>(rt: &R, alloc: Global, lines: &[Line]) -> Result<Left, Trouble> {
+fn played<R: Wait>(rt: &R, alloc: Global, lines: &[Line]) -> Result<Outcome, Trouble> {
     match played_once(rt, alloc, lines) {
         Err(Trouble::NoMemory) => played_once(rt, alloc, lines),
-        left => left,
+        outcome => outcome,
     }
 }
 
@@ -76,14 +76,14 @@ fn see(
     lines: &[Line],
     counts: (u32, u32),
 ) -> Result<(), Fail> {
-    let left = played(rt, alloc, lines)?;
-    assert_eq!(rt; left.wrong, None);
-    assert_eq!(rt; left.rows.len(), lines.len());
-    for (i, (row, line)) in left.rows.iter().zip(lines.iter()).enumerate() {
+    let outcome = played(rt, alloc, lines)?;
+    assert_eq!(rt; outcome.wrong, None);
+    assert_eq!(rt; outcome.rows.len(), lines.len());
+    for (i, (row, line)) in outcome.rows.iter().zip(lines.iter()).enumerate() {
         let number = (i as u32).wrapping_add(1);
         assert_eq!(rt; *row, (pass_of(line), number, line.2, line.3));
     }
-    assert_eq!(rt; left.counts, counts);
+    assert_eq!(rt; outcome.counts, counts);
     Ok(())
 }
 
@@ -156,13 +156,13 @@ const UNSEEN: [Line; 3] = [
 
 #[test]
 fn a_load_that_has_seen_no_command_stands_before_all(rt: HostRuntime) -> Result<(), Fail> {
-    let left = played(&rt, rt.alloc(), &UNSEEN)?;
+    let outcome = played(&rt, rt.alloc(), &UNSEEN)?;
     let expected = [
         (1, 3, NOT_GRANTED, (0, 1)),
         (2, 1, Told::Success, (1, 0)),
         (0, 2, Told::Success, (2, 0)),
     ];
-    assert_eq!(rt; left.wrong, None);
-    assert_eq!(rt; left.rows.as_slice(), expected.as_slice());
+    assert_eq!(rt; outcome.wrong, None);
+    assert_eq!(rt; outcome.rows.as_slice(), expected.as_slice());
     Ok(())
 }

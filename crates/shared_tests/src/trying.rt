@@ -202,9 +202,9 @@ fn try_beside(shared: &Shared, mut pass: Pass, flags: &Flags) -> (Pass, Result<[
     (pass, tried)
 }
 
-type Loaded = (Pass, Result<Told, Trouble>);
+type LoadedBy = (Pass, Result<Told, Trouble>);
 
-type Found = (Pass, Result<[Tried; 5], Trouble>);
+type TriedBy = (Pass, Result<[Tried; 5], Trouble>);
 
 /// Both on threads of their own.
 fn both<R: Threads + Wait + Sync>(
@@ -213,7 +213,7 @@ fn both<R: Threads + Wait + Sync>(
     first: Pass,
     second: Pass,
     flags: &Flags,
-) -> (Loaded, Found)
+) -> (LoadedBy, TriedBy)
     requires of { IsOneOf shared.now first × IsOneOf shared.now second }
     requires hosts { hosts_at shared.now ≡ 2 }
     ensures first { IsSamePass shared.now first result.0.0 }
@@ -221,11 +221,11 @@ fn both<R: Threads + Wait + Sync>(
 {
     join(
         rt,
-        || -> Loaded
+        || -> LoadedBy
             requires of { IsOneOf shared.now first × (hosts_at shared.now ≡ 2) }
             ensures { IsSamePass shared.entry.now first result.0 }
         { load_slowly(rt, shared, first, flags) },
-        || -> Found
+        || -> TriedBy
             requires of { IsOneOf shared.now second × (hosts_at shared.now ≡ 2) }
             ensures { IsSamePass shared.entry.now second result.0 }
         { try_beside(shared, second, flags) },
@@ -273,7 +273,7 @@ impl TwoHosts {
 
 /// What was found beside a load, and what after it.
 #[derive(Drop)]
-struct Beside {
+struct BothTold {
     loaded: Told,
     during: [Tried; 5],
     after: [Tried; 5],
@@ -281,13 +281,13 @@ struct Beside {
     rows: Vec<Row>,
 }
 
-fn found_once<R: Threads + Wait + Sync>(rt: &R, alloc: Global) -> Result<Beside, Trouble> {
+fn found_once<R: Threads + Wait + Sync>(rt: &R, alloc: Global) -> Result<BothTold, Trouble> {
     let flags = Flags::new();
     let (mut device, loaded, during) = beside(rt, two_hosts(alloc)?, &flags);
     let after = device.tries_of_second();
     let (control, shards) = closed(alloc, device)?;
     let rows = rows_of(alloc, control.entries(), shards.as_slice())?;
-    Ok(Beside {
+    Ok(BothTold {
         loaded: loaded?,
         during: during?,
         after: after?,
@@ -297,7 +297,7 @@ fn found_once<R: Threads + Wait + Sync>(rt: &R, alloc: Global) -> Result<Beside,
 }
 
 /// The same, and anew where memory was wanted for anything but a call of the device.
-fn found<R: Threads + Wait + Sync>(rt: &R, alloc: Global) -> Result<Beside, Trouble> {
+fn found<R: Threads + Wait + Sync>(rt: &R, alloc: Global) -> Result<BothTold, Trouble> {
     match found_once(rt, alloc) {
         Err(Trouble::NoMemory) => found_once(rt, alloc),
         found => found,
