@@ -65,7 +65,7 @@ pub fn accept(alloc: Global, granule: u8) -> Result<Act, NoMemory> {
     command(alloc, 0x4802, payload.as_slice())
 }
 
-/// The two acts that an actor does in turns: a store and a load of its word, or twice the reading of its log.
+/// The two acts that an actor does in turns: a store and a load of its word, or twice the reading of an empty log.
 pub fn acts(alloc: Global, job: &Job, actor: &Actor) -> Result<(Act, Act), NoMemory> {
     match actor {
         Actor::Host(host) => if job.kind.accesses() {
@@ -78,7 +78,7 @@ pub fn acts(alloc: Global, job: &Job, actor: &Actor) -> Result<(Act, Act), NoMem
     }
 }
 
-/// Twice Get Event Records (0100h) of log 4.
+/// Twice Get Event Records (0100h) of log 0, which has no records.
 fn two_readings(alloc: Global) -> Result<(Act, Act), NoMemory> {
-    Ok((command(alloc, 0x0100, &[4])?, command(alloc, 0x0100, &[4])?))
+    Ok((command(alloc, 0x0100, &[0])?, command(alloc, 0x0100, &[0])?))
 }

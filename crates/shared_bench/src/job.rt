@@ -26,9 +26,9 @@ pub enum Kind {
     Apart,
     /// Each host stores and loads a word of its own, all of one shard.
     Together,
-    /// The manager reads its event log (0100h).
+    /// The manager reads an empty event log (0100h).
     Manager,
-    /// Each host and the manager read their event logs.
+    /// Each host and the manager read an empty event log.
     All,
 }
 
