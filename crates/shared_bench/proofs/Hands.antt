@@ -22,6 +22,9 @@ calls_counted p = length-map (seat_view p.seat).calls call_of
 pub may_step : (s : Shared) (actor : Actor) (act : Act) → s.config.hosts ≡ 16 → IsTrue (fits 16 actor act) → IsTrue (is_control act) → MayStep s.config actor act
 may_step s actor act hosts fit control = record { fits = subst (λ (n : ℕ). IsTrue (fits n actor act)) (sym hosts) fit; control = control }
 
+pub may_access : (s : Shared) (actor : Actor) (act : Act) → s.config.hosts ≡ 16 → IsTrue (fits 16 actor act) → IsTrue (fits s.config.hosts actor act)
+may_access s actor act hosts fit = subst (λ (n : ℕ). IsTrue (fits n actor act)) (sym hosts) fit
+
 -- all passes that a device was made with are of it
 pub all_of : (s : Shared) (actors : List Actor) (l : List Pass) → ((k : ℕ) (p : Pass) → get_elem? l k ≡ some p → IsNewPass s actors k p) → All (λ p. IsOneOf s p) l
 all_of s actors l each = all_from_places (λ p. IsOneOf s p) l (λ k p e. (each k p e).of)

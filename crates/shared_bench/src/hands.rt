@@ -3,7 +3,7 @@
 ghost use Rattle.journal_core.specs.Entries.{fits as fits_of, is_control};
 ghost use Rattle.shared_device.specs.Passing.{IsOneOf, pass_actor, pass_calls};
 ghost use Rattle.std.specs.List.{All};
-ghost use Rattle.std.specs.Prelude.{◌≡◌, ◌^◌, ◌<◌, IsTrue, OnOk, length};
+ghost use Rattle.std.specs.Prelude.{◌≡◌, ◌^◌, ◌<◌, IsTrue, OnOk, false, length};
 
 use crate::asking::{accept, acts, offer};
 use crate::hand::Hand;
@@ -55,7 +55,7 @@ fn has_room(pass: &Pass) -> Result<(), NoMemory>
     }
 }
 
-/// Its actor may do the act, and the act is a command or a scrub.
+/// Its actor may do the act.
 fn may(pass: &Pass, act: &Act) -> Result<(), NoMemory>
     ensures { OnOk result (IsTrue (fits_of 16 (pass_actor pass.now) act.now)) }
 {
@@ -67,19 +67,38 @@ fn may(pass: &Pass, act: &Act) -> Result<(), NoMemory>
 }
 
 impl Hand<'_> {
-    /// A step. Here want of memory stands for whatever goes wrong.
+    /// A command or a scrub. Here want of memory stands for whatever goes wrong.
     #[tactic(auto, using(crate::proofs::Hands::may_step))]
-    fn step<R: Wait>(&mut self, rt: &R, act: &Act) -> Result<(), NoMemory> {
+    fn command<R: Wait>(&mut self, rt: &R, act: &Act) -> Result<(), NoMemory>
+        requires { IsTrue (is_control act.now) }
+    {
         has_room(&self.pass)?;
         may(&self.pass, act)?;
-        let line = self.done;
-        let _reply = match act {
-            Act::Command(_) => self.shared.command(rt, &mut self.pass, line, act)?,
-            Act::Scrub(_) => self.shared.command(rt, &mut self.pass, line, act)?,
-            Act::Load(_) => self.shared.access(rt, &mut self.pass, line, act, &NoGate)?,
-            Act::Store(_, _) => self.shared.access(rt, &mut self.pass, line, act, &NoGate)?,
-        };
+        let _reply = self.shared.command(rt, &mut self.pass, self.done, act)?;
         Ok(())
+    }
+
+    /// A load or a store.
+    #[tactic(auto, using(crate::proofs::Hands::may_access))]
+    fn access<R: Wait>(&mut self, rt: &R, act: &Act) -> Result<(), NoMemory>
+        requires { is_control act.now ≡ false }
+    {
+        has_room(&self.pass)?;
+        may(&self.pass, act)?;
+        let _reply = self
+            .shared
+            .access(rt, &mut self.pass, self.done, act, &NoGate)?;
+        Ok(())
+    }
+
+    /// A step.
+    fn step<R: Wait>(&mut self, rt: &R, act: &Act) -> Result<(), NoMemory> {
+        match act {
+            Act::Command(_) => self.command(rt, act),
+            Act::Scrub(_) => self.command(rt, act),
+            Act::Load(_) => self.access(rt, act),
+            Act::Store(_, _) => self.access(rt, act),
+        }
     }
 
     /// If it is the manager's, it offers each host its granule.

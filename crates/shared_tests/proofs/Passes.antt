@@ -37,18 +37,32 @@ is_host actor h is low = (h, is, low)
 pub may_step : (s : Shared) (actor : Actor) (act : Act) → s.config.hosts ≡ 2 → IsTrue (fits 2 actor act) → IsTrue (is_control act) → MayStep s.config actor act
 may_step s actor act hosts fit control = record { fits = subst (λ (n : ℕ). IsTrue (fits n actor act)) (sym hosts) fit; control = control }
 
+pub may_access : (s : Shared) (actor : Actor) (act : Act) → s.config.hosts ≡ 2 → IsTrue (fits 2 actor act) → IsTrue (fits s.config.hosts actor act)
+may_access s actor act hosts fit = subst (λ (n : ℕ). IsTrue (fits n actor act)) (sym hosts) fit
+
+pub may_try : (s : Shared) (actor : Actor) → s.config.hosts ≡ 2 → IsHostOf 2 actor → IsHostOf s.config.hosts actor
+may_try s actor hosts is = subst (λ (n : ℕ). IsHostOf n actor) (sym hosts) is
+
 new_at : (s : Shared) (actors : List Actor) (k : ℕ) (p : Pass) → IsNewPass s actors k p → IsPassAt s k p
 new_at s actors k p new = record { of = new.of; number = new.number }
 
 -- the passes that a device was made with, one by one
-pub four_new : (s : Shared) (actors : List Actor) (l : List Pass) (a b c d : Pass) → l ≡ a ∷ b ∷ c ∷ d ∷ [] → ((k : ℕ) (p : Pass) → get_elem? l k ≡ some p → IsNewPass s actors k p)
-    → IsPassAt s 0 a × IsPassAt s 1 b × IsPassAt s 2 c × IsPassAt s 3 d
-four_new s actors l a b c d is each = (
-  new_at s actors 0 a (each 0 a (ap (λ x. get_elem? x 0) is)),
-  new_at s actors 1 b (each 1 b (ap (λ x. get_elem? x 1) is)),
-  new_at s actors 2 c (each 2 c (ap (λ x. get_elem? x 2) is)),
-  new_at s actors 3 d (each 3 d (ap (λ x. get_elem? x 3) is)),
-)
+module _ (s : Shared) (actors : List Actor) (l : List Pass) (a b c d : Pass) where
+  pub new_first : l ≡ a ∷ b ∷ c ∷ d ∷ [] → ((k : ℕ) (p : Pass) → get_elem? l k ≡ some p → IsNewPass s actors k p) → IsPassAt s 0 a
+  new_first is each = new_at s actors 0 a (each 0 a (ap (λ x. get_elem? x 0) is))
+
+  pub new_second : l ≡ a ∷ b ∷ c ∷ d ∷ [] → ((k : ℕ) (p : Pass) → get_elem? l k ≡ some p → IsNewPass s actors k p) → IsPassAt s 1 b
+  new_second is each = new_at s actors 1 b (each 1 b (ap (λ x. get_elem? x 1) is))
+
+  pub new_manager : l ≡ a ∷ b ∷ c ∷ d ∷ [] → ((k : ℕ) (p : Pass) → get_elem? l k ≡ some p → IsNewPass s actors k p) → IsPassAt s 2 c
+  new_manager is each = new_at s actors 2 c (each 2 c (ap (λ x. get_elem? x 2) is))
+
+  pub new_sanitizer : l ≡ a ∷ b ∷ c ∷ d ∷ [] → ((k : ℕ) (p : Pass) → get_elem? l k ≡ some p → IsNewPass s actors k p) → IsPassAt s 3 d
+  new_sanitizer is each = new_at s actors 3 d (each 3 d (ap (λ x. get_elem? x 3) is))
+
+  -- and how many there are
+  pub four_passes : l ≡ a ∷ b ∷ c ∷ d ∷ [] → passes_at s ≡ length l → passes_at s ≡ 4
+  four_passes is seats = seats ∙ ap length is
 
 module _ (s : Shared) (a b c d : Pass) where
   of_each : IsPassAt s 0 a → IsPassAt s 1 b → IsPassAt s 2 c → IsPassAt s 3 d → (k : ℕ) (p : Pass) → get_elem? (a ∷ b ∷ c ∷ d ∷ []) k ≡ some p → IsOneOf s p

@@ -97,6 +97,7 @@ pub fn command<R: Wait>(
 }
 
 /// A load or a store, asked for once.
+#[tactic(auto, using(crate::proofs::Passes::may_access))]
 fn access_once<R: Wait, G: Gate>(
     rt: &R,
     shared: &Shared,

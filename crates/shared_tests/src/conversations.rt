@@ -69,6 +69,15 @@ fn pass_of(line: &Line) -> u32 {
     }
 }
 
+/// Sees that the rows are those of the lines, in their order.
+fn see_rows(rt: &impl Abort, rows: &[Row], lines: &[Line]) {
+    assert_eq!(rt; rows.len(), lines.len());
+    for (i, (row, line)) in rows.iter().zip(lines.iter()).enumerate() {
+        let number = (i as u32).wrapping_add(1);
+        assert_eq!(rt; *row, (pass_of(line), number, line.2, line.3));
+    }
+}
+
 /// Sees that each line is told what it says, and that the journal has the lines in their order, with their stamps.
 fn see(
     rt: &(impl Abort + Wait),
@@ -78,11 +87,7 @@ fn see(
 ) -> Result<(), Fail> {
     let outcome = played(rt, alloc, lines)?;
     assert_eq!(rt; outcome.wrong, None);
-    assert_eq!(rt; outcome.rows.len(), lines.len());
-    for (i, (row, line)) in outcome.rows.iter().zip(lines.iter()).enumerate() {
-        let number = (i as u32).wrapping_add(1);
-        assert_eq!(rt; *row, (pass_of(line), number, line.2, line.3));
-    }
+    see_rows(rt, outcome.rows.as_slice(), lines);
     assert_eq!(rt; outcome.counts, counts);
     Ok(())
 }

@@ -44,20 +44,26 @@ fn config(alloc: Global) -> Result<Config, Trouble>
 fn four_of(mut passes: Vec<Pass>) -> Result<(Pass, Pass, Pass, Pass), Trouble>
     ensures { IfOk result (λ four. passes.items ≡ four.0 ∷ four.1 ∷ four.2 ∷ four.3 ∷ []) }
 {
-    let (Some(sanitizer), Some(manager), Some(second), Some(first), None) = (
-        passes.pop(),
-        passes.pop(),
-        passes.pop(),
-        passes.pop(),
-        passes.pop(),
-    ) else {
+    let Some(sanitizer) = passes.pop() else {
         return Err(Trouble::Count);
     };
+    let Some(manager) = passes.pop() else {
+        return Err(Trouble::Count);
+    };
+    let Some(second) = passes.pop() else {
+        return Err(Trouble::Count);
+    };
+    let Some(first) = passes.pop() else {
+        return Err(Trouble::Count);
+    };
+    if !passes.is_empty() {
+        return Err(Trouble::Count);
+    }
     Ok((first, second, manager, sanitizer))
 }
 
 /// A fresh device of two hosts.
-#[tactic(auto, using(crate::proofs::Passes::four_new))]
+#[tactic(auto, using(crate::proofs::Passes::new_first, crate::proofs::Passes::new_second, crate::proofs::Passes::new_manager, crate::proofs::Passes::new_sanitizer, crate::proofs::Passes::four_passes))]
 pub fn two_hosts(alloc: Global) -> Result<TwoHosts, Trouble> {
     let (shared, passes) = Shared::start(alloc, config(alloc)?, 1)?;
     let (first, second, manager, sanitizer) = four_of(passes)?;

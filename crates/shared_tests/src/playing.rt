@@ -39,9 +39,32 @@ fn step<R: Wait>(
 }
 
 impl TwoHosts {
-    /// A step by the pass of this actor.
+    /// A step of host 0.
     #[tactic(auto, using(crate::proofs::Passes::still_at))]
-    pub fn asks<R: Wait>(
+    fn first_asks<R: Wait>(&mut self, rt: &R, line: u32, act: &Act) -> Result<Told, Trouble> {
+        step(rt, &self.shared, &mut self.first, line, act)
+    }
+
+    /// A step of host 1.
+    #[tactic(auto, using(crate::proofs::Passes::still_at))]
+    fn second_asks<R: Wait>(&mut self, rt: &R, line: u32, act: &Act) -> Result<Told, Trouble> {
+        step(rt, &self.shared, &mut self.second, line, act)
+    }
+
+    /// A step of the manager.
+    #[tactic(auto, using(crate::proofs::Passes::still_at))]
+    fn manager_asks<R: Wait>(&mut self, rt: &R, line: u32, act: &Act) -> Result<Told, Trouble> {
+        step(rt, &self.shared, &mut self.manager, line, act)
+    }
+
+    /// A step of the sanitizer.
+    #[tactic(auto, using(crate::proofs::Passes::still_at))]
+    fn sanitizer_asks<R: Wait>(&mut self, rt: &R, line: u32, act: &Act) -> Result<Told, Trouble> {
+        step(rt, &self.shared, &mut self.sanitizer, line, act)
+    }
+
+    /// A step by the pass of this actor.
+    fn asks<R: Wait>(
         &mut self,
         rt: &R,
         line: u32,
@@ -50,12 +73,12 @@ impl TwoHosts {
     ) -> Result<Told, Trouble> {
         match actor {
             Actor::Host(host) => if host.0 == 0 {
-                step(rt, &self.shared, &mut self.first, line, act)
+                self.first_asks(rt, line, act)
             } else {
-                step(rt, &self.shared, &mut self.second, line, act)
+                self.second_asks(rt, line, act)
             },
-            Actor::Manager => step(rt, &self.shared, &mut self.manager, line, act),
-            Actor::Sanitizer => step(rt, &self.shared, &mut self.sanitizer, line, act),
+            Actor::Manager => self.manager_asks(rt, line, act),
+            Actor::Sanitizer => self.sanitizer_asks(rt, line, act),
         }
     }
 }

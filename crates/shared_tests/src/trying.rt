@@ -13,7 +13,7 @@ use crate::told::{Told, told_by};
 use crate::trouble::Trouble;
 use crate::two_hosts::TwoHosts;
 use dcd_base::{AccessFault, Actor, Gate};
-use journal_core::Act;
+use journal_core::{Act, Reply};
 use shared_device::{Pass, Shared, TryFault};
 use std::alloc::Global;
 use std::sync::Wait;
@@ -47,7 +47,17 @@ fn of_a_host(pass: &Pass) -> Result<(), Trouble>
     }
 }
 
+/// What a call came to.
+fn tried_by(answer: Result<Reply, TryFault>) -> Result<Tried, Trouble> {
+    match answer {
+        Ok(reply) => Ok(Tried::Told(told_by(&reply))),
+        Err(TryFault::Busy { seat_seen }) => Ok(Tried::Busy(seat_seen)),
+        Err(TryFault::NoMemory) => Err(Trouble::NoMemory),
+    }
+}
+
 /// Tries once.
+#[tactic(auto, using(crate::proofs::Passes::may_try))]
 fn try_once(shared: &Shared, pass: &mut Pass, line: u32, what: Try) -> Result<Tried, Trouble>
     requires of { IsOneOf shared.now pass.old }
     requires hosts { hosts_at shared.now ≡ 2 }
@@ -56,14 +66,9 @@ fn try_once(shared: &Shared, pass: &mut Pass, line: u32, what: Try) -> Result<Tr
     has_room(pass)?;
     of_a_host(pass)?;
     let (dpa, value) = what;
-    let tried = match value {
-        None => shared.try_load(pass, line, dpa),
-        Some(value) => shared.try_store(pass, line, dpa, value),
-    };
-    match tried {
-        Ok(reply) => Ok(Tried::Told(told_by(&reply))),
-        Err(TryFault::Busy { seat_seen }) => Ok(Tried::Busy(seat_seen)),
-        Err(TryFault::NoMemory) => Err(Trouble::NoMemory),
+    match value {
+        None => tried_by(shared.try_load(pass, line, dpa)),
+        Some(value) => tried_by(shared.try_store(pass, line, dpa, value)),
     }
 }
 
@@ -310,17 +315,23 @@ const MISALIGNED: Told = Told::Refused(AccessFault::Misaligned);
 
 const OUTSIDE: Told = Told::Refused(AccessFault::OutsideRegions);
 
-#[test]
-fn a_try_beside_a_load_is_busy_at_its_shard_alone(rt: HostRuntime) -> Result<(), Fail> {
-    let found = found(&rt, rt.alloc())?;
-    assert!(rt; !found.is_late);
-    assert_eq!(rt; found.loaded, NOT_GRANTED);
-    let (busy, other) = (Tried::Busy(0), Tried::Told(NOT_GRANTED));
-    assert_eq!(rt; found.during, [busy, busy, busy, busy, other]);
-    let refused = [NOT_GRANTED, NOT_GRANTED, MISALIGNED, OUTSIDE, NOT_GRANTED];
-    assert_eq!(rt; found.after, refused.map(|told| Tried::Told(told)));
-    Ok(())
-}
+/// Each try of shard 0 is busy, and that of shard 1 is done.
+const DURING: [Tried; 5] = [
+    Tried::Busy(0),
+    Tried::Busy(0),
+    Tried::Busy(0),
+    Tried::Busy(0),
+    Tried::Told(NOT_GRANTED),
+];
+
+/// All are done.
+const AFTER: [Tried; 5] = [
+    Tried::Told(NOT_GRANTED),
+    Tried::Told(NOT_GRANTED),
+    Tried::Told(MISALIGNED),
+    Tried::Told(OUTSIDE),
+    Tried::Told(NOT_GRANTED),
+];
 
 /// The entries of both hosts: host 0's load, and of host 1 the try that was not busy and the five after it.
 const ENTERED: [Row; 7] = [
@@ -334,8 +345,14 @@ const ENTERED: [Row; 7] = [
 ];
 
 #[test]
-fn a_try_that_is_busy_leaves_no_entry(rt: HostRuntime) -> Result<(), Fail> {
+fn a_try_beside_a_load_is_busy_at_its_shard_alone_and_leaves_no_entry(
+    rt: HostRuntime,
+) -> Result<(), Fail> {
     let found = found(&rt, rt.alloc())?;
+    assert!(rt; !found.is_late);
+    assert_eq!(rt; found.loaded, NOT_GRANTED);
+    assert_eq!(rt; found.during, DURING);
+    assert_eq!(rt; found.after, AFTER);
     assert_eq!(rt; found.rows.as_slice(), ENTERED.as_slice());
     Ok(())
 }
