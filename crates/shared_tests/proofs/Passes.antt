@@ -1,5 +1,5 @@
 -- Passes of a device of two hosts.
-use Rattle.std.proofs.Common.{◌≡◌, ℕ, zero, suc, ◌<◌, IsTrue, List, [], ◌∷◌, length, refl, sym, ap, ◌∙◌, subst, arith}
+use Rattle.std.proofs.Common.{◌≡◌, ℕ, zero, suc, ◌<◌, IsTrue, List, [], ◌∷◌, ◌++◌, length, refl, sym, ap, ◌∙◌, subst, arith}
 use Rattle.std.proofs.lemmas.List.{length-map}
 use mathlib.Core.Option.{some, some-injective, some-ne-none}
 use lib.ListN.{get_elem?}
@@ -14,7 +14,8 @@ use Rattle.shared_device.specs.Closing.{AreAllPasses}
 use Rattle.shared_device.specs.declared.pass.Pass.{Pass}
 use Rattle.shared_device.specs.declared.shared.Shared.{Shared}
 use Rattle.shared_device.specs.Passing.{IsNewPass, IsOneOf, IsSamePass, pass_calls, pass_number}
-use Rattle.shared_tests.specs.Hosting.{IsHostOf, IsPassAt, passes_at}
+use Rattle.ruled_cells.proofs.ClosingSteps.{at_end, in_front}
+use Rattle.shared_tests.specs.Hosting.{AreOf, IsHostOf, IsPassAt, passes_at}
 
 -- a pass has as many calls as entries that it saw entered
 pub calls_counted : (p : Pass) → length (pass_calls p) ≡ length (seat_view p.seat).calls
@@ -45,6 +46,16 @@ may_try s actor hosts is = subst (λ (n : ℕ). IsHostOf n actor) (sym hosts) is
 
 new_at : (s : Shared) (actors : List Actor) (k : ℕ) (p : Pass) → IsNewPass s actors k p → IsPassAt s k p
 new_at s actors k p new = record { of = new.of; number = new.number }
+
+pub all_of : (s : Shared) (actors : List Actor) (l : List Pass) → ((k : ℕ) (p : Pass) → get_elem? l k ≡ some p → IsNewPass s actors k p) → AreOf s l
+all_of s actors l each = λ k p e. (each k p e).of
+
+-- the last of some passes, and the others
+pub last_of : (s : Shared) (l front : List Pass) (p : Pass) → l ≡ front ++ p ∷ [] → AreOf s l → IsOneOf s p
+last_of s l front p is of = of (length front) p (at_end l front p is)
+
+pub front_of : (s : Shared) (l front : List Pass) (p : Pass) → l ≡ front ++ p ∷ [] → AreOf s l → AreOf s front
+front_of s l front p is of = λ k q e. of k q (in_front l front p is k q e)
 
 -- the passes that a device was made with, one by one
 module _ (s : Shared) (actors : List Actor) (l : List Pass) (a b c d : Pass) where

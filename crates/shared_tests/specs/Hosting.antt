@@ -1,5 +1,7 @@
 -- A device of two hosts with one lane each, and which of its four passes is which.
-use Rattle.std.specs.Prelude.{◌≡◌, ℕ, ◌<◌}
+use Rattle.std.specs.Prelude.{◌≡◌, ℕ, ◌<◌, List}
+use mathlib.Core.Option.{some}
+use lib.ListN.{get_elem?}
 use Rattle.dcd_base.specs.declared.ids.HostId.{HostId}
 use Rattle.dcd_base.specs.declared.steps.Actor.{Actor}
 use Rattle.ruled_cells.specs.Calls.{seats_of}
@@ -13,6 +15,10 @@ hosts_at s = s.config.hosts
 -- how many passes were made with it
 abbrev pub passes_at : Shared → ℕ
 passes_at s = seats_of s.cells
+
+-- all of them are passes that were made with the device
+abbrev pub AreOf : Shared → List Pass → Type 0
+AreOf s l = (k : ℕ) (p : Pass) → get_elem? l k ≡ some p → IsOneOf s p
 
 -- the pass of this number
 pub record IsPassAt (s : Shared) (k : ℕ) (p : Pass) : Type 0 where

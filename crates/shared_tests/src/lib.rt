@@ -11,6 +11,8 @@ mod conversations;
 #[cfg(test)]
 mod journals;
 #[cfg(test)]
+mod lanes;
+#[cfg(test)]
 mod lines;
 #[cfg(test)]
 mod opening;

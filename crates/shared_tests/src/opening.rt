@@ -33,7 +33,7 @@ fn region(length: u64, handle: u32, shareable: bool) -> RegionSpec {
 }
 
 /// Two hosts and regions of 16 and 4 MiB, of which the second can be shared; granules have 1 MiB.
-fn config(alloc: Global) -> Result<Config, Trouble>
+pub fn config(alloc: Global) -> Result<Config, Trouble>
     ensures { IfOk result (λ c. c.hosts ≡ 2) }
 {
     let regions = [region(16 * M, 0, false), region(4 * M, 1, true)];
