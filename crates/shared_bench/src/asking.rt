@@ -6,14 +6,15 @@ use crate::job::{HOSTS, Job};
 use cci_codec::{Payload, Request};
 use dcd_base::{Actor, Bytes, NoMemory};
 use journal_core::Act;
-use region_config::{Config, ConfigFault, RegionSpec};
+use region_config::{Config, RegionSpec};
 use std::alloc::Global;
 
 /// 1 MiB.
 const M: u64 = 0x10_0000;
 
-/// 256 MiB that are not shared, in granules of 1 MiB; sixteen hosts, for each of which they begin at 0.
-pub fn config(alloc: Global) -> Result<Config, ConfigFault>
+/// 256 MiB that are not shared, in granules of 1 MiB; sixteen hosts, for each of which they begin at 0. Any fault is taken as
+/// want of memory, since it has no other.
+pub fn config(alloc: Global) -> Result<Config, NoMemory>
     ensures { IfOk result (λ c. c.hosts ≡ 16) }
 {
     let region = RegionSpec {
@@ -25,7 +26,10 @@ pub fn config(alloc: Global) -> Result<Config, ConfigFault>
         sanitize: true,
         shareable: false,
     };
-    Config::new(alloc, HOSTS, &[region], &[0; 16])
+    let Ok(config) = Config::new(alloc, HOSTS, &[region], &[0; 16]) else {
+        return Err(NoMemory);
+    };
+    Ok(config)
 }
 
 /// A command.
