@@ -5,7 +5,7 @@ ghost use Rattle.std.specs.Prelude.{◌≡◌, IfOk};
 use crate::job::{HOSTS, Job};
 use cci_codec::{Payload, Request};
 use dcd_base::{Actor, Bytes, NoMemory};
-use journal_core::Act;
+use journal_core::{Act, Reply};
 use region_config::{Config, RegionSpec};
 use std::alloc::Global;
 
@@ -30,6 +30,16 @@ pub fn config(alloc: Global) -> Result<Config, NoMemory>
         return Err(NoMemory);
     };
     Ok(config)
+}
+
+/// The step was done, and not refused. Here want of memory stands for whatever goes wrong.
+pub fn done(reply: &Reply) -> Result<(), NoMemory> {
+    let is_done = match reply {
+        Reply::Answer(response) => response.code == 0,
+        Reply::Refused(_) => false,
+        _ => true,
+    };
+    if is_done { Ok(()) } else { Err(NoMemory) }
 }
 
 /// A command.

@@ -5,7 +5,7 @@ ghost use Rattle.shared_device.specs.Passing.{IsOneOf, pass_actor, pass_calls};
 ghost use Rattle.std.specs.List.{All};
 ghost use Rattle.std.specs.Prelude.{◌≡◌, ◌^◌, ◌<◌, IsTrue, OnOk, false, length};
 
-use crate::asking::{accept, acts, offer};
+use crate::asking::{accept, acts, done, offer};
 use crate::hand::Hand;
 use crate::job::{HOSTS, Job};
 use dcd_base::{Actor, NoGate, NoMemory};
@@ -67,15 +67,15 @@ fn may(pass: &Pass, act: &Act) -> Result<(), NoMemory>
 }
 
 impl Hand<'_> {
-    /// A command or a scrub. Here want of memory stands for whatever goes wrong.
+    /// A command or a scrub.
     #[tactic(auto, using(crate::proofs::Hands::may_step))]
     fn command<R: Wait>(&mut self, rt: &R, act: &Act) -> Result<(), NoMemory>
         requires { IsTrue (is_control act.now) }
     {
         has_room(&self.pass)?;
         may(&self.pass, act)?;
-        let _reply = self.shared.command(rt, &mut self.pass, self.done, act)?;
-        Ok(())
+        let reply = self.shared.command(rt, &mut self.pass, self.done, act)?;
+        done(&reply)
     }
 
     /// A load or a store.
@@ -85,10 +85,10 @@ impl Hand<'_> {
     {
         has_room(&self.pass)?;
         may(&self.pass, act)?;
-        let _reply = self
+        let reply = self
             .shared
             .access(rt, &mut self.pass, self.done, act, &NoGate)?;
-        Ok(())
+        done(&reply)
     }
 
     /// A step.
@@ -160,12 +160,12 @@ fn begin<R: Wait>(
 }
 
 /// How many steps were done.
-fn done(hands: &[Hand<'_>]) -> u64 {
-    let mut done = 0u64;
+fn steps_of(hands: &[Hand<'_>]) -> u64 {
+    let mut steps = 0u64;
     for hand in hands {
-        done = done.saturating_add(u64::from(hand.done));
+        steps = steps.saturating_add(u64::from(hand.done));
     }
-    done
+    steps
 }
 
 /// Does the job, with a thread for each pass where more than one works. How many steps were done.
@@ -182,5 +182,5 @@ pub fn work_all<R: Threads + Wait + Sync>(
         hands.len().max(1)
     };
     for_each_mut(rt, hands, threads, &|_, hand| hand.works(rt, alloc, job));
-    Ok(done(hands))
+    Ok(steps_of(hands))
 }

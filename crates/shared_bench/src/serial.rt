@@ -1,6 +1,6 @@
 //! The same work by a device that takes one step after another.
 
-use crate::asking::{accept, acts, config, offer};
+use crate::asking::{accept, acts, config, done, offer};
 use crate::job::{HOSTS, Job};
 use dcd_base::{Actor, HostId, NoMemory};
 use device_plain::Device;
@@ -12,8 +12,8 @@ fn step(device: &mut Device, line: u32, actor: Actor, act: &Act) -> Result<(), N
     if !fits(device.control().config().hosts(), &actor, act) {
         return Err(NoMemory);
     }
-    let _reply = device.step(0, line, actor, act)?;
-    Ok(())
+    let reply = device.step(0, line, actor, act)?;
+    done(&reply)
 }
 
 /// Each host gets its granule.
