@@ -1,5 +1,6 @@
 //! A conversation: what a run is given, and what it has to print.
 
+use crate::program::Program;
 use std::alloc::Global;
 use std::io::ErrorKind;
 use std::{fs, io};
@@ -7,6 +8,8 @@ use std::{fs, io};
 /// What a run is given, and what it has to print.
 #[derive(Debug, Drop)]
 pub(crate) struct Conversation {
+    /// The program that is run.
+    pub(crate) program: Program,
     /// The bytes that the source gives.
     pub(crate) script: Vec<u8>,
     /// The words of the command line, without the program's name.
@@ -24,10 +27,12 @@ impl Conversation {
         folder: &str,
         name: &str,
     ) -> Result<Conversation, anyhow::Error> {
+        let program = program_of(rt, folder, name)?;
         let words = words_of(rt, folder, name)?;
         let status = status_of(rt, folder, name)?;
         let text = text_of(rt, folder, name)?;
         Ok(Conversation {
+            program,
             script: bytes_of(rt, folder, name, "dcds")?,
             words,
             status,
@@ -51,6 +56,12 @@ fn text_of(rt: &HostRuntime, folder: &str, name: &str) -> io::Result<Vec<u8>> {
     let alloc: Global = rt.alloc();
     let file = format!(in alloc; "{folder}/{name}.txt")?;
     fs::read(rt, file.as_str())
+}
+
+/// The program.
+fn program_of(rt: &HostRuntime, folder: &str, name: &str) -> Result<Program, anyhow::Error> {
+    let program = bytes_of(rt, folder, name, "program")?;
+    Ok(Program::named(str::from_utf8(program.as_slice())?)?)
 }
 
 /// The words, one a line.

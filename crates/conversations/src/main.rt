@@ -1,14 +1,15 @@
 //! Runs each conversation of a folder over ends in memory, and says which ones come out otherwise than they are written.
 //!
-//! A conversation NAME is a few files: the script `NAME.dcds`, the words of the command line `NAME.words`, one a line, the
-//! exit status `NAME.status` in decimal digits, and the text `NAME.txt` that the run has to print. Without the first the
-//! source is empty, without the second there are no words, and without the third the status is 0. Other files are left
-//! alone.
+//! A conversation NAME is a few files: the name of the program `NAME.program`, the script `NAME.dcds`, the words of the
+//! command line `NAME.words`, one a line, the exit status `NAME.status` in decimal digits, and the text `NAME.txt` that the
+//! run has to print. Without the first the program is `dcdsim`, without the second the source is empty, without the third
+//! there are no words, and without the fourth the status is 0. Other files are left alone.
 #![tactic(auto)]
 
 mod conversation;
 mod folder;
 mod outcome;
+mod program;
 mod trials;
 
 use conversation::Conversation;

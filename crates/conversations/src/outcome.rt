@@ -1,8 +1,7 @@
 //! A run over ends in memory, and what it came to.
 
 use crate::conversation::Conversation;
-use dcd_base::{Bytes, MemSink, MemSource, NoGate, NoMemory};
-use script_runner::run;
+use dcd_base::{Bytes, MemSink, MemSource, NoMemory};
 use std::alloc::Global;
 
 /// How the ends of a run behave.
@@ -48,9 +47,10 @@ impl Outcome {
         let mut source = MemSource::new(script, ends.read.max(1), read_fails);
         let mut sink = MemSink::new(alloc, ends.written.max(1), write_fails);
         let words = conversation.words.as_slice();
-        let status = run(rt, alloc, words, &mut source, &mut sink, &NoGate);
+        let program = conversation.program;
+        let status = program.run(rt, alloc, words, &mut source, &mut sink);
         Ok(Outcome {
-            status: status.number(),
+            status,
             text: sink.taken().copy()?,
         })
     }

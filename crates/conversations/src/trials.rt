@@ -74,9 +74,9 @@ pub(crate) fn first_wrong<R>(
     Ok(None)
 }
 
-/// How many reads of few bytes the run makes: none where there are words, else one more than give bytes.
+/// How many reads of few bytes the run makes: none where the program does not read, else one more than give bytes.
 fn reads_of(conversation: &Conversation) -> usize {
-    if conversation.words.is_empty() {
+    if conversation.program.reads(conversation) {
         conversation
             .script
             .len()
