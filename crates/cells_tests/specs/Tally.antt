@@ -102,6 +102,10 @@ pub record IsIdle (number : ℕ) (seen : Stamp) (v : SeatView) : Type 0 where
   pub actor : get_elem? v.about.actors number ≡ some Actor.Sanitizer
   pub seen_is : seen ≡ v.seen
 
+-- the seat has made no call yet
+abbrev pub IsUnused : SeatView → Type 0
+IsUnused v = (v.seen ≡ stamp 0 0) × (v.calls ≡ [])
+
 -- the seat has the turn of the first cell, and its journal has a new entry behind what was taken: a scrub by this seat that names the counter of index 0
 abbrev pub HasScrubbed : {S : Type 0} → Seat (List Entry) S → List Entry → Type 0
 HasScrubbed s ledger = (taken : List Entry) × (e : Entry) × HasFirst s taken × (ledger ≡ taken ++ e ∷ []) × (e.act ≡ Act.Scrub 0) × (e.stamp ≡ stamp (length taken + 1) 0)

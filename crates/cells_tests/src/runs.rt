@@ -5,7 +5,7 @@ ghost use Rattle.journal_core.specs.Entries.{is_control};
 ghost use Rattle.ruled_cells.specs.Calls.{IsNew, IsOf, row_of, seats_of};
 ghost use Rattle.ruled_cells.specs.Seats.{HasCell, IsSameSeat, NoTurns, seat_number, turns_of, seat_view};
 ghost use Rattle.ruled_cells.specs.Stamps.{stamp};
-ghost use Rattle.cells_tests.specs.Tally.{IsIdle, MayHaveAdded, no_config};
+ghost use Rattle.cells_tests.specs.Tally.{IsIdle, IsUnused, MayHaveAdded, no_config};
 
 use crate::counter::Counter;
 use crate::ledger::Ledger;
@@ -91,7 +91,7 @@ fn step<R: Wait>(rt: &R, cells: &Tallies, seat: &mut Worker, seen: Stamp, line: 
 fn work<R: Wait>(rt: &R, cells: &Tallies, mut seat: Worker, rounds: u32) -> Worker
     requires of { IsOf cells.now seat × (0 < row_of cells.now) }
     requires idle { NoTurns seat × IsIdle (seat_number seat) (seat_view seat).seen (seat_view seat) }
-    requires new { ((seat_view seat).seen ≡ stamp 0 0) × ((seat_view seat).calls ≡ []) }
+    requires new { IsUnused (seat_view seat) }
     ensures seat { IsSameSeat seat result × NoTurns result }
 {
     let mut seen = Stamp {
@@ -157,8 +157,8 @@ fn work_both<R: Threads + Wait + Sync>(
     two: Worker,
 ) -> (Worker, Worker)
     requires of { IsOf cells.now one × IsOf cells.now two × (0 < row_of cells.now) }
-    requires first { NoTurns one × IsIdle (seat_number one) (seat_view one).seen (seat_view one) × ((seat_view one).seen ≡ stamp 0 0) × ((seat_view one).calls ≡ []) }
-    requires second { NoTurns two × IsIdle (seat_number two) (seat_view two).seen (seat_view two) × ((seat_view two).seen ≡ stamp 0 0) × ((seat_view two).calls ≡ []) }
+    requires first { NoTurns one × IsIdle (seat_number one) (seat_view one).seen (seat_view one) × IsUnused (seat_view one) }
+    requires second { NoTurns two × IsIdle (seat_number two) (seat_view two).seen (seat_view two) × IsUnused (seat_view two) }
     ensures first { IsSameSeat one result.0 × NoTurns result.0 }
     ensures second { IsSameSeat two result.1 × NoTurns result.1 }
 {
@@ -167,13 +167,13 @@ fn work_both<R: Threads + Wait + Sync>(
         || -> Worker
             requires of { IsOf cells.now one × (0 < row_of cells.now) }
             requires idle { NoTurns one × IsIdle (seat_number one) (seat_view one).seen (seat_view one) }
-            requires new { ((seat_view one).seen ≡ stamp 0 0) × ((seat_view one).calls ≡ []) }
+            requires new { IsUnused (seat_view one) }
             ensures { IsSameSeat one result × NoTurns result }
         { work(rt, cells, one, 1000) },
         || -> Worker
             requires of { IsOf cells.now two × (0 < row_of cells.now) }
             requires idle { NoTurns two × IsIdle (seat_number two) (seat_view two).seen (seat_view two) }
-            requires new { ((seat_view two).seen ≡ stamp 0 0) × ((seat_view two).calls ≡ []) }
+            requires new { IsUnused (seat_view two) }
             ensures { IsSameSeat two result × NoTurns result }
         { work(rt, cells, two, 1000) },
     )

@@ -42,6 +42,12 @@ module _ {F S : Type 0} where
     pub among : among_of t ≡ among_of s
     pub place : place_of t ≡ place_of s
 
+  -- it tried to get no turn
+  pub record IsNoTry (s t : Seat F S) : Type 0 where
+    pub tries : tries_of t ≡ tries_of s
+    pub saw : saw_of t ≡ saw_of s
+    pub at : tried_at t ≡ tried_at s
+
   abbrev pub HasFirst : Seat F S → F → Type 0
   HasFirst s f = HasTurn (turns_of s) 0 (First f)
 

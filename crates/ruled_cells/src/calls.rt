@@ -3,7 +3,7 @@
 ghost use Rattle.std.specs.Prelude.{◌≡◌, ◌≢◌, suc, ◌+◌, ◌<◌, slice_set, IfErr, IfOk, MatchResult, None, Some};
 ghost use Rattle.ruled_cells.specs.Calls.{GaveIn, IsOf, MayGiveFirstIn, MayGiveIn, MayNoteIn, row_of, seats_of};
 ghost use Rattle.ruled_cells.specs.Ruling.{names};
-ghost use Rattle.ruled_cells.specs.Seats.{HasCell, HasFirst, IsSameSeat, NoCell, NoFirst, seat_number, saw_of, tried_at, tries_of, turns_of, seat_view};
+ghost use Rattle.ruled_cells.specs.Seats.{HasCell, HasFirst, IsNoTry, IsSameSeat, NoCell, NoFirst, seat_number, saw_of, tried_at, tries_of, turns_of, seat_view};
 ghost use Rattle.ruled_cells.specs.Telling.{ToldCell, ToldFirst, begun, last_of, noted_as};
 ghost use Rattle.ruled_cells.specs.declared.cell_value.CellValue.TheVariants.{First, Rest};
 
@@ -132,6 +132,7 @@ impl<F: Chief, S: Member> Cells<F, S> {
         requires may { MayGiveIn F.reads S.reads seat.old index value }
         ensures seat { IsSameSeat seat.old seat.new }
         ensures turn { turns_of seat.new ≡ slice_set (turns_of seat.old) (suc index) None }
+        ensures no_try { IsNoTry seat.old seat.new }
         ensures told { GaveIn F.reads S.reads seat.old index value (seat_view seat.new) }
     {
         turns::give::<CellValue<F, S>, _, _, _, GiveCell<F, S>>(

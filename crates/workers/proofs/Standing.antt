@@ -8,7 +8,7 @@ use Rattle.std.specs.List.{list_all}
 use Rattle.script_codec.specs.declared.script_line.Line.{Line}
 use Rattle.workers.specs.Handling.{HandlerReads}
 use Rattle.workers.specs.Phases.{GrownTo, Grown, is_line_of, phase, tasks}
-use Rattle.workers.specs.Serving.{IsReady, IsSamePass, HasServed, HasServedSome}
+use Rattle.workers.specs.Serving.{IsReady, KeepsPass, HasServed, HasServedSome}
 use Rattle.workers.specs.Worklists.{IsNextOf, IsPlaceOf, AreLinked}
 use Rattle.workers.proofs.Growing.{tasks_then, grown_more, grown_none, room_left}
 
@@ -25,17 +25,17 @@ pub rest_is : {X : Type 0} (xs : List X) (i : ℕ) (x : X) → i < length xs →
 rest_is xs i x lt is = drop_more xs i x lt ∙ ap (λ y. y ∷ drop (i + 1) xs) (sym is)
 
 module _ {H P : Type 0} (reads : HandlerReads H P) (handler : H) where
-  pub same_itself : (p : P) → reads.is_mine handler p → IsSamePass reads handler p p
+  pub same_itself : (p : P) → reads.is_mine handler p → KeepsPass reads handler p p
   same_itself p mine = record { mine = mine; number = refl; actor = refl }
 
-  pub same_pass : (p q r : P) → IsSamePass reads handler p q → IsSamePass reads handler q r → IsSamePass reads handler p r
+  pub same_pass : (p q r : P) → KeepsPass reads handler p q → KeepsPass reads handler q r → KeepsPass reads handler p r
   same_pass p q r a b = record { mine = b.mine; number = b.number ∙ a.number; actor = b.actor ∙ a.actor }
 
   module _ (hosts lanes first : ℕ) (lines : List Line) (k : ℕ) where
     pub record StandsAt (place : ℕ) (p q : P) : Type 0 where
       pub there : IsPlaceOf hosts lanes lines k place
       pub ready : IsReady reads handler (phase hosts lanes (first + place) (drop place lines)) k q
-      pub same : IsSamePass reads handler p q
+      pub same : KeepsPass reads handler p q
       pub grown : GrownTo (tasks hosts lanes k first lines) (tasks hosts lanes k (first + place) (drop place lines)) (reads.calls p) (reads.calls q)
 
     pub begins : (head : ℕ) (p : P) → IsNextOf hosts lanes lines k 0 head → IsReady reads handler (phase hosts lanes first lines) k p → StandsAt head p p
@@ -74,7 +74,7 @@ module _ {H P : Type 0} (reads : HandlerReads H P) (handler : H) where
     line_own place p q line at lt is = ap (λ x. is_line_of hosts lanes k x) is ∙ at.there.own line lt
 
     pub goes_on : (place : ℕ) (p q r : P) (line : Line) (next : List ℕ) → StandsAt place p q → place < length lines → line ≡ get_or lines place line → AreLinked hosts lanes lines 0 next
-        → IsSamePass reads handler q r → Grown (tasks hosts lanes k (first + place) (line ∷ [])) (reads.calls q) (reads.calls r) → StandsAt (slice_index next place) p r
+        → KeepsPass reads handler q r → Grown (tasks hosts lanes k (first + place) (line ∷ [])) (reads.calls q) (reads.calls r) → StandsAt (slice_index next place) p r
     goes_on place p q r line next at lt is linked same grown =
         let low : 0 ≤ place = omega arith in
         let found : IsNextOf hosts lanes lines k (suc place) (slice_index next place) = linked place k line low lt (at.there.own line lt) in
@@ -105,7 +105,7 @@ module _ {H P : Type 0} (reads : HandlerReads H P) (handler : H) where
     pub ended : (place : ℕ) (p q : P) → StandsAt place p q → HasServedSome reads handler (phase hosts lanes first lines) k p q
     ended place p q at = record { same = at.same; left = tasks hosts lanes k (first + place) (drop place lines); grown = at.grown }
 
-    pub stops : (place : ℕ) (p q r : P) → StandsAt place p q → IsSamePass reads handler q r → reads.calls r ≡ reads.calls q → HasServedSome reads handler (phase hosts lanes first lines) k p r
+    pub stops : (place : ℕ) (p q r : P) → StandsAt place p q → KeepsPass reads handler q r → reads.calls r ≡ reads.calls q → HasServedSome reads handler (phase hosts lanes first lines) k p r
     stops place p q r at same kept = record {
       same = same_pass p q r at.same same;
       left = tasks hosts lanes k (first + place) (drop place lines);

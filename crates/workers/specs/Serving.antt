@@ -30,19 +30,19 @@ module _ {H P : Type 0} (reads : HandlerReads H P) (handler : H) where
   EachReady f k (p ∷ passes) = IsReady f k p × EachReady f (suc k) passes
 
   -- it is the same pass, of the same handler
-  pub record IsSamePass (p q : P) : Type 0 where
+  pub record KeepsPass (p q : P) : Type 0 where
     pub mine : reads.is_mine handler q
     pub number : reads.number q ≡ reads.number p
     pub actor : reads.actor q ≡ reads.actor p
 
   -- the pass has done its lines of the phase, each once and in order, and nothing else
   pub record HasServed (f : Phase) (k : ℕ) (p q : P) : Type 0 where
-    pub same : IsSamePass p q
+    pub same : KeepsPass p q
     pub grown : Grown (tasks_in f k) (reads.calls p) (reads.calls q)
 
   -- or some first ones of them
   pub record HasServedSome (f : Phase) (k : ℕ) (p q : P) : Type 0 where
-    pub same : IsSamePass p q
+    pub same : KeepsPass p q
     pub left : List Task
     pub grown : GrownTo (tasks_in f k) left (reads.calls p) (reads.calls q)
 

@@ -4,7 +4,7 @@ ghost use Rattle.journal_core.specs.Entries.{fits};
 ghost use Rattle.std.specs.Prelude.{◌≡◌, ◌<◌, ◌+◌, ◌^◌, ◌∷◌, [], IsTrue, OnErr, OnOk, length};
 ghost use Rattle.script_codec.specs.Scripts.{is_sound_line};
 ghost use Rattle.workers.specs.Phases.{Grown, is_line_of, phase, tasks};
-ghost use Rattle.workers.specs.Serving.{HasServed, HasServedSome, IsReady, IsSamePass};
+ghost use Rattle.workers.specs.Serving.{HasServed, HasServedSome, IsReady, KeepsPass};
 ghost use Rattle.workers.specs.Worklists.{IsNextOf, IsWork, phase_of};
 
 use crate::handler::Handler;
@@ -27,7 +27,7 @@ fn serve_act<R: Wait, P: Send, H: Handler<Pass = P>, G: Gate>(
     requires mine { H.reads.is_mine handler.now pass.old }
     requires fits { IsTrue (fits (H.reads.hosts handler.now) (H.reads.actor pass.old) act.now) }
     requires room { length (H.reads.calls pass.old) < 2 ^ 32 }
-    ensures same { IsSamePass H.reads handler.now pass.old pass.new }
+    ensures same { KeepsPass H.reads handler.now pass.old pass.new }
     ensures grown { OnOk result (Grown (record { line = number; act = act.now } ∷ []) (H.reads.calls pass.old) (H.reads.calls pass.new)) }
     ensures kept { OnErr result (H.reads.calls pass.new ≡ H.reads.calls pass.old) }
 {
@@ -51,7 +51,7 @@ fn serve_line<R: Wait, P: Send, H: Handler<Pass = P>, G: Gate>(
     requires sound { IsTrue (is_sound_line work.now.hosts work.now.lanes line.now) }
     requires own { IsTrue (is_line_of work.now.hosts work.now.lanes k line.now) }
     requires ready { IsReady H.reads handler.now (phase work.now.hosts work.now.lanes number (line.now ∷ [])) k pass.old }
-    ensures same { IsSamePass H.reads handler.now pass.old pass.new }
+    ensures same { KeepsPass H.reads handler.now pass.old pass.new }
     ensures grown { OnOk result (Grown (tasks work.now.hosts work.now.lanes k number (line.now ∷ [])) (H.reads.calls pass.old) (H.reads.calls pass.new)) }
     ensures kept { OnErr result (H.reads.calls pass.new ≡ H.reads.calls pass.old) }
 {
