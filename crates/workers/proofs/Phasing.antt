@@ -9,7 +9,7 @@ use Rattle.journal_core.specs.Merging.{Call}
 use Rattle.script_codec.specs.declared.script_line.Line.{Line}
 use Rattle.workers.specs.Handling.{HandlerReads}
 use Rattle.workers.specs.Phases.{GrownTo, Task, phase, phase_length, task_of, tasks}
-use Rattle.workers.specs.Serving.{EachPair, EachReady, EachServed, EachServedSome, IsReady, IsSamePass}
+use Rattle.workers.specs.Serving.{EachPair, EachReady, EachServed, EachServedSome, IsReady, KeepsPass}
 use Rattle.workers.proofs.Growing.{grown_more, grown_none, room_left, tasks_parts}
 use Rattle.workers.proofs.Standing.{same_itself, same_pass}
 
@@ -40,7 +40,7 @@ grown_some todo left now rest more_left old mid new a split b = record {
 module _ {H P : Type 0} (reads : HandlerReads H P) (handler : H) (hosts lanes first : ℕ) (lines : List Line) where
   -- the pass has done its lines but those that are left
   pub record HasServedTo (number : ℕ) (rest : List Line) (k : ℕ) (p q : P) : Type 0 where
-    pub same : IsSamePass reads handler p q
+    pub same : KeepsPass reads handler p q
     pub grown : GrownTo (tasks hosts lanes k first lines) (tasks hosts lanes k number rest) (reads.calls p) (reads.calls q)
 
   pub at_first : (k : ℕ) (passes : List P) → EachReady reads handler (phase hosts lanes first lines) k passes → EachPair (HasServedTo first lines) k passes passes
