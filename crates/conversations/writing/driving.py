@@ -204,9 +204,8 @@ def one_of_sixteen(host):
     talk.rests()
     talk.scrub(10, 6)
     talk.rests()
-    talk.manager(clear_all(), SUCCESS)
+    talk.manager(clear_all(), INVALID_INPUT)
     talk.rests()
-    told.clear()
     singles = [(base + (32 + 2 * i) * M, M) for i in range(62)]
     last = [(base + 160 * M, 3 * M)]
     tells(7, RESPONSE, offers(10, singles[:20], 1))
