@@ -379,3 +379,40 @@ KINDS = [
         ("lists of one, empty logs", short_reads),
         ("lists of 64, full logs, 512 tags", long_reads)]),
 ]
+
+
+# What a driver of host 0 answers, with what the others do alone or with what it asks beside them
+
+
+def read_and_cleared(lines, beside, answer=()):
+    """What a driver asks behind a step that put a record into its log: the page, an answer to an offer, a clearing, and the empty page."""
+    if beside:
+        lines.host(0, get_events())
+        for request in answer:
+            lines.host(0, request)
+        lines.clear(0)
+        lines.host(0, get_events())
+
+
+def refused_offers(count, beside):
+    """Offers of a block, each of which a driver without room refuses."""
+    lines = Lines()
+    for number in range(count):
+        lines.told(0, offer(0, PRESCRIPTIVE, 0, extents=blocks(number % GRANULES, 1)), 1)
+        read_and_cleared(lines, beside, [respond([])])
+    return device([(GRANULES, 1)]), lines
+
+
+def taken_offers(count, beside):
+    """Offers of a block, each of which a driver takes; then the block is removed by force and scrubbed."""
+    lines = Lines()
+    for number in range(count):
+        block = blocks(number % GRANULES, 1)
+        lines.told(0, offer(0, PRESCRIPTIVE, 0, extents=block), 1)
+        read_and_cleared(lines, beside, [respond(block)])
+        lines.told(0, take(0, LISTED | FORCED, extents=block), 1)
+        read_and_cleared(lines, beside)
+        lines.append(scrub(GRANULES))
+        if beside:
+            lines.host(0, get_events())
+    return device([(GRANULES, 1)]), lines

@@ -14,7 +14,11 @@ def program(name):
     path = os.path.join(crate, "out", name)
     if not os.path.exists(path):
         print(f"proving and building {name}", file=sys.stderr)
-        subprocess.run(["rt", "run"], cwd=crate, stdin=subprocess.DEVNULL, stdout=subprocess.DEVNULL, check=True)
+        words = []
+        if os.path.exists(os.path.join(crate, "args")):
+            with open(os.path.join(crate, "args")) as lines:
+                words = ["--", *lines.read().split()]
+        subprocess.run(["rt", "run", *words], cwd=crate, stdin=subprocess.DEVNULL, stdout=subprocess.DEVNULL, check=True)
     return path
 
 

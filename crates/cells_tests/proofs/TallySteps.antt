@@ -21,7 +21,7 @@ use Rattle.journal_core.specs.Entries.{is_control}
 use Rattle.ruled_cells.specs.declared.cell_value.CellValue.TheVariants.{First, Rest}
 use Rattle.ruled_cells.specs.declared.seat.Seat.{Seat}
 use Rattle.ruled_cells.specs.declared.cells.Cells.{Cells}
-use Rattle.ruled_cells.specs.Seats.{IsSameSeat, NoTurns, number_of}
+use Rattle.ruled_cells.specs.Seats.{IsSameSeat, NoTurns, seat_number}
 use Rattle.ruled_cells.specs.Calls.{IsOf, AreAll, seats_of}
 use Rattle.ruled_cells.proofs.Places.{some_some}
 use Rattle.ruled_cells.proofs.ClosingSteps.{at_end}
@@ -115,13 +115,13 @@ pair_at P a b p q (suc zero) x e = subst (P 1) (some-injective b x e) q
 pair_at P a b p q (suc (suc k)) x e = absurd (some-ne-none x (sym e))
 
 module _ {F S : Type 0} where
-  which : (one two : Seat F S) → number_of one ≡ 0 → number_of two ≡ 1 → (i : ℕ) → i < 2 → (k : ℕ) × (s : Seat F S) × (get_elem? (one ∷ two ∷ []) k ≡ some s) × (number_of s ≡ i)
+  which : (one two : Seat F S) → seat_number one ≡ 0 → seat_number two ≡ 1 → (i : ℕ) → i < 2 → (k : ℕ) × (s : Seat F S) × (get_elem? (one ∷ two ∷ []) k ≡ some s) × (seat_number s ≡ i)
   which one two n m zero lt = (0, one, refl, n)
   which one two n m (suc zero) lt = (1, two, refl, m)
   which one two n m (suc (suc i)) lt = absurd (omega (arith, lt))
 
   -- two seats are all
-  pub pair_all : (cells : Cells F S) (one two : Seat F S) (l : List (Seat F S)) → l ≡ one ∷ two ∷ [] → IsOf cells one → IsOf cells two → seats_of cells ≡ 2 → number_of one ≡ 0 → number_of two ≡ 1 → NoTurns one → NoTurns two → AreAll cells l
+  pub pair_all : (cells : Cells F S) (one two : Seat F S) (l : List (Seat F S)) → l ≡ one ∷ two ∷ [] → IsOf cells one → IsOf cells two → seats_of cells ≡ 2 → seat_number one ≡ 0 → seat_number two ≡ 1 → NoTurns one → NoTurns two → AreAll cells l
   pair_all cells one two l is of of' two_seats n m bare bare' = subst (AreAll cells) (sym is) record {
     some_seat = omega arith;
     of = pair_at (λ _ s. IsOf cells s) one two of of';

@@ -15,7 +15,7 @@ use Rattle.ruled_cells.specs.Laws.{AccessEnters, ChangeIs, Stays, AccessKeeps, C
 use Rattle.ruled_cells.specs.declared.about.SeatView.{SeatView}
 use Rattle.ruled_cells.specs.Booking.{weigh}
 use Rattle.ruled_cells.specs.Reads.{ChiefReads, MemberReads}
-use Rattle.ruled_cells.specs.Seats.{HasFirst, NoTurns, number_of, view_of}
+use Rattle.ruled_cells.specs.Seats.{HasFirst, NoTurns, seat_number, seat_view}
 use Rattle.ruled_cells.specs.Stamps.{stamp}
 use Rattle.ruled_cells.specs.declared.seat.Seat.{Seat}
 
@@ -102,14 +102,18 @@ pub record IsIdle (number : ℕ) (seen : Stamp) (v : SeatView) : Type 0 where
   pub actor : get_elem? v.about.actors number ≡ some Actor.Sanitizer
   pub seen_is : seen ≡ v.seen
 
+-- the seat has made no call yet
+abbrev pub IsUnused : SeatView → Type 0
+IsUnused v = (v.seen ≡ stamp 0 0) × (v.calls ≡ [])
+
 -- the seat has the turn of the first cell, and its journal has a new entry behind what was taken: a scrub by this seat that names the counter of index 0
 abbrev pub HasScrubbed : {S : Type 0} → Seat (List Entry) S → List Entry → Type 0
 HasScrubbed s ledger = (taken : List Entry) × (e : Entry) × HasFirst s taken × (ledger ≡ taken ++ e ∷ []) × (e.act ≡ Act.Scrub 0) × (e.stamp ≡ stamp (length taken + 1) 0)
-    × (e.pass ≡ number_of s) × (get_elem? (view_of s).about.actors (number_of s) ≡ some e.actor)
+    × (e.pass ≡ seat_number s) × (get_elem? (seat_view s).about.actors (seat_number s) ≡ some e.actor)
 
 -- the seat has no turn, room for one call more, and is the sanitizer's
 abbrev pub MayScrub : {F S : Type 0} → Seat F S → Type 0
-MayScrub s = NoTurns s × (length (view_of s).calls < 2 ^ 32) × (get_elem? (view_of s).about.actors (number_of s) ≡ some Actor.Sanitizer)
+MayScrub s = NoTurns s × (length (seat_view s).calls < 2 ^ 32) × (get_elem? (seat_view s).about.actors (seat_number s) ≡ some Actor.Sanitizer)
 
 -- ---- the laws
 

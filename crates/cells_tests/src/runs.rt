@@ -3,9 +3,9 @@ ghost use Rattle.std.specs.Prelude.{◌≡◌, ◌+◌, ◌^◌, ◌<◌, ◌≤
 ghost use Rattle.dcd_base.specs.declared.steps.Actor.TheVariants.{Sanitizer};
 ghost use Rattle.journal_core.specs.Entries.{is_control};
 ghost use Rattle.ruled_cells.specs.Calls.{IsNew, IsOf, row_of, seats_of};
-ghost use Rattle.ruled_cells.specs.Seats.{HasCell, IsSameSeat, NoTurns, number_of, turns_of, view_of};
+ghost use Rattle.ruled_cells.specs.Seats.{HasCell, IsSameSeat, NoTurns, seat_number, turns_of, seat_view};
 ghost use Rattle.ruled_cells.specs.Stamps.{stamp};
-ghost use Rattle.cells_tests.specs.Tally.{IsIdle, MayHaveAdded, no_config};
+ghost use Rattle.cells_tests.specs.Tally.{IsIdle, IsUnused, MayHaveAdded, no_config};
 
 use crate::counter::Counter;
 use crate::ledger::Ledger;
@@ -75,11 +75,11 @@ fn add(mut counter: Counter, pass: u32, line: u32, seen: Stamp) -> (Counter, Sta
 /// Takes the cell of index 0, counts an access and gives the cell back.
 fn step<R: Wait>(rt: &R, cells: &Tallies, seat: &mut Worker, seen: Stamp, line: u32) -> Stamp
     requires of { IsOf cells.now seat.old × (0 < row_of cells.now) }
-    requires idle { NoTurns seat.old × IsIdle (number_of seat.old) seen (view_of seat.old) }
-    requires room { length (view_of seat.old).calls < 2 ^ 32 }
+    requires idle { NoTurns seat.old × IsIdle (seat_number seat.old) seen (seat_view seat.old) }
+    requires room { length (seat_view seat.old).calls < 2 ^ 32 }
     ensures seat { IsSameSeat seat.old seat.new }
-    ensures idle { NoTurns seat.new × IsIdle (number_of seat.new) result (view_of seat.new) }
-    ensures calls { length (view_of seat.new).calls ≤ length (view_of seat.old).calls + 1 }
+    ensures idle { NoTurns seat.new × IsIdle (seat_number seat.new) result (seat_view seat.new) }
+    ensures calls { length (seat_view seat.new).calls ≤ length (seat_view seat.old).calls + 1 }
 {
     let counter = cells.take(rt, seat, 0);
     let (counter, seen) = add(counter, seat.number(), line, seen);
@@ -90,8 +90,8 @@ fn step<R: Wait>(rt: &R, cells: &Tallies, seat: &mut Worker, seen: Stamp, line: 
 /// Counts so many accesses of the seat.
 fn work<R: Wait>(rt: &R, cells: &Tallies, mut seat: Worker, rounds: u32) -> Worker
     requires of { IsOf cells.now seat × (0 < row_of cells.now) }
-    requires idle { NoTurns seat × IsIdle (number_of seat) (view_of seat).seen (view_of seat) }
-    requires new { ((view_of seat).seen ≡ stamp 0 0) × ((view_of seat).calls ≡ []) }
+    requires idle { NoTurns seat × IsIdle (seat_number seat) (seat_view seat).seen (seat_view seat) }
+    requires new { IsUnused (seat_view seat) }
     ensures seat { IsSameSeat seat result × NoTurns result }
 {
     let mut seen = Stamp {
@@ -136,7 +136,7 @@ pub fn closed(
     two: Worker,
 ) -> Result<(Ledger, Vec<Counter>), NoMemory>
     requires of { IsOf cells one × IsOf cells two × (seats_of cells ≡ 2) }
-    requires numbers { (number_of one ≡ 0) × (number_of two ≡ 1) }
+    requires numbers { (seat_number one ≡ 0) × (seat_number two ≡ 1) }
     requires no_turns { NoTurns one × NoTurns two }
     ensures { IfOk result (λ values. length values.1.items ≡ row_of cells) }
 {
@@ -157,8 +157,8 @@ fn work_both<R: Threads + Wait + Sync>(
     two: Worker,
 ) -> (Worker, Worker)
     requires of { IsOf cells.now one × IsOf cells.now two × (0 < row_of cells.now) }
-    requires first { NoTurns one × IsIdle (number_of one) (view_of one).seen (view_of one) × ((view_of one).seen ≡ stamp 0 0) × ((view_of one).calls ≡ []) }
-    requires second { NoTurns two × IsIdle (number_of two) (view_of two).seen (view_of two) × ((view_of two).seen ≡ stamp 0 0) × ((view_of two).calls ≡ []) }
+    requires first { NoTurns one × IsIdle (seat_number one) (seat_view one).seen (seat_view one) × IsUnused (seat_view one) }
+    requires second { NoTurns two × IsIdle (seat_number two) (seat_view two).seen (seat_view two) × IsUnused (seat_view two) }
     ensures first { IsSameSeat one result.0 × NoTurns result.0 }
     ensures second { IsSameSeat two result.1 × NoTurns result.1 }
 {
@@ -166,14 +166,14 @@ fn work_both<R: Threads + Wait + Sync>(
         rt,
         || -> Worker
             requires of { IsOf cells.now one × (0 < row_of cells.now) }
-            requires idle { NoTurns one × IsIdle (number_of one) (view_of one).seen (view_of one) }
-            requires new { ((view_of one).seen ≡ stamp 0 0) × ((view_of one).calls ≡ []) }
+            requires idle { NoTurns one × IsIdle (seat_number one) (seat_view one).seen (seat_view one) }
+            requires new { IsUnused (seat_view one) }
             ensures { IsSameSeat one result × NoTurns result }
         { work(rt, cells, one, 1000) },
         || -> Worker
             requires of { IsOf cells.now two × (0 < row_of cells.now) }
-            requires idle { NoTurns two × IsIdle (number_of two) (view_of two).seen (view_of two) }
-            requires new { ((view_of two).seen ≡ stamp 0 0) × ((view_of two).calls ≡ []) }
+            requires idle { NoTurns two × IsIdle (seat_number two) (seat_view two).seen (seat_view two) }
+            requires new { IsUnused (seat_view two) }
             ensures { IsSameSeat two result × NoTurns result }
         { work(rt, cells, two, 1000) },
     )
@@ -183,10 +183,10 @@ fn work_both<R: Threads + Wait + Sync>(
 pub fn put_back(cells: &Tallies, seat: &mut Worker, index: u32, counter: Counter)
     requires of { IsOf cells.now seat.old × (index < row_of cells.now) }
     requires turn { HasCell seat.old index counter }
-    requires idle { (view_of seat.old).entry ≡ None }
+    requires idle { (seat_view seat.old).entry ≡ None }
     ensures seat { IsSameSeat seat.old seat.new }
     ensures turn { turns_of seat.new ≡ slice_set (turns_of seat.old) (suc index) None }
-    ensures view { view_of seat.new ≡ view_of seat.old }
+    ensures view { seat_view seat.new ≡ seat_view seat.old }
 {
     cells.give(seat, index, counter);
 }
@@ -194,8 +194,8 @@ pub fn put_back(cells: &Tallies, seat: &mut Worker, index: u32, counter: Counter
 /// The value of a counter, if its turn is free.
 fn try_once(cells: &Tallies, seat: &mut Worker, index: u32) -> Result<u64, Busy>
     requires of { IsOf cells.now seat.old × (index < row_of cells.now) }
-    requires idle { NoTurns seat.old × ((view_of seat.old).entry ≡ None) }
-    ensures seat { IsSameSeat seat.old seat.new × NoTurns seat.new × (view_of seat.new ≡ view_of seat.old) }
+    requires idle { NoTurns seat.old × ((seat_view seat.old).entry ≡ None) }
+    ensures seat { IsSameSeat seat.old seat.new × NoTurns seat.new × (seat_view seat.new ≡ seat_view seat.old) }
 {
     match cells.try_take(seat, index) {
         Ok(counter) => {
@@ -215,8 +215,8 @@ fn row<R: Wait>(
     two: &mut Worker,
 ) -> (Result<u64, Busy>, Result<u64, Busy>)
     requires of { IsOf cells.now one.old × IsOf cells.now two.old × (row_of cells.now ≡ 2) }
-    requires first { NoTurns one.old × ((view_of one.old).entry ≡ None) }
-    requires second { NoTurns two.old × ((view_of two.old).entry ≡ None) }
+    requires first { NoTurns one.old × ((seat_view one.old).entry ≡ None) }
+    requires second { NoTurns two.old × ((seat_view two.old).entry ≡ None) }
     ensures first { IsSameSeat one.old one.new × NoTurns one.new }
     ensures second { IsSameSeat two.old two.new × NoTurns two.new }
 {

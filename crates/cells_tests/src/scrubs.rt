@@ -4,7 +4,7 @@ ghost use Rattle.dcd_base.specs.declared.steps.Actor.TheVariants.{Sanitizer};
 ghost use Rattle.journal_core.specs.declared.acts.Act.TheVariants.{Scrub};
 ghost use Rattle.journal_core.specs.declared.entries.Entry.{Entry};
 ghost use Rattle.ruled_cells.specs.Calls.{IsOf, row_of};
-ghost use Rattle.ruled_cells.specs.Seats.{HasCell, HasFirst, IsSameSeat, NoTurns, turns_of, view_of};
+ghost use Rattle.ruled_cells.specs.Seats.{HasCell, HasFirst, IsSameSeat, NoTurns, turns_of, seat_view};
 ghost use Rattle.ruled_cells.specs.Stamps.{stamp};
 ghost use Rattle.cells_tests.specs.Tally.{HasScrubbed, MayScrub, follows};
 
@@ -49,7 +49,7 @@ fn finish(cells: &Tallies, seat: &mut Worker, ledger: Ledger, counter: Counter)
     requires of { IsOf cells.now seat.old × (row_of cells.now ≡ 2) }
     requires ledger { HasScrubbed seat.old ledger }
     requires counter { HasCell seat.old 0 counter × (counter.value < 2 ^ 64 - 1) }
-    requires idle { ((view_of seat.old).entry ≡ None) × (length (view_of seat.old).calls < 2 ^ 32) }
+    requires idle { ((seat_view seat.old).entry ≡ None) × (length (seat_view seat.old).calls < 2 ^ 32) }
     ensures seat { IsSameSeat seat.old seat.new }
     ensures turns { turns_of seat.new ≡ slice_set (slice_set (turns_of seat.old) 1 None) 0 None }
 {
@@ -70,7 +70,7 @@ fn enter(ledger: &mut Ledger, entry: Entry) -> bool
 fn give_up(cells: &Tallies, seat: &mut Worker, ledger: Ledger, counter: Counter) -> bool
     requires of { IsOf cells.now seat.old × (row_of cells.now ≡ 2) }
     requires turns { HasFirst seat.old ledger × HasCell seat.old 0 counter }
-    requires idle { (view_of seat.old).entry ≡ None }
+    requires idle { (seat_view seat.old).entry ≡ None }
     ensures seat { IsSameSeat seat.old seat.new }
     ensures turns { turns_of seat.new ≡ slice_set (slice_set (turns_of seat.old) 1 None) 0 None }
 {

@@ -1,7 +1,7 @@
 //! A wait sleeps: a thread that waits for a cell takes no time on the processor.
 ghost use Rattle.std.specs.Prelude.{◌≡◌, None};
 ghost use Rattle.ruled_cells.specs.Calls.{IsOf, row_of};
-ghost use Rattle.ruled_cells.specs.Seats.{IsSameSeat, NoTurns, view_of};
+ghost use Rattle.ruled_cells.specs.Seats.{IsSameSeat, NoTurns, seat_view};
 
 use crate::runs::{Tallies, Worker, closed, made, put_back};
 use dcd_base::NoMemory;
@@ -21,7 +21,7 @@ fn keep<R: Wait + Clock>(
     during: Duration,
 ) -> Worker
     requires of { IsOf cells.now seat × (row_of cells.now ≡ 2) }
-    requires idle { NoTurns seat × ((view_of seat).entry ≡ None) }
+    requires idle { NoTurns seat × ((seat_view seat).entry ≡ None) }
     ensures { IsSameSeat seat result × NoTurns result }
 {
     sleep(rt, before);
@@ -39,8 +39,8 @@ fn keep_both<R: Threads + Wait + Clock + Sync>(
     two: Worker,
 ) -> (Worker, Worker)
     requires of { IsOf cells.now one × IsOf cells.now two × (row_of cells.now ≡ 2) }
-    requires first { NoTurns one × ((view_of one).entry ≡ None) }
-    requires second { NoTurns two × ((view_of two).entry ≡ None) }
+    requires first { NoTurns one × ((seat_view one).entry ≡ None) }
+    requires second { NoTurns two × ((seat_view two).entry ≡ None) }
     ensures first { IsSameSeat one result.0 × NoTurns result.0 }
     ensures second { IsSameSeat two result.1 × NoTurns result.1 }
 {
@@ -51,12 +51,12 @@ fn keep_both<R: Threads + Wait + Clock + Sync>(
         rt,
         || -> Worker
             requires of { IsOf cells.now one × (row_of cells.now ≡ 2) }
-            requires idle { NoTurns one × ((view_of one).entry ≡ None) }
+            requires idle { NoTurns one × ((seat_view one).entry ≡ None) }
             ensures { IsSameSeat one result × NoTurns result }
         { keep(rt, cells, one, none, half) },
         || -> Worker
             requires of { IsOf cells.now two × (row_of cells.now ≡ 2) }
-            requires idle { NoTurns two × ((view_of two).entry ≡ None) }
+            requires idle { NoTurns two × ((seat_view two).entry ≡ None) }
             ensures { IsSameSeat two result × NoTurns result }
         { keep(rt, cells, two, soon, none) },
     )

@@ -1,5 +1,6 @@
 //! A conversation: what a run is given, and what it has to print.
 
+use crate::program::Program;
 use std::alloc::Global;
 use std::io::ErrorKind;
 use std::{fs, io};
@@ -7,6 +8,8 @@ use std::{fs, io};
 /// What a run is given, and what it has to print.
 #[derive(Debug, Drop)]
 pub(crate) struct Conversation {
+    /// The program that is run.
+    pub(crate) program: Program,
     /// The bytes that the source gives.
     pub(crate) script: Vec<u8>,
     /// The words of the command line, without the program's name.
@@ -24,26 +27,53 @@ impl Conversation {
         folder: &str,
         name: &str,
     ) -> Result<Conversation, anyhow::Error> {
-        let alloc: Global = rt.alloc();
-        let script = bytes_of(rt, format!(in alloc; "{folder}/{name}.dcds")?.as_str())?;
-        let words = bytes_of(rt, format!(in alloc; "{folder}/{name}.words")?.as_str())?;
-        let status = bytes_of(rt, format!(in alloc; "{folder}/{name}.status")?.as_str())?;
-        let text = fs::read(rt, format!(in alloc; "{folder}/{name}.txt")?.as_str())?;
+        let program = program_of(rt, folder, name)?;
+        let words = words_of(rt, folder, name)?;
+        let status = status_of(rt, folder, name)?;
+        let text = text_of(rt, folder, name)?;
         Ok(Conversation {
-            script,
-            words: lines_of(alloc, str::from_utf8(words.as_slice())?)?,
-            status: number_of(str::from_utf8(status.as_slice())?)?,
+            program,
+            script: bytes_of(rt, folder, name, "dcds")?,
+            words,
+            status,
             text,
         })
     }
 }
 
-/// The bytes of a file, none where there is no such file.
-fn bytes_of(rt: &HostRuntime, file: &str) -> io::Result<Vec<u8>> {
-    match fs::read(rt, file) {
-        Err(error) if error.kind() == ErrorKind::NotFound => Ok(Vec::new(rt.alloc())),
+/// The bytes of the conversation's file with this ending, none where there is no such file.
+fn bytes_of(rt: &HostRuntime, folder: &str, name: &str, ending: &str) -> io::Result<Vec<u8>> {
+    let alloc: Global = rt.alloc();
+    let file = format!(in alloc; "{folder}/{name}.{ending}")?;
+    match fs::read(rt, file.as_str()) {
+        Err(error) if error.kind() == ErrorKind::NotFound => Ok(Vec::new(alloc)),
         read => read,
     }
+}
+
+/// The bytes of the file that each conversation has.
+fn text_of(rt: &HostRuntime, folder: &str, name: &str) -> io::Result<Vec<u8>> {
+    let alloc: Global = rt.alloc();
+    let file = format!(in alloc; "{folder}/{name}.txt")?;
+    fs::read(rt, file.as_str())
+}
+
+/// The program.
+fn program_of(rt: &HostRuntime, folder: &str, name: &str) -> Result<Program, anyhow::Error> {
+    let program = bytes_of(rt, folder, name, "program")?;
+    Ok(Program::named(str::from_utf8(program.as_slice())?)?)
+}
+
+/// The words, one a line.
+fn words_of(rt: &HostRuntime, folder: &str, name: &str) -> Result<Vec<String>, anyhow::Error> {
+    let words = bytes_of(rt, folder, name, "words")?;
+    Ok(lines_of(rt.alloc(), str::from_utf8(words.as_slice())?)?)
+}
+
+/// The exit status.
+fn status_of(rt: &HostRuntime, folder: &str, name: &str) -> Result<u8, anyhow::Error> {
+    let status = bytes_of(rt, folder, name, "status")?;
+    number_of(str::from_utf8(status.as_slice())?)
 }
 
 /// The lines of a text, without their ends.

@@ -1,8 +1,7 @@
 //! A run over ends in memory, and what it came to.
 
 use crate::conversation::Conversation;
-use dcd_base::{Bytes, MemSink, MemSource, NoGate, NoMemory};
-use script_runner::run;
+use dcd_base::{Bytes, MemSink, MemSource, NoMemory};
 use std::alloc::Global;
 
 /// How the ends of a run behave.
@@ -16,6 +15,15 @@ pub(crate) struct Ends {
     pub(crate) failing_read: u64,
     /// The number of the write that fails, counted from 1; 0 for none.
     pub(crate) failing_write: u64,
+}
+
+/// Where what a run came to is otherwise than it has to be.
+#[derive(Clone, Copy, Debug, PartialEq, Eq)]
+pub(crate) enum Difference {
+    /// The run has this exit status.
+    Status(u8),
+    /// The first line of its text that is another, from 1.
+    Line(u64),
 }
 
 /// What a run came to: its exit status, and what it wrote.
@@ -39,9 +47,10 @@ impl Outcome {
         let mut source = MemSource::new(script, ends.read.max(1), read_fails);
         let mut sink = MemSink::new(alloc, ends.written.max(1), write_fails);
         let words = conversation.words.as_slice();
-        let status = run(rt, alloc, words, &mut source, &mut sink, &NoGate);
+        let program = conversation.program;
+        let status = program.run(rt, alloc, words, &mut source, &mut sink);
         Ok(Outcome {
-            status: status.number(),
+            status,
             text: sink.taken().copy()?,
         })
     }
@@ -51,38 +60,20 @@ impl Outcome {
         self.status == status && self.text.as_slice() == text
     }
 
-    /// Where it first differs from what the conversation has to come to, in words.
-    pub(crate) fn difference(
-        &self,
-        alloc: Global,
-        conversation: &Conversation,
-    ) -> Result<Option<String>, NoMemory> {
+    /// Where it first differs from what the conversation has to come to.
+    pub(crate) fn difference(&self, conversation: &Conversation) -> Option<Difference> {
         if self.status != conversation.status {
-            let (is, wanted) = (self.status, conversation.status);
-            return Ok(Some(format!(in alloc; "status {is} in place of {wanted}")?));
+            return Some(Difference::Status(self.status));
         }
         let mut lines = self.text.as_slice().split(|byte| *byte == b'\n');
         let mut wanted = conversation.text.as_slice().split(|byte| *byte == b'\n');
         for number in 1..u64::MAX {
             match (lines.next(), wanted.next()) {
-                (None, None) => return Ok(None),
+                (None, None) => return None,
                 (Some(line), Some(other)) if line == other => {}
-                (line, other) => {
-                    let (line, other) = (shown(line), shown(other));
-                    return Ok(Some(format!(in alloc;
-                        "line {number} is `{line}` in place of `{other}`"
-                    )?));
-                }
+                _ => return Some(Difference::Line(number)),
             }
         }
-        Ok(None)
-    }
-}
-
-/// The line as text, where there is one and it is one.
-fn shown(line: Option<&[u8]>) -> &str {
-    match line {
-        Some(line) => str::from_utf8(line).unwrap_or("(no text)"),
-        None => "(no line)",
+        None
     }
 }

@@ -1,7 +1,7 @@
 //! The runs of a conversation: whole, in small pieces, and with a read or a write that fails.
 
 use crate::conversation::Conversation;
-use crate::outcome::{Ends, Outcome};
+use crate::outcome::{Difference, Ends, Outcome};
 use dcd_base::NoMemory;
 use std::alloc::Global;
 
@@ -30,32 +30,53 @@ const READ_FAULT: u8 = 5;
 /// The exit status after a failed write.
 const WRITE_FAULT: u8 = 6;
 
-/// What first comes out otherwise than it should in the runs of the conversation, in words.
-pub(crate) fn first_difference<R>(
+/// What comes out otherwise than it should in the runs of a conversation.
+#[derive(Clone, Copy, Debug, PartialEq, Eq)]
+pub(crate) enum Wrong {
+    /// The run with whole reads and writes.
+    Whole(Difference),
+    /// The run with reads and writes of a few bytes.
+    Small(Difference),
+    /// The run whose read of this number fails, from 1.
+    Read(usize),
+    /// The run whose write of this number fails, from 1.
+    Write(usize),
+}
+
+/// What a run over such ends comes to otherwise than the conversation has to.
+fn difference_of<R>(
     rt: &R,
     alloc: Global,
     conversation: &Conversation,
-) -> Result<Option<String>, NoMemory> {
-    let whole = Outcome::of(rt, alloc, conversation, WHOLE)?;
-    if let Some(difference) = whole.difference(alloc, conversation)? {
-        return Ok(Some(difference));
+    ends: Ends,
+) -> Result<Option<Difference>, NoMemory> {
+    Ok(Outcome::of(rt, alloc, conversation, ends)?.difference(conversation))
+}
+
+/// What first comes out otherwise than it should in the runs of the conversation.
+pub(crate) fn first_wrong<R>(
+    rt: &R,
+    alloc: Global,
+    conversation: &Conversation,
+) -> Result<Option<Wrong>, NoMemory> {
+    if let Some(difference) = difference_of(rt, alloc, conversation, WHOLE)? {
+        return Ok(Some(Wrong::Whole(difference)));
     }
-    let small = Outcome::of(rt, alloc, conversation, SMALL)?;
-    if let Some(difference) = small.difference(alloc, conversation)? {
-        return Ok(Some(format!(in alloc; "in small pieces, {difference}")?));
+    if let Some(difference) = difference_of(rt, alloc, conversation, SMALL)? {
+        return Ok(Some(Wrong::Small(difference)));
     }
     if let Some(call) = wrong_read(rt, alloc, conversation)? {
-        return Ok(Some(format!(in alloc; "read {call} fails, and the run ends wrong")?));
+        return Ok(Some(Wrong::Read(call)));
     }
     if let Some(call) = wrong_write(rt, alloc, conversation)? {
-        return Ok(Some(format!(in alloc; "write {call} fails, and the run ends wrong")?));
+        return Ok(Some(Wrong::Write(call)));
     }
     Ok(None)
 }
 
-/// How many reads of few bytes the run makes: none where there are words, else one more than give bytes.
+/// How many reads of few bytes the run makes: none where the program does not read, else one more than give bytes.
 fn reads_of(conversation: &Conversation) -> usize {
-    if conversation.words.is_empty() {
+    if conversation.program.reads(conversation) {
         conversation
             .script
             .len()

@@ -16,12 +16,15 @@ DONE, USAGE, REFUSED = 0, 2, 3
 
 
 class Case:
-    """The bytes of a script, or None; the words of the command line; the exit status, and the lines of the text."""
+    """The bytes of a script, or None; the words of the command line; the exit status, the lines of the text, and the program, or None for dcdsim."""
 
-    def __init__(self, text, script=None, words=(), status=DONE):
-        self.text, self.script, self.words, self.status = text, script, words, status
+    def __init__(self, text, script=None, words=(), status=DONE, program=None):
+        self.text, self.script, self.words, self.status, self.program = text, script, words, status, program
 
     def write(self, path):
+        if self.program is not None:
+            with open(path + ".program", "w") as file:
+                file.write(self.program + "\n")
         if self.script is not None:
             with open(path + ".dcds", "wb") as file:
                 file.write(self.script)

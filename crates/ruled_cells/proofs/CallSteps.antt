@@ -8,7 +8,7 @@ use Rattle.ruled_cells.specs.declared.about.About.{About}
 use Rattle.ruled_cells.specs.declared.about.SeatView.{SeatView}
 use Rattle.ruled_cells.specs.declared.cell_value.CellValue.{CellValue}
 use Rattle.ruled_cells.specs.declared.cell_value.CellValue.TheVariants.{First, Rest}
-use Rattle.ruled_cells.specs.Turning.{HasTurn, Gives, Marks, Seated, IsTakenInTheEnd}
+use Rattle.ruled_cells.specs.Turning.{HasTurn, GivesTurn, Marks, Seated, IsTakenInTheEnd}
 use Rattle.ruled_cells.specs.Laws.{AccessEnters, ChangeIs, Stays, AccessKeeps, ChangeMakes}
 use Rattle.ruled_cells.specs.Reads.{ChiefReads, MemberReads}
 use Rattle.ruled_cells.specs.Ruling.{Names, names, access_cell}
@@ -57,13 +57,13 @@ module _ {F S : Type 0} (w : Names F S) (about : About) where
 
   -- with the number of cells and the number of the cell as the code counts them
   pub gives_first_back : (row slots id : ℕ) (taken : List (Option (CellValue F S))) (v : SeatView) (f g : F) → slots ≡ row + 1 → v.spent ≡ false → HasTurn taken 0 (First f) → MayGiveFirst w (suc row) v f g
-      → (x : CellValue F S) × HasTurn taken 0 x × Gives Holds slots id taken v 0 x (First g) (gave_first w)
+      → (x : CellValue F S) × HasTurn taken 0 x × GivesTurn Holds slots id taken v 0 x (First g) (gave_first w)
   gives_first_back row slots id taken v f g is used turn may = (First f, turn, gives_first w about slots id taken v f g used turn (subst (λ (n : ℕ). MayGiveFirst w n v f g) (next row ∙ sym is) may))
 
   module _ (access : ℕ → ℕ → Actor → S → S → Type 0) (change : Entry → S → S → Type 0) (laws : Laws w access change) where
     pub gives_back : (index cells id : ℕ) (taken : List (Option (CellValue F S))) (v : SeatView) (a b : S) → v.spent ≡ false → HasTurn taken (suc index) (Rest a) → MayGive w access change (suc index) id taken v a b
-        → (x : CellValue F S) × HasTurn taken (index + 1) x × Gives Holds cells id taken v (index + 1) x (Rest b) (gave_shard w)
-    gives_back index cells id taken v a b used turn may = subst (λ (k : ℕ). (x : CellValue F S) × HasTurn taken k x × Gives Holds cells id taken v k x (Rest b) (gave_shard w)) (next index)
+        → (x : CellValue F S) × HasTurn taken (index + 1) x × GivesTurn Holds cells id taken v (index + 1) x (Rest b) (gave_shard w)
+    gives_back index cells id taken v a b used turn may = subst (λ (k : ℕ). (x : CellValue F S) × HasTurn taken k x × GivesTurn Holds cells id taken v k x (Rest b) (gave_shard w)) (next index)
         (Rest a, turn, gives_shard w about access change laws cells id (suc index) taken v a b used turn may)
 
     pub notes_at : (row slots id value : ℕ) (taken : List (Option (CellValue F S))) (v : SeatView) (f g : F) (e : Entry) → slots ≡ row + 1 → value ≡ length (w.journal g) → v.spent ≡ false → MayNote w (suc row) id taken v f g e

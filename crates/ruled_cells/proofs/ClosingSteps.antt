@@ -18,7 +18,7 @@ use Rattle.ruled_cells.specs.Ruling.{Names}
 use Rattle.ruled_cells.specs.Booking.{Fits, Whole}
 use Rattle.ruled_cells.specs.Telling.{joint_view, values}
 use Rattle.ruled_cells.specs.Resting.{IsAtRest, Accounts}
-use Rattle.ruled_cells.specs.Seats.{IsSameSeat, number_of, view_of}
+use Rattle.ruled_cells.specs.Seats.{IsSameSeat, seat_number, seat_view}
 use Rattle.ruled_cells.specs.Calls.{IsOf, AreAll}
 use Rattle.ruled_cells.specs.Making.{IsGathered}
 use Rattle.ruled_cells.proofs.Places.{at_below, at_there, at_same, at_push, map_at, same_somes}
@@ -64,15 +64,15 @@ module _ {A : Type 0} where
   shorter all front a k is lt = let b = at_there all k lt in ⊎_elim (λ (p : get_elem? front k ≡ some b.0). inl (at_below front k b.0 p)) (λ (p : (a ≡ b.0) × (k ≡ length front)). inr p.1) (at_push front a b.0 k (ap (λ (l : List A). get_elem? l k) (sym is) ∙ b.1))
 
 module _ {F S : Type 0} where
-  pub gathered_itself : (m s : Seat F S) → m ≡ s → IsGathered m.token.me (number_of s) (view_of s)
-  gathered_itself m s e = subst (λ (z : Seat F S). IsGathered m.token.me (number_of z) (view_of z)) e (inl (m.resting.0, refl, refl))
+  pub gathered_itself : (m s : Seat F S) → m ≡ s → IsGathered m.token.me (seat_number s) (seat_view s)
+  gathered_itself m s e = subst (λ (z : Seat F S). IsGathered m.token.me (seat_number z) (seat_view z)) e (inl (m.resting.0, refl, refl))
 
   pub gathered_more : (m e n : Seated (CellValue F S) SeatView) (number : ℕ) (v : SeatView) → n ≡ (joint joint_view m.0 e.0, m.1) → IsGathered m number v → IsGathered n number v
   gathered_more m e n number v is g = subst (λ (z : Seated (CellValue F S) SeatView). IsGathered z number v) (sym is) (⊎_elim (λ (p : (m.0.number ≡ number) × (m.0.client.number ≡ v.number) × (m.0.client.calls ≡ v.calls)). inl p)
       (λ (p : IsIn number m.0.joined × ((k : ℕ) × (get_elem? m.0.client.kept k ≡ some (v.number, v.calls)))). inr ((suc p.0.0, p.0.1), (suc p.1.0, at_longer m.0.client.kept e.0.client.kept p.1.0 (v.number, v.calls) p.1.1))) g)
 
-  pub gathered_other : (m n : Seated (CellValue F S) SeatView) (s : Seat F S) → n ≡ (joint joint_view m.0 s.token.me.0, m.1) → IsGathered n (number_of s) (view_of s)
-  gathered_other m n s is = subst (λ (z : Seated (CellValue F S) SeatView). IsGathered z (number_of s) (view_of s)) (sym is) (inr ((0, ap (λ (k : ℕ). some k) s.resting.0), (0, refl)))
+  pub gathered_other : (m n : Seated (CellValue F S) SeatView) (s : Seat F S) → n ≡ (joint joint_view m.0 s.token.me.0, m.1) → IsGathered n (seat_number s) (seat_view s)
+  gathered_other m n s is = subst (λ (z : Seated (CellValue F S) SeatView). IsGathered z (seat_number s) (seat_view s)) (sym is) (inr ((0, ap (λ (k : ℕ). some k) s.resting.0), (0, refl)))
 
   pub still_of : (cells : Cells F S) (s t : Seat F S) → IsSameSeat s t → IsOf cells s → IsOf cells t
   still_of cells s t same of = record { place = same.place ∙ of.place; among = same.among ∙ of.among }
@@ -81,20 +81,20 @@ module _ {F S : Type 0} where
   still_none m e n is bare = subst (λ (z : Seated (CellValue F S) SeatView). (k : ℕ) → NoTurn z.0.taken k) (sym is) bare
 
   pub each_gathered : (all seats front : List (Seat F S)) (other : Seat F S) (m n : Seated (CellValue F S) SeatView) → seats ≡ front ++ other ∷ [] → ((k : ℕ) (s : Seat F S) → get_elem? seats k ≡ some s → get_elem? all k ≡ some s)
-      → ((k : ℕ) (s : Seat F S) → get_elem? all k ≡ some s → (k < length seats) ⊎ IsGathered m (number_of s) (view_of s)) → n ≡ (joint joint_view m.0 other.token.me.0, m.1)
-      → (k : ℕ) (s : Seat F S) → get_elem? all k ≡ some s → (k < length front) ⊎ IsGathered n (number_of s) (view_of s)
+      → ((k : ℕ) (s : Seat F S) → get_elem? all k ≡ some s → (k < length seats) ⊎ IsGathered m (seat_number s) (seat_view s)) → n ≡ (joint joint_view m.0 other.token.me.0, m.1)
+      → (k : ℕ) (s : Seat F S) → get_elem? all k ≡ some s → (k < length front) ⊎ IsGathered n (seat_number s) (seat_view s)
   each_gathered all seats front other m n is prefix each joins k s at = ⊎_elim
       (λ (lt : k < length seats). ⊎_elim (λ (p : k < length front). inl p)
       (λ (p : k ≡ length front). let q : other ≡ s = at_same all k other s (ap (get_elem? all) p ∙ prefix (length front) other (at_end seats front other is)) at in
-      inr (subst (λ (z : Seat F S). IsGathered n (number_of z) (view_of z)) q (gathered_other m n other joins))) (shorter seats front other k is lt))
-      (λ (g : IsGathered m (number_of s) (view_of s)). inr (gathered_more m other.token.me n (number_of s) (view_of s) joins g)) (each k s at)
+      inr (subst (λ (z : Seat F S). IsGathered n (seat_number z) (seat_view z)) q (gathered_other m n other joins))) (shorter seats front other k is lt))
+      (λ (g : IsGathered m (seat_number s) (seat_view s)). inr (gathered_more m other.token.me n (seat_number s) (seat_view s) joins g)) (each k s at)
 
-  pub alone : (cells : Cells F S) (seats : List (Seat F S)) (last : Seat F S) → AreAll cells seats → IsOf cells last → ((k : ℕ) (s : Seat F S) → get_elem? seats k ≡ some s → IsGathered last.token.me (number_of s) (view_of s))
+  pub alone : (cells : Cells F S) (seats : List (Seat F S)) (last : Seat F S) → AreAll cells seats → IsOf cells last → ((k : ℕ) (s : Seat F S) → get_elem? seats k ≡ some s → IsGathered last.token.me (seat_number s) (seat_view s))
       → (i : ℕ) → i < last.token.me.0.among → i ≢ last.token.me.0.number → IsIn i last.token.me.0.joined
   alone cells seats last all of each i lt ne =
       let e = all.each i (subst (λ (n : ℕ). i < n) of.among lt) in
-      ⊎_elim (λ (p : (last.token.me.0.number ≡ number_of e.1) × (last.token.me.0.client.number ≡ (view_of e.1).number) × (last.token.me.0.client.calls ≡ (view_of e.1).calls)). absurd (ne (sym (p.0 ∙ e.3))))
-      (λ (p : IsIn (number_of e.1) last.token.me.0.joined × ((k : ℕ) × (get_elem? last.token.me.0.client.kept k ≡ some ((view_of e.1).number, (view_of e.1).calls)))). subst (λ (n : ℕ). IsIn n last.token.me.0.joined) e.3 p.0) (each e.0 e.1 e.2)
+      ⊎_elim (λ (p : (last.token.me.0.number ≡ seat_number e.1) × (last.token.me.0.client.number ≡ (seat_view e.1).number) × (last.token.me.0.client.calls ≡ (seat_view e.1).calls)). absurd (ne (sym (p.0 ∙ e.3))))
+      (λ (p : IsIn (seat_number e.1) last.token.me.0.joined × ((k : ℕ) × (get_elem? last.token.me.0.client.kept k ≡ some ((seat_view e.1).number, (seat_view e.1).calls)))). subst (λ (n : ℕ). IsIn n last.token.me.0.joined) e.3 p.0) (each e.0 e.1 e.2)
 
   -- ---- slots
 

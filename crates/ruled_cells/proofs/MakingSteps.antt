@@ -16,7 +16,7 @@ use Rattle.ruled_cells.specs.Telling.{fresh_seat, next_view, values}
 use Rattle.ruled_cells.specs.Making.{IsMaker, IsFilling, fills}
 use Rattle.ruled_cells.specs.declared.seat.Seat.{Seat}
 use Rattle.ruled_cells.specs.declared.cells.Cells.{Cells}
-use Rattle.ruled_cells.specs.Seats.{place_of, number_of}
+use Rattle.ruled_cells.specs.Seats.{place_of, seat_number}
 use Rattle.ruled_cells.specs.Calls.{IsNew, seats_of}
 use Rattle.ruled_cells.proofs.Places.{at_below, at_push, map_at, at_replicate}
 
@@ -87,7 +87,7 @@ module _ {F S : Type 0} where
   pub newcomer_turns : (d : SeatState (CellValue F S) SeatView) → (k : ℕ) → NoTurn (newcomer next_view d).taken k
   newcomer_turns d k x h = let e : None ≡ Some x = at_replicate (length d.taken) k None (Some x) h in (let q : ⊥ = cc in q)
 
-  pub new_seat : (cells : Cells F S) (about : About) (made k : ℕ) (m : Seated (CellValue F S) SeatView) (s : Seat F S) → IsMaker (seats_of cells) made about m → k ≡ made → place_of s ≡ cells.table.shared.table_id → number_of s ≡ made → s.token.me ≡ (newcomer next_view m.0, []) → IsNew cells about k s
+  pub new_seat : (cells : Cells F S) (about : About) (made k : ℕ) (m : Seated (CellValue F S) SeatView) (s : Seat F S) → IsMaker (seats_of cells) made about m → k ≡ made → place_of s ≡ cells.table.shared.table_id → seat_number s ≡ made → s.token.me ≡ (newcomer next_view m.0, []) → IsNew cells about k s
   new_seat cells about made k m s h is place number e = record {
     of = record { place = place; among = ap (λ (z : Seated (CellValue F S) SeatView). z.0.among) e ∙ h.among_is };
     number = number ∙ sym is;
@@ -102,7 +102,7 @@ module _ {F S : Type 0} where
         let l : length (map {B = CellValue F S} (λ (y : S). Rest y) rest) ≡ length rest = length-map rest (λ (y : S). Rest y) in omega (arith, b, l, lt);
   }
 
-  pub first_seat : (cells : Cells F S) (about : About) (made : ℕ) (s : Seat F S) → IsMaker (seats_of cells) made about s.token.me → place_of s ≡ cells.table.shared.table_id → number_of s ≡ 0 → ((k : ℕ) → NoTurn s.token.me.0.taken k) → IsNew cells about 0 s
+  pub first_seat : (cells : Cells F S) (about : About) (made : ℕ) (s : Seat F S) → IsMaker (seats_of cells) made about s.token.me → place_of s ≡ cells.table.shared.table_id → seat_number s ≡ 0 → ((k : ℕ) → NoTurn s.token.me.0.taken k) → IsNew cells about 0 s
   first_seat cells about made s h place number bare = record { of = record { place = place; among = h.among_is }; number = number; view = h.client; no_turns = bare }
 
   pub all_new : (cells : Cells F S) (about about' : About) (all others : List (Seat F S)) (s : Seat F S) → about ≡ about' → all ≡ s ∷ others → IsNew cells about 0 s → ((k : ℕ) (b : Seat F S) → get_elem? others k ≡ some b → IsNew cells about (suc k) b) → (k : ℕ) (b : Seat F S) → get_elem? all k ≡ some b → IsNew cells about' k b

@@ -9,7 +9,7 @@ use Rattle.ruled_cells.specs.declared.about.About.{About}
 use Rattle.ruled_cells.specs.declared.about.SeatView.{SeatView}
 use Rattle.ruled_cells.specs.declared.cell_value.CellValue.{CellValue}
 use Rattle.ruled_cells.specs.declared.cell_value.CellValue.TheVariants.{First, Rest}
-use Rattle.ruled_cells.specs.Turning.{HasTurn, Gives}
+use Rattle.ruled_cells.specs.Turning.{HasTurn, GivesTurn}
 use Rattle.ruled_cells.specs.Stamps.{stamp, pending}
 use Rattle.ruled_cells.specs.Ruling.{Names, IsShard}
 use Rattle.ruled_cells.specs.Booking.{weigh, own, weight_one, weigh_all, total, IsBooked, Whole}
@@ -104,12 +104,12 @@ module _ {F S : Type 0} (w : Names F S) where
   -- ---- filling the cells
 
   pub fills_first : (about about' : About) (cells id : ℕ) (taken : List (Option (CellValue F S))) (v : SeatView) (f : F) → v ≡ fresh_seat 0 about' → w.sound f → HasTurn taken 0 (First f)
-      → (x : CellValue F S) × HasTurn taken 0 x × Gives (Whole w about) cells id taken v 0 x (First f) fills
-  fills_first about about' cells id taken v f is sound turn = subst (λ (z : SeatView). (x : CellValue F S) × HasTurn taken 0 x × Gives (Whole w about) cells id taken z 0 x (First f) fills) (sym is)
+      → (x : CellValue F S) × HasTurn taken 0 x × GivesTurn (Whole w about) cells id taken v 0 x (First f) fills
+  fills_first about about' cells id taken v f is sound turn = subst (λ (z : SeatView). (x : CellValue F S) × HasTurn taken 0 x × GivesTurn (Whole w about) cells id taken z 0 x (First f) fills) (sym is)
       (First f, turn, gives_first w about cells id taken (fresh_seat 0 about') f f refl turn record { about_is = refl; sound = sound; journal_is = refl; none_left = λ k pos lt. refl })
 
   module _ (access : ℕ → ℕ → Actor → S → S → Type 0) (change : Entry → S → S → Type 0) (laws : Laws w access change) where
-    fill_cell : (about about' : About) (cells id k : ℕ) (taken : List (Option (CellValue F S))) (x : S) → HasTurn taken k (Rest x) → Gives (Whole w about) cells id taken (fresh_seat 0 about') k (Rest x) (Rest x) fills
+    fill_cell : (about about' : About) (cells id k : ℕ) (taken : List (Option (CellValue F S))) (x : S) → HasTurn taken k (Rest x) → GivesTurn (Whole w about) cells id taken (fresh_seat 0 about') k (Rest x) (Rest x) fills
     fill_cell about about' cells id k taken x turn words vals views full crowd h has at =
         let v : SeatView = fresh_seat 0 about' in
         let t = has.turn k (Rest x) turn in
@@ -117,8 +117,8 @@ module _ {F S : Type 0} (w : Names F S) where
         (v, alike w about access change laws id k v x x words vals views refl h at t.1 free record { config_is = refl; entries_are = refl; clock_is = refl; right_too = λ j log r. r }, refl)
 
     pub fills_cell : (about about' : About) (cells id i : ℕ) (taken : List (Option (CellValue F S))) (v : SeatView) (x : S) → v ≡ fresh_seat 0 about' → HasTurn taken (suc i) (Rest x)
-        → (y : CellValue F S) × HasTurn taken (i + 1) y × Gives (Whole w about) cells id taken v (i + 1) y (Rest x) fills
-    fills_cell about about' cells id i taken v x is turn = subst (λ (z : SeatView × ℕ). (y : CellValue F S) × HasTurn taken z.1 y × Gives (Whole w about) cells id taken z.0 z.1 y (Rest x) fills)
+        → (y : CellValue F S) × HasTurn taken (i + 1) y × GivesTurn (Whole w about) cells id taken v (i + 1) y (Rest x) fills
+    fills_cell about about' cells id i taken v x is turn = subst (λ (z : SeatView × ℕ). (y : CellValue F S) × HasTurn taken z.1 y × GivesTurn (Whole w about) cells id taken z.0 z.1 y (Rest x) fills)
         (λ c. (sym is c, (let e : suc i ≡ i + 1 = omega arith in e) c)) (Rest x, turn, fill_cell about about' cells id (suc i) taken x turn)
 
   -- the same, with the number of cells as the code counts them

@@ -15,7 +15,7 @@ use Rattle.ruled_cells.specs.declared.about.SeatView.{SeatView}
 use Rattle.ruled_cells.specs.declared.cell_value.CellValue.{CellValue}
 use Rattle.ruled_cells.specs.declared.cell_value.CellValue.TheVariants.{First, Rest}
 use Rattle.ruled_cells.specs.Stamps.{stamp, Below, Rise, IsControlLog, stamps_after, pending}
-use Rattle.ruled_cells.specs.Laws.{Enters, AccessEnters, ChangeIs, Stays, AccessKeeps, ChangeMakes}
+use Rattle.ruled_cells.specs.Laws.{EntersOne, AccessEnters, ChangeIs, Stays, AccessKeeps, ChangeMakes}
 use Rattle.ruled_cells.specs.Ruling.{Names, IsOwn, IsShard, Ruled}
 use Rattle.ruled_cells.specs.Telling.{next_view, begun, noted_view, changed_view, entered_view, joint_view, spent_view, MayNote, MayGiveFirst, Alike, MayEnter}
 use Rattle.ruled_cells.proofs.Places.{at_below, at_same, at_push}
@@ -232,7 +232,7 @@ module _ {F S : Type 0} (w : Names F S) (about : About) where
 
     -- a cell with one more access
     pub gave_access_rule : (access : ℕ → ℕ → Actor → S → S → Type 0) (change : Entry → S → S → Type 0) → Laws w access change → (id k : ℕ) (v : SeatView) (a b : S) → get_elem? views id ≡ some v → v.spent ≡ false → get_elem? vals k ≡ some (Rest a)
-        → pending w.touches r.entry r.changed k ≡ false → (m : MayEnter w access k id v a b) (n : Enters w.config_of w.entries w.clock w.belongs k id m.actor a b) → Ruled w about log (set words k 0) (set vals k (Rest b)) (set views id (entered_view n.entry v))
+        → pending w.touches r.entry r.changed k ≡ false → (m : MayEnter w access k id v a b) (n : EntersOne w.config_of w.entries w.clock w.belongs k id m.actor a b) → Ruled w about log (set words k 0) (set vals k (Rest b)) (set views id (entered_view n.entry v))
     gave_access_rule access change laws id k v a b at used is free m n =
         let o = r.shard k a is in
         let t = r.informed id v at used in

@@ -2,7 +2,7 @@
 use Rattle.std.proofs.Common.{◌≡◌, ◌≢◌, ℕ, ◌+◌, ◌-◌, List, [], ◌∷◌, sym, refl, ap, ◌∙◌, subst, arith, Option, Some, None}
 use lib.ListN.{get_elem?}
 use Rattle.atomic_table.specs.Table.{rest}
-use Rattle.ruled_cells.specs.Turning.{Seated, HasTurn, IsResting, IsMoving, IsTaken, IsTakenInTheEnd, IsMissed, IsSameButTries, IsGiven, Got, Missed, missed, gave, still, moving_at}
+use Rattle.ruled_cells.specs.Turning.{Seated, HasTurn, IsResting, IsMoving, HasTaken, IsTakenInTheEnd, IsMissed, IsSameButTries, IsGiven, Got, Missed, missed, gave, still, moving_at}
 
 abbrev slot_of : {X : Type 0} → List (ℕ × Option X) → Option X
 slot_of [] = None
@@ -27,11 +27,11 @@ module _ {X V : Type 0} (k : ℕ) where
   pub got_moves : (then : ℕ → V → X → X → V → Type 0) (number : ℕ) (m n : Seated X V) → IsResting number m → Got then k m n → (x : X) × IsMoving k (Some x) n
   got_moves then number m n h g = (g.0, subst (IsMoving k (Some g.0)) (sym g.2) record { live = h.live; moves = refl; holds = ap (λ (r : List (ℕ × Option X)). (k, Some g.0) ∷ r) h.bare; turn = (g.0, g.3) })
 
-  pub taken_is : (then : ℕ → V → X → X → V → Type 0) (number : ℕ) (m n l : Seated X V) (y : X) → IsResting number m → Got then k m n → n.1 ≡ (k, Some y) ∷ [] → l ≡ (still n.0, []) → IsTaken then k m y l
+  pub taken_is : (then : ℕ → V → X → X → V → Type 0) (number : ℕ) (m n l : Seated X V) (y : X) → IsResting number m → Got then k m n → n.1 ≡ (k, Some y) ∷ [] → l ≡ (still n.0, []) → HasTaken then k m y l
   taken_is then number m n l y h g holds e =
       let q : Some g.0 ≡ Some y = ap slot_of (sym (ap (λ (z : Seated X V). z.1) g.2) ∙ holds) in
       let is : g.0 ≡ y = cc in
-      subst (λ (z : X). IsTaken then k m z l) is (g.1, e ∙ ap (λ (z : Seated X V). (still z.0, [])) g.2, g.3, g.4)
+      subst (λ (z : X). HasTaken then k m z l) is (g.1, e ∙ ap (λ (z : Seated X V). (still z.0, [])) g.2, g.3, g.4)
 
   pub missed_is : (w number : ℕ) (m n : Seated X V) → IsResting number m → w ≢ 0 → Missed m k w n → IsMissed m k (w - 1) n
   missed_is w number m n h nz e =
@@ -61,8 +61,8 @@ module _ {X V : Type 0} where
   pub same_by : (P : List (Option X) → V → Type 0) (m n : Seated X V) → IsSameButTries m n → P m.0.taken m.0.client → P n.0.taken n.0.client
   same_by P m n s p = subst (λ (z : Seated X V). P z.0.taken z.0.client) (sym s.3) p
 
-  pub taken_in_the_end : (then : ℕ → V → X → X → V → Type 0) (k : ℕ) (m n l : Seated X V) (x : X) → IsSameButTries m n → IsTaken then k n x l → IsTakenInTheEnd then k m x l
-  taken_in_the_end then k m n l x s t = (s.0, s.1, s.2, subst (λ (z : Seated X V). IsTaken then k z x l) s.3 t)
+  pub taken_in_the_end : (then : ℕ → V → X → X → V → Type 0) (k : ℕ) (m n l : Seated X V) (x : X) → IsSameButTries m n → HasTaken then k n x l → IsTakenInTheEnd then k m x l
+  taken_in_the_end then k m n l x s t = (s.0, s.1, s.2, subst (λ (z : Seated X V). HasTaken then k z x l) s.3 t)
 
   pub given_is : (then : ℕ → V → X → X → V → Type 0) (number k : ℕ) (x y : X) (m n l : Seated X V) → HasTurn m.0.taken k x → n ≡ (moving_at k m.0, (k, Some y) ∷ [])
       → ((a b : X) → HasTurn n.0.taken k a → n.1 ≡ (k, Some b) ∷ [] → (w : V) × (l ≡ (gave n.0 k w, [])) × then k n.0.client a b w) → IsGiven then k m y l

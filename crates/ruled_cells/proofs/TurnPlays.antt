@@ -10,7 +10,7 @@ use prog.Atomic.{either}
 use Rattle.atomic_table.specs.Table.{State, Me, step, Act, keeps, takes, gives, Valid, stepped, carried_after, Allows}
 use Rattle.atomic_table.proofs.Lists.{set_here, set_else, set_again, at_map, exchanged}
 use Rattle.ruled_cells.specs.declared.turns.seat_state.SeatState.{SeatState}
-use Rattle.ruled_cells.specs.Turning.{HasTurn, NoTurn, Knows, client, Tied, Takes, Gives, Marks, IsResting, IsMoving, took, missed, gave, still, moving_at, told, Got, Missed, tried, laid_back, picked_up, given_back, marked}
+use Rattle.ruled_cells.specs.Turning.{HasTurn, NoTurn, Knows, client, Tied, TakesTurn, GivesTurn, Marks, IsResting, IsMoving, took, missed, gave, still, moving_at, seat_told, Got, Missed, tried, laid_back, picked_up, given_back, marks_seat}
 use Rattle.ruled_cells.proofs.Places.{at_below, none_free, some_some, some_apart, none_apart}
 use Rattle.ruled_cells.proofs.TurnSteps.{Moves, look, steps}
 
@@ -52,7 +52,7 @@ module _ {X V : Type 0} (n seats : ℕ) (holds : List ℕ → List X → List V 
     same_kept : (k : ℕ) → holds (set s.words k (get_or s.words k 0)) t.vals (set (map client s.views) id d.client)
     same_kept k = subst (λ (ws : List ℕ). holds ws t.vals (set (map client s.views) id d.client)) (sym (set-get_or s.words k 0)) (subst (holds s.words t.vals) (sym (set_again (map client s.views) id d.client seen)) t.kept)
 
-    take_hit : (k : ℕ) (c : List (ℕ × Option X)) (then : ℕ → V → X → X → V → Type 0) → d.moving ≡ None → k < n → Takes holds n id d.taken d.client k then → get_or s.words k 0 ≡ 0
+    take_hit : (k : ℕ) (c : List (ℕ × Option X)) (then : ℕ → V → X → X → V → Type 0) → d.moving ≡ None → k < n → TakesTurn holds n id d.taken d.client k then → get_or s.words k 0 ≡ 0
         → Goes s k (id + 1) id (d, c) (Got then k (d, c))
     take_hit k c then quiet lt rule z =
         let o = t.free k lt z in
@@ -124,7 +124,7 @@ module _ {X V : Type 0} (n seats : ℕ) (holds : List ℕ → List X → List V 
           refl,
         )
 
-    give : (k : ℕ) (x y : X) (then : ℕ → V → X → X → V → Type 0) → d.moving ≡ Some k → k < n → HasTurn d.taken k x → Gives holds n id d.taken d.client k x y then
+    give : (k : ℕ) (x y : X) (then : ℕ → V → X → X → V → Type 0) → d.moving ≡ Some k → k < n → HasTurn d.taken k x → GivesTurn holds n id d.taken d.client k x y then
         → Goes s k 0 id (d, (k, Some y) ∷ []) (λ m. (w : V) × (m ≡ (gave d k w, [])) × then k d.client x y w)
     give k x y then is lt turn rule =
         let has = kn.has.turn k x turn in
@@ -153,13 +153,13 @@ module _ {X V : Type 0} (n seats : ℕ) (holds : List ℕ → List X → List V 
           (r.0, refl, r.2),
         )
 
-    mark : (c : List (ℕ × Option X)) (m : ℕ) (then : V → V → Type 0) → Marks holds n id d.taken d.client m then → Goes s n m id (d, c) (λ x. (w : V) × (x ≡ (told d w, c)) × then d.client w)
+    mark : (c : List (ℕ × Option X)) (m : ℕ) (then : V → V → Type 0) → Marks holds n id d.taken d.client m then → Goes s n m id (d, c) (λ x. (w : V) × (x ≡ (seat_told d w, c)) × then d.client w)
     mark c m then rule =
         let r = rule s.words t.vals (map client s.views) t.full crowded t.kept kn.has seen in (
-          told d r.0,
+          seat_told d r.0,
           keeps,
           tt,
-          steps n seats holds s t id d (told d r.0) (set s.words n m) t.vals s.homes at live record { number = refl; among = refl; live = refl; sized = refl; joined = refl; makes = refl; made = refl }
+          steps n seats holds s t id d (seat_told d r.0) (set s.words n m) t.vals s.homes at live record { number = refl; among = refl; live = refl; sized = refl; joined = refl; makes = refl; made = refl }
               (length-set s.words n m ∙ t.wide) t.full t.deep
               (λ j jl. inl record { word = get_or-set_other s.words n j m 0 (λ q. omega (arith, q, jl)); val = refl; home = refl; turn = refl; moves = λ h. h })
               r.1,
@@ -171,14 +171,14 @@ module _ {X V : Type 0} (n seats : ℕ) (holds : List ℕ → List X → List V 
   slots_are : (s : St) → Rule s → (slots : ℕ) → length s.homes ≡ slots → slots ≡ n
   slots_are s t slots h = sym h ∙ t.deep
 
-  pub tries : (m : M) (slots id number k : ℕ) (then : ℕ → V → X → X → V → Type 0) → IsResting number m → k < slots → NoTurn m.0.taken k → Takes holds slots number m.0.taken m.0.client k then
+  pub tries : (m : M) (slots id number k : ℕ) (then : ℕ → V → X → X → V → Type 0) → IsResting number m → k < slots → NoTurn m.0.taken k → TakesTurn holds slots number m.0.taken m.0.client k then
       → Allows Rule slots id m k (λ w. either (eqb w 0) (number + 1) w) (tried then (step slots k 0 (number + 1) maybe.none) m)
   tries m slots id number k then rests lt nope rule s t deep at short =
       let w : ℕ = get_or s.words k 0 in
       let is : slots ≡ n = slots_are s t slots deep in
       let same : number ≡ id = sym rests.number ∙ (kn s t id m.0 at rests.live).number in
       let lt' : k < n = subst (λ (q : ℕ). k < q) is lt in
-      let rule' : Takes holds n id m.0.taken m.0.client k then = subst (λ (q : ℕ × ℕ). Takes holds q.0 q.1 m.0.taken m.0.client k then) (λ i. (is i, same i)) rule in
+      let rule' : TakesTurn holds n id m.0.taken m.0.client k then = subst (λ (q : ℕ × ℕ). TakesTurn holds q.0 q.1 m.0.taken m.0.client k then) (λ i. (is i, same i)) rule in
       exchanged w 0 (number + 1) (λ f. Goes s k f id m (λ e. (w ≡ 0 → Got then k m e) × (w ≢ 0 → Missed m k w e)))
       (λ z. subst (λ (q : ℕ). Goes s k (q + 1) id m (λ e. (w ≡ 0 → Got then k m e) × (w ≢ 0 → Missed m k w e))) (sym same)
       (let g = take_hit s t id m.0 at rests.live k m.1 then rests.still lt' rule' z in (g.0, g.1, g.2, g.3, (λ _. g.4, λ nz. absurd (nz z)))))
@@ -201,21 +201,21 @@ module _ {X V : Type 0} (n seats : ℕ) (holds : List ℕ → List X → List V 
       let b : y ≡ y' = cc in
       (r.0, r.1, subst (λ (z : X × X). then k m.0.client z.0 z.1 r.0) (λ i. (a i, b i)) r.2)
 
-  pub gives_back : (m : M) (slots id number k : ℕ) (x y : X) (then : ℕ → V → X → X → V → Type 0) → m.0.number ≡ number → IsMoving k (Some y) m → HasTurn m.0.taken k x → k < slots → Gives holds slots number m.0.taken m.0.client k x y then
+  pub gives_back : (m : M) (slots id number k : ℕ) (x y : X) (then : ℕ → V → X → X → V → Type 0) → m.0.number ≡ number → IsMoving k (Some y) m → HasTurn m.0.taken k x → k < slots → GivesTurn holds slots number m.0.taken m.0.client k x y then
       → Allows Rule slots id m k (λ _. 0) (λ _. given_back then (step slots k 0 0 maybe.none) m 0)
   gives_back m slots id number k x y then named moves turn lt rule =
       let whole : (c : List (ℕ × Option X)) → c ≡ (k, Some y) ∷ [] → Allows Rule slots id (m.0, (k, Some y) ∷ []) k (λ _. 0) (λ _. given_back then (step slots k 0 0 maybe.none) (m.0, (k, Some y) ∷ []) 0) =
       λ c is s t deep at short.
       let is' : slots ≡ n = slots_are s t slots deep in
       let same : number ≡ id = sym named ∙ (kn s t id m.0 at moves.live).number in
-      let g = give s t id m.0 at moves.live k x y then moves.moves (subst (λ (q : ℕ). k < q) is' lt) turn (subst (λ (q : ℕ × ℕ). Gives holds q.0 q.1 m.0.taken m.0.client k x y then) (λ i. (is' i, same i)) rule) in
+      let g = give s t id m.0 at moves.live k x y then moves.moves (subst (λ (q : ℕ). k < q) is' lt) turn (subst (λ (q : ℕ × ℕ). GivesTurn holds q.0 q.1 m.0.taken m.0.client k x y then) (λ i. (is' i, same i)) rule) in
       (g.0, g.1, g.2, g.3, given_is (m.0, (k, Some y) ∷ []) (g.0, carried_after ((k, Some y) ∷ []) g.1) k x y then turn refl g.4) in
       subst (λ (c : List (ℕ × Option X)). Allows Rule slots id (m.0, c) k (λ _. 0) (λ _. given_back then (step slots k 0 0 maybe.none) (m.0, c) 0)) (sym moves.holds) (whole m.1 moves.holds)
 
   pub marks : (m : M) (slots id number v : ℕ) (then : V → V → Type 0) → IsResting number m → Marks holds slots number m.0.taken m.0.client v then
-      → Allows Rule slots id m slots (λ _. v) (λ _. marked then (step slots slots v 0 maybe.none) m v)
+      → Allows Rule slots id m slots (λ _. v) (λ _. marks_seat then (step slots slots v 0 maybe.none) m v)
   marks m slots id number v then rests rule s t deep at short =
       let is : slots ≡ n = slots_are s t slots deep in
       let same : number ≡ id = sym rests.number ∙ (kn s t id m.0 at rests.live).number in
-      subst (λ (q : ℕ). Goes s q v id m (λ x. (w : V) × (x ≡ (told m.0 w, m.1)) × then m.0.client w)) (sym is)
+      subst (λ (q : ℕ). Goes s q v id m (λ x. (w : V) × (x ≡ (seat_told m.0 w, m.1)) × then m.0.client w)) (sym is)
       (mark s t id m.0 at rests.live m.1 v then (subst (λ (q : ℕ × ℕ). Marks holds q.0 q.1 m.0.taken m.0.client v then) (λ i. (is i, same i)) rule))

@@ -10,7 +10,7 @@ use Rattle.ruled_cells.specs.declared.about.About.{About}
 use Rattle.ruled_cells.specs.declared.about.SeatView.{SeatView}
 use Rattle.ruled_cells.specs.declared.cell_value.CellValue.{CellValue}
 use Rattle.ruled_cells.specs.declared.cell_value.CellValue.TheVariants.{First, Rest}
-use Rattle.ruled_cells.specs.Turning.{HasTurn, Takes, Gives, Marks, Admits, Merges}
+use Rattle.ruled_cells.specs.Turning.{HasTurn, TakesTurn, GivesTurn, Marks, Admits, Merges}
 use Rattle.ruled_cells.specs.Stamps.{stamp, Below, IsControlLog, stamps_after, pending}
 use Rattle.ruled_cells.specs.Ruling.{Names, Ruled}
 use Rattle.ruled_cells.specs.Booking.{weight_one, total, Whole}
@@ -29,7 +29,7 @@ module _ {F S : Type 0} (w : Names F S) (about : About) where
   same_views : (views : List SeatView) (id : ℕ) (v : SeatView) → get_elem? views id ≡ some v → (words : List ℕ) (vals : List (CellValue F S)) → Holds words vals views → Holds words vals (set views id v)
   same_views views id v at words vals h = subst (Holds words vals) (sym (set_again views id v at)) h
 
-  pub takes_first : (cells id : ℕ) (taken : List (Option (CellValue F S))) (v : SeatView) → v.spent ≡ false → Takes Holds cells id taken v 0 (took_first w)
+  pub takes_first : (cells id : ℕ) (taken : List (Option (CellValue F S))) (v : SeatView) → v.spent ≡ false → TakesTurn Holds cells id taken v 0 (took_first w)
   takes_first cells id taken v used words vals views x full crowd h has at z is =
       let r = h.ruled in
       let t = r.informed id v at used in
@@ -44,7 +44,7 @@ module _ {F S : Type 0} (w : Names F S) (about : About) where
         (r.first, at_same vals 0 x (First r.first) is r.chief, refl, r.sound, r.about_is ∙ sym t.0, subst IsControlLog log_first r.control, subst (λ (l : List Entry). v.seen.number ≤ length l) log_first t.1),
       )
 
-  pub takes_shard : (cells id k : ℕ) (taken : List (Option (CellValue F S))) (v : SeatView) → v.spent ≡ false → 0 < k → Takes Holds cells id taken v k (took_shard w)
+  pub takes_shard : (cells id k : ℕ) (taken : List (Option (CellValue F S))) (v : SeatView) → v.spent ≡ false → 0 < k → TakesTurn Holds cells id taken v k (took_shard w)
   takes_shard cells id k taken v used pos words vals views x full crowd h has at z is =
       let r = h.ruled in
       let t = r.informed id v at used in
@@ -59,7 +59,7 @@ module _ {F S : Type 0} (w : Names F S) (about : About) where
         (s.0, s.1, refl, o.config_is ∙ ap (λ (a : About). a.config) (sym t.0), o.tidy, omega (arith, seen, small), omega (arith, clock, small)),
       )
 
-  pub gives_first : (cells id : ℕ) (taken : List (Option (CellValue F S))) (v : SeatView) (f g : F) → v.spent ≡ false → HasTurn taken 0 (First f) → MayGiveFirst w cells v f g → Gives Holds cells id taken v 0 (First f) (First g) (gave_first w)
+  pub gives_first : (cells id : ℕ) (taken : List (Option (CellValue F S))) (v : SeatView) (f g : F) → v.spent ≡ false → HasTurn taken 0 (First f) → MayGiveFirst w cells v f g → GivesTurn Holds cells id taken v 0 (First f) (First g) (gave_first w)
   gives_first cells id taken v f g used turn may words vals views full crowd h has at =
       let r = h.ruled in
       let t = has.turn 0 (First f) turn in
@@ -138,7 +138,7 @@ module _ {F S : Type 0} (w : Names F S) (about : About) where
         (entered_view n.entry v, enters id k v a b words vals views used h at is (same ∙ p) m, (a, b, refl, refl, inr (n.entry, n.entries_are, n.clock_is, refl))))
         (may.at_others p)
 
-    pub gives_shard : (cells id k : ℕ) (taken : List (Option (CellValue F S))) (v : SeatView) (a b : S) → v.spent ≡ false → HasTurn taken k (Rest a) → MayGive w access change k id taken v a b → Gives Holds cells id taken v k (Rest a) (Rest b) (gave_shard w)
+    pub gives_shard : (cells id k : ℕ) (taken : List (Option (CellValue F S))) (v : SeatView) (a b : S) → v.spent ≡ false → HasTurn taken k (Rest a) → MayGive w access change k id taken v a b → GivesTurn Holds cells id taken v k (Rest a) (Rest b) (gave_shard w)
     gives_shard cells id k taken v a b used turn may words vals views full crowd h has at =
         let t = has.turn k (Rest a) turn in
         given_back id k taken v a b used may words vals views h (λ f held. (has.turn 0 (First f) held).1) at t.1 t.0 (same_pending w about h.log words vals views h.ruled id v k a at t.1 t.0) (two (pending w.touches v.entry v.changed k))

@@ -11,7 +11,7 @@ use Rattle.ruled_cells.specs.Booking.{Fits}
 use Rattle.ruled_cells.specs.Reads.{ChiefReads, MemberReads}
 use Rattle.ruled_cells.specs.Resting.{Accounts}
 use Rattle.ruled_cells.specs.Ruling.{access_cell, names}
-use Rattle.ruled_cells.specs.Seats.{HasCell, HasFirst, NoTurns, among_of, number_of, place_of, turns_of, view_of}
+use Rattle.ruled_cells.specs.Seats.{HasCell, HasFirst, NoTurns, among_of, seat_number, place_of, turns_of, seat_view}
 use Rattle.ruled_cells.specs.Telling.{GaveCell, MayGive, MayGiveFirst, MayNote, fresh_seat, values}
 
 module _ {F S : Type 0} where
@@ -35,8 +35,8 @@ module _ {F S : Type 0} where
   -- the k-th seat, as it was made
   pub record IsNew (cells : Cells F S) (about : About) (k : ℕ) (s : Seat F S) : Type 0 where
     pub of : IsOf cells s
-    pub number : number_of s ≡ k
-    pub view : view_of s ≡ fresh_seat k about
+    pub number : seat_number s ≡ k
+    pub view : seat_view s ≡ fresh_seat k about
     pub no_turns : NoTurns s
 
   -- the others than seat 0, in the order of their numbers
@@ -52,29 +52,29 @@ module _ {F S : Type 0} where
     pub some_seat : 0 < length seats
     pub of : (k : ℕ) (s : Seat F S) → get_elem? seats k ≡ some s → IsOf cells s
     pub no_turns : (k : ℕ) (s : Seat F S) → get_elem? seats k ≡ some s → NoTurns s
-    pub each : (i : ℕ) → i < seats_of cells → (k : ℕ) × (s : Seat F S) × (get_elem? seats k ≡ some s) × (number_of s ≡ i)
+    pub each : (i : ℕ) → i < seats_of cells → (k : ℕ) × (s : Seat F S) × (get_elem? seats k ≡ some s) × (seat_number s ≡ i)
 
 module _ {F S : Type 0} (chief : ChiefReads F) (member : MemberReads S) where
   -- the seat may note the entry that the first cell gained, whose value is now `first`
   abbrev pub MayNoteIn : Cells F S → Seat F S → F → Entry → Type 0
-  MayNoteIn cells s first e = (taken : F) × MayNote (names chief member) (suc (row_of cells)) (number_of s) (turns_of s) (view_of s) taken first e
+  MayNoteIn cells s first e = (taken : F) × MayNote (names chief member) (suc (row_of cells)) (seat_number s) (turns_of s) (seat_view s) taken first e
 
   -- the seat may give the first cell back as `first`
   abbrev pub MayGiveFirstIn : Cells F S → Seat F S → F → Type 0
-  MayGiveFirstIn cells s first = (taken : F) × HasFirst s taken × MayGiveFirst (names chief member) (suc (row_of cells)) (view_of s) taken first
+  MayGiveFirstIn cells s first = (taken : F) × HasFirst s taken × MayGiveFirst (names chief member) (suc (row_of cells)) (seat_view s) taken first
 
   -- the seat may give the cell of an index back as `value`
   abbrev pub MayGiveIn : Seat F S → ℕ → S → Type 0
   MayGiveIn s index value = (taken : S) × HasCell s index taken
-      × MayGive (names chief member) (access_cell member.access) member.change (suc index) (number_of s) (turns_of s) (view_of s) taken value
+      × MayGive (names chief member) (access_cell member.access) member.change (suc index) (seat_number s) (turns_of s) (seat_view s) taken value
 
   -- it was told that it gave the cell of an index back as `value`
   abbrev pub GaveIn : Seat F S → ℕ → S → SeatView → Type 0
-  GaveIn s index value view = (taken : S) × HasCell s index taken × GaveCell (names chief member) (suc index) (view_of s) taken value view
+  GaveIn s index value view = (taken : S) × HasCell s index taken × GaveCell (names chief member) (suc index) (seat_view s) taken value view
 
   -- the calls of each seat are its entries in the values that the cells hold at the end
   abbrev pub AccountFor : F → List S → List (Seat F S) → Type 0
-  AccountFor first row seats = (k : ℕ) (s : Seat F S) → get_elem? seats k ≡ some s → Accounts (names chief member) first row (view_of s).number (view_of s).calls
+  AccountFor first row seats = (k : ℕ) (s : Seat F S) → get_elem? seats k ≡ some s → Accounts (names chief member) first row (seat_view s).number (seat_view s).calls
 
   -- no entry is of a seat that was not made
   abbrev pub NoOthers : Cells F S → F → List S → Type 0

@@ -15,7 +15,7 @@ module _ {S : Type 0} where
   Tidy entries clock x = (k : ℕ) (e : Entry) → get_elem? (entries x) k ≡ some e → ¬ Below (clock x) e.stamp
 
   -- y is x with one more entry, a load or store of that seat and its actor, and the clock is that entry's stamp
-  pub record Enters (config : S → Configuration) (entries : S → List Entry) (clock : S → Stamp) (belongs : Configuration → ℕ → Entry → Type 0) (k seat : ℕ) (actor : Actor) (x y : S) : Type 0 where
+  pub record EntersOne (config : S → Configuration) (entries : S → List Entry) (clock : S → Stamp) (belongs : Configuration → ℕ → Entry → Type 0) (k seat : ℕ) (actor : Actor) (x y : S) : Type 0 where
     pub entry : Entry
     pub config_is : config y ≡ config x
     pub entries_are : entries y ≡ entries x ++ entry ∷ []
@@ -34,7 +34,7 @@ module _ {S : Type 0} where
 
   -- what an access is
   abbrev pub AccessEnters : (S → Configuration) → (S → List Entry) → (S → Stamp) → (Configuration → ℕ → Entry → Type 0) → (ℕ → ℕ → Actor → S → S → Type 0) → Type 0
-  AccessEnters config entries clock belongs access = (k seat : ℕ) (actor : Actor) (x y : S) → access k seat actor x y → Enters config entries clock belongs k seat actor x y
+  AccessEnters config entries clock belongs access = (k seat : ℕ) (actor : Actor) (x y : S) → access k seat actor x y → EntersOne config entries clock belongs k seat actor x y
 
   -- what a change is
   abbrev pub ChangeIs : (S → Configuration) → (S → List Entry) → (S → Stamp) → (Entry → S → S → Type 0) → Type 0

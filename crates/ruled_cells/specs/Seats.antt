@@ -8,8 +8,8 @@ use Rattle.ruled_cells.specs.declared.seat.Seat.{Seat}
 use Rattle.ruled_cells.specs.Turning.{HasTurn, NoTurn}
 
 module _ {F S : Type 0} where
-  abbrev pub number_of : Seat F S → ℕ
-  number_of s = s.number
+  abbrev pub seat_number : Seat F S → ℕ
+  seat_number s = s.number
 
   -- how many seats were made with it
   abbrev pub among_of : Seat F S → ℕ
@@ -19,8 +19,8 @@ module _ {F S : Type 0} where
   abbrev pub place_of : Seat F S → TableId
   place_of s = s.token.table_id
 
-  abbrev pub view_of : Seat F S → SeatView
-  view_of s = s.token.me.0.client
+  abbrev pub seat_view : Seat F S → SeatView
+  seat_view s = s.token.me.0.client
 
   -- the turns that it has, each with the value that was taken. Cell 0 is the first one, and cell i + 1 that of index i
   abbrev pub turns_of : Seat F S → List (Option (CellValue F S))
@@ -38,9 +38,15 @@ module _ {F S : Type 0} where
   saw_of s = s.token.me.0.saw
 
   pub record IsSameSeat (s t : Seat F S) : Type 0 where
-    pub number : number_of t ≡ number_of s
+    pub number : seat_number t ≡ seat_number s
     pub among : among_of t ≡ among_of s
     pub place : place_of t ≡ place_of s
+
+  -- it tried to get no turn
+  pub record IsNoTry (s t : Seat F S) : Type 0 where
+    pub tries : tries_of t ≡ tries_of s
+    pub saw : saw_of t ≡ saw_of s
+    pub at : tried_at t ≡ tried_at s
 
   abbrev pub HasFirst : Seat F S → F → Type 0
   HasFirst s f = HasTurn (turns_of s) 0 (First f)

@@ -55,13 +55,13 @@ pub record Tied {X V : Type 0} (n seats : ℕ) (holds : List ℕ → List X → 
 
 module _ {X V : Type 0} (holds : List ℕ → List X → List V → Type 0) where
   -- whatever the cells are when the turn k is free and becomes this seat's
-  abbrev pub Takes : ℕ → ℕ → List (Option X) → V → ℕ → (ℕ → V → X → X → V → Type 0) → Type 0
-  Takes n id taken v k then = (words : List ℕ) (vals : List X) (views : List V) (x : X) → length vals ≡ n → length views < 2 ^ 32 → holds words vals views → Has id taken words vals → get_elem? views id ≡ some v
+  abbrev pub TakesTurn : ℕ → ℕ → List (Option X) → V → ℕ → (ℕ → V → X → X → V → Type 0) → Type 0
+  TakesTurn n id taken v k then = (words : List ℕ) (vals : List X) (views : List V) (x : X) → length vals ≡ n → length views < 2 ^ 32 → holds words vals views → Has id taken words vals → get_elem? views id ≡ some v
       → slice_index words k ≡ 0 → get_elem? vals k ≡ some x → (w : V) × holds (slice_set words k (id + 1)) vals (slice_set views id w) × then k v x x w
 
   -- the turn k, under which the value was x, is handed back with y
-  abbrev pub Gives : ℕ → ℕ → List (Option X) → V → ℕ → X → X → (ℕ → V → X → X → V → Type 0) → Type 0
-  Gives n id taken v k x y then = (words : List ℕ) (vals : List X) (views : List V) → length vals ≡ n → length views < 2 ^ 32 → holds words vals views → Has id taken words vals → get_elem? views id ≡ some v
+  abbrev pub GivesTurn : ℕ → ℕ → List (Option X) → V → ℕ → X → X → (ℕ → V → X → X → V → Type 0) → Type 0
+  GivesTurn n id taken v k x y then = (words : List ℕ) (vals : List X) (views : List V) → length vals ≡ n → length views < 2 ^ 32 → holds words vals views → Has id taken words vals → get_elem? views id ≡ some v
       → (w : V) × holds (slice_set words k 0) (slice_set vals k y) (slice_set views id w) × then k v x y w
 
   -- the user's word becomes m
@@ -85,7 +85,7 @@ module _ {X V : Type 0} (holds : List ℕ → List X → List V → Type 0) wher
 
   -- the seat d, under this number, hands back with y what it took of the turn k
   abbrev pub GivesFrom : ℕ → ℕ → SeatState X V → ℕ → X → (ℕ → V → X → X → V → Type 0) → Type 0
-  GivesFrom n id d k y then = (x : X) × HasTurn d.taken k x × Gives n id d.taken d.client k x y then
+  GivesFrom n id d k y then = (x : X) × HasTurn d.taken k x × GivesTurn n id d.taken d.client k x y then
 
   -- the seat d takes in the seat e
   abbrev pub MergesSeats : SeatState X V → SeatState X V → (V → V → V) → V → Type 0
@@ -144,8 +144,8 @@ module _ {X V : Type 0} where
   abbrev pub moving_at : ℕ → SeatState X V → SeatState X V
   moving_at k d = record d { moving = Some k }
 
-  abbrev pub told : SeatState X V → V → SeatState X V
-  told d w = record d { client = w }
+  abbrev pub seat_told : SeatState X V → V → SeatState X V
+  seat_told d w = record d { client = w }
 
   -- the turn was free and is this seat's
   abbrev pub Got : (ℕ → V → X → X → V → Type 0) → ℕ → Seated X V → Seated X V → Type 0
@@ -167,8 +167,8 @@ module _ {X V : Type 0} where
   abbrev pub given_back : (ℕ → V → X → X → V → Type 0) → Step (Option X) → Seated X V → ℕ → Seated X V → Type 0
   given_back then st m found m' = (x y : X) → HasTurn m.0.taken st.word x → m.1 ≡ (st.word, Some y) ∷ [] → (w : V) × (m' ≡ (gave m.0 st.word w, [])) × then st.word m.0.client x y w
 
-  abbrev pub marked : (V → V → Type 0) → Step (Option X) → Seated X V → ℕ → Seated X V → Type 0
-  marked then st m found m' = (w : V) × (m' ≡ (told m.0 w, m.1)) × then m.0.client w
+  abbrev pub marks_seat : (V → V → Type 0) → Step (Option X) → Seated X V → ℕ → Seated X V → Type 0
+  marks_seat then st m found m' = (w : V) × (m' ≡ (seat_told m.0 w, m.1)) × then m.0.client w
 
   -- the turn was that of another seat
   abbrev pub IsMissed : Seated X V → ℕ → ℕ → Seated X V → Type 0
@@ -179,12 +179,12 @@ module _ {X V : Type 0} where
   IsSameButTries m m' = (at saw tries : ℕ) × (m' ≡ (record m.0 { at = at; saw = saw; tries = tries }, m.1))
 
   -- it has the turn k, took x, and has been told of it
-  abbrev pub IsTaken : (ℕ → V → X → X → V → Type 0) → ℕ → Seated X V → X → Seated X V → Type 0
-  IsTaken then k m x m' = (w : V) × (m' ≡ (still (took m.0 k x w), [])) × HasTurn (slice_set m.0.taken k (Some x)) k x × then k m.0.client x x w
+  abbrev pub HasTaken : (ℕ → V → X → X → V → Type 0) → ℕ → Seated X V → X → Seated X V → Type 0
+  HasTaken then k m x m' = (w : V) × (m' ≡ (still (took m.0 k x w), [])) × HasTurn (slice_set m.0.taken k (Some x)) k x × then k m.0.client x x w
 
   -- the same, however often it tried
   abbrev pub IsTakenInTheEnd : (ℕ → V → X → X → V → Type 0) → ℕ → Seated X V → X → Seated X V → Type 0
-  IsTakenInTheEnd then k m x m' = (at saw tries : ℕ) × IsTaken then k (record m.0 { at = at; saw = saw; tries = tries }, m.1) x m'
+  IsTakenInTheEnd then k m x m' = (at saw tries : ℕ) × HasTaken then k (record m.0 { at = at; saw = saw; tries = tries }, m.1) x m'
 
   -- it gave the turn k back with y, and has been told of it
   abbrev pub IsGiven : (ℕ → V → X → X → V → Type 0) → ℕ → Seated X V → X → Seated X V → Type 0

@@ -3,7 +3,7 @@
 ghost use Rattle.std.specs.Prelude.{◌≡◌, ◌≢◌, suc, ◌+◌, ◌<◌, slice_set, IfErr, IfOk, MatchResult, None, Some};
 ghost use Rattle.ruled_cells.specs.Calls.{GaveIn, IsOf, MayGiveFirstIn, MayGiveIn, MayNoteIn, row_of, seats_of};
 ghost use Rattle.ruled_cells.specs.Ruling.{names};
-ghost use Rattle.ruled_cells.specs.Seats.{HasCell, HasFirst, IsSameSeat, NoCell, NoFirst, number_of, saw_of, tried_at, tries_of, turns_of, view_of};
+ghost use Rattle.ruled_cells.specs.Seats.{HasCell, HasFirst, IsNoTry, IsSameSeat, NoCell, NoFirst, seat_number, saw_of, tried_at, tries_of, turns_of, seat_view};
 ghost use Rattle.ruled_cells.specs.Telling.{ToldCell, ToldFirst, begun, last_of, noted_as};
 ghost use Rattle.ruled_cells.specs.declared.cell_value.CellValue.TheVariants.{First, Rest};
 
@@ -24,8 +24,8 @@ impl<F: Chief, S: Member> Cells<F, S> {
         requires no_turn { NoFirst seat.old }
         ensures seat { IsSameSeat seat.old seat.new }
         ensures turn { (turns_of seat.new ≡ slice_set (turns_of seat.old) 0 (Some (First result))) × HasFirst seat.new result }
-        ensures view { view_of seat.new ≡ begun (view_of seat.old) }
-        ensures told { ToldFirst (names F.reads S.reads) (view_of seat.old) result }
+        ensures view { seat_view seat.new ≡ begun (seat_view seat.old) }
+        ensures told { ToldFirst (names F.reads S.reads) (seat_view seat.old) result }
     {
         let kept = turns::take::<CellValue<F, S>, _, _, _, TakeFirst<F, S>, R>(
             rt,
@@ -47,8 +47,8 @@ impl<F: Chief, S: Member> Cells<F, S> {
         requires no_turn { NoCell seat.old index }
         ensures seat { IsSameSeat seat.old seat.new }
         ensures turn { (turns_of seat.new ≡ slice_set (turns_of seat.old) (suc index) (Some (Rest result))) × HasCell seat.new index result }
-        ensures view { view_of seat.new ≡ view_of seat.old }
-        ensures told { ToldCell (names F.reads S.reads) (view_of seat.old) result }
+        ensures view { seat_view seat.new ≡ seat_view seat.old }
+        ensures told { ToldCell (names F.reads S.reads) (seat_view seat.old) result }
     {
         let kept = turns::take::<CellValue<F, S>, _, _, _, TakeCell<F, S>, R>(
             rt,
@@ -73,10 +73,10 @@ impl<F: Chief, S: Member> Cells<F, S> {
         ensures once { tries_of seat.new ≡ tries_of seat.old + 1 }
         ensures at { tried_at seat.new ≡ suc index }
         ensures saw { MatchResult result (λ _. saw_of seat.new ≡ 0) (λ busy. saw_of seat.new ≡ busy.seat_seen + 1) }
-        ensures view { view_of seat.new ≡ view_of seat.old }
+        ensures view { seat_view seat.new ≡ seat_view seat.old }
         ensures turn { IfOk result (λ value. (turns_of seat.new ≡ slice_set (turns_of seat.old) (suc index) (Some (Rest value))) × HasCell seat.new index value) }
-        ensures told { IfOk result (λ value. ToldCell (names F.reads S.reads) (view_of seat.old) value) }
-        ensures busy { IfErr result (λ busy. (turns_of seat.new ≡ turns_of seat.old) × (busy.seat_seen < seats_of self.now) × (busy.seat_seen ≢ number_of seat.old)) }
+        ensures told { IfOk result (λ value. ToldCell (names F.reads S.reads) (seat_view seat.old) value) }
+        ensures busy { IfErr result (λ busy. (turns_of seat.new ≡ turns_of seat.old) × (busy.seat_seen < seats_of self.now) × (busy.seat_seen ≢ seat_number seat.old)) }
     {
         let tried = turns::try_take::<CellValue<F, S>, _, _, _, TakeCell<F, S>>(
             &self.table.shared,
@@ -103,7 +103,7 @@ impl<F: Chief, S: Member> Cells<F, S> {
         requires may { MayNoteIn F.reads S.reads self.now seat.old first.now (last_of (F.reads.journal first.now)) }
         ensures seat { IsSameSeat seat.old seat.new }
         ensures turns { turns_of seat.new ≡ turns_of seat.old }
-        ensures view { noted_as (last_of (F.reads.journal first.now)) (view_of seat.old) (view_of seat.new) }
+        ensures view { noted_as (last_of (F.reads.journal first.now)) (seat_view seat.old) (seat_view seat.new) }
     {
         write::<Brand, F, S>(self, seat, first);
     }
@@ -114,7 +114,7 @@ impl<F: Chief, S: Member> Cells<F, S> {
         requires may { MayGiveFirstIn F.reads S.reads self.now seat.old value }
         ensures seat { IsSameSeat seat.old seat.new }
         ensures turn { turns_of seat.new ≡ slice_set (turns_of seat.old) 0 None }
-        ensures view { view_of seat.new ≡ begun (view_of seat.old) }
+        ensures view { seat_view seat.new ≡ begun (seat_view seat.old) }
     {
         turns::give::<CellValue<F, S>, _, _, _, GiveFirst<F, S>>(
             &self.table.shared,
@@ -132,7 +132,8 @@ impl<F: Chief, S: Member> Cells<F, S> {
         requires may { MayGiveIn F.reads S.reads seat.old index value }
         ensures seat { IsSameSeat seat.old seat.new }
         ensures turn { turns_of seat.new ≡ slice_set (turns_of seat.old) (suc index) None }
-        ensures told { GaveIn F.reads S.reads seat.old index value (view_of seat.new) }
+        ensures no_try { IsNoTry seat.old seat.new }
+        ensures told { GaveIn F.reads S.reads seat.old index value (seat_view seat.new) }
     {
         turns::give::<CellValue<F, S>, _, _, _, GiveCell<F, S>>(
             &self.table.shared,
@@ -150,7 +151,7 @@ fn write<N: NotedEntry, F: Chief, S: Member>(cells: &Cells<F, S>, seat: &mut Sea
     requires may { MayNoteIn F.reads S.reads cells.now seat.old first.now N.entry }
     ensures seat { IsSameSeat seat.old seat.new }
     ensures turns { turns_of seat.new ≡ turns_of seat.old }
-    ensures view { noted_as N.entry (view_of seat.old) (view_of seat.new) }
+    ensures view { noted_as N.entry (seat_view seat.old) (seat_view seat.new) }
 {
     turns::mark::<CellValue<F, S>, _, _, _, Note<N>>(
         &cells.table.shared,

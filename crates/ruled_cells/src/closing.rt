@@ -8,7 +8,7 @@ ghost use Rattle.ruled_cells.specs.Calls.{AccountFor, AreAll, IsOf, NoOthers, op
 ghost use Rattle.ruled_cells.specs.Making.{IsGathered};
 ghost use Rattle.ruled_cells.specs.Resting.{IsAtRest};
 ghost use Rattle.ruled_cells.specs.Ruling.{names};
-ghost use Rattle.ruled_cells.specs.Seats.{IsSameSeat, NoTurns, number_of, view_of};
+ghost use Rattle.ruled_cells.specs.Seats.{IsSameSeat, NoTurns, seat_number, seat_view};
 ghost use Rattle.ruled_cells.specs.Telling.{joint_view, values};
 ghost use Rattle.ruled_cells.specs.Turning.{joint};
 ghost use Rattle.ruled_cells.specs.declared.seat.Seat.{Seat};
@@ -43,7 +43,7 @@ fn merge<F: Chief, S: Member>(cells: &Cells<F, S>, seat: &mut Seat<F, S>, other:
 fn gather<F: Chief, S: Member>(cells: &Cells<F, S>, mut seats: Vec<Seat<F, S>>) -> Seat<F, S>
     requires all { AreAll cells.now seats.items }
     ensures of { IsOf cells.now result × NoTurns result }
-    ensures each { (k : ℕ) (s : Seat F S) → get_elem? seats.items k ≡ some s → IsGathered result.token.me (number_of s) (view_of s) }
+    ensures each { (k : ℕ) (s : Seat F S) → get_elem? seats.items k ≡ some s → IsGathered result.token.me (seat_number s) (seat_view s) }
 {
     let Some(mut main) = seats.pop() else {
         unreachable!()

@@ -1,5 +1,5 @@
 //! The steps on the table, each with what it tells.
-ghost use Rattle.ruled_cells.specs.Turning.{enrolled, given_back, gone, joint, laid_back, marked, newcomer, picked_up, tried};
+ghost use Rattle.ruled_cells.specs.Turning.{enrolled, given_back, gone, joint, laid_back, marks_seat, newcomer, picked_up, tried};
 
 use crate::turns::protocol::{Admission, Marking, Merging, Outcome};
 use crate::turns::seat_state::SeatState;
@@ -44,7 +44,7 @@ pub struct Mark<M> {
 }
 
 impl<X, V, M: Marking<V>> Play<Option<X>, SeatState<X, V>> for Mark<M> {
-    ghost then = { marked M.then };
+    ghost then = { marks_seat M.then };
 }
 
 /// Makes a seat.

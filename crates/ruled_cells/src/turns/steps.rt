@@ -1,6 +1,6 @@
 //! Taking a turn, giving it back, and setting the user's word.
 ghost use Rattle.std.specs.Prelude.{◌≡◌, ◌+◌, ◌<◌, [], ◌∷◌, IfErr, IfOk, None, Some};
-ghost use Rattle.ruled_cells.specs.Turning.{GivesFrom, HasTurn, IsGiven, IsMissed, IsMoving, IsResting, IsTaken, IsTakenInTheEnd, Marks, NoTurn, Takes, marked, moving_at, still, tried};
+ghost use Rattle.ruled_cells.specs.Turning.{GivesFrom, HasTurn, IsGiven, IsMissed, IsMoving, IsResting, HasTaken, IsTakenInTheEnd, Marks, NoTurn, TakesTurn, marks_seat, moving_at, still, tried};
 ghost use Rattle.atomic_table.specs.Table.{step};
 ghost use mathlib.Core.Option.{none};
 
@@ -18,7 +18,7 @@ fn attempt<X, V, K, P: Protocol<X, V, K>, M: Outcome<X, V>>(
     requires board { (seat.old.table_id ≡ board.now.table_id) × (cell < board.now.table_id.slots) × (board.now.table_id.words ≡ board.now.table_id.slots + 1) }
     requires resting { IsResting number seat.old.me }
     requires no_turn { NoTurn seat.old.me.0.taken cell }
-    requires rule { Takes (P.holds board.now.key) board.now.table_id.slots number seat.old.me.0.taken seat.old.me.0.client cell M.then }
+    requires rule { TakesTurn (P.holds board.now.key) board.now.table_id.slots number seat.old.me.0.taken seat.old.me.0.client cell M.then }
     ensures board { (seat.new.table_id ≡ seat.old.table_id) × (seat.new.id ≡ seat.old.id) }
     ensures tried { tried M.then (step board.now.table_id.slots cell 0 (number + 1) none) seat.old.me result seat.new.me }
 {
@@ -54,9 +54,9 @@ pub fn try_take<X, V, K, P: Protocol<X, V, K>, M: Outcome<X, V>>(
     requires board { (seat.old.table_id ≡ board.now.table_id) × (cell < board.now.table_id.slots) × (board.now.table_id.words ≡ board.now.table_id.slots + 1) }
     requires resting { IsResting number seat.old.me }
     requires no_turn { NoTurn seat.old.me.0.taken cell }
-    requires rule { Takes (P.holds board.now.key) board.now.table_id.slots number seat.old.me.0.taken seat.old.me.0.client cell M.then }
+    requires rule { TakesTurn (P.holds board.now.key) board.now.table_id.slots number seat.old.me.0.taken seat.old.me.0.client cell M.then }
     ensures board { (seat.new.table_id ≡ seat.old.table_id) × (seat.new.id ≡ seat.old.id) }
-    ensures ok { IfOk result (λ value. IsTaken M.then cell seat.old.me value seat.new.me) }
+    ensures ok { IfOk result (λ value. HasTaken M.then cell seat.old.me value seat.new.me) }
     ensures err { IfErr result (λ other. IsMissed seat.old.me cell other seat.new.me) }
 {
     let found = attempt::<X, V, K, P, M>(board, seat, number, cell);
@@ -78,7 +78,7 @@ pub fn take<X, V, K, P: Protocol<X, V, K>, M: Outcome<X, V>, R: Wait>(
     requires board { (seat.old.table_id ≡ board.now.table_id) × (cell < board.now.table_id.slots) × (board.now.table_id.words ≡ board.now.table_id.slots + 1) }
     requires resting { IsResting number seat.old.me }
     requires no_turn { NoTurn seat.old.me.0.taken cell }
-    requires rule { Takes (P.holds board.now.key) board.now.table_id.slots number seat.old.me.0.taken seat.old.me.0.client cell M.then }
+    requires rule { TakesTurn (P.holds board.now.key) board.now.table_id.slots number seat.old.me.0.taken seat.old.me.0.client cell M.then }
     ensures board { (seat.new.table_id ≡ seat.old.table_id) × (seat.new.id ≡ seat.old.id) }
     ensures taken { IsTakenInTheEnd M.then cell seat.old.me result seat.new.me }
 {
@@ -141,7 +141,7 @@ pub fn mark<X, V, K, P: Protocol<X, V, K>, M: Marking<V>>(
     requires resting { IsResting number seat.old.me }
     requires rule { Marks (P.holds board.now.key) board.now.table_id.slots number seat.old.me.0.taken seat.old.me.0.client value M.then }
     ensures board { (seat.new.table_id ≡ seat.old.table_id) × (seat.new.id ≡ seat.old.id) }
-    ensures marked { marked M.then (step board.now.table_id.slots word value 0 none) seat.old.me value seat.new.me }
+    ensures marked { marks_seat M.then (step board.now.table_id.slots word value 0 none) seat.old.me value seat.new.me }
 {
     board.store::<Mark<M>>(seat, word, value);
 }

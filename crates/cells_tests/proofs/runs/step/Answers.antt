@@ -1,7 +1,7 @@
 use Rattle.std.proofs.Common.{List, [], sym, subst}
 use Rattle.journal_core.specs.declared.entries.Entry.{Entry}
 use Rattle.cells_tests.specs.Tally.{IsIdle, MayHaveAdded, ledger_reads, no_config}
-use Rattle.ruled_cells.specs.Seats.{number_of, view_of, turns_of}
+use Rattle.ruled_cells.specs.Seats.{seat_number, seat_view, turns_of}
 use Rattle.cells_tests.proofs.TallySteps.{idle_again, given_again, same_cell}
 use Rattle.cells_tests.proofs.runs.step.Goals as goal
 
@@ -11,7 +11,7 @@ returns-clause-idle g c =
     let gave = c.give.ensures in
     let told = gave.told in
     let number = took.seat.number in
-    let idle = subst (λ v. IsIdle (number_of c.take-counter.new.seat) c.args.seen v) (sym took.view) (subst (λ n. IsIdle n c.args.seen (view_of c.args.seat.now)) (sym number) c.requires.idle.1) in
+    let idle = subst (λ v. IsIdle (seat_number c.take-counter.new.seat) c.args.seen v) (sym took.view) (subst (λ n. IsIdle n c.args.seen (seat_view c.args.seat.now)) (sym number) c.requires.idle.1) in
     let done = subst (λ n. MayHaveAdded n c.args.seen c.take-counter.result c.add-counter.result.0 c.add-counter.result.1) c.number.ensures c.add-counter.ensures in
-    let again = idle_again {F = List Entry} ledger_reads 0 (number_of c.take-counter.new.seat) c.args.seen c.add-counter.result.1 _ _ told.0 c.take-counter.result c.add-counter.result.0 idle (same_cell (turns_of c.take-counter.new.seat) 1 _ _ told.1 took.turn.1) done told.2 in
-    (given_again _ _ _ 1 _ c.requires.idle.0 took.turn.0 gave.turn, subst (λ n. IsIdle n c.add-counter.result.1 (view_of c.give.new.seat)) (sym gave.seat.number) again.0)
+    let again = idle_again {F = List Entry} ledger_reads 0 (seat_number c.take-counter.new.seat) c.args.seen c.add-counter.result.1 _ _ told.0 c.take-counter.result c.add-counter.result.0 idle (same_cell (turns_of c.take-counter.new.seat) 1 _ _ told.1 took.turn.1) done told.2 in
+    (given_again _ _ _ 1 _ c.requires.idle.0 took.turn.0 gave.turn, subst (λ n. IsIdle n c.add-counter.result.1 (seat_view c.give.new.seat)) (sym gave.seat.number) again.0)

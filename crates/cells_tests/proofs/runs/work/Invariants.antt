@@ -1,5 +1,5 @@
 use Rattle.std.proofs.Common.{◌≤◌, length}
-use Rattle.ruled_cells.specs.Seats.{IsSameSeat, NoTurns, number_of, view_of}
+use Rattle.ruled_cells.specs.Seats.{IsSameSeat, NoTurns, seat_number, seat_view}
 use Rattle.cells_tests.specs.Tally.{IsIdle}
 use Rattle.cells_tests.proofs.runs.work.Given as goal
 
@@ -7,6 +7,6 @@ abbrev pub invariant-loop-i : goal.invariant-loop-i
 invariant-loop-i g l = record {
   same : IsSameSeat l.fn.seat l.seat;
   none : NoTurns l.seat;
-  idle : IsIdle (number_of l.seat) l.seen (view_of l.seat);
-  calls : length (view_of l.seat).calls ≤ l.i;
+  idle : IsIdle (seat_number l.seat) l.seen (seat_view l.seat);
+  calls : length (seat_view l.seat).calls ≤ l.i;
 }

@@ -3,7 +3,7 @@ use mathlib.Core.Option.{some}
 use lib.ListN.{get_elem?}
 use Rattle.ruled_cells.specs.declared.seat.Seat.{Seat}
 use Rattle.ruled_cells.specs.Calls.{IsOf}
-use Rattle.ruled_cells.specs.Seats.{NoTurns, number_of, view_of}
+use Rattle.ruled_cells.specs.Seats.{NoTurns, seat_number, seat_view}
 use Rattle.ruled_cells.specs.Making.{IsGathered}
 use Rattle.ruled_cells.proofs.closing.gather.Given as goal
 
@@ -11,7 +11,7 @@ abbrev pub invariant-loop-other : goal.invariant-loop-other
 invariant-loop-other g l = record {
   of : IsOf l.cells l.main × NoTurns l.main;
   front : (k : ℕ) (s : Seat g.row.F.Denot g.row.S.Denot) → get_elem? l.seats.items k ≡ some s → get_elem? l.fn.seats.items k ≡ some s;
-  each : (k : ℕ) (s : Seat g.row.F.Denot g.row.S.Denot) → get_elem? l.fn.seats.items k ≡ some s → (k < length l.seats.items) ⊎ IsGathered l.main.token.me (number_of s) (view_of s);
+  each : (k : ℕ) (s : Seat g.row.F.Denot g.row.S.Denot) → get_elem? l.fn.seats.items k ≡ some s → (k < length l.seats.items) ⊎ IsGathered l.main.token.me (seat_number s) (seat_view s);
 }
 
 abbrev pub decreases-loop-other : goal.decreases-loop-other

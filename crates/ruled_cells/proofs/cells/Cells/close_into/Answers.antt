@@ -1,6 +1,6 @@
 use Rattle.std.proofs.Common.{◌≢◌, ◌<◌, ℕ, sym, ap, ◌∙◌, subst}
 use Rattle.ruled_cells.specs.Turning.{IsIn}
-use Rattle.ruled_cells.specs.Seats.{number_of, view_of}
+use Rattle.ruled_cells.specs.Seats.{seat_number, seat_view}
 use Rattle.ruled_cells.proofs.ClosingSteps.{alone, values_are, closed_rests, closed_accounts, closed_no_others}
 use Rattle.ruled_cells.proofs.cells.Cells.close_into.Goals as goal
 
@@ -16,7 +16,7 @@ returns-clause-rest g c = closed_rests _ _ _ _ _ _ _ _ c.close.ensures.settled _
 
 pub returns-clause-calls : goal.returns-clause-calls
 returns-clause-calls g c = λ k s e. closed_accounts _ _ _ _ _ _ _ _ c.close.ensures.settled _ _ c.unpack.ensures (ap (λ t. t.me.0.client.spent) c.into_token.ensures ∙ c.gather-last.result.used)
-    c.gather-last.result.token.me (ap (λ t. t.me.0.client) (sym c.into_token.ensures)) (number_of s) (view_of s) (c.gather-last.ensures.each k s e)
+    c.gather-last.result.token.me (ap (λ t. t.me.0.client) (sym c.into_token.ensures)) (seat_number s) (seat_view s) (c.gather-last.ensures.each k s e)
 
 pub returns-clause-no_others : goal.returns-clause-no_others
 returns-clause-no_others g c = closed_no_others _ _ _ _ _ _ _ _ c.close.ensures.settled _ _ c.unpack.ensures _ (ap (λ t. t.me.0.among) c.into_token.ensures ∙ c.gather-last.ensures.of.0.among)

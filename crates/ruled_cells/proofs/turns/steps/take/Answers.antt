@@ -1,5 +1,5 @@
 use Rattle.std.proofs.Common.{refl, ◌∙◌}
-use Rattle.ruled_cells.specs.Turning.{NoTurn, Takes}
+use Rattle.ruled_cells.specs.Turning.{NoTurn, TakesTurn}
 use Rattle.ruled_cells.proofs.TurnCalls.{same_start, same_rests, same_by}
 use Rattle.ruled_cells.proofs.turns.steps.take.Goals as goal
 
@@ -15,5 +15,5 @@ try_take-requires g c =
       board = (i.board.0 ∙ b.0, b.1, b.2);
       resting = same_rests c.args.number first now c.requires.resting i.same;
       no_turn = same_by (λ taken v. NoTurn taken c.args.cell) first now i.same c.requires.no_turn;
-      rule = same_by (λ taken v. Takes (g.P.Protocol.holds c.args.board.now.key) c.args.board.now.table_id.slots c.args.number taken v c.args.cell g.M.Outcome.then) first now i.same c.requires.rule;
+      rule = same_by (λ taken v. TakesTurn (g.P.Protocol.holds c.args.board.now.key) c.args.board.now.table_id.slots c.args.number taken v c.args.cell g.M.Outcome.then) first now i.same c.requires.rule;
     }

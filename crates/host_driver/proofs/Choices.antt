@@ -1,0 +1,40 @@
+-- What words ask for is what is found in them.
+use Rattle.std.proofs.Common.{◌≡◌, ℕ, Bool, true, false, ◌&&◌, List, [], ◌∷◌, Option, Some, None, refl, sym, ap, subst, ◌∙◌, arith, length}
+use Rattle.std.specs.Prelude.{if◌then◌else◌}
+use Rattle.std.proofs.lemmas.Bool.{and_from, and_parts, false≢true}
+use Rattle.edge_io.specs.Words.{is_number, number_in}
+use Rattle.edge_io.proofs.WordNumbers.{is_a_number, number_is}
+use Rattle.host_driver.specs.Words.{AsksForNoDrive, IsDriveChoice, drive_choice, host_digits, bound_digits}
+use Rattle.host_driver.specs.declared.words.DriveChoice.{DriveChoice}
+
+abbrev head_of : List (List ℕ) → List ℕ
+head_of [] = []
+head_of (w ∷ words) = w
+
+abbrev second_of : List (List ℕ) → List ℕ
+second_of [] = []
+second_of (w ∷ []) = []
+second_of (w ∷ d ∷ words) = d
+
+-- fewer words than two, or more
+other_count : (words : List (List ℕ)) → (length words ≡ 2 → ⊥) → AsksForNoDrive words
+other_count words other host most a = other (ap length a.two)
+
+two_words : (h m : List ℕ) (both : Bool) → (is_number host_digits h && is_number bound_digits m) ≡ both
+    → IsDriveChoice (h ∷ m ∷ []) (if both then Some (record { host = number_in h; most = number_in m }) else None)
+two_words h m true good =
+    let parts = and_parts (is_number host_digits h) (is_number bound_digits m) good in
+    record { host_word = h; most_word = m; two = refl; host_is = number_is host_digits h parts.0; most_is = number_is bound_digits m parts.1 }
+two_words h m false bad = λ host most a.
+    let first : is_number host_digits h ≡ true = ap (is_number host_digits) (ap head_of a.two) ∙ is_a_number host_digits a.host_word host a.host_is in
+    let second : is_number bound_digits m ≡ true = ap (is_number bound_digits) (ap second_of a.two) ∙ is_a_number bound_digits a.most_word most a.most_is in
+    false≢true (sym bad ∙ and_from (is_number host_digits h) (is_number bound_digits m) first second)
+
+choice_is : (words : List (List ℕ)) → IsDriveChoice words (drive_choice words)
+choice_is [] = other_count [] (λ e. omega (arith, e))
+choice_is (w ∷ []) = other_count (w ∷ []) (λ e. omega (arith, e))
+choice_is (h ∷ m ∷ []) = two_words h m (is_number host_digits h && is_number bound_digits m) refl
+choice_is (h ∷ m ∷ w ∷ words) = other_count (h ∷ m ∷ w ∷ words) (λ e. omega (arith, e))
+
+pub choice_found : (words : List (List ℕ)) (found : Option DriveChoice) → found ≡ drive_choice words → IsDriveChoice words found
+choice_found words found is = subst (IsDriveChoice words) (sym is) (choice_is words)

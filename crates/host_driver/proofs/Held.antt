@@ -1,0 +1,58 @@
+-- What a host holds and is offered shares no address, and an offer that is listed bare is accepted as it is.
+use Rattle.std.proofs.Common.{◌≡◌, ℕ, ◌<◌, false, List, [], ◌∷◌, map, refl}
+use Rattle.std.proofs.lemmas.List.{length-map}
+use Rattle.std.proofs.lemmas.List.Elements.{All-from_recursion}
+use Rattle.dcd_base.specs.declared.capacity.Extent.{Extent}
+use Rattle.dcd_base.specs.declared.ids.HostId.{HostId}
+use Rattle.extent_list.specs.ExtentLists.{marked, overlaps}
+use Rattle.media_map.specs.Places.{region_at}
+use Rattle.offer_core.specs.InOrder.{AreSome, IsSoundIn, SameAddresses, none, taken, left}
+use Rattle.offer_core.proofs.Owners.{marked_all, owned}
+use Rattle.region_config.specs.Configurations.{Configuration}
+use Rattle.region_config.specs.Granules.{with_blocks}
+use Rattle.region_config.specs.Soundness.{IsSound}
+use Rattle.device_rules.specs.Tags.{region_of_offer}
+use Rattle.device_rules.proofs.ListSteps.{each-change}
+use Rattle.holding_laws.specs.Pictures.{Picture, extents_at}
+use Rattle.holding_laws.specs.Standing.{IsHome, IsMade, Stands}
+use Rattle.holding_laws.proofs.AllLeave.{Behind}
+use Rattle.holding_laws.proofs.Going.{all_behind}
+use Rattle.holding_laws.proofs.Holding.{home_made}
+use Rattle.holding_laws.proofs.InOrderResponses.{all_apart, each_sound, made_there, once}
+use Rattle.holding_laws.proofs.OneLeave.{loose}
+use Rattle.host_driver.specs.Driving.{bare}
+use Rattle.host_driver.proofs.Apart.{AreApart}
+use Rattle.host_driver.proofs.Pending.{IsBeside}
+use Rattle.host_driver.proofs.Removals.{is_beside_of}
+
+-- ---- apart
+
+apart_from : (xs : List Extent) → Behind xs → AreApart xs
+apart_from [] behind = tt
+apart_from (x ∷ xs) (first, behind) = (each-change (λ y. overlaps y x ≡ false) (IsBeside x) (λ y apart. is_beside_of x y apart) xs first, apart_from xs behind)
+
+-- ---- a list of all or of none is in order
+
+pub all_same : (ys : List Extent) → AreSome SameAddresses (map bare ys) ys
+all_same [] = none
+all_same (y ∷ ys) = taken (record { start = refl; length = refl }) (all_same ys)
+
+pub none_same : (ys : List Extent) → AreSome SameAddresses [] ys
+none_same [] = none
+none_same (y ∷ ys) = left (none_same ys)
+
+module _ (c : Configuration) (sound : IsSound c) (p : Picture) (s : Stands c p) (h : HostId) (host : h < c.hosts) where
+  pub extents_apart : AreApart (extents_at p h)
+  extents_apart = apart_from (extents_at p h) (all_behind c sound p (loose c p s) h host (extents_at p h)
+      (each-change (IsHome c p h) (λ x. IsMade c (p.block (region_at c h x.start)) h (region_at c h x.start) x) (λ x a. home_made c sound p s h x host a) (extents_at p h) (s.home h))
+      (s.once h))
+
+  -- an offer that is listed bare gets its marks again
+  pub offer_marked : (offer : List Extent) (later : List (List Extent)) → p.offers h ≡ offer ∷ later → map (marked offer) (map bare offer) ≡ offer
+  offer_marked offer later oldest =
+      let w : Configuration = with_blocks c p.block in
+      let r : ℕ = region_of_offer c h offer in
+      marked_all w h r offer
+      (owned w h r (all_same offer) (All-from_recursion (IsSoundIn w h r) offer (each_sound c sound p s h host offer later oldest))
+      (all_apart c sound p s h host offer later oldest offer (made_there c sound p s h host offer later oldest) (once c sound p s h host offer later oldest)))
+      (length-map offer bare)

@@ -1,0 +1,86 @@
+-- Records that go into logs are spelled, one effect and one entry more at a time.
+use Rattle.std.proofs.Common.{◌≡◌, ℕ, ◌+◌, ◌-◌, ◌<◌, Bool, true, false, List, [], ◌∷◌, ◌++◌, Some, None, length, get_or, take, refl, sym, ap, subst, ◌∙◌, arith, length-append}
+use Rattle.std.specs.Prelude.{IsTrue, if◌then◌else◌, slice_get}
+use Rattle.std.specs.List.{AllByRecursion}
+use Rattle.std.proofs.Math.Seq.{get_or-append_seam}
+use Rattle.std.proofs.lemmas.Bool.{false≢true}
+use Rattle.std.proofs.lemmas.List.{take_more}
+use Rattle.std.proofs.lemmas.Option.{none-some, same_Some, slice_get-get_or}
+use Rattle.dcd_base.specs.declared.steps.Actor.{Actor}
+use Rattle.journal_core.specs.Entries.{effects, fits, is_control}
+use Rattle.journal_core.specs.declared.acts.Act.{Act}
+use Rattle.journal_core.specs.declared.entries.Entry.{Entry}
+use Rattle.journal_core.specs.declared.outcome.Effect.{Effect}
+use Rattle.journal_core.proofs.EachSteps.{EachFrom-at}
+use Rattle.journal_core.proofs.JournalSteps.{effects-push}
+use Rattle.region_config.specs.Configurations.{Configuration}
+use Rattle.device_rules.specs.Legal.{Legal, Meets, right_answer}
+use Rattle.device_rules.proofs.ListSteps.{each-append}
+use Rattle.device_plain.specs.Numbering.{commands_of}
+use Rattle.device_plain.proofs.Numbered.{commands-push}
+use Rattle.host_driver.specs.Spelling.{AreSpelled, AreSpelledIn, IsSpelledIn}
+
+-- ---- one more
+
+-- the effects of one more entry
+pub spelled-push : (journal : List Entry) (e : Entry) → AreSpelled journal → AreSpelledIn e.effects → AreSpelled (journal ++ e ∷ [])
+spelled-push journal e all new = subst (AllByRecursion IsSpelledIn) (sym (effects-push journal e)) (each-append IsSpelledIn (effects journal) e.effects all new)
+
+-- one effect more of a list
+pub effect_more : (all : List Effect) (i : ℕ) (e : Effect) → i < length all → e ≡ get_or all i e → AreSpelledIn (take i all) → IsSpelledIn e → AreSpelledIn (take (i + 1) all)
+effect_more all i e within is front here =
+    subst AreSpelledIn (sym (take_more all i e within ∙ ap (λ (x : Effect). take i all ++ x ∷ []) (sym is)))
+    (each-append IsSpelledIn (take i all) (e ∷ []) front (here, tt))
+
+-- one entry more of a journal
+pub entry_more : (journal : List Entry) (i : ℕ) (e : Entry) → i < length journal → e ≡ get_or journal i e → AreSpelled (take i journal) → AreSpelledIn e.effects → AreSpelled (take (i + 1) journal)
+entry_more journal i e within is front new =
+    subst AreSpelled (sym (take_more journal i e within ∙ ap (λ (x : Entry). take i journal ++ x ∷ []) (sym is))) (spelled-push (take i journal) e front new)
+
+-- ---- the last entry
+
+-- the last of some entries is found at the end of them
+last_found : (before : List Entry) (e : Entry) → slice_get (before ++ e ∷ []) (length (before ++ e ∷ []) - 1) ≡ Some e
+last_found before e =
+    let xs : List Entry = before ++ e ∷ [] in
+    let at : length (before ++ e ∷ []) - 1 ≡ length before = omega (arith, length-append before (e ∷ [])) in
+    ap (slice_get (before ++ e ∷ [])) at
+    ∙ slice_get-get_or (before ++ e ∷ []) (length before) e (omega (arith, length-append before (e ∷ [])))
+    ∙ ap Some (get_or-append_seam before e [] e)
+
+found_in : (entries before : List Entry) (e : Entry) → entries ≡ before ++ e ∷ [] → slice_get entries (length entries - 1) ≡ Some e
+found_in entries before e is = ap (λ (xs : List Entry). slice_get xs (length xs - 1)) is ∙ last_found before e
+
+-- so it is the one that was found
+pub last_is : (entries before : List Entry) (x e : Entry) → Some x ≡ slice_get entries (length entries - 1) → entries ≡ before ++ e ∷ [] → x ≡ e
+last_is entries before x e found is = same_Some x e (found ∙ found_in entries before e is)
+
+-- and there is one
+pub last_none : (entries before : List Entry) (e : Entry) → None ≡ slice_get entries (length entries - 1) → entries ≡ before ++ e ∷ [] → ⊥
+last_none entries before e none is = none-some e (none ∙ found_in entries before e is)
+
+-- ---- the last entry of a journal, by the last of its commands and scrubs
+
+-- a load or a store changes nothing
+no_effects : (c : Configuration) (before : List Entry) (actor : Actor) (act : Act) → is_control act ≡ false → IsTrue (fits c.hosts actor act) → (right_answer c before actor act).1 ≡ []
+no_effects c before actor (Act.Command q) access allowed = absurd (false≢true (sym access))
+no_effects c before actor (Act.Scrub n) access allowed = absurd (false≢true (sym access))
+no_effects c before (Actor.Host h) (Act.Load d) access allowed = refl
+no_effects c before Actor.Manager (Act.Load d) access allowed = absurd (false≢true allowed)
+no_effects c before Actor.Sanitizer (Act.Load d) access allowed = absurd (false≢true allowed)
+no_effects c before (Actor.Host h) (Act.Store d value) access allowed = refl
+no_effects c before Actor.Manager (Act.Store d value) access allowed = absurd (false≢true allowed)
+no_effects c before Actor.Sanitizer (Act.Store d value) access allowed = absurd (false≢true allowed)
+
+pub last_spelled : (c : Configuration) (journal : List Entry) → Legal c journal
+    → ((front : List Entry) (x : Entry) → commands_of journal ≡ front ++ x ∷ [] → AreSpelledIn x.effects)
+    → (before : List Entry) (e : Entry) → journal ≡ before ++ e ∷ [] → AreSpelledIn e.effects
+last_spelled c journal legal last before e is = by (is_control e.act) refl
+  where
+    meets : Meets c before e
+    meets = EachFrom-at [] (Meets c) before e [] (subst (Legal c) is legal)
+
+    by : (control : Bool) → is_control e.act ≡ control → AreSpelledIn e.effects
+    by true control = last (commands_of before) e
+        (ap commands_of is ∙ commands-push before e ∙ ap (λ b. commands_of before ++ (if b then e ∷ [] else [])) control)
+    by false access = subst AreSpelledIn (sym (meets.effects ∙ no_effects c before e.actor e.act access meets.allowed)) tt

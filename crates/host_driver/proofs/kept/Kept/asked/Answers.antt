@@ -1,0 +1,20 @@
+use Rattle.std.proofs.Common.{ap, ◌∙◌, length, arith}
+use Rattle.std.specs.List.{list_all}
+use Rattle.std.proofs.lemmas.List.{length-take}
+use Rattle.host_payloads.specs.HostPayloads.{is_untagged}
+use Rattle.host_driver.specs.Driving.{given_by, taken_by}
+use Rattle.host_driver.specs.Keeping.{kept_in}
+use Rattle.host_driver.proofs.Listed.{bare_untagged}
+use Rattle.host_driver.proofs.kept.Kept.asked.Goals as goal
+
+pub returns-in_ok-first_handles-in-Clear-clause-counts : goal.returns-in_ok-first_handles-in-Clear-clause-counts
+returns-in_ok-first_handles-in-Clear-clause-counts c =
+    omega (arith, ap length c.in_ok-first_handles-in-Clear.ensures, length-take 255 c.args.self.now.handles)
+
+pub returns-in_ok-taken-in-Response-clause-untagged : goal.returns-in_ok-taken-in-Response-clause-untagged
+returns-in_ok-taken-in-Response-clause-untagged c =
+    ap (list_all is_untagged) c.in_ok-taken-in-Response.ensures.listed ∙ bare_untagged (taken_by c.args.most (kept_in c.args.self.now))
+
+pub returns-in_ok-given-in-Release-clause-untagged : goal.returns-in_ok-given-in-Release-clause-untagged
+returns-in_ok-given-in-Release-clause-untagged c =
+    ap (list_all is_untagged) c.in_ok-given-in-Release.ensures.listed ∙ bare_untagged (given_by (kept_in c.args.self.now))

@@ -1,0 +1,31 @@
+use Rattle.std.proofs.Common.{◌≡◌, true, false, sym, ap, ◌∙◌}
+use Rattle.std.specs.Prelude.{if◌then◌else◌}
+use Rattle.extent_list.specs.ExtentLists.{cut}
+use Rattle.host_driver.specs.Driving.{is_below_end}
+use Rattle.host_driver.proofs.Finding.{can_cut, cut_of, stays_whole}
+use Rattle.host_driver.proofs.tables.cut_out.Goals as goal
+
+pub cut-requires-clause-in_addresses : goal.cut-requires-clause-in_addresses
+cut-requires-clause-in_addresses c =
+    can_cut c.args.table.now.extents c.args.extent.now c.in-Some.index c.at-owner.result (sym c.holder_of.ensures ∙ c.in-Some.is) c.at-owner.ensures
+    (sym c.is_below_end.ensures ∙ c.if-is_below_end.true)
+
+pub returns-in-Ok-clause-cut : goal.returns-in-Ok-clause-cut
+returns-in-Ok-clause-cut c =
+    let x = c.args.extent.now in
+    let xs = c.args.table.now.extents in
+    let below : is_below_end x c.at-owner.result ≡ true = sym c.is_below_end.ensures ∙ c.if-is_below_end.true in
+    c.in-Ok.ensures.cut
+    ∙ sym (cut_of xs x c.in-Some.index c.at-owner.result (sym c.holder_of.ensures ∙ c.in-Some.is) c.at-owner.ensures
+    ∙ ap (λ b. if b then cut x.start x.length xs else xs) below)
+
+pub returns-else-is_below_end-clause-cut : goal.returns-else-is_below_end-clause-cut
+returns-else-is_below_end-clause-cut c =
+    let x = c.args.extent.now in
+    let xs = c.args.table.now.extents in
+    let above : is_below_end x c.at-owner.result ≡ false = sym c.is_below_end.ensures ∙ c.if-is_below_end.false in
+    sym (cut_of xs x c.in-Some.index c.at-owner.result (sym c.holder_of.ensures ∙ c.in-Some.is) c.at-owner.ensures
+    ∙ ap (λ b. if b then cut x.start x.length xs else xs) above)
+
+pub returns-in-None-clause-cut : goal.returns-in-None-clause-cut
+returns-in-None-clause-cut c = stays_whole c.args.table.now.extents c.args.extent.now (sym c.holder_of.ensures ∙ c.in-None.is)

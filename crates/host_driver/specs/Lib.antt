@@ -1,0 +1,10 @@
+pub mod Driving
+pub mod Journals
+pub mod Keeping
+pub mod Pages
+pub mod Planning
+pub mod Running
+pub mod Spelling
+pub mod Standing
+pub mod Statuses
+pub mod Words

@@ -1,0 +1,11 @@
+mod ActorLists
+mod ClosedJournal
+mod EnteringSteps
+mod Fresh
+mod NewPasses
+mod Rests
+mod ToldCalls
+mod Turns
+mod TurnsBack
+mod Visits
+mod WeighedCalls

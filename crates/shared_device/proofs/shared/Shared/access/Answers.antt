@@ -1,0 +1,28 @@
+use Rattle.std.proofs.Common.{suc, ◌∙◌}
+use Rattle.dcd_base.specs.declared.steps.Stamp.{Stamp}
+use Rattle.journal_core.specs.declared.acts.Reply.{Reply}
+use Rattle.ruled_cells.specs.Seats.{turns_of}
+use Rattle.shared_device.proofs.Rests.{rests_after, rests_again}
+use Rattle.shared_device.proofs.Turns.{given_again, same_twice}
+use Rattle.shared_device.proofs.Visits.{visited_since}
+use Rattle.shared_device.proofs.shared.Shared.access.Goals as goal
+
+pub invariant_of-pass : goal.invariant_of-pass
+invariant_of-pass g c =
+    let p = c.args.pass.now in
+    let took = c.take-cell.ensures in
+    let gave = c.enter.ensures in
+    let bare = given_again (turns_of p.seat) (turns_of c.take-cell.new.seat) (turns_of c.enter.new.seat) (suc c.target_of-target.result.index) _ p.resting took.turn.0 gave.turns in
+    let r = rests_again p.seat c.enter.new.seat p.actor p.seen p.calls record { resting = p.resting; idle = p.idle; seen_is = p.seen_is; counted = p.counted; acts = p.acts } bare (same_twice _ _ _ took.seat gave.seat) (c.in_err-reply.ensures.kept ∙ took.view) in
+    record { resting = r.resting; idle = r.idle; seen_is = r.seen_is; counted = r.counted; acts = r.acts }
+
+pub invariant_of-pass-2 : goal.invariant_of-pass-2
+invariant_of-pass-2 g c =
+    let p = c.args.pass.now in
+    let took = c.take-cell.ensures in
+    let gave = c.enter.ensures in
+    let bare = given_again (turns_of p.seat) (turns_of c.take-cell.new.seat) (turns_of c.enter.new.seat) (suc c.target_of-target.result.index) _ p.resting took.turn.0 gave.turns in
+    let done : Reply × Stamp = (c.in_ok-reply.reply, c.in_ok-reply.stamp) in
+    let has = visited_since c.args.line c.target_of-target.result.host c.args.act.now done p.seat c.take-cell.new.seat c.enter.new.seat took.seat took.view c.in_ok-reply.ensures.visited in
+    let r = rests_after c.args.line c.target_of-target.result.host c.args.act.now done p.seat c.enter.new.seat p.actor p.seen p.calls record { resting = p.resting; idle = p.idle; seen_is = p.seen_is; counted = p.counted; acts = p.acts } bare (same_twice _ _ _ took.seat gave.seat) has in
+    record { resting = r.resting; idle = r.idle; seen_is = r.seen_is; counted = r.counted; acts = r.acts }

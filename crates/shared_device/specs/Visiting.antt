@@ -1,0 +1,42 @@
+-- What a load or a store at the turn of its shard makes of a seat.
+use Rattle.std.specs.Prelude.{◌≡◌, ℕ, ◌^◌, ◌<◌, false, length, None}
+use mathlib.Core.Option.{some}
+use lib.ListN.{get_elem?}
+use Rattle.dcd_base.specs.declared.ids.HostId.{HostId}
+use Rattle.dcd_base.specs.declared.steps.Actor.{Actor}
+use Rattle.dcd_base.specs.declared.steps.Stamp.{Stamp}
+use Rattle.journal_core.specs.Accesses.{access_entry}
+use Rattle.journal_core.specs.declared.acts.Act.{Act}
+use Rattle.journal_core.specs.declared.acts.Reply.{Reply}
+use Rattle.journal_core.specs.Entries.{is_control}
+use Rattle.media_map.specs.Places.{locate}
+use Rattle.region_config.specs.Configurations.{Configuration}
+use Rattle.ruled_cells.specs.declared.seat.Seat.{Seat}
+use Rattle.ruled_cells.specs.Seats.{seat_number, seat_view}
+use Rattle.ruled_cells.specs.Stamps.{Below}
+use Rattle.ruled_cells.specs.Telling.{entered_view}
+use Rattle.shard_laws.specs.Belonging.{asked_at, shard_at}
+use Rattle.shard_laws.specs.Stripes.{Stripe}
+use Rattle.shared_device.specs.Commanding.{Commanding}
+use Rattle.shared_device.specs.declared.target.Target.{Target}
+
+-- the place of the act's address for the host, and the shard of the place
+pub record IsTarget (c : Configuration) (act : Act) (t : Target) : Type 0 where
+  pub known : t.host < c.hosts
+  pub access : is_control act ≡ false
+  pub at : t.at ≡ locate c t.host (asked_at act)
+  pub index : t.index ≡ shard_at t.at
+  pub below : t.index < 16
+
+-- the seat is the host's, is in the midst of no command, and has room for the load or store of the target
+pub record MayVisit (c : Configuration) (act : Act) (t : Target) (s : Seat Commanding Stripe) : Type 0 where
+  pub target : IsTarget c act t
+  pub config : (seat_view s).about.config ≡ c
+  pub actor : get_elem? (seat_view s).about.actors (seat_number s) ≡ some (Actor.Host t.host)
+  pub idle : (seat_view s).entry ≡ None
+  pub room : length (seat_view s).calls < 2 ^ 32
+
+-- the seat s became t by one load or store, above all that it had seen
+pub record HasVisited (line : ℕ) (host : HostId) (act : Act) (done : Reply × Stamp) (s t : Seat Commanding Stripe) : Type 0 where
+  pub view : seat_view t ≡ entered_view (access_entry (seat_number s) line host act done.0 done.1) (seat_view s)
+  pub above : Below (seat_view s).seen done.1

@@ -1,0 +1,64 @@
+//! A phase.
+
+ghost use Rattle.std.specs.List.{list_all};
+ghost use Rattle.std.specs.Prelude.{◌≡◌, ◌<◌, ◌≤◌, ◌+◌, ◌*◌, ◌^◌, IsTrue, OnOk, length, ℕ};
+ghost use Rattle.script_codec.specs.Scripts.{is_sound_line};
+ghost use Rattle.workers.specs.Phases.{phase};
+ghost use Rattle.workers.specs.Serving.{EachReady, EachServed, EachServedSome};
+
+use crate::handler::Handler;
+use crate::workers::serve_all;
+use crate::worklists::{Worklist, parted};
+use dcd_base::{Gate, NoMemory};
+use script_codec::Line;
+use std::alloc::AllocGlobal;
+use std::sync::Wait;
+use std::thread::Threads;
+
+/// How many hosts there are, by how many passes there are.
+#[tactic(auto, using(crate::proofs::Rows::hosts_by))]
+fn hosts_of(passes: usize, lanes: u8) -> u8
+    requires { (hosts : ℕ) × (hosts ≤ 16) × (0 < lanes) × (passes ≡ hosts * lanes + 2) }
+    ensures { (hosts : ℕ) → passes ≡ hosts * lanes + 2 → result ≡ hosts }
+{
+    ((passes - 2) / usize::from(lanes)) as u8
+}
+
+/// Does the lines of a phase, those of each pass in order on a worker of its own, and waits for all of them. The i-th of
+/// the lines, counted from 0, has the number `first_line` plus i.
+///
+/// The passes stand host by host and lane by lane, then comes the Fabric Manager, then the sanitizer. At `Ok` the calls of
+/// each pass have grown by its lines, each once and in order, and by nothing else. Without memory each pass has done
+/// some first ones of its lines. A mark among the lines is passed over.
+///
+/// A pass without lines gets no worker, and the caller is one of the workers: lines of one pass alone start no thread.
+/// Where no thread can be made, the caller does the lines itself.
+#[tactic(auto, using(crate::proofs::Rows::none_served_yet, crate::proofs::Rows::whole_row))]
+pub fn run_phase<R: Threads + Wait + Sync + AllocGlobal, H: Handler, G: Gate>(
+    rt: &R,
+    handler: &H,
+    passes: &mut [H::Pass],
+    lanes: u8,
+    first_line: u32,
+    lines: &[Line],
+    gate: &G,
+) -> Result<(), NoMemory>
+    requires hosts { H.reads.hosts handler.now ≤ 16 }
+    requires lanes { 0 < lanes }
+    requires count { length passes.old ≡ H.reads.hosts handler.now * lanes + 2 }
+    requires sound { IsTrue (list_all (is_sound_line (H.reads.hosts handler.now) lanes) lines.now) }
+    requires in_range { first_line + length lines.now ≤ 2 ^ 32 }
+    requires ready { EachReady H.reads handler.now (phase (H.reads.hosts handler.now) lanes first_line lines.now) 0 passes.old }
+    ensures served { OnOk result (EachServed H.reads handler.now (phase (H.reads.hosts handler.now) lanes first_line lines.now) 0 passes.old passes.new) }
+    ensures begun { EachServedSome H.reads handler.now (phase (H.reads.hosts handler.now) lanes first_line lines.now) 0 passes.old passes.new }
+{
+    let hosts = hosts_of(passes.len(), lanes);
+    let (heads, next) = parted(rt.alloc(), hosts, lanes, passes.len(), lines)?;
+    let work = Worklist {
+        hosts,
+        lanes,
+        first: first_line,
+        next,
+    };
+    serve_all(rt, handler, gate, &work, lines, 0, heads.as_slice(), passes)
+}
