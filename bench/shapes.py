@@ -416,3 +416,71 @@ def taken_offers(count, beside):
         if beside:
             lines.host(0, get_events())
     return device([(GRANULES, 1)]), lines
+
+
+# What many lanes do at once. Marks part what has to stand in order, since lines of two lanes of one phase have none.
+
+
+def shared_out(owned):
+    """The head and the first lines: each host is offered its blocks, and accepts them."""
+    lines = Lines()
+    for host in range(HOSTS):
+        lines.told(host, offer(host, PRESCRIPTIVE, 0, extents=owned(host)), 8)
+    lines.append(mark())
+    for host in range(HOSTS):
+        lines.host(host, respond(owned(host)))
+    lines.append(mark())
+    return device([(GRANULES, 1)]), lines
+
+
+def accesses_of_all(count, owned):
+    """Stores and loads of all hosts in turn, at drawn words of their blocks."""
+    start, lines = shared_out(owned)
+    x = draws()
+    for n in range(count - len(lines)):
+        host, draw = n % HOSTS, next(x) >> 20
+        address = owned(host)[draw % 8][0] + (draw >> 3) % (MIB // 8) * 8
+        lines.append(load(host, address) if n // HOSTS % 2 else store(host, address, draw))
+    return start, lines
+
+
+def accesses_apart(count):
+    """Each host has blocks of a shard of its own: block b is in shard b mod 16."""
+    return accesses_of_all(count, lambda host: blocks(host, 8, 16))
+
+
+def accesses_together(count):
+    """All have blocks of shard 0."""
+    return accesses_of_all(count, lambda host: blocks(128 * host, 8, 16))
+
+
+def commands_of_all(count):
+    """Commands of 16 hosts and of the manager, and scrubs that find nothing dirty, in turn."""
+    start, lines = shared_out(lambda host: blocks(8 * host, 8))
+    for n in range(count - len(lines)):
+        actor = n % (HOSTS + 2)
+        if actor < HOSTS:
+            lines.host(actor, get_extents(50, 0) if n % 2 else get_configuration())
+        elif actor == HOSTS:
+            lines.manager(get_info())
+        else:
+            lines.append(scrub(GRANULES))
+    return start, lines
+
+
+def marks(count):
+    """A mark behind every load, by 16 hosts in turn."""
+    start, lines = shared_out(lambda host: blocks(host, 8, 16))
+    for n in range((count - len(lines)) // 2):
+        lines.append(load(n % HOSTS, (n % HOSTS) * MIB))
+        lines.append(mark())
+    return start, lines
+
+
+# What the modes are timed on.
+MODES = [
+    ("loads and stores, 16 hosts, each in its shard", accesses_apart),
+    ("loads and stores, 16 hosts, all in one shard", accesses_together),
+    ("commands of all hosts and the manager, scrubs", commands_of_all),
+    ("a mark behind each of 32,751 loads", marks),
+]

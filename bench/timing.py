@@ -5,6 +5,9 @@ import sys
 import tempfile
 import time
 
+# The words by which dcdsim does the lines of a script one after another.
+SERIAL = ("--mode", "serial")
+
 TOP = os.path.dirname(os.path.dirname(os.path.abspath(__file__)))
 
 

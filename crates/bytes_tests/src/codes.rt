@@ -1,10 +1,11 @@
 //! The code of each rule, and its words.
 
+use crate::seeing::{see, see_text};
 use dcd_codes::{Code, Rule, code_of, number_of};
 use std::test::Fail;
 
 /// Each rule with its return code.
-const CODES: [(Rule, u16); 36] = [
+static CODES: [(Rule, u16); 36] = [
     (Rule::UnknownOpcode(0x4805), 0x0003),
     (Rule::WrongLength { need: 8, have: 7 }, 0x0016),
     (Rule::NoSuchRegion(8), 0x0002),
@@ -52,25 +53,21 @@ const CODES: [(Rule, u16); 36] = [
 
 #[test]
 fn each_rule_has_its_code(rt: HostRuntime) {
-    assert_eq!(rt; number_of(Code::Success), 0);
-    for (rule, number) in CODES {
-        assert_eq!(rt; number_of(code_of(&rule)), number, "{rule}");
+    see(&rt, &number_of(Code::Success), &0);
+    for (rule, number) in &CODES {
+        let found = number_of(code_of(rule));
+        see(&rt, &(*rule, found), &(*rule, *number));
     }
 }
+
+/// A code with a refusal of it, and another refusal.
+const TEXT: &str = "Invalid Extent List: extent 1 overlaps extent 0; opcode 480ah is unknown";
 
 #[test]
 fn refusals_are_printed_in_words(rt: HostRuntime) -> Result<(), Fail> {
     let overlap = Rule::Overlap { index: 1, with: 0 };
     let opcode = Rule::UnknownOpcode(0x480A);
-    let code = code_of(&overlap);
-    let refused = format!(in rt.alloc(); "{code}: {overlap}")?;
-    assert_eq!(rt;
-        refused.as_str(),
-        "Invalid Extent List: extent 1 overlaps extent 0"
-    );
-    assert_eq!(rt;
-        format!(in rt.alloc(); "{opcode}")?.as_str(),
-        "opcode 480ah is unknown"
-    );
+    let text = format!(in rt.alloc(); "{}: {overlap}; {opcode}", code_of(&overlap))?;
+    see_text(&rt, text.as_str(), TEXT);
     Ok(())
 }

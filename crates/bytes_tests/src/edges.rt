@@ -1,5 +1,6 @@
 //! Standard input as a source and standard output as a sink, over a stream that signals interrupt.
 
+use crate::seeing::see;
 use dcd_base::{Failed, Sink, Source};
 use edge_io::{StdSink, StdSource};
 use std::io::{self, Error, ErrorKind, Read, Write};
@@ -63,24 +64,35 @@ fn kind_of(error: Option<Error>) -> Option<ErrorKind> {
     }
 }
 
+/// What a read gives, and what kind of error is kept then.
+fn read(source: &mut StdSource<Restless>) -> (Result<usize, Failed>, Option<ErrorKind>) {
+    let mut buf = [0u8; 4];
+    (source.read(&mut buf), kind_of(source.error()))
+}
+
 #[test]
 fn an_interrupted_read_is_tried_again(rt: HostRuntime) {
     let mut source = StdSource::new(one_byte());
-    let mut buf = [0u8; 4];
-    assert_eq!(rt; source.read(&mut buf), Ok(1));
-    assert_eq!(rt; source.read(&mut buf), Ok(0));
-    assert_eq!(rt; kind_of(source.error()), None);
-    assert_eq!(rt; source.read(&mut buf), Err(Failed));
-    assert_eq!(rt; kind_of(source.error()), Some(ErrorKind::PermissionDenied));
+    let denied = Some(ErrorKind::PermissionDenied);
+    see(&rt, &read(&mut source), &(Ok(1), None));
+    see(&rt, &read(&mut source), &(Ok(0), None));
+    see(&rt, &read(&mut source), &(Err(Failed), denied));
+}
+
+/// What a write gives, and what kind of error is kept then.
+fn write(sink: &mut StdSink<Restless>) -> (Result<usize, Failed>, Option<ErrorKind>) {
+    (sink.write(b"text"), kind_of(sink.error()))
 }
 
 #[test]
 fn an_interrupted_write_is_tried_again(rt: HostRuntime) {
     let mut sink = StdSink::new(one_byte());
-    assert_eq!(rt; sink.write(b"text"), Ok(1));
-    assert_eq!(rt; kind_of(sink.error()), None);
-    assert_eq!(rt; sink.write(b"text"), Err(Failed));
-    assert_eq!(rt; kind_of(sink.error()), Some(ErrorKind::WriteZero));
-    assert_eq!(rt; sink.write(b"text"), Err(Failed));
-    assert_eq!(rt; kind_of(sink.error()), Some(ErrorKind::PermissionDenied));
+    let denied = Some(ErrorKind::PermissionDenied);
+    see(&rt, &write(&mut sink), &(Ok(1), None));
+    see(
+        &rt,
+        &write(&mut sink),
+        &(Err(Failed), Some(ErrorKind::WriteZero)),
+    );
+    see(&rt, &write(&mut sink), &(Err(Failed), denied));
 }

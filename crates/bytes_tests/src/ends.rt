@@ -2,11 +2,13 @@
 
 ghost use Rattle.std.specs.Prelude.{◌<◌};
 
+use crate::seeing::{see, see_list};
 use dcd_base::{
     Actor, Bytes, Failed, Gate, HostId, MemSink, MemSource, NoGate, NoMemory, SoundSource, Source,
     write_all,
 };
 use std::alloc::Global;
+use std::process::Abort;
 use std::test::Fail;
 
 const TEXT: [u8; 10] = [0, 1, 2, 3, 4, 5, 6, 7, 8, 9];
@@ -23,54 +25,67 @@ fn read_all<S: Source>(source: &mut S, all: &mut Bytes) -> Result<u32, NoMemory>
     Ok(0)
 }
 
-/// How many calls read the text by pieces of at most so many bytes, and whether it is the text then.
-fn read_by(alloc: Global, most: usize) -> Result<(u32, bool), NoMemory>
+/// Sees how many calls read the text of a source.
+fn see_read<S: Source>(
+    rt: &impl Abort,
+    alloc: Global,
+    source: &mut S,
+    calls: u32,
+) -> Result<(), NoMemory> {
+    let mut all = Bytes::new(alloc);
+    see(rt, &read_all(source, &mut all)?, &calls);
+    see_list(rt, all.as_slice(), &TEXT);
+    Ok(())
+}
+
+/// The text as a source that gives pieces of at most so many bytes.
+fn pieces(alloc: Global, most: usize) -> Result<MemSource, NoMemory>
     requires { 0 < most }
 {
-    let mut source = MemSource::new(Bytes::from_slice(alloc, &TEXT)?, most, Vec::new(alloc));
-    let mut all = Bytes::new(alloc);
-    let calls = read_all(&mut source, &mut all)?;
-    Ok((calls, all.as_slice() == TEXT.as_slice()))
+    let text = Bytes::from_slice(alloc, &TEXT)?;
+    Ok(MemSource::new(text, most, Vec::new(alloc)))
 }
 
 #[test]
 fn a_source_gives_pieces_in_order(rt: HostRuntime) -> Result<(), Fail> {
-    for (most, calls) in [(1, 11), (7, 3), (4096, 3)] {
-        assert_eq!(rt; read_by(rt.alloc(), most)?, (calls, true));
-    }
+    see_read(&rt, rt.alloc(), &mut pieces(rt.alloc(), 1)?, 11)?;
+    see_read(&rt, rt.alloc(), &mut pieces(rt.alloc(), 7)?, 3)?;
     Ok(())
 }
 
-/// The calls of three reads of a source whose calls 1 and 3 fail, with the number of bytes behind each, and whether
-/// they are the text then.
-fn read_with_failures(alloc: Global) -> Result<([(u32, usize); 3], bool), NoMemory> {
+/// The text as a source whose calls 1 and 3 fail.
+fn failing(alloc: Global) -> Result<MemSource, NoMemory> {
     let fails = Vec::from_slice(alloc, &[1, 3])?;
-    let mut source = MemSource::new(Bytes::from_slice(alloc, &TEXT)?, 7, fails);
+    Ok(MemSource::new(Bytes::from_slice(alloc, &TEXT)?, 7, fails))
+}
+
+/// The calls of three reads, with the number of bytes behind each.
+fn three_reads(source: &mut MemSource, all: &mut Bytes) -> Result<[(u32, usize); 3], NoMemory> {
+    let first = (read_all(source, all)?, all.len());
+    let second = (read_all(source, all)?, all.len());
+    let third = (read_all(source, all)?, all.len());
+    Ok([first, second, third])
+}
+
+/// Sees the three reads of that source, and the text then.
+fn see_failing(rt: &impl Abort, alloc: Global, source: &mut MemSource) -> Result<(), NoMemory> {
     let mut all = Bytes::new(alloc);
-    let first = (read_all(&mut source, &mut all)?, all.len());
-    let second = (read_all(&mut source, &mut all)?, all.len());
-    let third = (read_all(&mut source, &mut all)?, all.len());
-    Ok(([first, second, third], all.as_slice() == TEXT.as_slice()))
+    let found = three_reads(source, &mut all)?;
+    see(rt, &found, &[(1, 0), (2, 7), (2, 10)]);
+    see_list(rt, all.as_slice(), &TEXT);
+    Ok(())
 }
 
 #[test]
 fn a_source_fails_at_its_calls_and_goes_on(rt: HostRuntime) -> Result<(), Fail> {
-    let expected = ([(1, 0), (2, 7), (2, 10)], true);
-    assert_eq!(rt; read_with_failures(rt.alloc())?, expected);
+    see_failing(&rt, rt.alloc(), &mut failing(rt.alloc())?)?;
     Ok(())
-}
-
-/// How many calls read the text of a source that never fails, and whether it is the text then.
-fn read_soundly(alloc: Global) -> Result<(u32, bool), NoMemory> {
-    let mut source = SoundSource::new(Bytes::from_slice(alloc, &TEXT)?);
-    let mut all = Bytes::new(alloc);
-    let calls = read_all(&mut source, &mut all)?;
-    Ok((calls, all.as_slice() == TEXT.as_slice()))
 }
 
 #[test]
 fn a_sound_source_gives_all(rt: HostRuntime) -> Result<(), Fail> {
-    assert_eq!(rt; read_soundly(rt.alloc())?, (3, true));
+    let mut source = SoundSource::new(Bytes::from_slice(rt.alloc(), &TEXT)?);
+    see_read(&rt, rt.alloc(), &mut source, 3)?;
     Ok(())
 }
 
@@ -85,26 +100,26 @@ fn write_by(alloc: Global, most: usize) -> (Result<(), Failed>, bool)
 
 #[test]
 fn a_sink_takes_pieces_in_order(rt: HostRuntime) {
-    for most in [1, 7, 4096] {
-        assert_eq!(rt; write_by(rt.alloc(), most), (Ok(()), true));
-    }
+    see(&rt, &write_by(rt.alloc(), 1), &(Ok(()), true));
+    see(&rt, &write_by(rt.alloc(), 7), &(Ok(()), true));
+    see(&rt, &write_by(rt.alloc(), 4096), &(Ok(()), true));
 }
 
 /// The bytes that are written to a sink whose calls 1 and 3 fail, one write after another, what each write gives, and
-/// how many bytes of the text are taken then.
-const WRITES: [(&[u8], Result<(), Failed>, usize); 3] = [
-    (&TEXT, Err(Failed), 0),
-    (&TEXT, Err(Failed), 4),
-    (&[4, 5, 6, 7, 8, 9], Ok(()), 10),
+/// the bytes that are taken then.
+static WRITES: [(&[u8], Result<(), Failed>, &[u8]); 3] = [
+    (&TEXT, Err(Failed), &[]),
+    (&TEXT, Err(Failed), &[0, 1, 2, 3]),
+    (&[4, 5, 6, 7, 8, 9], Ok(()), &TEXT),
 ];
 
 #[test]
 fn a_sink_fails_at_its_calls_and_keeps_the_front(rt: HostRuntime) -> Result<(), Fail> {
     let fails = Vec::from_slice(rt.alloc(), &[1, 3])?;
     let mut sink = MemSink::new(rt.alloc(), 4, fails);
-    for (bytes, answer, taken) in WRITES {
-        assert_eq!(rt; write_all(&mut sink, bytes), answer);
-        assert_eq!(rt; sink.taken().as_slice(), &TEXT[..taken]);
+    for (bytes, answer, taken) in &WRITES {
+        see(&rt, &write_all(&mut sink, *bytes), answer);
+        see_list(&rt, sink.taken().as_slice(), *taken);
     }
     Ok(())
 }

@@ -1,13 +1,17 @@
 //! The script of seed 5, against what a program in another language makes by the rules of `docs/formats.md`.
 
-use dcd_base::Bytes;
-use script_codec::{entries_of, read, write};
+ghost use Rattle.script_codec.specs.Writing.{IsWritable};
+
+use crate::seeing::{see, see_list};
+use dcd_base::{Bytes, NoMemory};
+use script_codec::{Script, entries_of, write};
 use script_gen::generate;
 use std::alloc::Global;
+use std::process::Abort;
 use std::test::Fail;
 
 /// The head, and the first line: the Fabric Manager offers host 0 its extent.
-const START: [u8; 176] = [
+static START: [u8; 176] = [
     0x44, 0x43, 0x44, 0x53, 0x01, 0x00, 0x00, 0x00, 0x04, 0x01, 0x00, 0x00, 0x00, 0x00, 0x00, 0x00, //
     0x00, 0x01, 0x00, 0x00, 0x00, 0x00, 0x00, 0x00, 0x00, 0x00, 0x00, 0x00, 0x10, 0x00, 0x00, 0x00, //
     0x00, 0x00, 0x00, 0x10, 0x00, 0x00, 0x00, 0x00, 0x00, 0x00, 0x00, 0x10, 0x00, 0x00, 0x00, 0x00, //
@@ -22,7 +26,7 @@ const START: [u8; 176] = [
 ];
 
 /// The last store, the load of the same word, a mark, and the end word.
-const END: [u8; 30] = [
+static END: [u8; 30] = [
     0x03, 0x03, 0x70, 0xDA, 0x44, 0xB1, 0x0F, 0x00, 0x00, 0x00, 0x05, 0x80, 0xFC, 0x7D, 0x5E, 0x26, //
     0xE9, 0x01, 0x02, 0x03, 0x70, 0xDA, 0x44, 0xB1, 0x0F, 0x00, 0x00, 0x00, 0x05, 0x00, //
 ];
@@ -36,41 +40,38 @@ fn hash_of(bytes: &[u8]) -> u64 {
     hash
 }
 
-/// The bytes of the script of the seed.
-fn written(alloc: Global, seed: u64) -> Result<Bytes, Fail> {
-    let Ok(script) = generate(alloc, seed) else {
-        return Err("memory".into());
-    };
+/// The bytes of the script.
+fn written(alloc: Global, script: &Script) -> Result<Bytes, NoMemory>
+    requires { IsWritable script.now }
+{
     let mut bytes = Bytes::new(alloc);
-    write(&script, &mut bytes).ok().ok_or("memory")?;
+    write(script, &mut bytes)?;
     Ok(bytes)
 }
 
-/// The lines and the entries of the script that these bytes are, and the bytes that it is written as.
-fn read_again(alloc: Global, bytes: &[u8]) -> Result<(usize, usize, Bytes), Fail> {
-    let Ok(script) = read(alloc, bytes) else {
-        return Err("these bytes are a script".into());
-    };
-    let mut again = Bytes::new(alloc);
-    write(&script, &mut again).ok().ok_or("memory")?;
-    Ok((
-        script.lines.len(),
-        entries_of(script.lines.as_slice()),
-        again,
-    ))
+/// Sees the lines and the entries of the script, and its bytes.
+fn see_script(rt: &impl Abort, alloc: Global, script: &Script) -> Result<(), NoMemory>
+    requires { IsWritable script.now }
+{
+    let entries = entries_of(script.lines.as_slice());
+    see(rt, &(script.lines.len(), entries), &(38_137, 37_115));
+    see_bytes(rt, written(alloc, script)?.as_slice());
+    Ok(())
+}
+
+/// Sees the length, the hash, the start and the end of the bytes.
+fn see_bytes(rt: &impl Abort, bytes: &[u8]) {
+    let found = (bytes.len(), hash_of(bytes));
+    see(rt, &found, &(673_428, 0xBC83_CCEA_5506_556C));
+    let parts = (
+        bytes.starts_with(START.as_slice()),
+        bytes.ends_with(END.as_slice()),
+    );
+    see(rt, &parts, &(true, true));
 }
 
 #[test]
-fn the_script_of_seed_5_has_these_bytes_and_reads_back(rt: HostRuntime) -> Result<(), Fail> {
-    let written = written(rt.alloc(), 5)?;
-    let bytes = written.as_slice();
-    assert_eq!(rt;
-        (bytes.len(), hash_of(bytes)),
-        (673_428, 0xBC83_CCEA_5506_556C)
-    );
-    assert!(rt; bytes.starts_with(START.as_slice()) && bytes.ends_with(END.as_slice()));
-    let (lines, entries, again) = read_again(rt.alloc(), bytes)?;
-    assert_eq!(rt; (lines, entries), (38_137, 37_115));
-    assert_eq!(rt; again.as_slice(), bytes);
+fn the_script_of_seed_5_has_these_lines_and_bytes(rt: HostRuntime) -> Result<(), Fail> {
+    see_script(&rt, rt.alloc(), &generate(rt.alloc(), 5)?)?;
     Ok(())
 }

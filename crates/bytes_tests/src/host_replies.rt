@@ -2,6 +2,7 @@
 
 ghost use Rattle.std.specs.Prelude.{◌≤◌, length};
 
+use crate::seeing::{see, see_list};
 use dcd_base::{Bytes, Extent, Extents, NoMemory, Tag, no_tag};
 use event_records::{Event, EventKind};
 use host_payloads::{
@@ -9,6 +10,7 @@ use host_payloads::{
     write_extents,
 };
 use std::alloc::Global;
+use std::process::Abort;
 use std::test::Fail;
 
 const MIB: u64 = 0x10_0000;
@@ -60,7 +62,7 @@ fn configuration(alloc: Global, all: u8, count: usize) -> Result<Bytes, NoMemory
 }
 
 /// Two regions, of which one follows.
-const ONE_REGION: [u8; 64] = [
+static ONE_REGION: [u8; 64] = [
     2, 1, 0, 0, 0, 0, 0, 0, // two regions, of which one follows
     0, 0, 0, 16, 0, 0, 0, 0, 1, 0, 0, 0, 0, 0, 0, 0, 0, 0, 64, 0, 0, 0, 0, 0, 0, 0, 16, 0, 0, 0, 0,
     0, 1, 0, 0, 0, 1, 0, 0, 0, // the region
@@ -69,18 +71,24 @@ const ONE_REGION: [u8; 64] = [
 
 #[test]
 fn one_region_and_the_counts(rt: HostRuntime) -> Result<(), Fail> {
-    assert_eq!(rt;
+    see_list(
+        &rt,
         configuration(rt.alloc(), 2, 1)?.as_slice(),
-        ONE_REGION.as_slice()
+        &ONE_REGION,
     );
-    for (count, length) in [(0, 24), (1, 64), (8, 344)] {
-        assert_eq!(rt; configuration(rt.alloc(), 8, count)?.len(), length);
-    }
+    Ok(())
+}
+
+#[test]
+fn each_region_has_40_bytes(rt: HostRuntime) -> Result<(), Fail> {
+    see(&rt, &configuration(rt.alloc(), 8, 0)?.len(), &24);
+    see(&rt, &configuration(rt.alloc(), 8, 1)?.len(), &64);
+    see(&rt, &configuration(rt.alloc(), 8, 8)?.len(), &344);
     Ok(())
 }
 
 /// The first MiB, and the one from 2 MiB on.
-const TWO: [Extent; 2] = [
+static TWO: [Extent; 2] = [
     Extent {
         start: 0,
         length: MIB,
@@ -107,25 +115,53 @@ fn page_of_two() -> [u8; 96] {
     payload
 }
 
+/// The page that is written of extents.
+fn page(alloc: Global, total: u32, changes: u32, extents: &[Extent]) -> Result<Bytes, NoMemory>
+    requires { length extents.now ≤ 50 }
+{
+    let mut out = Bytes::new(alloc);
+    write_extents(total, changes, extents, &mut out)?;
+    Ok(out)
+}
+
 #[test]
-fn a_page_is_read_and_written(rt: HostRuntime) -> Result<(), Fail> {
-    let page = read_extents(rt.alloc(), &page_of_two())?;
-    assert_eq!(rt; (page.total, page.generation), (2, 2));
-    assert_eq!(rt; page.extents.as_slice(), TWO.as_slice());
-    let mut out = Bytes::new(rt.alloc());
-    write_extents(2, 2, &TWO, &mut out)?;
-    assert_eq!(rt; out.as_slice(), page_of_two().as_slice());
+fn a_page_is_written(rt: HostRuntime) -> Result<(), Fail> {
+    see_list(
+        &rt,
+        page(rt.alloc(), 2, 2, &TWO)?.as_slice(),
+        &page_of_two(),
+    );
     Ok(())
 }
 
 #[test]
+fn a_page_is_read(rt: HostRuntime) -> Result<(), Fail> {
+    let page = read_extents(rt.alloc(), &page_of_two())?;
+    see(&rt, &(page.total, page.generation), &(2, 2));
+    see_list(&rt, page.extents.as_slice(), &TWO);
+    Ok(())
+}
+
+/// The fault of the first bytes of the page, if they are no page.
+fn fault_of(alloc: Global, have: usize) -> Option<PayloadFault>
+    requires { have ≤ 96 }
+{
+    read_extents(alloc, &page_of_two()[..have]).err()
+}
+
+#[test]
 fn a_page_that_is_cut_has_another_length(rt: HostRuntime) {
-    let payload = page_of_two();
-    for (have, need) in [(0usize, 16), (15, 16), (95, 96)] {
-        let fault = read_extents(rt.alloc(), &payload[..have]).err();
-        let have = have as u64;
-        assert_eq!(rt; fault, Some(PayloadFault::WrongLength { need, have }));
-    }
+    let faults = [
+        fault_of(rt.alloc(), 0),
+        fault_of(rt.alloc(), 15),
+        fault_of(rt.alloc(), 95),
+    ];
+    let expected = [
+        Some(PayloadFault::WrongLength { need: 16, have: 0 }),
+        Some(PayloadFault::WrongLength { need: 16, have: 15 }),
+        Some(PayloadFault::WrongLength { need: 96, have: 95 }),
+    ];
+    see(&rt, &faults, &expected);
 }
 
 const TAGGED: Extent = Extent {
@@ -139,19 +175,23 @@ const TAGGED: Extent = Extent {
 fn page_again(alloc: Global, extents: &[Extent]) -> Result<Extents, Fail>
     requires { length extents.now ≤ 50 }
 {
-    let mut out = Bytes::new(alloc);
-    write_extents(60, 7, extents, &mut out)?;
-    Ok(read_extents(alloc, out.as_slice())?.extents)
+    let written = page(alloc, 60, 7, extents)?;
+    Ok(read_extents(alloc, written.as_slice())?.extents)
+}
+
+/// Sees that a page of extents has them once it is read again.
+fn see_page(rt: &impl Abort, alloc: Global, extents: &[Extent]) -> Result<(), Fail>
+    requires { length extents.now ≤ 50 }
+{
+    see_list(rt, page_again(alloc, extents)?.as_slice(), extents);
+    Ok(())
 }
 
 #[test]
 fn a_page_keeps_tags_and_sequence_numbers(rt: HostRuntime) -> Result<(), Fail> {
-    let tagged = [TAGGED; 50];
-    for count in [0, 1, 50] {
-        let page = page_again(rt.alloc(), &tagged[..count])?;
-        assert_eq!(rt; page.as_slice(), &tagged[..count]);
-    }
-    Ok(())
+    see_page(&rt, rt.alloc(), &[])?;
+    see_page(&rt, rt.alloc(), &[TAGGED])?;
+    see_page(&rt, rt.alloc(), &[TAGGED; 50])
 }
 
 /// A reply of these records.
@@ -163,25 +203,30 @@ fn events(alloc: Global, missed: u16, more: bool, events: &[Event]) -> Result<By
     Ok(out)
 }
 
+/// The head of a reply of 15 records where more are left and two are missed.
+const FIFTEEN: [u8; 32] = [
+    3, 0, 2, 0, 0, 0, 0, 0, 0, 0, 0, 0, 0, 0, 0, 0, 0, 0, 0, 0, 15, 0, 0, 0, 0, 0, 0, 0, 0, 0, 0, 0,
+];
+
 #[test]
 fn fifteen_records_and_two_missed(rt: HostRuntime) -> Result<(), Fail> {
     let out = events(rt.alloc(), 2, true, &[event(1); 15])?;
-    let mut want = [0u8; 32];
-    want[0] = 3;
-    want[2] = 2;
-    want[20] = 15;
-    assert_eq!(rt; out.len(), 1952);
-    assert!(rt; out.as_slice().starts_with(want.as_slice()));
+    let found = (out.len(), out.as_slice().starts_with(FIFTEEN.as_slice()));
+    see(&rt, &found, &(1952, true));
     Ok(())
 }
 
 #[test]
-fn a_reply_of_one_record_or_none(rt: HostRuntime) -> Result<(), Fail> {
-    let none = events(rt.alloc(), 0, false, &[])?;
-    assert_eq!(rt; none.as_slice(), [0; 32].as_slice());
+fn a_reply_of_no_record(rt: HostRuntime) -> Result<(), Fail> {
+    see_list(&rt, events(rt.alloc(), 0, false, &[])?.as_slice(), &[0; 32]);
+    Ok(())
+}
+
+#[test]
+fn a_reply_of_one_record(rt: HostRuntime) -> Result<(), Fail> {
     let one = events(rt.alloc(), 0, false, &[event(1)])?;
     let record = event_records::encode(&event(1));
-    assert_eq!(rt; one.len(), 160);
-    assert!(rt; one.as_slice().ends_with(record.as_slice()));
+    let found = (one.len(), one.as_slice().ends_with(record.as_slice()));
+    see(&rt, &found, &(160, true));
     Ok(())
 }

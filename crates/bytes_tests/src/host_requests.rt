@@ -3,7 +3,8 @@
 ghost use Rattle.host_payloads.specs.HostPayloads.{HostCountsFit, lists_untagged};
 ghost use Rattle.std.specs.Prelude.{◌↔◌, IsTrue};
 
-use dcd_base::{Bytes, Extent, Extents, Handles, no_tag};
+use crate::seeing::{see, see_list, see_text};
+use dcd_base::{Bytes, Extent, no_tag};
 use host_payloads::{HostRequest, PayloadFault, decode, encode};
 use std::alloc::Global;
 use std::process::Abort;
@@ -21,18 +22,18 @@ fn counts_fit(request: &HostRequest) -> bool
 }
 
 /// The log, the flag and the handles of records to clear.
-fn cleared(request: HostRequest) -> Option<(u8, bool, Handles)> {
+fn cleared(request: &HostRequest) -> Option<(u8, bool, &[u16])> {
     match request {
-        HostRequest::ClearEvents { log, all, handles } => Some((log, all, handles)),
+        HostRequest::ClearEvents { log, all, handles } => Some((*log, *all, handles.as_slice())),
         _other => None,
     }
 }
 
 /// The flag and the extents of a list.
-fn listed(request: HostRequest) -> Option<(bool, Extents)> {
+fn listed(request: &HostRequest) -> Option<(bool, &[Extent])> {
     match request {
-        HostRequest::AddResponse { more, extents } => Some((more, extents)),
-        HostRequest::GiveBack { more, extents } => Some((more, extents)),
+        HostRequest::AddResponse { more, extents } => Some((*more, extents.as_slice())),
+        HostRequest::GiveBack { more, extents } => Some((*more, extents.as_slice())),
         _other => None,
     }
 }
@@ -52,7 +53,7 @@ fn payload_of(alloc: Global, request: &HostRequest) -> Result<Bytes, Fail>
 /// Reads a payload as a request and sees that the request is written as this payload.
 fn again(rt: &impl Abort, alloc: Global, opcode: u16, payload: &[u8]) -> Result<HostRequest, Fail> {
     let request = decode(alloc, opcode, payload)?;
-    assert_eq!(rt; payload_of(alloc, &request)?.as_slice(), payload);
+    see_list(rt, payload_of(alloc, &request)?.as_slice(), payload);
     Ok(request)
 }
 
@@ -61,21 +62,26 @@ fn spelled(number: u16) -> [u8; 4] {
     [(number % 256) as u8, (number / 256) as u8, 0, 0]
 }
 
+/// The bytes of an extent that begins at 16 TiB and has a length of its own.
+fn listed_bytes(number: u16) -> [u8; 24] {
+    let [low, high, _, _] = spelled(number);
+    [
+        0, 0, 0, 0, 0, 16, 0, 0, low, high, 0, 0, 0, 0, 0, 0, 0, 0, 0, 0, 0, 0, 0, 0,
+    ]
+}
+
 /// The payload of a list of extents without tags, each of a length of its own.
 fn list(alloc: Global, count: u16) -> Result<Bytes, Fail> {
     let mut payload = Bytes::from_slice(alloc, &spelled(count))?;
     payload.extend_from_slice(&[1, 0, 0, 0])?;
     for i in 0..count {
-        payload.extend_from_slice(&[0, 0, 0, 0, 0, 16, 0, 0])?;
-        payload.extend_from_slice(&spelled(i))?;
-        payload.extend_from_slice(&[0; 4])?;
-        payload.extend_from_slice(&[0; 8])?;
+        payload.extend_from_slice(&listed_bytes(i))?;
     }
     Ok(payload)
 }
 
 /// Payloads that are refused: the opcode, the bytes and the fault.
-const REFUSED: [(u16, &[u8], PayloadFault); 14] = [
+static REFUSED: [(u16, &[u8], PayloadFault); 14] = [
     (0x5600, &[0; 0], PayloadFault::UnknownOpcode(0x5600)),
     (0x4804, &[0; 9], PayloadFault::UnknownOpcode(0x4804)),
     (
@@ -144,15 +150,20 @@ const REFUSED: [(u16, &[u8], PayloadFault); 14] = [
     ),
 ];
 
+/// The fault of a payload, if it is no request.
+fn fault_of(alloc: Global, opcode: u16, payload: &[u8]) -> Option<PayloadFault> {
+    decode(alloc, opcode, payload).err()
+}
+
 #[test]
 fn each_payload_has_its_own_length_once_the_opcode_is_known(rt: HostRuntime) {
-    for (opcode, payload, fault) in REFUSED {
-        assert_eq!(rt; decode(rt.alloc(), opcode, payload).err(), Some(fault));
+    for (opcode, payload, fault) in &REFUSED {
+        see(&rt, &fault_of(rt.alloc(), *opcode, *payload), &Some(*fault));
     }
 }
 
 /// The opcode and the payload of a short request, and the request.
-const SHORT: [(u16, &[u8], &str); 3] = [
+static SHORT: [(u16, &[u8], &str); 3] = [
     (0x0100, &[4], "GetEvents { log: 4 }"),
     (0x4800, &[8, 1], "GetConfiguration { count: 8, first: 1 }"),
     (
@@ -162,11 +173,24 @@ const SHORT: [(u16, &[u8], &str); 3] = [
     ),
 ];
 
+/// Sees that a payload is read as this request, and that this is written as the payload.
+fn see_short(
+    rt: &impl Abort,
+    alloc: Global,
+    opcode: u16,
+    payload: &[u8],
+    expected: &str,
+) -> Result<(), Fail> {
+    let asked = again(rt, alloc, opcode, payload)?;
+    let text = format!(in alloc; "{asked:?}")?;
+    see_text(rt, text.as_str(), expected);
+    Ok(())
+}
+
 #[test]
 fn each_short_request_goes_both_ways(rt: HostRuntime) -> Result<(), Fail> {
-    for (opcode, payload, expected) in SHORT {
-        let asked = again(&rt, rt.alloc(), opcode, payload)?;
-        assert_eq!(rt; format!(in rt.alloc(); "{asked:?}")?.as_str(), expected);
+    for (opcode, payload, expected) in &SHORT {
+        see_short(&rt, rt.alloc(), *opcode, *payload, *expected)?;
     }
     Ok(())
 }
@@ -174,9 +198,7 @@ fn each_short_request_goes_both_ways(rt: HostRuntime) -> Result<(), Fail> {
 #[test]
 fn records_are_cleared_by_their_handles(rt: HostRuntime) -> Result<(), Fail> {
     let asked = again(&rt, rt.alloc(), 0x0101, &[4, 1, 2, 0, 0, 0, 7, 0, 8, 1])?;
-    let (log, all, handles) = cleared(asked).ok_or("0101h clears records")?;
-    assert_eq!(rt; (log, all), (4, true));
-    assert_eq!(rt; handles.as_slice(), [7, 264].as_slice());
+    see(&rt, &cleared(&asked), &Some((4, true, &[7, 264])));
     Ok(())
 }
 
@@ -189,15 +211,13 @@ const ONE_EXTENT: [u8; 32] = [
 /// Sees that the request lists the extent without a tag.
 fn see_listed(rt: &impl Abort, alloc: Global, opcode: u16) -> Result<(), Fail> {
     let asked = again(rt, alloc, opcode, &ONE_EXTENT)?;
-    let (more, extents) = listed(asked).ok_or("4802h and 4803h list extents")?;
     let extent = Extent {
         start: 0x20_0000,
         length: 0x10_0000,
         tag: no_tag(),
         sequence: 0,
     };
-    assert!(rt; !more);
-    assert_eq!(rt; extents.as_slice(), [extent].as_slice());
+    see(rt, &listed(&asked), &Some((false, &[extent])));
     Ok(())
 }
 
@@ -218,7 +238,7 @@ fn clears_all(alloc: Global, byte: u8) -> Result<Option<bool>, PayloadFault> {
 #[test]
 fn reserved_bits_are_free(rt: HostRuntime) {
     let found = [clears_all(rt.alloc(), 0xFE), clears_all(rt.alloc(), 0xFF)];
-    assert_eq!(rt; found, [Ok(Some(false)), Ok(Some(true))]);
+    see(&rt, &found, &[Ok(Some(false)), Ok(Some(true))]);
 }
 
 /// The payload that clears so many records.
@@ -230,20 +250,33 @@ fn clearing(alloc: Global, count: u8) -> Result<Bytes, Fail> {
     Ok(payload)
 }
 
+/// Sees that such a payload is read, and written again.
+fn see_clearing(rt: &impl Abort, alloc: Global, count: u8) -> Result<(), Fail> {
+    let payload = clearing(alloc, count)?;
+    again(rt, alloc, 0x0101, payload.as_slice())?;
+    Ok(())
+}
+
 #[test]
 fn records_to_clear_are_none_or_255(rt: HostRuntime) -> Result<(), Fail> {
-    for count in [0, 255] {
-        let payload = clearing(rt.alloc(), count)?;
-        again(&rt, rt.alloc(), 0x0101, payload.as_slice())?;
-    }
+    see_clearing(&rt, rt.alloc(), 0)?;
+    see_clearing(&rt, rt.alloc(), 255)
+}
+
+/// The opcodes of lists, and how many extents are listed: none, and as many as can be.
+static LISTED: [(u16, u16); 4] = [(0x4802, 0), (0x4802, 65535), (0x4803, 0), (0x4803, 65535)];
+
+/// Sees that such a payload is read, and written again.
+fn see_list_again(rt: &impl Abort, alloc: Global, opcode: u16, count: u16) -> Result<(), Fail> {
+    let payload = list(alloc, count)?;
+    again(rt, alloc, opcode, payload.as_slice())?;
     Ok(())
 }
 
 #[test]
 fn extents_are_none_or_65535(rt: HostRuntime) -> Result<(), Fail> {
-    for (opcode, count) in [(0x4802, 0), (0x4802, 65535), (0x4803, 0), (0x4803, 65535)] {
-        let payload = list(rt.alloc(), count)?;
-        again(&rt, rt.alloc(), opcode, payload.as_slice())?;
+    for (opcode, count) in &LISTED {
+        see_list_again(&rt, rt.alloc(), *opcode, *count)?;
     }
     Ok(())
 }

@@ -35,3 +35,5 @@ mod qemu_replies;
 mod records;
 #[cfg(test)]
 mod scripts;
+#[cfg(test)]
+mod seeing;

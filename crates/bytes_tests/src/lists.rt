@@ -1,7 +1,9 @@
 //! A list of bytes, and a value on the heap.
 
+use crate::seeing::{see, see_list};
 use dcd_base::{Boxed, Bytes, NoMemory};
 use std::alloc::Global;
+use std::process::Abort;
 use std::test::Fail;
 
 /// The bytes 7 to 9, one pushed and two behind it.
@@ -12,24 +14,18 @@ fn seven_to_nine(alloc: Global) -> Result<Bytes, NoMemory> {
     Ok(list)
 }
 
-#[test]
-fn bytes_are_read_one_by_one(rt: HostRuntime) -> Result<(), Fail> {
-    let list = seven_to_nine(rt.alloc())?;
-    assert_eq!(rt; (list.len(), list.is_empty()), (3, false));
-    assert_eq!(rt;
-        (list.get(2).copied(), list.get(3).copied()),
-        (Some(9), None)
-    );
-    assert_eq!(rt; list.iter().filter(|b| **b > 7).count(), 2);
-    Ok(())
+/// Sees the length of the list, its last byte and none behind it, and its bytes one by one.
+fn see_bytes(rt: &impl Abort, list: &Bytes) {
+    see(rt, &(list.len(), list.is_empty()), &(3, false));
+    let read = (list.get(2).copied(), list.get(3).copied());
+    see(rt, &read, &(Some(9), None));
+    see(rt, &list.iter().last().copied(), &Some(9));
 }
 
-/// A copy of the list that is cleared then, and how long the list is.
-fn copied(alloc: Global) -> Result<(Bytes, usize), NoMemory> {
-    let mut list = seven_to_nine(alloc)?;
-    let copy = list.copy()?;
-    list.clear();
-    Ok((copy, list.len()))
+#[test]
+fn bytes_are_read_one_by_one(rt: HostRuntime) -> Result<(), Fail> {
+    see_bytes(&rt, &seven_to_nine(rt.alloc())?);
+    Ok(())
 }
 
 /// The list by way of a slice and of a vector.
@@ -41,26 +37,38 @@ fn made_again(alloc: Global) -> Result<Bytes, NoMemory> {
 
 #[test]
 fn a_copy_outlives_its_list(rt: HostRuntime) -> Result<(), Fail> {
-    let (copy, left) = copied(rt.alloc())?;
-    assert_eq!(rt; left, 0);
-    assert_eq!(rt; copy.as_slice(), [7, 8, 9].as_slice());
-    assert_eq!(rt; made_again(rt.alloc())?.as_slice(), [7, 8, 9].as_slice());
+    let mut list = seven_to_nine(rt.alloc())?;
+    let copy = list.copy()?;
+    list.clear();
+    see_list(&rt, list.as_slice(), &[]);
+    see_list(&rt, copy.as_slice(), &[7, 8, 9]);
     Ok(())
+}
+
+#[test]
+fn a_list_is_made_of_a_slice_and_of_a_vector(rt: HostRuntime) -> Result<(), Fail> {
+    see_list(&rt, made_again(rt.alloc())?.as_slice(), &[7, 8, 9]);
+    Ok(())
+}
+
+/// Puts the bytes 7 to 9 and 6 behind a list.
+fn put_behind(alloc: Global, list: &mut Bytes) -> Result<(), NoMemory> {
+    list.append(seven_to_nine(alloc)?)?;
+    list.append(Bytes::from_slice(alloc, &[6])?)
 }
 
 #[test]
 fn a_list_is_put_behind_another(rt: HostRuntime) -> Result<(), Fail> {
     let mut list = Bytes::with_capacity(rt.alloc(), 1)?;
-    assert!(rt; list.is_empty());
-    list.append(seven_to_nine(rt.alloc())?)?;
-    list.append(Bytes::from_slice(rt.alloc(), &[6])?)?;
-    assert_eq!(rt; list.as_slice(), [7, 8, 9, 6].as_slice());
+    see(&rt, &list.is_empty(), &true);
+    put_behind(rt.alloc(), &mut list)?;
+    see_list(&rt, list.as_slice(), &[7, 8, 9, 6]);
     Ok(())
 }
 
 #[test]
 fn a_value_on_the_heap(rt: HostRuntime) -> Result<(), Fail> {
     let boxed = Boxed::new(rt.alloc(), 7u64)?;
-    assert_eq!(rt; (*boxed.get(), boxed.into_inner()), (7, 7));
+    see(&rt, &(*boxed.get(), boxed.into_inner()), &(7, 7));
     Ok(())
 }

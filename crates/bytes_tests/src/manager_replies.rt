@@ -2,6 +2,7 @@
 
 ghost use Rattle.std.specs.Prelude.{◌≤◌, length};
 
+use crate::seeing::{see, see_list};
 use dcd_base::{Bytes, NoMemory, Tag, TagView};
 use fm_payloads::{lists_head, regions_head, write_info, write_tags};
 use std::alloc::Global;
@@ -28,12 +29,14 @@ const TWO: [u8; 40] = [
 #[test]
 fn the_device_tells_hosts_policies_granules_and_sizes(rt: HostRuntime) -> Result<(), Fail> {
     let two = info(rt.alloc(), 2, 20, &[0x10_0000, 0x10_0000])?;
-    assert_eq!(rt; two.as_slice(), TWO.as_slice());
-    let lengths = (
-        info(rt.alloc(), 16, 0, &[64; 1])?.len(),
-        info(rt.alloc(), 16, 0, &[64; 8])?.len(),
-    );
-    assert_eq!(rt; lengths, (32, 88));
+    see_list(&rt, two.as_slice(), &TWO);
+    Ok(())
+}
+
+#[test]
+fn each_region_has_eight_bytes_of_sizes(rt: HostRuntime) -> Result<(), Fail> {
+    see(&rt, &info(rt.alloc(), 16, 0, &[64; 1])?.len(), &32);
+    see(&rt, &info(rt.alloc(), 16, 0, &[64; 8])?.len(), &88);
     Ok(())
 }
 
@@ -61,20 +64,22 @@ const ONE: [u8; 40] = [
 
 #[test]
 fn a_tag_that_two_hosts_hold_and_the_manager_refers_to(rt: HostRuntime) -> Result<(), Fail> {
-    assert_eq!(rt; tags(rt.alloc(), 1, &[VIEW])?.as_slice(), ONE.as_slice());
-    let lengths = (
-        tags(rt.alloc(), 84, &[])?.len(),
-        tags(rt.alloc(), 84, &[VIEW; 84])?.len(),
-    );
-    assert_eq!(rt; lengths, (16, 2032));
+    see_list(&rt, tags(rt.alloc(), 1, &[VIEW])?.as_slice(), &ONE);
+    Ok(())
+}
+
+#[test]
+fn each_tag_has_24_bytes(rt: HostRuntime) -> Result<(), Fail> {
+    see(&rt, &tags(rt.alloc(), 84, &[])?.len(), &16);
+    see(&rt, &tags(rt.alloc(), 84, &[VIEW; 84])?.len(), &2032);
     Ok(())
 }
 
 #[test]
 fn headers_of_regions_and_of_lists(rt: HostRuntime) {
-    assert_eq!(rt; regions_head(258, 8, 3), [2, 1, 8, 3, 0, 0, 0, 0]);
+    see_list(&rt, &regions_head(258, 8, 3), &[2, 1, 8, 3, 0, 0, 0, 0]);
     let want = [
         2, 1, 0, 0, 1, 0, 0, 0, 2, 0, 0, 0, 3, 0, 0, 0, 4, 0, 0, 0, 0, 0, 0, 0,
     ];
-    assert_eq!(rt; lists_head(258, 1, 2, 3, 4), want);
+    see_list(&rt, &lists_head(258, 1, 2, 3, 4), &want);
 }

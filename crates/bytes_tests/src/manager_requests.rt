@@ -3,7 +3,8 @@
 ghost use Rattle.fm_payloads.specs.ManagerPayloads.{ManagerCountsFit};
 ghost use Rattle.std.specs.Prelude.{◌↔◌, IsTrue};
 
-use dcd_base::{Bytes, Extent, Extents, Tag};
+use crate::seeing::{see, see_list, see_text};
+use dcd_base::{Bytes, Extent, Tag};
 use fm_payloads::{FmRequest, PayloadFault, decode, encode};
 use std::alloc::Global;
 use std::process::Abort;
@@ -26,7 +27,7 @@ fn counts_fit(request: &FmRequest) -> bool
 
 /// The tag and the extents of an add of one KiB by policy 2, or of a forced prescriptive release, in region 1 of
 /// host 258.
-fn placed(request: FmRequest) -> Option<(Tag, Extents)> {
+fn placed(request: &FmRequest) -> Option<(Tag, &[Extent])> {
     match request {
         FmRequest::Add {
             host: 258,
@@ -35,7 +36,7 @@ fn placed(request: FmRequest) -> Option<(Tag, Extents)> {
             length: 1024,
             tag,
             extents,
-        } => Some((tag, extents)),
+        } => Some((*tag, extents.as_slice())),
         FmRequest::Remove {
             host: 258,
             flags: 0x11,
@@ -43,7 +44,7 @@ fn placed(request: FmRequest) -> Option<(Tag, Extents)> {
             length: 1024,
             tag,
             extents,
-        } => Some((tag, extents)),
+        } => Some((*tag, extents.as_slice())),
         _other => None,
     }
 }
@@ -61,7 +62,7 @@ fn payload_of(alloc: Global, request: &FmRequest) -> Result<Bytes, Fail> {
 /// Reads a payload as a request and sees that the request is written as this payload.
 fn again(rt: &impl Abort, alloc: Global, opcode: u16, payload: &[u8]) -> Result<FmRequest, Fail> {
     let request = decode(alloc, opcode, payload)?;
-    assert_eq!(rt; payload_of(alloc, &request)?.as_slice(), payload);
+    see_list(rt, payload_of(alloc, &request)?.as_slice(), payload);
     Ok(request)
 }
 
@@ -70,17 +71,23 @@ fn spelled(number: u16) -> [u8; 4] {
     [(number % 256) as u8, (number / 256) as u8, 0, 0]
 }
 
+/// The bytes of an extent that begins at 16 TiB and has a length of its own.
+fn placed_bytes(number: u16) -> [u8; 40] {
+    let [low, high, _, _] = spelled(number);
+    [
+        0, 0, 0, 0, 0, 16, 0, 0, low, high, 0, 0, 0, 0, 0, 0, // start and length
+        1, 2, 3, 4, 5, 6, 7, 8, 9, 10, 11, 12, 13, 14, 15, 16, // tag
+        3, 1, 0, 0, 0, 0, 0, 0, // sequence
+    ]
+}
+
 /// The payload that places so many extents, each with a length of its own.
 fn placing(alloc: Global, choice: u8, count: u16) -> Result<Bytes, Fail> {
     let mut payload = Bytes::from_slice(alloc, &[2, 1, choice, 1, 0, 4, 0, 0, 0, 0, 0, 0])?;
     payload.extend_from_slice(&TAG.0)?;
     payload.extend_from_slice(&spelled(count))?;
     for i in 0..count {
-        payload.extend_from_slice(&[0, 0, 0, 0, 0, 16, 0, 0])?;
-        payload.extend_from_slice(&spelled(i))?;
-        payload.extend_from_slice(&[0; 4])?;
-        payload.extend_from_slice(&TAG.0)?;
-        payload.extend_from_slice(&[3, 1, 0, 0, 0, 0, 0, 0])?;
+        payload.extend_from_slice(&placed_bytes(i))?;
     }
     Ok(payload)
 }
@@ -92,7 +99,7 @@ const MOST: [u8; 32] = [
 ];
 
 /// Payloads that are refused: the opcode, the bytes and the fault.
-const REFUSED: [(u16, &[u8], PayloadFault); 16] = [
+static REFUSED: [(u16, &[u8], PayloadFault); 16] = [
     (0x4800, &[0; 2], PayloadFault::UnknownOpcode(0x4800)),
     (0x5609, &[0; 0], PayloadFault::UnknownOpcode(0x5609)),
     (
@@ -171,15 +178,20 @@ const REFUSED: [(u16, &[u8], PayloadFault); 16] = [
     ),
 ];
 
+/// The fault of a payload, if it is no request.
+fn fault_of(alloc: Global, opcode: u16, payload: &[u8]) -> Option<PayloadFault> {
+    decode(alloc, opcode, payload).err()
+}
+
 #[test]
 fn each_payload_has_its_own_length_once_the_opcode_is_known(rt: HostRuntime) {
-    for (opcode, payload, fault) in REFUSED {
-        assert_eq!(rt; decode(rt.alloc(), opcode, payload).err(), Some(fault));
+    for (opcode, payload, fault) in &REFUSED {
+        see(&rt, &fault_of(rt.alloc(), *opcode, *payload), &Some(*fault));
     }
 }
 
 /// The opcode and the payload of a short request, and the request.
-const SHORT: [(u16, &[u8], &str); 8] = [
+static SHORT: [(u16, &[u8], &str); 8] = [
     (0x0100, &[4], "GetEvents { log: 4 }"),
     (0x5600, &[], "GetInfo"),
     (
@@ -214,16 +226,39 @@ const SHORT: [(u16, &[u8], &str); 8] = [
     ),
 ];
 
+/// Sees that a payload is read as this request, and that this is written as the payload.
+fn see_short(
+    rt: &impl Abort,
+    alloc: Global,
+    opcode: u16,
+    payload: &[u8],
+    expected: &str,
+) -> Result<(), Fail> {
+    let asked = again(rt, alloc, opcode, payload)?;
+    let text = format!(in alloc; "{asked:?}")?;
+    see_text(rt, text.as_str(), expected);
+    Ok(())
+}
+
 #[test]
 fn each_short_request_goes_both_ways(rt: HostRuntime) -> Result<(), Fail> {
-    for (opcode, payload, expected) in SHORT {
-        let asked = again(&rt, rt.alloc(), opcode, payload)?;
-        assert_eq!(rt; format!(in rt.alloc(); "{asked:?}")?.as_str(), expected);
+    for (opcode, payload, expected) in &SHORT {
+        see_short(&rt, rt.alloc(), *opcode, *payload, *expected)?;
     }
     Ok(())
 }
 
-/// Sees the tag and the extents of a payload that places so many.
+/// Sees the tag and the extents of a request that places so many.
+fn see_request(rt: &impl Abort, request: &FmRequest, count: u16) {
+    let found = placed(request);
+    see(rt, &found.is_some(), &true);
+    if let Some((tag, extents)) = found {
+        see(rt, &(tag, extents.len()), &(TAG, count as usize));
+        see_extents(rt, extents);
+    }
+}
+
+/// Sees that of a payload that places so many.
 fn see_placed(
     rt: &impl Abort,
     alloc: Global,
@@ -233,9 +268,7 @@ fn see_placed(
 ) -> Result<(), Fail> {
     let payload = placing(alloc, choice, count)?;
     let asked = again(rt, alloc, opcode, payload.as_slice())?;
-    let (tag, extents) = placed(asked).ok_or("5604h and 5605h place extents")?;
-    assert_eq!(rt; (tag, extents.len()), (TAG, count as usize));
-    see_extents(rt, extents.as_slice());
+    see_request(rt, &asked, count);
     Ok(())
 }
 
@@ -248,18 +281,29 @@ fn see_extents(rt: &impl Abort, extents: &[Extent]) {
             tag: TAG,
             sequence: 259,
         };
-        assert_eq!(rt; *extent, want);
+        see(rt, extent, &want);
     }
 }
 
+/// The opcode, the policy or the flags, and how many extents are placed: none, and as many as can be.
+static PLACED: [(u16, u8, u16); 4] = [
+    (0x5604, 2, 0),
+    (0x5604, 2, 65535),
+    (0x5605, 0x11, 0),
+    (0x5605, 0x11, 65535),
+];
+
 #[test]
 fn extents_are_placed_with_their_tags(rt: HostRuntime) -> Result<(), Fail> {
-    for (opcode, choice) in [(0x5604, 2), (0x5605, 0x11)] {
-        for count in [0, 65535] {
-            see_placed(&rt, rt.alloc(), opcode, choice, count)?;
-        }
+    for (opcode, choice, count) in &PLACED {
+        see_placed(&rt, rt.alloc(), *opcode, *choice, *count)?;
     }
     Ok(())
+}
+
+/// Whether the request is a release with each flag.
+fn has_all_flags(request: &FmRequest) -> bool {
+    matches!(request, FmRequest::Remove { flags: 0xFF, .. })
 }
 
 #[test]
@@ -267,7 +311,7 @@ fn flags_are_part_of_a_release_as_they_stand(rt: HostRuntime) -> Result<(), Fail
     let mut payload = [0u8; 32];
     payload[2] = 0xFF;
     let asked = again(&rt, rt.alloc(), 0x5605, &payload)?;
-    assert!(rt; matches!(asked, FmRequest::Remove { flags: 0xFF, .. }));
+    see(&rt, &has_all_flags(&asked), &true);
     Ok(())
 }
 
@@ -287,5 +331,5 @@ fn sanitizes(alloc: Global, byte: u8) -> Result<bool, PayloadFault> {
 #[test]
 fn reserved_bits_are_free(rt: HostRuntime) {
     let found = [sanitizes(rt.alloc(), 0xFE), sanitizes(rt.alloc(), 0xFF)];
-    assert_eq!(rt; found, [Ok(false), Ok(true)]);
+    see(&rt, &found, &[Ok(false), Ok(true)]);
 }

@@ -2,6 +2,7 @@
 //! `qemu_records`, `qemu_replies` and `qemu_messages` read it, and put it beside what is written here for the same steps.
 //! Texts are hexadecimal, 32 bytes a line.
 
+use crate::seeing::{see, see_list};
 use dcd_base::{Bytes, Extent, no_tag};
 use std::alloc::Global;
 use std::process::Abort;
@@ -42,8 +43,8 @@ pub(crate) fn see_beside(
     there: &[u8],
     differ: &[Difference],
 ) -> Result<(), Fail> {
-    assert_eq!(rt; here.len(), there.len());
-    assert_eq!(rt; differences(alloc, here, there)?.as_slice(), differ);
+    see(rt, &here.len(), &there.len());
+    see_list(rt, differences(alloc, here, there)?.as_slice(), differ);
     Ok(())
 }
 

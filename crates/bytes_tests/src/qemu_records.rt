@@ -1,9 +1,12 @@
 //! Event records that QEMU wrote.
 
 use crate::qemu::{Difference, bytes_of, extent, see_beside};
-use dcd_base::Bytes;
+use crate::seeing::see;
+use dcd_base::{Bytes, NoMemory};
 use event_records::{Event, EventKind, decode, encode};
 use host_payloads::write_events;
+use std::alloc::Global;
+use std::process::Abort;
 use std::test::Fail;
 
 /// A record of QEMU: its handle and kind, whether it has More, its extent, and how many extents it tells as available.
@@ -104,7 +107,7 @@ const FIRST_OF_TWO_11: QemuRecord = QemuRecord {
 
 /// Records with the number of extents that are available here after the same steps, and how they differ: in a severity
 /// among the flags (17), in which counts are valid (49), and in the counts (120 to 127).
-const RECORDS: [(QemuRecord, u32, &[Difference]); 4] = [
+static RECORDS: [(QemuRecord, u32, &[Difference]); 4] = [
     (
         ADDED_10,
         63,
@@ -145,18 +148,24 @@ const RECORDS: [(QemuRecord, u32, &[Difference]); 4] = [
     ),
 ];
 
+/// Sees what is read of a record, and how it stands beside the one that is written here.
+fn see_record(
+    rt: &impl Abort,
+    alloc: Global,
+    told: &QemuRecord,
+    here: u32,
+    differ: &[Difference],
+) -> Result<(), Fail> {
+    let there = told.record()?;
+    see(rt, &decode(&there), &Ok(told.event(told.available, 0)));
+    let ours = encode(&told.event(here, 32));
+    see_beside(rt, alloc, &ours, &there, differ)
+}
+
 #[test]
 fn records_are_read_and_stand_beside_ours(rt: HostRuntime) -> Result<(), Fail> {
-    for (told, here, differ) in RECORDS {
-        let there = told.record()?;
-        assert_eq!(rt; decode(&there), Ok(told.event(told.available, 0)));
-        see_beside(
-            &rt,
-            rt.alloc(),
-            &encode(&told.event(here, 32)),
-            &there,
-            differ,
-        )?;
+    for (told, here, differ) in &RECORDS {
+        see_record(&rt, rt.alloc(), told, *here, *differ)?;
     }
     Ok(())
 }
@@ -166,7 +175,7 @@ const REPLY_HEAD: &str = "020000000000000000000000000000000000000001000000000000
 
 /// Replies to 0100h: the one record, and how the reply differs: in flags bit 1, which is set here where the log has more
 /// records than follow, and in its record.
-const REPLIES: [(QemuRecord, &[Difference]); 2] = [
+static REPLIES: [(QemuRecord, &[Difference]); 2] = [
     (
         ADDED_10,
         &[
@@ -190,14 +199,36 @@ const REPLIES: [(QemuRecord, &[Difference]); 2] = [
     ),
 ];
 
+/// The reply of QEMU of one record.
+fn reply_there(alloc: Global, told: &QemuRecord) -> Result<Bytes, Fail> {
+    let mut there = bytes_of(alloc, &[REPLY_HEAD])?;
+    there.extend_from_slice(&told.record()?)?;
+    Ok(there)
+}
+
+/// The reply that is written here.
+fn reply_here(alloc: Global, told: &QemuRecord) -> Result<Bytes, NoMemory> {
+    let mut here = Bytes::new(alloc);
+    write_events(0, false, &[told.event(63, 32)], &mut here)?;
+    Ok(here)
+}
+
+/// Sees how both replies differ.
+fn see_reply(
+    rt: &impl Abort,
+    alloc: Global,
+    told: &QemuRecord,
+    differ: &[Difference],
+) -> Result<(), Fail> {
+    let there = reply_there(alloc, told)?;
+    let here = reply_here(alloc, told)?;
+    see_beside(rt, alloc, here.as_slice(), there.as_slice(), differ)
+}
+
 #[test]
 fn replies_of_records_stand_beside_ours(rt: HostRuntime) -> Result<(), Fail> {
-    for (told, differ) in REPLIES {
-        let mut there = bytes_of(rt.alloc(), &[REPLY_HEAD])?;
-        there.extend_from_slice(&told.record()?)?;
-        let mut here = Bytes::new(rt.alloc());
-        write_events(0, false, &[told.event(63, 32)], &mut here)?;
-        see_beside(&rt, rt.alloc(), here.as_slice(), there.as_slice(), differ)?;
+    for (told, differ) in &REPLIES {
+        see_reply(&rt, rt.alloc(), told, *differ)?;
     }
     Ok(())
 }

@@ -1,7 +1,8 @@
 //! Pages of extents and configurations that QEMU wrote.
 
 use crate::qemu::{Difference, bytes_of, differences, extent, see_beside};
-use dcd_base::{Bytes, Extent, Extents};
+use crate::seeing::{see, see_list};
+use dcd_base::{Bytes, Extent, NoMemory};
 use fm_payloads::lists_head;
 use host_payloads::{
     Counts, RegionView, extent_bytes, read_extents, write_configuration, write_extents,
@@ -21,7 +22,7 @@ type Page = (
 );
 
 /// Pages of both versions: before any offer, with one extent, and with two that were accepted in the other order.
-const PAGES: [Page; 3] = [
+static PAGES: [Page; 3] = [
     (&["00000000000000000000000000000000"], 0, &[], 0, &[]),
     (
         &[
@@ -46,15 +47,6 @@ const PAGES: [Page; 3] = [
     ),
 ];
 
-/// The extents of some pairs of a start and a length.
-fn extents_of(alloc: Global, pairs: &[(u64, u64)]) -> Result<Extents, Fail> {
-    let mut extents = Extents::new(alloc);
-    for (start, length) in pairs {
-        extents.push(extent(*start, *length))?;
-    }
-    Ok(extents)
-}
-
 /// The page that is written here.
 fn page_here(alloc: Global, total: u32, changes: u32, extents: &[Extent]) -> Result<Bytes, Fail> {
     if extents.len() > 50 {
@@ -65,22 +57,41 @@ fn page_here(alloc: Global, total: u32, changes: u32, extents: &[Extent]) -> Res
     Ok(out)
 }
 
+/// Sees that these are extents without tags of some starts and lengths.
+fn see_extents(rt: &impl Abort, found: &[Extent], pairs: &[(u64, u64)]) {
+    see(rt, &found.len(), &pairs.len());
+    for (found, (start, length)) in found.iter().zip(pairs) {
+        see(rt, found, &extent(*start, *length));
+    }
+}
+
+/// Sees how a page stands beside the one that is written here of its extents.
+fn see_page_beside(
+    rt: &impl Abort,
+    alloc: Global,
+    page: &Page,
+    extents: &[Extent],
+    there: &[u8],
+) -> Result<(), Fail> {
+    let (_, total, _, changes, differ) = page;
+    let here = page_here(alloc, *total, *changes, extents)?;
+    see_beside(rt, alloc, here.as_slice(), there, *differ)
+}
+
 /// Sees what is read of a page, and how it stands beside the one that is written here.
-fn see_page(rt: &impl Abort, alloc: Global, page: Page) -> Result<(), Fail> {
-    let (lines, total, pairs, changes, differ) = page;
-    let there = bytes_of(alloc, lines)?;
-    let read = read_extents(alloc, there.as_slice())?;
-    let extents = extents_of(alloc, pairs)?;
-    assert_eq!(rt; (read.total, read.generation), (total, 0));
-    assert_eq!(rt; read.extents.as_slice(), extents.as_slice());
-    let here = page_here(alloc, total, changes, extents.as_slice())?;
-    see_beside(rt, alloc, here.as_slice(), there.as_slice(), differ)
+fn see_page(rt: &impl Abort, alloc: Global, page: &Page, there: &[u8]) -> Result<(), Fail> {
+    let (_, total, pairs, _, _) = page;
+    let read = read_extents(alloc, there)?;
+    see(rt, &(read.total, read.generation), &(*total, 0));
+    see_extents(rt, read.extents.as_slice(), *pairs);
+    see_page_beside(rt, alloc, page, read.extents.as_slice(), there)
 }
 
 #[test]
 fn pages_are_read_and_stand_beside_ours(rt: HostRuntime) -> Result<(), Fail> {
-    for page in PAGES {
-        see_page(&rt, rt.alloc(), page)?;
+    for page in &PAGES {
+        let there = bytes_of(rt.alloc(), page.0)?;
+        see_page(&rt, rt.alloc(), page, there.as_slice())?;
     }
     Ok(())
 }
@@ -92,15 +103,21 @@ const OFFERED_11: [&str; 2] = [
 ];
 
 #[test]
-fn an_offered_extent_is_in_no_page_of_ours(rt: HostRuntime) -> Result<(), Fail> {
+fn an_offered_extent_is_read(rt: HostRuntime) -> Result<(), Fail> {
     let there = bytes_of(rt.alloc(), &OFFERED_11)?;
     let read = read_extents(rt.alloc(), there.as_slice())?;
-    assert_eq!(rt; read.total, 0);
-    assert_eq!(rt; read.extents.as_slice(), [extent(0, 0)].as_slice());
+    see(&rt, &read.total, &0);
+    see_extents(&rt, read.extents.as_slice(), &[(0, 0)]);
+    Ok(())
+}
+
+#[test]
+fn an_offered_extent_is_in_no_page_of_ours(rt: HostRuntime) -> Result<(), Fail> {
+    let there = bytes_of(rt.alloc(), &OFFERED_11)?;
     let here = page_here(rt.alloc(), 0, 0, &[])?;
-    assert_eq!(rt; (here.len(), there.len()), (16, 56));
+    see(&rt, &(here.len(), there.len()), &(16, 56));
     let differ = differences(rt.alloc(), here.as_slice(), there.as_slice())?;
-    assert_eq!(rt; differ.as_slice(), [(0, 0, 1)].as_slice());
+    see_list(&rt, differ.as_slice(), &[(0, 0, 1)]);
     Ok(())
 }
 
@@ -126,7 +143,7 @@ const SECOND: RegionView = RegionView {
 
 /// Replies to 4800h of both versions, of all regions, of the second, and of none, and how they differ: in their last four
 /// numbers. 64 extents and 32 tags are supported here, and 512 extents and no tag there.
-const CONFIGURATIONS: [(&[RegionView], &[&str], &[Difference]); 3] = [
+static CONFIGURATIONS: [(&[RegionView], &[&str], &[Difference]); 3] = [
     (
         &[FIRST, SECOND],
         &[
@@ -189,12 +206,23 @@ fn configuration_here(alloc: Global, regions: &[RegionView]) -> Result<Bytes, Fa
     Ok(out)
 }
 
+/// Sees how both replies of some regions differ.
+fn see_configuration(
+    rt: &impl Abort,
+    alloc: Global,
+    regions: &[RegionView],
+    lines: &[&str],
+    differ: &[Difference],
+) -> Result<(), Fail> {
+    let there = bytes_of(alloc, lines)?;
+    let here = configuration_here(alloc, regions)?;
+    see_beside(rt, alloc, here.as_slice(), there.as_slice(), differ)
+}
+
 #[test]
 fn configurations_differ_in_their_counts(rt: HostRuntime) -> Result<(), Fail> {
-    for (regions, lines, differ) in CONFIGURATIONS {
-        let there = bytes_of(rt.alloc(), lines)?;
-        let here = configuration_here(rt.alloc(), regions)?;
-        see_beside(&rt, rt.alloc(), here.as_slice(), there.as_slice(), differ)?;
+    for (regions, lines, differ) in &CONFIGURATIONS {
+        see_configuration(&rt, rt.alloc(), *regions, *lines, *differ)?;
     }
     Ok(())
 }
@@ -207,13 +235,18 @@ const LISTS_11: [&str; 4] = [
     "0000000000000000",
 ];
 
+/// The reply to 5603h that is written here.
+fn list_here(alloc: Global) -> Result<Bytes, NoMemory> {
+    let mut here = Bytes::from_slice(alloc, &lists_head(0, 0, 2, 2, 1))?;
+    here.extend_from_slice(&extent_bytes(&extent(0x1000_0000, 0x80_0000)))?;
+    here.extend_from_slice(&extent_bytes(&extent(0x1100_0000, 0x20_0000)))?;
+    Ok(here)
+}
+
 #[test]
 fn a_list_for_the_manager_differs_in_its_changes(rt: HostRuntime) -> Result<(), Fail> {
     let there = bytes_of(rt.alloc(), &LISTS_11)?;
-    let mut here = Bytes::from_slice(rt.alloc(), &lists_head(0, 0, 2, 2, 1))?;
-    for (start, length) in [(0x1000_0000, 0x80_0000), (0x1100_0000, 0x20_0000)] {
-        here.extend_from_slice(&extent_bytes(&extent(start, length)))?;
-    }
+    let here = list_here(rt.alloc())?;
     see_beside(
         &rt,
         rt.alloc(),

@@ -1,5 +1,6 @@
 //! Event records as bytes.
 
+use crate::seeing::{see, see_list};
 use dcd_base::{Extent, no_tag};
 use event_records::{Event, EventKind, RecordFault, decode, decoded_again, encode};
 
@@ -42,7 +43,7 @@ fn changed(changes: &[(usize, u8)]) -> [u8; 128] {
 }
 
 /// Each kind with its number.
-const KINDS: [(EventKind, u8); 6] = [
+static KINDS: [(EventKind, u8); 6] = [
     (EventKind::Add, 0),
     (EventKind::Release, 1),
     (EventKind::Forced, 2),
@@ -53,21 +54,20 @@ const KINDS: [(EventKind, u8); 6] = [
 
 #[test]
 fn each_kind_is_written_and_read_again(rt: HostRuntime) {
-    for (kind, number) in KINDS {
-        let record = changed(&[(48, number)]);
-        assert_eq!(rt; encode(&added(kind)).as_slice(), record.as_slice());
+    for (kind, number) in &KINDS {
+        see_list(&rt, &encode(&added(*kind)), &changed(&[(48, *number)]));
         let event = Event {
             host: 0x1234,
             region: 7,
             more: true,
-            ..added(kind)
+            ..added(*kind)
         };
-        assert_eq!(rt; decoded_again(&event), Ok(event));
+        see(&rt, &decoded_again(&event), &Ok(event));
     }
 }
 
 /// Bytes of the record that are changed, and the fault then.
-const FAULTS: [(&[(usize, u8)], RecordFault); 3] = [
+static FAULTS: [(&[(usize, u8)], RecordFault); 3] = [
     (&[(48, 6)], RecordFault::UnknownKind(6)),
     (&[(48, 6), (16, 127)], RecordFault::OtherLength(127)),
     (&[(48, 6), (16, 127), (15, 0x2B)], RecordFault::OtherUuid),
@@ -75,8 +75,8 @@ const FAULTS: [(&[(usize, u8)], RecordFault); 3] = [
 
 #[test]
 fn the_first_fault_is_answered(rt: HostRuntime) {
-    for (changes, fault) in FAULTS {
-        assert_eq!(rt; decode(&changed(changes)), Err(fault));
+    for (changes, fault) in &FAULTS {
+        see(&rt, &decode(&changed(*changes)), &Err(*fault));
     }
 }
 
@@ -95,5 +95,5 @@ const OTHER: [(usize, u8); 9] = [
 
 #[test]
 fn other_bytes_change_nothing(rt: HostRuntime) {
-    assert_eq!(rt; decode(&changed(&OTHER)), Ok(added(EventKind::Add)));
+    see(&rt, &decode(&changed(&OTHER)), &Ok(added(EventKind::Add)));
 }

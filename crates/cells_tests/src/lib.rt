@@ -10,6 +10,8 @@ mod runs;
 #[cfg(test)]
 mod scrubs;
 #[cfg(test)]
+mod seeing;
+#[cfg(test)]
 mod shards;
 #[cfg(test)]
 mod waiting;

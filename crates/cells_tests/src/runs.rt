@@ -9,10 +9,12 @@ ghost use Rattle.cells_tests.specs.Tally.{IsIdle, IsUnused, MayHaveAdded, no_con
 
 use crate::counter::Counter;
 use crate::ledger::Ledger;
+use crate::seeing::see;
 use dcd_base::{Actor, NoMemory, Stamp};
 use journal_core::{Act, Entry, EntryEffects, Journal, Reply};
 use ruled_cells::{Busy, Cells, Seat};
 use std::alloc::Global;
+use std::process::Abort;
 use std::sync::Wait;
 use std::test::*;
 use std::thread::{Threads, join};
@@ -236,9 +238,8 @@ fn found<R: Wait>(rt: &R, alloc: Global) -> Result<([Result<u64, Busy>; 2], usiz
 
 #[test]
 fn a_taken_cell_is_busy_until_it_is_given_back(rt: HostRuntime) -> Result<(), Fail> {
-    let (answers, counters) = found(&rt, rt.alloc())?;
-    assert_eq!(rt; answers, [Err(Busy { seat_seen: 0 }), Ok(0)]);
-    assert_eq!(rt; counters, 2);
+    let answers = [Err(Busy { seat_seen: 0 }), Ok(0)];
+    see(&rt, &found(&rt, rt.alloc())?, &(answers, 2));
     Ok(())
 }
 
@@ -248,15 +249,31 @@ fn two_threads_count_a_thousand_times_each(rt: HostRuntime) -> Result<(), Fail> 
     let (cells, one, two) = made(alloc)?;
     let (one, two) = work_both(&rt, &cells, one, two);
     let (ledger, row) = closed(alloc, cells, one, two)?;
-    assert!(rt; ledger.entries.as_slice().is_empty() && row.len() == 2);
-    assert!(rt; row[0].value == 2000 && row[0].entries.as_slice().len() == 2000);
-    assert!(rt;
-        row[1].value == 0
-            && row[0].clock
-                == (Stamp {
-                    number: 0,
-                    count: 2000
-                })
-    );
+    see(&rt, &ledger.entries.as_slice().len(), &0);
+    see_counters(&rt, row.as_slice());
     Ok(())
+}
+
+/// Sees that the first of two counters has counted two thousand times, and the second not once.
+fn see_counters(rt: &impl Abort, row: &[Counter]) {
+    let clock = Stamp {
+        number: 0,
+        count: 2000,
+    };
+    let counted = [
+        (2000, 2000, clock),
+        (
+            0,
+            0,
+            Stamp {
+                number: 0,
+                count: 0,
+            },
+        ),
+    ];
+    see(rt, &row.len(), &2);
+    for (counter, expected) in row.iter().zip(&counted) {
+        let entries = counter.entries.as_slice().len();
+        see(rt, &(counter.value, entries, counter.clock), expected);
+    }
 }

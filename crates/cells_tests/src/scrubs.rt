@@ -11,9 +11,11 @@ ghost use Rattle.cells_tests.specs.Tally.{HasScrubbed, MayScrub, follows};
 use crate::counter::Counter;
 use crate::ledger::Ledger;
 use crate::runs::{Tallies, Worker, closed, made, put_back};
+use crate::seeing::see;
 use dcd_base::{Actor, Stamp};
 use journal_core::{Act, Entry, EntryEffects, Reply};
 use ruled_cells::Chief;
+use std::process::Abort;
 use std::sync::Wait;
 use std::test::*;
 
@@ -105,15 +107,15 @@ fn a_scrub_is_noted_and_counted(rt: HostRuntime) -> Result<(), Fail> {
     let (cells, mut one, two) = made(alloc)?;
     let done = run(&rt, &cells, &mut one);
     let (ledger, row) = closed(alloc, cells, one, two)?;
-    assert!(rt; done && ledger.count() == 1 && row.len() == 2);
-    assert!(rt;
-        row[0].value == 1
-            && row[0].clock
-                == (Stamp {
-                    number: 1,
-                    count: 0
-                })
-    );
-    assert!(rt; row[1].value == 0);
+    see(&rt, &(done, ledger.count(), row.len()), &(true, 1, 2));
+    see_counters(&rt, row.as_slice());
     Ok(())
+}
+
+/// Sees that the first of two counters has counted once, by the scrub, and the second not.
+fn see_counters(rt: &impl Abort, row: &[Counter]) {
+    let counted = [(1, 1), (0, 0)];
+    for (counter, expected) in row.iter().zip(&counted) {
+        see(rt, &(counter.value, counter.clock.number), expected);
+    }
 }

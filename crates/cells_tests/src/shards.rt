@@ -5,14 +5,16 @@ ghost use Rattle.shard_laws.specs.Belonging.{asked_at, shard_at};
 ghost use Rattle.std.specs.Prelude.{◌≡◌, ◌<◌, IfOk, false};
 
 use crate::ledger::Ledger;
+use crate::seeing::{see, see_list};
 use block_shard::{Shard, touches};
-use dcd_base::{AccessFault, Actor, Change, Changes, Granule, HostId, Place, Run, Stamp, shard_of};
+use dcd_base::{
+    AccessFault, Actor, Change, Changes, Granule, HostId, NoMemory, Place, Run, Stamp, shard_of,
+};
 use journal_core::{Access, Act, Effect, Effects, Entry, EntryEffects, Journal, Reply, merge};
 use media_map::locate;
 use region_config::{Config, ConfigFault, RegionSpec};
 use shard_laws::{law_at_rest, law_changed, law_merged};
 use std::alloc::Global;
-use std::process::Abort;
 use std::test::Fail;
 
 /// 1 MiB.
@@ -175,24 +177,29 @@ fn steps_of_one(
     Ok(([refused, stored, ahead, behind, zeroed], granted))
 }
 
+/// What is told of a new shard of index 0.
+fn steps_of_new(alloc: Global, config: &Config) -> Result<([(Told, Stamp); 5], Stamp), Fail>
+    requires { config.now.hosts ≡ 2 }
+{
+    steps_of_one(alloc, &mut Shard::new(alloc, 0, config)?, config)
+}
+
 fn one_shard(alloc: Global) -> Result<([(Told, Stamp); 5], Stamp), Fail> {
-    let config = two_hosts(alloc)?;
-    let mut shard = Shard::new(alloc, 0, &config)?;
-    steps_of_one(alloc, &mut shard, &config)
+    steps_of_new(alloc, &two_hosts(alloc)?)
 }
 
 #[test]
 fn a_shard_answers_by_its_own_holders_words_and_clock(rt: HostRuntime) -> Result<(), Fail> {
     let (answers, granted) = one_shard(rt.alloc())?;
-    assert_eq!(rt; granted, stamp(1, 0));
-    assert_eq!(rt;
-        answers[0],
-        (Told::Refused(AccessFault::NotGranted), stamp(0, 1))
-    );
-    assert_eq!(rt; answers[1], (Told::Stored, stamp(1, 1)));
-    assert_eq!(rt; answers[2], (Told::Word(7), stamp(1, 5)));
-    assert_eq!(rt; answers[3], (Told::Word(7), stamp(1, 6)));
-    assert_eq!(rt; answers[4], (Told::Word(0), stamp(2, 1)));
+    let expected = [
+        (Told::Refused(AccessFault::NotGranted), stamp(0, 1)),
+        (Told::Stored, stamp(1, 1)),
+        (Told::Word(7), stamp(1, 5)),
+        (Told::Word(7), stamp(1, 6)),
+        (Told::Word(0), stamp(2, 1)),
+    ];
+    see(&rt, &granted, &stamp(1, 0));
+    see_list(&rt, &answers, &expected);
     Ok(())
 }
 
@@ -235,12 +242,18 @@ fn journals_of(alloc: Global, first: &[Access], second: &[Access]) -> Result<Vec
     Ok(journals)
 }
 
-fn two_shards(alloc: Global) -> Result<Vec<Journal>, Fail> {
-    let config = two_hosts(alloc)?;
-    let mut first = Shard::new(alloc, 0, &config)?;
-    let mut second = Shard::new(alloc, 1, &config)?;
-    steps_of_two(alloc, &mut first, &mut second, &config)?;
+/// The journals of two shards after those steps.
+fn shards_of(alloc: Global, config: &Config) -> Result<Vec<Journal>, Fail>
+    requires { config.now.hosts ≡ 2 }
+{
+    let mut first = Shard::new(alloc, 0, config)?;
+    let mut second = Shard::new(alloc, 1, config)?;
+    steps_of_two(alloc, &mut first, &mut second, config)?;
     journals_of(alloc, first.entries(), second.into_entries().as_slice())
+}
+
+fn two_shards(alloc: Global) -> Result<Vec<Journal>, Fail> {
+    shards_of(alloc, &two_hosts(alloc)?)
 }
 
 /// A scrub with this number, in line 9.
@@ -273,12 +286,16 @@ fn lines_of(alloc: Global, entries: &[Entry]) -> Result<Vec<(u32, Stamp)>, Fail>
     Ok(lines)
 }
 
-/// The line and the stamp of each entry of two scrubs and two shards.
-fn merged(alloc: Global) -> Result<Vec<(u32, Stamp)>, Fail> {
+/// The line and the stamp of each entry of two scrubs and shards.
+fn merged_with(alloc: Global, shards: &[Journal]) -> Result<Vec<(u32, Stamp)>, Fail> {
     let control = two_scrubs(alloc)?;
-    let shards = two_shards(alloc)?;
-    let journal = merge(alloc, &control, shards.as_slice())?;
+    let journal = merge(alloc, &control, shards)?;
     lines_of(alloc, journal.as_slice())
+}
+
+/// The same of two shards.
+fn merged(alloc: Global) -> Result<Vec<(u32, Stamp)>, Fail> {
+    merged_with(alloc, two_shards(alloc)?.as_slice())
 }
 
 #[test]
@@ -294,18 +311,25 @@ fn the_journal_of_two_shards_is_in_the_order_of_the_stamps(rt: HostRuntime) -> R
         (1, stamp(1, 2)),
         (9, stamp(2, 0)),
     ];
-    assert_eq!(rt; merged(rt.alloc())?.as_slice(), expected.as_slice());
+    see_list(&rt, merged(rt.alloc())?.as_slice(), &expected);
     Ok(())
 }
 
 // ---- touching
 
-/// Whether a scrub with this effect touches the shards 15, 0, 1 and 2.
-fn touched(alloc: Global, effect: Effect) -> Result<[bool; 4], Fail> {
+/// A scrub with this effect.
+fn with_effect(alloc: Global, effect: Effect) -> Result<Entry, NoMemory> {
     let mut effects = Effects::new(alloc);
     effects.push(effect)?;
-    let mut entry = scrub(1);
-    entry.effects = EntryEffects::of(effects)?;
+    Ok(Entry {
+        effects: EntryEffects::of(effects)?,
+        ..scrub(1)
+    })
+}
+
+/// Whether a scrub with this effect touches the shards 15, 0, 1 and 2.
+fn touched(alloc: Global, effect: Effect) -> Result<[bool; 4], NoMemory> {
+    let entry = with_effect(alloc, effect)?;
     Ok([
         touches(&entry, 15),
         touches(&entry, 0),
@@ -322,24 +346,22 @@ fn granules(count: u32) -> Run {
     }
 }
 
+/// What is touched where host 0 takes three granules, leaves them, one is zeroed, and three are soiled.
+fn touched_by_each(alloc: Global) -> Result<[[bool; 4]; 4], NoMemory> {
+    Ok([
+        touched(alloc, Effect::Take(HostId(0), granules(3)))?,
+        touched(alloc, Effect::Leave(HostId(0), granules(3)))?,
+        touched(alloc, Effect::Zero(granules(1)))?,
+        touched(alloc, Effect::Soil(granules(3)))?,
+    ])
+}
+
 #[test]
 fn a_command_touches_the_shards_of_the_granules_that_it_gives_takes_or_zeroes(
     rt: HostRuntime,
 ) -> Result<(), Fail> {
-    let alloc = rt.alloc();
     let three = [true, true, true, false];
-    assert_eq!(rt;
-        touched(alloc, Effect::Take(HostId(0), granules(3)))?,
-        three
-    );
-    assert_eq!(rt;
-        touched(alloc, Effect::Leave(HostId(0), granules(3)))?,
-        three
-    );
-    assert_eq!(rt;
-        touched(alloc, Effect::Zero(granules(1)))?,
-        [true, false, false, false]
-    );
-    assert_eq!(rt; touched(alloc, Effect::Soil(granules(3)))?, [false; 4]);
+    let expected = [three, three, [true, false, false, false], [false; 4]];
+    see(&rt, &touched_by_each(rt.alloc())?, &expected);
     Ok(())
 }

@@ -4,6 +4,7 @@ ghost use Rattle.ruled_cells.specs.Calls.{IsOf, row_of};
 ghost use Rattle.ruled_cells.specs.Seats.{IsSameSeat, NoTurns, seat_view};
 
 use crate::runs::{Tallies, Worker, closed, made, put_back};
+use crate::seeing::see;
 use dcd_base::NoMemory;
 use std::alloc::Global;
 use std::fs;
@@ -93,8 +94,8 @@ fn a_wait_for_a_cell_sleeps(rt: HostRuntime) -> Result<(), Fail> {
     let (start, before) = (Instant::now(&rt)?, processor_time(&rt)?);
     let counters = kept_by_both(&rt, rt.alloc())?;
     let (took, after) = (start.elapsed(&rt)?, processor_time(&rt)?);
-    assert_eq!(rt; counters, 2);
-    assert!(rt; took >= Duration::from_millis(500));
-    assert!(rt; after.saturating_sub(before) < 10);
+    see(&rt, &counters, &2);
+    see(&rt, &(took >= Duration::from_millis(500)), &true);
+    see(&rt, &(after.saturating_sub(before) < 10), &true);
     Ok(())
 }

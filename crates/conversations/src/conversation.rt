@@ -12,8 +12,8 @@ pub(crate) struct Conversation {
     pub(crate) program: Program,
     /// The bytes that the source gives.
     pub(crate) script: Vec<u8>,
-    /// The words of the command line, without the program's name.
-    pub(crate) words: Vec<String>,
+    /// The words of the command line of each run, without the program's name.
+    pub(crate) runs: Vec<Vec<String>>,
     /// The exit status.
     pub(crate) status: u8,
     /// All that is printed.
@@ -28,13 +28,13 @@ impl Conversation {
         name: &str,
     ) -> Result<Conversation, anyhow::Error> {
         let program = program_of(rt, folder, name)?;
-        let words = words_of(rt, folder, name)?;
+        let runs = runs_of(rt, folder, name)?;
         let status = status_of(rt, folder, name)?;
         let text = text_of(rt, folder, name)?;
         Ok(Conversation {
             program,
             script: bytes_of(rt, folder, name, "dcds")?,
-            words,
+            runs,
             status,
             text,
         })
@@ -64,10 +64,10 @@ fn program_of(rt: &HostRuntime, folder: &str, name: &str) -> Result<Program, any
     Ok(Program::named(str::from_utf8(program.as_slice())?)?)
 }
 
-/// The words, one a line.
-fn words_of(rt: &HostRuntime, folder: &str, name: &str) -> Result<Vec<String>, anyhow::Error> {
+/// The words of each run.
+fn runs_of(rt: &HostRuntime, folder: &str, name: &str) -> Result<Vec<Vec<String>>, anyhow::Error> {
     let words = bytes_of(rt, folder, name, "words")?;
-    Ok(lines_of(rt.alloc(), str::from_utf8(words.as_slice())?)?)
+    Ok(parts_of(rt.alloc(), str::from_utf8(words.as_slice())?)?)
 }
 
 /// The exit status.
@@ -76,13 +76,20 @@ fn status_of(rt: &HostRuntime, folder: &str, name: &str) -> Result<u8, anyhow::E
     number_of(str::from_utf8(status.as_slice())?)
 }
 
-/// The lines of a text, without their ends.
-fn lines_of(alloc: Global, text: &str) -> io::Result<Vec<String>> {
-    let mut lines = Vec::new(alloc);
+/// The lines of a text, without their ends, in the parts that empty lines make.
+fn parts_of(alloc: Global, text: &str) -> io::Result<Vec<Vec<String>>> {
+    let mut parts = Vec::new(alloc);
+    let mut part = Vec::new(alloc);
     for line in text.lines() {
-        lines.push(String::from_str(alloc, line)?)?;
+        if line.is_empty() {
+            parts.push(part)?;
+            part = Vec::new(alloc);
+        } else {
+            part.push(String::from_str(alloc, line)?)?;
+        }
     }
-    Ok(lines)
+    parts.push(part)?;
+    Ok(parts)
 }
 
 /// The number that decimal digits write, 0 where there are none.

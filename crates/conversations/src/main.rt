@@ -2,8 +2,9 @@
 //!
 //! A conversation NAME is a few files: the name of the program `NAME.program`, the script `NAME.dcds`, the words of the
 //! command line `NAME.words`, one a line, the exit status `NAME.status` in decimal digits, and the text `NAME.txt` that the
-//! run has to print. Without the first the program is `dcdsim`, without the second the source is empty, without the third
-//! there are no words, and without the fourth the status is 0. Other files are left alone.
+//! run has to print. An empty line among the words parts the words of one run from those of the next, and all runs have to
+//! come out alike. Without the first the program is `dcdsim`, without the second the source is empty, without the third
+//! there is one run without words, and without the fourth the status is 0. Other files are left alone.
 #![tactic(auto)]
 
 mod conversation;
@@ -15,7 +16,10 @@ mod trials;
 use conversation::Conversation;
 use folder::names_in;
 use outcome::Difference;
+use std::alloc::AllocGlobal;
 use std::process::ExitCode;
+use std::sync::Wait;
+use std::thread::Threads;
 use std::{env, io};
 use trials::{Wrong, first_wrong};
 
@@ -30,9 +34,8 @@ fn main(rt: HostRuntime) -> Result<ExitCode, anyhow::Error> {
     let mut right = 0usize;
     for name in &names {
         let conversation = Conversation::read(&rt, folder.as_str(), name.as_str())?;
-        match first_wrong(&rt, rt.alloc(), &conversation)? {
-            None => right = right.saturating_add(1),
-            Some(wrong) => tell(&rt, name.as_str(), wrong)?,
+        if is_right(&rt, name.as_str(), &conversation)? {
+            right = right.saturating_add(1);
         }
     }
     let is_all = right != 0 && right == names.len();
@@ -44,27 +47,54 @@ fn main(rt: HostRuntime) -> Result<ExitCode, anyhow::Error> {
     Ok(ExitCode::from(u8::from(!is_all)))
 }
 
-/// Prints what is wrong with the conversation of this name.
-fn tell(rt: &HostRuntime, name: &str, wrong: Wrong) -> io::Result<()> {
+/// Whether each run of the conversation of this name is right. Prints what is wrong of those that are not.
+fn is_right<R: Threads + Wait + Sync + AllocGlobal + Print>(
+    rt: &R,
+    name: &str,
+    conversation: &Conversation,
+) -> Result<bool, anyhow::Error> {
+    let mut is_right = true;
+    let mut run = 0usize;
+    for words in &conversation.runs {
+        run = run.saturating_add(1);
+        if let Some(wrong) = first_wrong(rt, rt.alloc(), conversation, words.as_slice())? {
+            tell(rt, name, run, wrong)?;
+            is_right = false;
+        }
+    }
+    Ok(is_right)
+}
+
+/// Prints what is wrong with a run of the conversation of this name, the first of which has the number 1.
+fn tell<R: Print>(rt: &R, name: &str, run: usize, wrong: Wrong) -> io::Result<()> {
     match wrong {
-        Wrong::Whole(difference) => tell_difference(rt, name, "", difference),
-        Wrong::Small(difference) => tell_difference(rt, name, "in small pieces, ", difference),
-        Wrong::Read(call) => println!(rt; "{name}: read {call} fails, and the run ends wrong"),
-        Wrong::Write(call) => println!(rt; "{name}: write {call} fails, and the run ends wrong"),
+        Wrong::Whole(difference) => tell_difference(rt, name, run, "", difference),
+        Wrong::Small(difference) => {
+            tell_difference(rt, name, run, "in small pieces, ", difference)
+        }
+        Wrong::Read(call) => println!(rt;
+            "{name}, run {run}: read {call} fails, and the run ends wrong"
+        ),
+        Wrong::Write(call) => println!(rt;
+            "{name}, run {run}: write {call} fails, and the run ends wrong"
+        ),
     }
 }
 
 /// Prints where a run is otherwise than it has to be.
-fn tell_difference(
-    rt: &HostRuntime,
+fn tell_difference<R: Print>(
+    rt: &R,
     name: &str,
+    run: usize,
     how: &str,
     difference: Difference,
 ) -> io::Result<()> {
     match difference {
-        Difference::Status(status) => println!(rt; "{name}: {how}its status is {status}"),
+        Difference::Status(status) => println!(rt;
+            "{name}, run {run}: {how}its status is {status}"
+        ),
         Difference::Line(number) => println!(rt;
-            "{name}: {how}line {number} of its text is another"
+            "{name}, run {run}: {how}line {number} of its text is another"
         ),
     }
 }

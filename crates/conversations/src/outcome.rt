@@ -2,7 +2,9 @@
 
 use crate::conversation::Conversation;
 use dcd_base::{Bytes, MemSink, MemSource, NoMemory};
-use std::alloc::Global;
+use std::alloc::{AllocGlobal, Global};
+use std::sync::Wait;
+use std::thread::Threads;
 
 /// How the ends of a run behave.
 #[derive(Clone, Copy, Debug, PartialEq, Eq)]
@@ -34,11 +36,12 @@ pub(crate) struct Outcome {
 }
 
 impl Outcome {
-    /// Runs the conversation over such ends.
-    pub(crate) fn of<R>(
+    /// Runs the conversation by these words over such ends.
+    pub(crate) fn of<R: Threads + Wait + Sync + AllocGlobal>(
         rt: &R,
         alloc: Global,
         conversation: &Conversation,
+        words: &[String],
         ends: Ends,
     ) -> Result<Outcome, NoMemory> {
         let script = Bytes::from_slice(alloc, conversation.script.as_slice())?;
@@ -46,7 +49,6 @@ impl Outcome {
         let write_fails = Vec::from_slice(alloc, &[ends.failing_write])?;
         let mut source = MemSource::new(script, ends.read.max(1), read_fails);
         let mut sink = MemSink::new(alloc, ends.written.max(1), write_fails);
-        let words = conversation.words.as_slice();
         let program = conversation.program;
         let status = program.run(rt, alloc, words, &mut source, &mut sink);
         Ok(Outcome {

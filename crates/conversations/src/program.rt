@@ -1,11 +1,12 @@
 //! The programs that conversations are with.
 
-use crate::conversation::Conversation;
 use dcd_base::{MemSink, MemSource, NoGate};
 use host_driver::run_driver;
-use script_runner::run;
-use std::alloc::Global;
+use script_runner::{chosen, run};
+use std::alloc::{AllocGlobal, Global};
 use std::io::{self, ErrorKind};
+use std::sync::Wait;
+use std::thread::Threads;
 
 /// A program that reads a script from a source and writes a text to a sink.
 #[derive(Clone, Copy, Debug, PartialEq, Eq)]
@@ -27,7 +28,7 @@ impl Program {
     }
 
     /// Runs it by these words, and answers its exit status.
-    pub(crate) fn run<R>(
+    pub(crate) fn run<R: Threads + Wait + Sync + AllocGlobal>(
         self,
         rt: &R,
         alloc: Global,
@@ -41,11 +42,14 @@ impl Program {
         }
     }
 
-    /// Whether it reads its source in a conversation that it takes the words of.
-    pub(crate) fn reads(self, conversation: &Conversation) -> bool {
+    /// Whether it reads its source in a run by these words that ends with this status.
+    pub(crate) fn reads(self, words: &[String], status: u8) -> bool {
         match self {
-            Program::Dcdsim => conversation.words.is_empty(),
-            Program::HostDriver => conversation.status != USAGE,
+            Program::Dcdsim => match chosen(words) {
+                Some(choice) => choice.seed.is_none(),
+                None => false,
+            },
+            Program::HostDriver => status != USAGE,
         }
     }
 }

@@ -1,9 +1,11 @@
-//! The runs of a conversation: whole, in small pieces, and with a read or a write that fails.
+//! A run of a conversation, tried whole, in small pieces, and with a read or a write that fails.
 
 use crate::conversation::Conversation;
 use crate::outcome::{Difference, Ends, Outcome};
 use dcd_base::NoMemory;
-use std::alloc::Global;
+use std::alloc::{AllocGlobal, Global};
+use std::sync::Wait;
+use std::thread::Threads;
 
 /// How many of the first reads, and how many of the first writes, fail in turn.
 const MOST_FAILING: usize = 40;
@@ -30,7 +32,7 @@ const READ_FAULT: u8 = 5;
 /// The exit status after a failed write.
 const WRITE_FAULT: u8 = 6;
 
-/// What comes out otherwise than it should in the runs of a conversation.
+/// What comes out otherwise than it should where a conversation is run by some words.
 #[derive(Clone, Copy, Debug, PartialEq, Eq)]
 pub(crate) enum Wrong {
     /// The run with whole reads and writes.
@@ -44,39 +46,41 @@ pub(crate) enum Wrong {
 }
 
 /// What a run over such ends comes to otherwise than the conversation has to.
-fn difference_of<R>(
+fn difference_of<R: Threads + Wait + Sync + AllocGlobal>(
     rt: &R,
     alloc: Global,
     conversation: &Conversation,
+    words: &[String],
     ends: Ends,
 ) -> Result<Option<Difference>, NoMemory> {
-    Ok(Outcome::of(rt, alloc, conversation, ends)?.difference(conversation))
+    Ok(Outcome::of(rt, alloc, conversation, words, ends)?.difference(conversation))
 }
 
-/// What first comes out otherwise than it should in the runs of the conversation.
-pub(crate) fn first_wrong<R>(
+/// What first comes out otherwise than it should where the conversation is run by these words.
+pub(crate) fn first_wrong<R: Threads + Wait + Sync + AllocGlobal>(
     rt: &R,
     alloc: Global,
     conversation: &Conversation,
+    words: &[String],
 ) -> Result<Option<Wrong>, NoMemory> {
-    if let Some(difference) = difference_of(rt, alloc, conversation, WHOLE)? {
+    if let Some(difference) = difference_of(rt, alloc, conversation, words, WHOLE)? {
         return Ok(Some(Wrong::Whole(difference)));
     }
-    if let Some(difference) = difference_of(rt, alloc, conversation, SMALL)? {
+    if let Some(difference) = difference_of(rt, alloc, conversation, words, SMALL)? {
         return Ok(Some(Wrong::Small(difference)));
     }
-    if let Some(call) = wrong_read(rt, alloc, conversation)? {
+    if let Some(call) = wrong_read(rt, alloc, conversation, words)? {
         return Ok(Some(Wrong::Read(call)));
     }
-    if let Some(call) = wrong_write(rt, alloc, conversation)? {
+    if let Some(call) = wrong_write(rt, alloc, conversation, words)? {
         return Ok(Some(Wrong::Write(call)));
     }
     Ok(None)
 }
 
 /// How many reads of few bytes the run makes: none where the program does not read, else one more than give bytes.
-fn reads_of(conversation: &Conversation) -> usize {
-    if conversation.program.reads(conversation) {
+fn reads_of(conversation: &Conversation, words: &[String]) -> usize {
+    if conversation.program.reads(words, conversation.status) {
         conversation
             .script
             .len()
@@ -89,18 +93,19 @@ fn reads_of(conversation: &Conversation) -> usize {
 
 /// The first of the reads whose failure does not end the run with nothing written. The failure of a read that the run
 /// does not come to changes nothing.
-fn wrong_read<R>(
+fn wrong_read<R: Threads + Wait + Sync + AllocGlobal>(
     rt: &R,
     alloc: Global,
     conversation: &Conversation,
+    words: &[String],
 ) -> Result<Option<usize>, NoMemory> {
-    let reads = reads_of(conversation);
+    let reads = reads_of(conversation, words);
     for call in 1..MOST_FAILING.min(reads.saturating_add(1)).saturating_add(1) {
         let ends = Ends {
             failing_read: call as u64,
             ..SMALL
         };
-        let outcome = Outcome::of(rt, alloc, conversation, ends)?;
+        let outcome = Outcome::of(rt, alloc, conversation, words, ends)?;
         let is_right = if call <= reads {
             outcome.is(READ_FAULT, &[])
         } else {
@@ -114,10 +119,11 @@ fn wrong_read<R>(
 }
 
 /// The first of the writes whose failure does not end the run with just what the writes before it took.
-fn wrong_write<R>(
+fn wrong_write<R: Threads + Wait + Sync + AllocGlobal>(
     rt: &R,
     alloc: Global,
     conversation: &Conversation,
+    words: &[String],
 ) -> Result<Option<usize>, NoMemory> {
     let text = conversation.text.as_slice();
     let mut taken = 0usize;
@@ -129,7 +135,7 @@ fn wrong_write<R>(
             failing_write: call as u64,
             ..SMALL
         };
-        let outcome = Outcome::of(rt, alloc, conversation, ends)?;
+        let outcome = Outcome::of(rt, alloc, conversation, words, ends)?;
         let (front, _) = text.split_at(taken);
         if !outcome.is(WRITE_FAULT, front) {
             return Ok(Some(call));

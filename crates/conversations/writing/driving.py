@@ -45,7 +45,7 @@ class Driven(Talk):
         """The end, with the driver's table."""
         case = self.end(hosts, manager, free=free, dirty=dirty)
         text = case.text[:-1] + [f"end {self.entries}"] + [f"ext {start} {length}" for start, length in table]
-        return Case(text, case.script, self.words, program="host_driver")
+        return Case(text, case.script, [self.words], program="host_driver")
 
 
 def driven():
@@ -222,14 +222,14 @@ def one_of_sixteen(host):
 
 
 def refuses(*words):
-    return Case(["usage: host_driver"], words=words, status=USAGE, program="host_driver")
+    return Case(["usage: host_driver"], runs=[words], status=USAGE, program="host_driver")
 
 
 CASES = {
     **played(driven, driven_without_room, driven_by_tag, driven_to_the_limit),
     **{f"driven-host-{host}": one_of_sixteen(host) for host in range(HOSTS)},
-    "driven-no-such-host": Case([], two_regions() + b"\0", ("2", "0"), NO_SUCH_HOST, program="host_driver"),
-    "driven-refused": Case(["script refused: 1 at 0"], b"DCDX", ("0", "0"), REFUSED, program="host_driver"),
+    "driven-no-such-host": Case([], two_regions() + b"\0", [("2", "0")], NO_SUCH_HOST, program="host_driver"),
+    "driven-refused": Case(["script refused: 1 at 0"], b"DCDX", [("0", "0")], REFUSED, program="host_driver"),
     "driver-words-of-three-digits": refuses("000", "0"),
     "driver-words-of-19-digits": refuses("0", "0000000000000000000"),
     "driver-words-of-one": refuses("0"),

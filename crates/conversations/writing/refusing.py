@@ -58,7 +58,7 @@ REGION_1 = bytes([2, 1]) + bytes(6) + region_part(B, 1, 4 * M, M, 1, 1) + counts
 
 CASES = {
     **played(refused_commands),
-    "no-lines": Talk(two_regions()).end([NOTHING, NOTHING]),
+    "no-lines": Talk(two_regions()).end([NOTHING, NOTHING], runs=WITHOUT_WORDS + BOTH),
     "most-lines": Case(Talk(two_regions()).end([NOTHING, NOTHING]).text, MARKS + b"\0"),
     "get-configuration": asks_for_regions(1, REGION_1),
     "no-such-region": asks_for_regions(2, INVALID_INPUT),

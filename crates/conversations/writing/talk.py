@@ -11,15 +11,57 @@ T = bytes(range(1, 17))
 # A host without extents and without records.
 NOTHING = (0, 0, [])
 
-# What a run without words and without faults ends with, and the statuses of refused words and of a refused script.
+# What a run without faults ends with, and the statuses of refused words and of a refused script.
 DONE, USAGE, REFUSED = 0, 2, 3
+
+# The words of runs: in serial mode, in both modes, and of a run without words, which is in threads mode.
+SERIAL = (("--mode", "serial"),)
+BOTH = SERIAL + (("--mode", "threads"),)
+WITHOUT_WORDS = ((),)
+
+
+def lines_of(script):
+    """Each line of a script that is accepted: its bytes, and its pass, which is its actor byte, or None for a mark."""
+    at = head_length(script)
+    while script[at] != 0:
+        kind, actor = script[at], script[at + 1]
+        end = at + (4 + int.from_bytes(script[at + 2:at + 4], "little") if kind == 1 else {2: 10, 3: 18, 4: 3, 5: 1}[kind])
+        yield script[at:end], None if kind == 5 else 0xFF if kind == 4 else actor
+        at = end
+
+
+def head_length(script):
+    hosts, regions = script[8], script[9]
+    return 16 + 40 * regions + 8 * hosts * regions
+
+
+def is_alike(script):
+    """Whether the text is the same in both modes: all lines are of one pass, or they are commands and turns and no phase has lines of two passes.
+
+    In threads mode a load or a store may stand before a command of another pass that does not change its granules, marks or not.
+    """
+    passes = {its_pass for _, its_pass in lines_of(script)} - {None}
+    accesses = any(line[0] in (2, 3) for line, _ in lines_of(script))
+    return len(passes) <= 1 or not accesses and not any(needs_marks(script))
+
+
+def needs_marks(script):
+    """For each line of a script that is accepted whether a mark has to stand before it, so that no phase has lines of two passes."""
+    last = None
+    for _, its_pass in lines_of(script):
+        yield None not in (last, its_pass) and its_pass != last
+        last = its_pass
 
 
 class Case:
-    """The bytes of a script, or None; the words of the command line; the exit status, the lines of the text, and the program, or None for dcdsim."""
+    """The bytes of a script, or None; the words of each run; the exit status, the lines of the text, and the program, or None for dcdsim.
 
-    def __init__(self, text, script=None, words=(), status=DONE, program=None):
-        self.text, self.script, self.words, self.status, self.program = text, script, words, status, program
+    Where no words are given it is run in both modes if it is refused or its text is the same in both, and else in serial mode.
+    """
+
+    def __init__(self, text, script=None, runs=None, status=DONE, program=None):
+        self.text, self.script, self.status, self.program = text, script, status, program
+        self.runs = (BOTH if status == REFUSED or is_alike(script) else SERIAL) if runs is None else runs
 
     def write(self, path):
         if self.program is not None:
@@ -28,9 +70,8 @@ class Case:
         if self.script is not None:
             with open(path + ".dcds", "wb") as file:
                 file.write(self.script)
-        if self.words:
-            with open(path + ".words", "w") as file:
-                file.write("".join(word + "\n" for word in self.words))
+        with open(path + ".words", "w") as file:
+            file.write("\n".join("".join(word + "\n" for word in words) for words in self.runs))
         if self.status != DONE:
             with open(path + ".status", "w") as file:
                 file.write(f"{self.status}\n")
@@ -98,7 +139,7 @@ class Talk:
     def scrub(self, most, zeroed):
         self.put(scrub(most), "sz", f"sc {zeroed}")
 
-    def end(self, hosts, manager=(), missed=0, free=20, dirty=0):
+    def end(self, hosts, manager=(), missed=0, free=20, dirty=0, runs=None):
         """The whole conversation; of each host its extents, their granules, and the records in its log; then the manager's records."""
         for host, (_, _, records) in enumerate(hosts):
             self.text += [f"rec h{host} {it.hex()}" for it in records]
@@ -108,4 +149,4 @@ class Talk:
         self.text.append(f"fm log {len(manager)} missed {missed}")
         self.text.append(f"granules free {free} dirty {dirty}")
         self.text.append(f"end {len(self.lines) - self.marks}")
-        return Case(self.text, self.head + b"".join(self.lines) + b"\0")
+        return Case(self.text, self.head + b"".join(self.lines) + b"\0", runs)

@@ -19,6 +19,25 @@ def memory():
     return talk.end([NOTHING, NOTHING])
 
 
+def two_hosts():
+    """Two hosts get a block each, use it at the same time, and clear their logs."""
+    talk = Talk(two_regions())
+    talk.manager(offer(0, FREE, 0, M), SUCCESS)
+    talk.manager(offer(1, FREE, 0, M), SUCCESS)
+    talk.mark()
+    talk.host(0, respond([(0, M)]), SUCCESS)
+    talk.host(1, respond([(B + M, M)]), SUCCESS)
+    talk.mark()
+    talk.store(0, 0, 7)
+    talk.load(0, 0, 7)
+    talk.store(1, B + M, 8)
+    talk.load(1, B + M, 8)
+    talk.host(0, clear_events([1]), SUCCESS)
+    talk.host(1, clear_events([1]), SUCCESS)
+    talk.manager(clear_events([1, 2]), SUCCESS)
+    return talk.end([(1, 1, []), (1, 1, [])], free=18)
+
+
 def refused_accesses():
     """The three reasons for which a load or a store is refused, in their order."""
     talk = Talk(two_regions())
@@ -159,4 +178,4 @@ def shared_memory():
     return talk.end([(0, 0, [record(1, ADD, 0, at_0, 63, 31)]), (0, 0, of_1)], told)
 
 
-CASES = played(memory, refused_accesses, stored_words, one_host_alone, four_hosts, lanes, shared_memory)
+CASES = played(memory, two_hosts, refused_accesses, stored_words, one_host_alone, four_hosts, lanes, shared_memory)

@@ -15,21 +15,24 @@ SUMMARY = [
 ]
 
 
-def generates(*words):
-    return Case(SUMMARY, words=words)
+def generates(*runs):
+    return Case(SUMMARY, runs=[run.split(" ") for run in runs])
 
 
-def refuses(*words):
-    return Case(["usage: dcdsim [--gen N]"], words=words, status=USAGE)
+def refuses(*runs):
+    return Case(["usage: dcdsim [--mode serial|threads] [--gen N]"], runs=[run.split(" ") for run in runs], status=USAGE)
 
 
 CASES = {
-    "generated": generates("--gen", "5"),
-    "generated-by-one-word": generates("--gen=5"),
-    "generated-by-18-digits": generates("--gen", "000000000000000005"),
-    "words-of-19-digits": refuses("--gen", "0000000000000000005"),
-    "words-of-two-seeds": refuses("--gen", "1", "--gen", "1"),
-    "words-without-a-seed": refuses("--gen="),
-    "words-without-a-number": refuses("--gen", "5a"),
-    "words-of-another-kind": refuses("--mode", "fast"),
+    "generated": generates("--gen 5", "--mode serial --gen 5", "--gen 5 --mode threads"),
+    "generated-by-one-word": generates("--gen=5", "--gen=5 --mode=serial", "--mode=threads --gen=5"),
+    "generated-by-18-digits": generates("--mode=serial --gen 000000000000000005", "--gen=000000000000000005 --mode threads"),
+    "words-of-19-digits": refuses("--gen 0000000000000000005", "--mode serial --gen=0000000000000000005"),
+    "words-of-two-seeds": refuses("--gen 1 --gen 1", "--gen=1 --mode=serial --gen=1"),
+    "words-of-two-modes": refuses("--mode serial --mode threads", "--mode=serial --mode=serial", "--mode=serial --gen 1 --mode serial"),
+    "words-of-an-unknown-mode": refuses("--mode fast", "--mode=fast", "--mode=Serial --gen 1", "--gen 1 --mode thread"),
+    "words-of-another-kind": refuses("serial", "--threads", "--mode serial fast", "--gen 1 1"),
+    "words-without-a-mode": refuses("--mode", "--mode=", "--mode --gen 1", "--gen 1 --mode", "--mode =serial"),
+    "words-without-a-seed": refuses("--gen", "--gen=", "--gen --mode serial", "--mode serial --gen"),
+    "words-without-a-number": refuses("--gen 5a", "--gen=-5", "--mode=serial --gen=5a"),
 }

@@ -1,5 +1,5 @@
-//! `dcdsim`: reads a script from standard input, runs it on the device, and prints its replies, logs and holdings. Where
-//! it ends otherwise, it says on standard error why.
+//! `dcdsim`: reads a script from standard input, runs it on the device, in threads or serially, and prints its replies, logs
+//! and holdings. Where it ends otherwise, it says on standard error why.
 #![tactic(auto)]
 
 mod fault_words;
@@ -11,15 +11,18 @@ use crate::watched::Watched;
 use dcd_base::NoGate;
 use edge_io::{StdSink, StdSource, words};
 use script_codec::ScriptFault;
-use script_runner::{Status, run_and_leave};
+use script_runner::{Status, chosen, run_and_leave};
+use std::alloc::AllocGlobal;
 use std::fmt::Display;
 use std::io::{IsTerminal, Stdin, Stdout};
 use std::process::ExitCode;
+use std::sync::Wait;
+use std::thread::Threads;
 
 /// Runs what the words of the command line ask for, and exits with its status.
 fn main(rt: HostRuntime) -> ExitCode {
     let status = match words(&rt) {
-        Ok(words) => run_words(&rt, words.as_slice()),
+        Ok(words) => run_words(&rt, &rt, words.as_slice()),
         Err(_) => {
             say(&rt, NO_MEMORY);
             Status::NoMemory
@@ -28,16 +31,29 @@ fn main(rt: HostRuntime) -> ExitCode {
     ExitCode::from(status.number())
 }
 
-/// Hands `run_and_leave` the words, standard input and standard output, and answers its status.
-fn run_words(rt: &HostRuntime, words: &[String]) -> Status {
-    if words.is_empty() && rt.stdin().is_terminal() {
+/// Hands `run_and_leave` the words, standard input and standard output, and answers its status. The runtime comes twice,
+/// since only `main` knows that it may start threads.
+fn run_words<R: Threads + Wait + Sync + AllocGlobal>(
+    threads: &R,
+    rt: &HostRuntime,
+    words: &[String],
+) -> Status {
+    if asks_for_source(words) && rt.stdin().is_terminal() {
         say(rt, "it waits for a script on standard input");
     }
     let mut source = Watched::new(rt.alloc(), StdSource::new(rt.stdin()));
     let mut sink = StdSink::new(rt.stdout());
-    let status = run_and_leave(rt, rt.alloc(), words, &mut source, &mut sink, &NoGate);
+    let status = run_and_leave(threads, rt.alloc(), words, &mut source, &mut sink, &NoGate);
     say_why(rt, status, &source, &sink);
     status
+}
+
+/// Whether the words ask for the script on standard input.
+fn asks_for_source(words: &[String]) -> bool {
+    match chosen(words) {
+        Some(choice) => choice.seed.is_none(),
+        None => false,
+    }
 }
 
 /// What is said where memory was wanted.
@@ -45,7 +61,7 @@ const NO_MEMORY: &str = "memory was wanted and not to be had; nothing is written
 
 /// What is said where the words are refused.
 const USAGE: &str =
-    "it takes no words and a script on standard input, or --gen N with 1 to 18 digits";
+    "it takes --mode serial or --mode threads, and a script on standard input or --gen N with 1 to 18 digits";
 
 /// Says why a run ended that is not done.
 fn say_why(

@@ -4,6 +4,7 @@ ghost use Rattle.region_config.specs.Granules.{granule_total};
 ghost use Rattle.std.specs.Prelude.{◌≡◌, ◌<◌, IfOk, length};
 
 use crate::fixtures::{BASE, M, are_runs, listed, run, two_regions};
+use crate::seeing::see;
 use dcd_base::{HostId, NoMemory, RegionId, Run, Runs, Tag};
 use dcd_codes::{Refusal, Rule};
 use granule_map::{GranuleMap, GranuleState};
@@ -39,7 +40,7 @@ fn all_but(alloc: Global, granules: u32, taken: Run) -> Result<GranuleMap, NoMem
 const MANY: u64 = 1 << 40;
 
 /// The first granule of the area, the granules of a block, how many blocks are wanted, and what Free chooses.
-const FREE: [(u32, u32, u64, Chosen); 3] = [
+static FREE: [(u32, u32, u64, Chosen); 3] = [
     (0, 1, 4, Ok(&[(0, 2), (3, 2)])),
     (0, 2, 2, Ok(&[(0, 2), (4, 2)])),
     (
@@ -54,7 +55,7 @@ const FREE: [(u32, u32, u64, Chosen); 3] = [
 ];
 
 /// The same, and what Contiguous chooses.
-const CONTIGUOUS: [(u32, u32, u64, Chosen); 3] = [
+static CONTIGUOUS: [(u32, u32, u64, Chosen); 3] = [
     (0, 1, 3, Ok(&[(3, 3)])),
     (2, 2, 6, Ok(&[(4, 12)])),
     (
@@ -72,13 +73,13 @@ const CONTIGUOUS: [(u32, u32, u64, Chosen); 3] = [
 fn see_choices(rt: &impl Abort, alloc: Global, map: &GranuleMap)
     requires { length map.now.states ≡ 16 }
 {
-    for (first, block, need, expected) in FREE {
-        let answer = free(alloc, map, run(first, 16 - first), block, need);
-        assert!(rt; is_chosen(&answer, expected), "{first}, {block}, {need}");
+    for (first, block, need, expected) in &FREE {
+        let answer = free(alloc, map, run(*first, 16 - *first), *block, *need);
+        see(rt, &(*need, is_chosen(&answer, *expected)), &(*need, true));
     }
-    for (first, block, need, expected) in CONTIGUOUS {
-        let answer = contiguous(alloc, map, run(first, 16 - first), block, need);
-        assert!(rt; is_chosen(&answer, expected), "{first}, {block}, {need}");
+    for (first, block, need, expected) in &CONTIGUOUS {
+        let answer = contiguous(alloc, map, run(*first, 16 - *first), *block, *need);
+        see(rt, &(*need, is_chosen(&answer, *expected)), &(*need, true));
     }
 }
 
@@ -94,7 +95,8 @@ fn see_parts(rt: &impl Abort, alloc: Global, map: &GranuleMap)
 {
     let one = free(alloc, map, run(0, 128), 1, 1);
     let all = free(alloc, map, run(0, 128), 1, 127);
-    assert!(rt; is_chosen(&one, Ok(&[(0, 1)])) && is_chosen(&all, Ok(&[(0, 1), (2, 126)])));
+    see(rt, &is_chosen(&one, Ok(&[(0, 1)])), &true);
+    see(rt, &is_chosen(&all, Ok(&[(0, 1), (2, 126)])), &true);
 }
 
 #[test]
@@ -120,7 +122,7 @@ const GOOD: (u64, u64) = (6 * M, 4 * M);
 const LOW: (u64, u64) = (2 * M, 2 * M);
 
 /// The region, the list of host 0, and what Prescriptive chooses.
-const PRESCRIBED: [(u8, &[(u64, u64)], Chosen); 15] = [
+static PRESCRIBED: [(u8, &[(u64, u64)], Chosen); 15] = [
     (0, &[GOOD, LOW], Ok(&[(6, 4), (2, 2)])),
     (1, &[(BASE, 8 * M)], Ok(&[(16, 8)])),
     (0, &[], Err(Rule::EmptyList)),
@@ -172,16 +174,22 @@ fn see_prescribed(rt: &impl Abort, alloc: Global, map: &GranuleMap, config: &Con
 {
     for (i, (region, ranges, expected)) in PRESCRIBED.iter().enumerate() {
         let answer = prescribed(alloc, map, config, *region, ranges);
-        assert!(rt; is_chosen(&answer, *expected), "list {i}");
+        see(rt, &(i, is_chosen(&answer, *expected)), &(i, true));
     }
+}
+
+/// Sees what is chosen of the device's granules.
+fn see_lists(rt: &impl Abort, alloc: Global, config: &Config) -> Result<(), NoMemory>
+    requires { config.now.hosts ≡ 2 }
+{
+    see_prescribed(rt, alloc, &map_of(alloc, config)?, config);
+    Ok(())
 }
 
 #[test]
 fn a_prescribed_list_is_taken_in_its_order_or_breaks_its_first_rule(
     rt: HostRuntime,
 ) -> Result<(), Fail> {
-    let config = two_regions(rt.alloc(), 2 * M)?;
-    let map = map_of(rt.alloc(), &config)?;
-    see_prescribed(&rt, rt.alloc(), &map, &config);
+    see_lists(&rt, rt.alloc(), &two_regions(rt.alloc(), 2 * M)?)?;
     Ok(())
 }

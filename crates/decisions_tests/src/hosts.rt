@@ -4,6 +4,7 @@ ghost use Rattle.host_lists.specs.Lists.{extent_total};
 ghost use Rattle.std.specs.Prelude.{◌≡◌, ◌≤◌, IfOk};
 
 use crate::fixtures::{M, extent, listed, one_region};
+use crate::seeing::{see, see_list};
 use dcd_base::{Extents, HostId, NoMemory, RegionId, Tag};
 use host_lists::{HostLists, Responded};
 use region_config::Config;
@@ -17,11 +18,8 @@ fn one_offer(alloc: Global) -> Result<HostLists, NoMemory>
     ensures { IfOk result (λ lists. extent_total lists ≤ 64) }
 {
     let mut lists = HostLists::new(alloc);
-    let extents = Extents::from_slice(
-        alloc,
-        &[extent(0, 6 * M, 7, 0), extent(8 * M, 2 * M, 0, 0)],
-    )?;
-    lists.offer(RegionId(0), extents)?;
+    let extents = [extent(0, 6 * M, 7, 0), extent(8 * M, 2 * M, 0, 0)];
+    lists.offer(RegionId(0), Extents::from_slice(alloc, &extents)?)?;
     Ok(lists)
 }
 
@@ -51,14 +49,20 @@ fn counts(lists: &HostLists) -> (usize, usize, u32, u32, u32)
     )
 }
 
-#[test]
-fn offers_are_counted_with_their_tags(rt: HostRuntime) -> Result<(), Fail> {
-    let lists = copied(rt.alloc())?;
+/// Sees the tag offered, the counts, and that nothing is accepted.
+fn see_counts(rt: &impl Abort, lists: &HostLists)
+    requires { extent_total lists.now ≤ 64 }
+{
     let tag = Tag([7; 16]);
     let found = (lists.has_offered(&tag), lists.has_accepted(&tag));
-    assert_eq!(rt; found, (true, false));
-    assert_eq!(rt; counts(&lists), (2, 2, 62, 31, 2));
-    assert_eq!(rt; (lists.generation(), lists.accepted().len()), (0, 0));
+    see(rt, &found, &(true, false));
+    see(rt, &counts(lists), &(2, 2, 62, 31, 2));
+    see(rt, &(lists.generation(), lists.accepted().len()), &(0, 0));
+}
+
+#[test]
+fn offers_are_counted_with_their_tags(rt: HostRuntime) -> Result<(), Fail> {
+    see_counts(&rt, &copied(rt.alloc())?);
     Ok(())
 }
 
@@ -74,18 +78,23 @@ fn see_response(
 {
     let list = listed(alloc, &[(0, 6 * M)])?;
     let answer = lists.respond(config, HostId(0), &list, true);
-    assert!(rt; matches!(answer, Ok(Responded::Held)));
-    assert_eq!(rt; lists.responses().as_slice(), list.as_slice());
+    see(rt, &matches!(answer, Ok(Responded::Held)), &true);
+    see_list(rt, lists.responses().as_slice(), list.as_slice());
     lists.drop_responses();
-    assert!(rt; lists.responses().is_empty());
+    see(rt, &lists.responses().is_empty(), &true);
     Ok(())
+}
+
+/// Sees that for a host that has the offer.
+fn see_offered(rt: &impl Abort, alloc: Global, config: &Config) -> Result<(), NoMemory>
+    requires { config.now.hosts ≡ 1 }
+{
+    see_response(rt, alloc, &mut one_offer(alloc)?, config)
 }
 
 #[test]
 fn a_response_is_held_until_it_is_let_go(rt: HostRuntime) -> Result<(), Fail> {
-    let config = one_region(rt.alloc())?;
-    let mut lists = one_offer(rt.alloc())?;
-    see_response(&rt, rt.alloc(), &mut lists, &config)?;
+    see_offered(&rt, rt.alloc(), &one_region(rt.alloc())?)?;
     Ok(())
 }
 
@@ -101,17 +110,22 @@ fn see_release(
 {
     let list = listed(alloc, &[(0, 6 * M)])?;
     let answer = lists.give_back(config, HostId(0), &list, true);
-    assert!(rt; matches!(answer, Ok(GivenBack::Held)));
-    assert_eq!(rt; lists.releases().as_slice(), list.as_slice());
+    see(rt, &matches!(answer, Ok(GivenBack::Held)), &true);
+    see_list(rt, lists.releases().as_slice(), list.as_slice());
     lists.drop_releases();
-    assert!(rt; lists.releases().is_empty());
+    see(rt, &lists.releases().is_empty(), &true);
     Ok(())
+}
+
+/// Sees that for a host that has accepted nothing.
+fn see_released(rt: &impl Abort, alloc: Global, config: &Config) -> Result<(), NoMemory>
+    requires { config.now.hosts ≡ 1 }
+{
+    see_release(rt, alloc, &mut one_offer(alloc)?, config)
 }
 
 #[test]
 fn a_release_is_held_until_it_is_let_go(rt: HostRuntime) -> Result<(), Fail> {
-    let config = one_region(rt.alloc())?;
-    let mut lists = one_offer(rt.alloc())?;
-    see_release(&rt, rt.alloc(), &mut lists, &config)?;
+    see_released(&rt, rt.alloc(), &one_region(rt.alloc())?)?;
     Ok(())
 }

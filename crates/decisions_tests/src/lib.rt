@@ -15,3 +15,5 @@ mod offers;
 mod releases;
 #[cfg(test)]
 mod scrubs;
+#[cfg(test)]
+mod seeing;

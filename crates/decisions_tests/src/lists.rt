@@ -3,6 +3,7 @@
 ghost use Rattle.std.specs.Prelude.{◌≡◌};
 
 use crate::fixtures::{BASE, M, extent, two_regions};
+use crate::seeing::see;
 use dcd_base::{Extent, HostId, NoMemory, RegionId};
 use dcd_codes::Rule;
 use list_rules::*;
@@ -14,7 +15,7 @@ use std::test::Fail;
 const HOST: HostId = HostId(0);
 
 /// The named region, the start and the length of the extent of index 7, and the rule that it breaks.
-const PLACED: [(u8, u64, u64, Option<Rule>); 7] = [
+static PLACED: [(u8, u64, u64, Option<Rule>); 7] = [
     (0, 2 * M, 2 * M, None),
     (0, 2 * M, 0, Some(Rule::ZeroLength(7))),
     (0, 15 * M, 2 * M, Some(Rule::OutsideRegion(7))),
@@ -38,12 +39,12 @@ fn regions_at(config: &Config) -> (RegionId, RegionId)
 fn see_places(rt: &impl Abort, config: &Config)
     requires { config.now.hosts ≡ 2 }
 {
-    for (region, start, length, broken) in PLACED {
-        let placed = extent(start, length, 0, 0);
-        let found = misplaced(config, HOST, RegionId(region), 7, &placed);
-        assert_eq!(rt; found, broken, "{start:x}, {length:x}");
+    for (region, start, length, broken) in &PLACED {
+        let placed = extent(*start, *length, 0, 0);
+        let found = misplaced(config, HOST, RegionId(*region), 7, &placed);
+        see(rt, &(*start, *length, found), &(*start, *length, *broken));
     }
-    assert_eq!(rt; regions_at(config), (RegionId(1), RegionId(0)));
+    see(rt, &regions_at(config), &(RegionId(1), RegionId(0)));
 }
 
 #[test]
@@ -73,13 +74,18 @@ fn an_extent_is_marked_as_the_one_that_it_lies_in(rt: HostRuntime) {
         shares_address(&owners, &part),
         shares_address(&owners, &extent(4 * M, M, 0, 0)),
     ];
-    assert_eq!(rt; shared, [Some(Rule::Overlap { index: 3, with: 1 }), None]);
+    see(
+        &rt,
+        &shared,
+        &[Some(Rule::Overlap { index: 3, with: 1 }), None],
+    );
     let lies = [
         is_in(&owners, &part),
         is_in(&owners, &extent(BASE + 4 * M, 4 * M, 0, 0)),
     ];
-    assert_eq!(rt; lies, [true, false]);
-    assert_eq!(rt; marked(&owners, &part), extent(BASE + 2 * M, 2 * M, 1, 2));
+    see(&rt, &lies, &[true, false]);
+    let whole = extent(BASE + 2 * M, 2 * M, 1, 2);
+    see(&rt, &marked(&owners, &part), &whole);
 }
 
 /// What a part of a shared extent breaks, and a part of another.
@@ -104,13 +110,19 @@ fn tags_broken(alloc: Global, config: &Config) -> Result<[Option<Rule>; 2], NoMe
     ])
 }
 
+/// Sees what parts break, and what lists of a shared tag.
+fn see_shared(rt: &impl Abort, alloc: Global, config: &Config) -> Result<(), NoMemory>
+    requires { config.now.hosts ≡ 2 }
+{
+    see(rt, &parts_broken(config), &[Some(Rule::NotWhole(3)), None]);
+    let one_of_two = Rule::TagIncomplete { listed: 1, need: 2 };
+    see(rt, &tags_broken(alloc, config)?, &[Some(one_of_two), None]);
+    Ok(())
+}
+
 #[test]
 fn a_shared_tag_is_listed_whole_and_once(rt: HostRuntime) -> Result<(), Fail> {
-    let alloc = rt.alloc();
-    let config = two_regions(alloc, 2 * M)?;
-    assert_eq!(rt; parts_broken(&config), [Some(Rule::NotWhole(3)), None]);
-    let one_of_two = Rule::TagIncomplete { listed: 1, need: 2 };
-    assert_eq!(rt; tags_broken(alloc, &config)?, [Some(one_of_two), None]);
+    see_shared(&rt, rt.alloc(), &two_regions(rt.alloc(), 2 * M)?)?;
     Ok(())
 }
 
@@ -118,7 +130,7 @@ fn a_shared_tag_is_listed_whole_and_once(rt: HostRuntime) -> Result<(), Fail> {
 fn sixty_four_extents_are_not_too_many(rt: HostRuntime) {
     let list = [extent(0, M, 0, 0); 65];
     let listed = [too_many_listed(&list), too_many_listed(&list[1..])];
-    assert_eq!(rt; listed, [Some(Rule::TooManyListed(65)), None]);
+    see(&rt, &listed, &[Some(Rule::TooManyListed(65)), None]);
     let held = [too_many_extents(65), too_many_extents(64)];
-    assert_eq!(rt; held, [Some(Rule::TooManyExtents(65)), None]);
+    see(&rt, &held, &[Some(Rule::TooManyExtents(65)), None]);
 }

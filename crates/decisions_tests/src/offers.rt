@@ -5,6 +5,7 @@ ghost use Rattle.offer_core.specs.Offerings.{lists_of};
 ghost use Rattle.std.specs.Prelude.{◌+◌, ◌<◌, ◌≤◌, IfOk, length};
 
 use crate::fixtures::{BASE, M, extent, listed, one_region, two_regions};
+use crate::seeing::{see, see_list};
 use dcd_base::{Extent, Extents, HostId, NoMemory, RegionId};
 use dcd_codes::Refusal::{self, Broken};
 use dcd_codes::Rule;
@@ -89,8 +90,26 @@ fn respond_with(
 /// The ranges of a response, whether more follows, and what it comes to.
 type Case = (&'static [(u64, u64)], bool, Result<Told, Refusal>);
 
-/// Sees what each response comes to, one after another, that a range is held where more follows, and what is accepted.
+/// Sees what each response comes to, one after another, and that a range is held where more follows.
 fn see_answers(
+    rt: &impl Abort,
+    offers: &mut Offers,
+    config: &Config,
+    cases: &[Case],
+    accepted: &mut Extents,
+)
+    requires host { 0 < config.now.hosts }
+    requires few { count_in (lists_of offers.old.offers) ≤ 64 }
+{
+    for (ranges, more, told) in cases {
+        let answer = respond_with(offers, config, ranges, *more, accepted);
+        let held = usize::from(*more);
+        see(rt, &(answer, offers.held().len()), &(*told, held));
+    }
+}
+
+/// Sees what the responses come to, and what is accepted.
+fn see_accepted(
     rt: &impl Abort,
     alloc: Global,
     offers: &mut Offers,
@@ -102,16 +121,12 @@ fn see_answers(
     requires few { count_in (lists_of offers.old.offers) ≤ 64 }
 {
     let mut accepted = Extents::new(alloc);
-    for (ranges, more, told) in cases {
-        let answer = respond_with(offers, config, ranges, *more, &mut accepted);
-        assert_eq!(rt; answer, *told);
-        assert_eq!(rt; offers.held().len(), usize::from(*more));
-    }
-    assert_eq!(rt; accepted.as_slice(), expected);
+    see_answers(rt, offers, config, cases, &mut accepted);
+    see_list(rt, accepted.as_slice(), expected);
 }
 
 /// Two offers, of 3 MiB from 0 on and of 1 MiB at 5, are answered.
-const IN_TURN: [Case; 7] = [
+static IN_TURN: [Case; 7] = [
     (&[(5 * M, M)], false, Err(Broken(Rule::NotOffered(0)))),
     (&[(0, 2 * M)], true, Ok(Told::Held)),
     (
@@ -125,16 +140,23 @@ const IN_TURN: [Case; 7] = [
     (&[], false, Ok(Told::Nothing)),
 ];
 
+/// Sees both offers answered in turn.
+fn see_in_turn(rt: &impl Abort, alloc: Global, config: &Config) -> Result<(), NoMemory>
+    requires { 0 < config.now.hosts }
+{
+    let two = [extent(0, 3 * M, 7, 0), extent(5 * M, M, 2, 0)];
+    let mut offers = two_offers(alloc, &two[..1], &two[1..])?;
+    see(rt, &(offers.len(), offers.extents()), &(2, 2));
+    see_accepted(rt, alloc, &mut offers, config, &IN_TURN, &two);
+    see(rt, &offers.is_empty(), &true);
+    Ok(())
+}
+
 #[test]
 fn offers_are_answered_oldest_first_and_counted_from_the_held_list(
     rt: HostRuntime,
 ) -> Result<(), Fail> {
-    let config = two_regions(rt.alloc(), M)?;
-    let two = [extent(0, 3 * M, 7, 0), extent(5 * M, M, 2, 0)];
-    let mut offers = two_offers(rt.alloc(), &two[..1], &two[1..])?;
-    assert_eq!(rt; (offers.len(), offers.extents()), (2, 2));
-    see_answers(&rt, rt.alloc(), &mut offers, &config, &IN_TURN, &two);
-    assert!(rt; offers.is_empty());
+    see_in_turn(&rt, rt.alloc(), &two_regions(rt.alloc(), M)?)?;
     Ok(())
 }
 
@@ -159,7 +181,7 @@ fn respond_with_row(
 }
 
 /// The extents of a row and their length, whether more follows, and what the response comes to.
-const ROWS: [((u64, u64), bool, Result<Told, Refusal>); 5] = [
+static ROWS: [((u64, u64), bool, Result<Told, Refusal>); 5] = [
     ((40, 0), true, Ok(Told::Held)),
     ((25, 0), true, Err(Broken(Rule::TooManyListed(65)))),
     ((64, M), false, Err(Broken(Rule::TooManyExtents(65)))),
@@ -168,29 +190,35 @@ const ROWS: [((u64, u64), bool, Result<Told, Refusal>); 5] = [
 ];
 
 /// Sees what each row comes to, one after another, and how many offers are left and extents accepted.
-fn see_rows(rt: &impl Abort, alloc: Global, offers: &mut Offers, config: &Config)
+fn see_rows(rt: &impl Abort, offers: &mut Offers, config: &Config, accepted: &mut Extents)
     requires host { 0 < config.now.hosts }
     requires few { count_in (lists_of offers.old.offers) ≤ 64 }
 {
-    let mut accepted = Extents::new(alloc);
-    for (row, more, told) in ROWS {
-        let answer = respond_with_row(offers, config, row, more, &mut accepted);
-        assert_eq!(rt; answer, told);
+    for (row, more, told) in &ROWS {
+        let answer = respond_with_row(offers, config, *row, *more, accepted);
+        see(rt, &answer, told);
     }
-    assert_eq!(rt; (offers.len(), accepted.len()), (0, 63));
+    see(rt, &(offers.len(), accepted.len()), &(0, 63));
+}
+
+/// Sees the rows answered, where 70 MiB and then one are offered.
+fn see_long_lists(rt: &impl Abort, alloc: Global, config: &Config) -> Result<(), NoMemory>
+    requires { 0 < config.now.hosts }
+{
+    let (first, later) = (extent(0, 70 * M, 1, 0), extent(100 * M, M, 2, 0));
+    let mut offers = two_offers(alloc, &[first], &[later])?;
+    see_rows(rt, &mut offers, config, &mut Extents::new(alloc));
+    Ok(())
 }
 
 #[test]
 fn lists_and_held_lists_have_at_most_64_extents(rt: HostRuntime) -> Result<(), Fail> {
-    let config = one_region(rt.alloc())?;
-    let (first, later) = (extent(0, 70 * M, 1, 0), extent(100 * M, M, 2, 0));
-    let mut offers = two_offers(rt.alloc(), &[first], &[later])?;
-    see_rows(&rt, rt.alloc(), &mut offers, &config);
+    see_long_lists(&rt, rt.alloc(), &one_region(rt.alloc())?)?;
     Ok(())
 }
 
 /// An offer of two extents of one tag in the shareable region is answered.
-const SHARED: [Case; 3] = [
+static SHARED: [Case; 3] = [
     (&[(BASE, M)], false, Err(Broken(Rule::NotWhole(0)))),
     (
         &[(BASE, 2 * M)],
@@ -204,21 +232,30 @@ const SHARED: [Case; 3] = [
     ),
 ];
 
+/// An offering of these extents in the shareable region.
+fn shared_offer(alloc: Global, extents: &[Extent]) -> Result<Offers, NoMemory>
+    requires { length extents.now ≤ 8 }
+    ensures { IfOk result (λ offers. count_in (lists_of offers.offers) ≤ 64) }
+{
+    let mut offers = Offers::new(alloc);
+    offers.reserve(1)?;
+    offer(&mut offers, alloc, 1, extents)?;
+    Ok(offers)
+}
+
+/// Sees a shared offer answered.
+fn see_shared(rt: &impl Abort, alloc: Global, config: &Config) -> Result<(), NoMemory>
+    requires { 0 < config.now.hosts }
+{
+    let two = [extent(BASE, 2 * M, 7, 1), extent(BASE + 3 * M, M, 7, 2)];
+    let mut offers = shared_offer(alloc, &two)?;
+    see_accepted(rt, alloc, &mut offers, config, &SHARED, &[two[1], two[0]]);
+    Ok(())
+}
+
 #[test]
 fn a_shared_tag_is_accepted_whole(rt: HostRuntime) -> Result<(), Fail> {
-    let config = two_regions(rt.alloc(), M)?;
-    let mut offers = Offers::new(rt.alloc());
-    offers.reserve(1)?;
-    let two = [extent(BASE, 2 * M, 7, 1), extent(BASE + 3 * M, M, 7, 2)];
-    offer(&mut offers, rt.alloc(), 1, &two)?;
-    see_answers(
-        &rt,
-        rt.alloc(),
-        &mut offers,
-        &config,
-        &SHARED,
-        &[two[1], two[0]],
-    );
+    see_shared(&rt, rt.alloc(), &two_regions(rt.alloc(), M)?)?;
     Ok(())
 }
 
@@ -240,7 +277,7 @@ fn told_of(
 }
 
 /// A held range, the ranges of the response, and the rule that is broken.
-const BROKEN: [((u64, u64), &[(u64, u64)], Rule); 12] = [
+static BROKEN: [((u64, u64), &[(u64, u64)], Rule); 12] = [
     ((0, M), &[(M, 0)], Rule::ZeroLength(1)),
     ((0, M), &[(15 * M, 2 * M)], Rule::OutsideRegion(1)),
     ((0, M), &[(u64::MAX - M + 1, 2 * M)], Rule::OutsideRegion(1)),
@@ -267,8 +304,9 @@ const BROKEN: [((u64, u64), &[(u64, u64)], Rule); 12] = [
 fn see_broken(rt: &impl Abort, alloc: Global, config: &Config)
     requires { 0 < config.now.hosts }
 {
-    for (held, ranges, rule) in BROKEN {
-        assert_eq!(rt; told_of(alloc, config, held, ranges), Err(Broken(rule)));
+    for (held, ranges, rule) in &BROKEN {
+        let told = told_of(alloc, config, *held, *ranges);
+        see(rt, &told, &Err(Broken(*rule)));
     }
 }
 
@@ -278,23 +316,43 @@ fn the_first_broken_rule_names_the_extent_of_the_whole_list(rt: HostRuntime) -> 
     Ok(())
 }
 
-/// How many extents are held in an offering whose held list was dropped, and in the copy that was made before.
-fn held_and_copied(alloc: Global, config: &Config) -> Result<(usize, usize), Refusal>
-    requires { 0 < config.now.hosts }
+/// Two offers of one extent.
+fn two_of_one(alloc: Global) -> Result<Offers, NoMemory>
+    ensures { IfOk result (λ offers. count_in (lists_of offers.offers) ≤ 64) }
 {
-    let two = [extent(0, M, 1, 0), extent(5 * M, M, 2, 0)];
-    let mut offers = two_offers(alloc, &two[..1], &two[1..])?;
-    let mut accepted = Extents::new(alloc);
-    let _ = respond_with(&mut offers, config, &[(0, M)], true, &mut accepted)?;
+    two_offers(alloc, &[extent(0, M, 1, 0)], &[extent(5 * M, M, 2, 0)])
+}
+
+/// Has a range held, and drops the held list: how many extents are held in the offering then, and in the copy that was
+/// made before.
+fn held_and_copied(offers: &mut Offers, config: &Config) -> Result<(usize, usize), Refusal>
+    requires host { 0 < config.now.hosts }
+    requires few { count_in (lists_of offers.old.offers) ≤ 64 }
+{
+    let mut accepted = Extents::new(offers.held().allocator());
+    let _ = respond_with(offers, config, &[(0, M)], true, &mut accepted)?;
     let copy = offers.copy()?;
     offers.drop_held();
     Ok((offers.held().len(), copy.held().len()))
 }
 
+/// Sees one extent held in the copy alone.
+fn see_copy(rt: &impl Abort, alloc: Global, config: &Config) -> Result<(), NoMemory>
+    requires { 0 < config.now.hosts }
+{
+    let found = held_and_copied(&mut two_of_one(alloc)?, config);
+    see(rt, &found, &Ok((0, 1)));
+    Ok(())
+}
+
+#[test]
+fn a_copy_is_a_list_of_its_own(rt: HostRuntime) -> Result<(), Fail> {
+    see_copy(&rt, rt.alloc(), &two_regions(rt.alloc(), M)?)?;
+    Ok(())
+}
+
 /// How many extents the copy of the later of two offers has.
-fn later_copied(alloc: Global) -> Result<Option<usize>, NoMemory> {
-    let two = [extent(0, M, 1, 0), extent(5 * M, M, 2, 0)];
-    let offers = two_offers(alloc, &two[..1], &two[1..])?;
+fn later_copied(offers: &Offers) -> Result<Option<usize>, NoMemory> {
     if offers.len() < 2 {
         return Ok(None);
     }
@@ -302,9 +360,8 @@ fn later_copied(alloc: Global) -> Result<Option<usize>, NoMemory> {
 }
 
 #[test]
-fn a_copy_is_a_list_of_its_own(rt: HostRuntime) -> Result<(), Fail> {
-    let config = two_regions(rt.alloc(), M)?;
-    assert_eq!(rt; held_and_copied(rt.alloc(), &config), Ok((0, 1)));
-    assert_eq!(rt; later_copied(rt.alloc())?, Some(1));
+fn an_offer_is_copied(rt: HostRuntime) -> Result<(), Fail> {
+    let found = later_copied(&two_of_one(rt.alloc())?)?;
+    see(&rt, &found, &Some(1));
     Ok(())
 }

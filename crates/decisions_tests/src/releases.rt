@@ -3,6 +3,7 @@
 ghost use Rattle.std.specs.Prelude.{◌≡◌, ◌+◌, ◌<◌, IfOk, length};
 
 use crate::fixtures::{BASE, M, extent, listed, two_regions};
+use crate::seeing::{see, see_list};
 use dcd_base::{Extent, HostId, NoMemory, RegionId, Tag};
 use dcd_codes::Refusal::{self, Broken};
 use dcd_codes::Rule;
@@ -45,6 +46,14 @@ fn release(
     releases.release(config, HostId(0), accepted, OFFERED, &list, more)
 }
 
+/// The extents that leave.
+fn leaving(answer: &Result<GivenBack, Refusal>) -> &[Extent] {
+    match answer {
+        Ok(GivenBack::Done(leaving)) => leaving.as_slice(),
+        _ => &[],
+    }
+}
+
 /// Sees what leaves in a release of these ranges.
 fn see_leaving(
     rt: &impl Abort,
@@ -57,28 +66,28 @@ fn see_leaving(
     requires host { 0 < config.now.hosts }
     requires few { length accepted.now.extents ≡ 3 }
 {
-    match release(&mut Releases::new(alloc), config, accepted, ranges, false) {
-        Ok(GivenBack::Done(leaving)) => assert_eq!(rt; leaving.as_slice(), expected),
-        _ => assert!(rt; false, "nothing leaves"),
-    }
+    let mut releases = Releases::new(alloc);
+    let answer = release(&mut releases, config, accepted, ranges, false);
+    see_list(rt, leaving(&answer), expected);
+}
+
+/// Sees what leaves in a release of two parts of an extent, and of two shared extents.
+fn see_parts(rt: &impl Abort, alloc: Global, config: &Config, accepted: &ExtentList)
+    requires host { 0 < config.now.hosts }
+    requires few { length accepted.now.extents ≡ 3 }
+{
+    let parts = [extent(5 * M, M, 7, 0), extent(0, M, 7, 0)];
+    let listed = [(5 * M, M), (0, M)];
+    see_leaving(rt, alloc, config, accepted, &listed, &parts);
+    let shared = [extent(BASE + 3 * M, M, 9, 2), extent(BASE, 2 * M, 9, 1)];
+    let listed = [(BASE + 3 * M, M), (BASE, 2 * M)];
+    see_leaving(rt, alloc, config, accepted, &listed, &shared);
 }
 
 #[test]
 fn what_leaves_has_the_tag_of_its_extent(rt: HostRuntime) -> Result<(), Fail> {
-    let alloc = rt.alloc();
-    let (config, accepted) = (two_regions(alloc, M)?, accepted(alloc)?);
-    let parts = [extent(5 * M, M, 7, 0), extent(0, M, 7, 0)];
-    see_leaving(
-        &rt,
-        alloc,
-        &config,
-        &accepted,
-        &[(5 * M, M), (0, M)],
-        &parts,
-    );
-    let shared = [extent(BASE + 3 * M, M, 9, 2), extent(BASE, 2 * M, 9, 1)];
-    let listed = [(BASE + 3 * M, M), (BASE, 2 * M)];
-    see_leaving(&rt, alloc, &config, &accepted, &listed, &shared);
+    let config = two_regions(rt.alloc(), M)?;
+    see_parts(&rt, rt.alloc(), &config, &accepted(rt.alloc())?);
     Ok(())
 }
 
@@ -104,7 +113,7 @@ fn held(releases: &Releases) -> Result<usize, NoMemory> {
 }
 
 /// The ranges of a release, whether more follows, what it comes to, and how many extents are held then.
-const IN_TURN: [(&[(u64, u64)], bool, Result<Told, Refusal>, usize); 6] = [
+static IN_TURN: [(&[(u64, u64)], bool, Result<Told, Refusal>, usize); 6] = [
     (&[(0, 2 * M)], true, Ok(Told::Held), 1),
     (
         &[(M, M)],
@@ -119,25 +128,26 @@ const IN_TURN: [(&[(u64, u64)], bool, Result<Told, Refusal>, usize); 6] = [
 ];
 
 /// Sees what each release comes to, one after another.
-fn see_in_turn(rt: &impl Abort, releases: &mut Releases, config: &Config, accepted: &ExtentList)
+fn see_in_turn(rt: &impl Abort, alloc: Global, config: &Config, accepted: &ExtentList)
     requires host { 0 < config.now.hosts }
     requires few { length accepted.now.extents ≡ 3 }
 {
-    for (ranges, more, expected, count) in IN_TURN {
-        let answer = told_of(release(releases, config, accepted, ranges, more));
-        assert_eq!(rt; (answer, held(releases)), (expected, Ok(count)));
+    let mut releases = Releases::new(alloc);
+    for (ranges, more, expected, count) in &IN_TURN {
+        let answer = told_of(release(&mut releases, config, accepted, *ranges, *more));
+        see(rt, &(answer, held(&releases)), &(*expected, Ok(*count)));
     }
 }
 
 #[test]
 fn lists_with_more_are_held_until_a_refusal(rt: HostRuntime) -> Result<(), Fail> {
-    let (config, accepted) = (two_regions(rt.alloc(), M)?, accepted(rt.alloc())?);
-    see_in_turn(&rt, &mut Releases::new(rt.alloc()), &config, &accepted);
+    let config = two_regions(rt.alloc(), M)?;
+    see_in_turn(&rt, rt.alloc(), &config, &accepted(rt.alloc())?);
     Ok(())
 }
 
 /// A range that is released behind 1 MiB at 4 MiB, and what that comes to.
-const RELEASED: [((u64, u64), Result<Told, Refusal>); 9] = [
+static RELEASED: [((u64, u64), Result<Told, Refusal>); 9] = [
     ((0, 0), Err(Broken(Rule::ZeroLength(1)))),
     ((15 * M, 2 * M), Err(Broken(Rule::OutsideRegion(1)))),
     ((M / 2, M), Err(Broken(Rule::Unaligned(1)))),
@@ -156,21 +166,22 @@ const RELEASED: [((u64, u64), Result<Told, Refusal>); 9] = [
 ];
 
 /// Sees what the release of each range of the table comes to, one after another.
-fn see_released(rt: &impl Abort, releases: &mut Releases, config: &Config, accepted: &ExtentList)
+fn see_released(rt: &impl Abort, alloc: Global, config: &Config, accepted: &ExtentList)
     requires host { 0 < config.now.hosts }
     requires few { length accepted.now.extents ≡ 3 }
 {
-    for (range, expected) in RELEASED {
-        let first = told_of(release(releases, config, accepted, &[(4 * M, M)], true));
-        let answer = told_of(release(releases, config, accepted, &[range], false));
-        assert_eq!(rt; (first, answer), (Ok(Told::Held), expected));
+    let mut releases = Releases::new(alloc);
+    for (range, expected) in &RELEASED {
+        let first = told_of(release(&mut releases, config, accepted, &[(4 * M, M)], true));
+        let answer = told_of(release(&mut releases, config, accepted, &[*range], false));
+        see(rt, &(first, answer), &(Ok(Told::Held), *expected));
     }
 }
 
 #[test]
 fn each_rule_of_a_release_counts_from_the_held_list(rt: HostRuntime) -> Result<(), Fail> {
-    let (config, accepted) = (two_regions(rt.alloc(), M)?, accepted(rt.alloc())?);
-    see_released(&rt, &mut Releases::new(rt.alloc()), &config, &accepted);
+    let config = two_regions(rt.alloc(), M)?;
+    see_released(&rt, rt.alloc(), &config, &accepted(rt.alloc())?);
     Ok(())
 }
 
@@ -188,14 +199,12 @@ fn remove(
 {
     let (host, region) = (HostId(0), RegionId(region));
     let list = listed(alloc, ranges)?;
-    let _ = removal(
-        alloc, config, host, accepted, OFFERED, region, &list, forced,
-    )?;
+    let _ = removal(config, host, accepted, OFFERED, region, &list, forced)?;
     Ok(())
 }
 
 /// The region of a removal, its ranges, whether it is forced, and the rule that it breaks.
-const REMOVED: [(u8, &[(u64, u64)], bool, Result<(), Refusal>); 14] = [
+static REMOVED: [(u8, &[(u64, u64)], bool, Result<(), Refusal>); 14] = [
     (2, &[(0, M)], true, Err(Broken(Rule::NoSuchRegion(2)))),
     (0, &[], false, Err(Broken(Rule::EmptyList))),
     (
@@ -238,16 +247,16 @@ fn see_removed(rt: &impl Abort, alloc: Global, config: &Config, accepted: &Exten
     requires host { 0 < config.now.hosts }
     requires few { length accepted.now.extents ≡ 3 }
 {
-    for (region, ranges, forced, expected) in REMOVED {
-        let answer = remove(alloc, config, accepted, region, ranges, forced);
-        assert_eq!(rt; answer, expected);
+    for (region, ranges, forced, expected) in &REMOVED {
+        let answer = remove(alloc, config, accepted, *region, *ranges, *forced);
+        see(rt, &answer, expected);
     }
 }
 
 #[test]
 fn each_rule_of_a_removal(rt: HostRuntime) -> Result<(), Fail> {
-    let (config, accepted) = (two_regions(rt.alloc(), M)?, accepted(rt.alloc())?);
-    see_removed(&rt, rt.alloc(), &config, &accepted);
+    let config = two_regions(rt.alloc(), M)?;
+    see_removed(&rt, rt.alloc(), &config, &accepted(rt.alloc())?);
     Ok(())
 }
 
@@ -259,14 +268,20 @@ fn refused(alloc: Global, accepted: &ExtentList, tag: u8) -> Option<Refusal> {
 #[test]
 fn a_tag_stands_for_its_extents_in_order(rt: HostRuntime) -> Result<(), Fail> {
     let accepted = accepted(rt.alloc())?;
-    let broken = [Some(Broken(Rule::ZeroTag)), Some(Broken(Rule::NoSuchTag))];
+    let leaving = by_tag(rt.alloc(), &accepted, &Tag([9; 16]))?;
+    let expected = [extent(BASE + 3 * M, M, 9, 2), extent(BASE, 2 * M, 9, 1)];
+    see_list(&rt, leaving.as_slice(), &expected);
+    Ok(())
+}
+
+#[test]
+fn no_tag_and_an_unknown_one_stand_for_nothing(rt: HostRuntime) -> Result<(), Fail> {
+    let accepted = accepted(rt.alloc())?;
     let found = [
         refused(rt.alloc(), &accepted, 0),
         refused(rt.alloc(), &accepted, 8),
     ];
-    let leaving = by_tag(rt.alloc(), &accepted, &Tag([9; 16]))?;
-    let expected = [extent(BASE + 3 * M, M, 9, 2), extent(BASE, 2 * M, 9, 1)];
-    assert_eq!(rt; leaving.as_slice(), expected.as_slice());
-    assert_eq!(rt; found, broken);
+    let broken = [Some(Broken(Rule::ZeroTag)), Some(Broken(Rule::NoSuchTag))];
+    see(&rt, &found, &broken);
     Ok(())
 }

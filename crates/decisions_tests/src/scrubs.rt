@@ -4,6 +4,7 @@ ghost use Rattle.region_config.specs.Granules.{granule_total};
 ghost use Rattle.std.specs.Prelude.{◌≡◌, IfOk, length};
 
 use crate::fixtures::{M, are_runs, run, two_regions};
+use crate::seeing::see;
 use dcd_base::{Granule, HostId, NoMemory, Runs};
 use granule_map::{GranuleMap, GranuleState};
 use region_config::Config;
@@ -31,15 +32,22 @@ fn state(held: bool) -> GranuleState {
     }
 }
 
-/// The granules of the device: 1, 2, 4 to 6 and 14 to 17 are dirty, 0 and 3 are held and all others free.
+/// Makes 1, 2, 4 to 6 and 14 to 17 dirty, and has 0 and 3 held.
+fn set_all(map: &mut GranuleMap) -> Result<(), NoMemory>
+    ensures { length map.new.states ≡ length map.old.states }
+{
+    set(map, 0, 7, false)?;
+    set(map, 14, 4, false)?;
+    set(map, 0, 1, true)?;
+    set(map, 3, 1, true)
+}
+
+/// The granules of the device; all others are free.
 fn map_of(alloc: Global, config: &Config) -> Result<GranuleMap, NoMemory>
     ensures { IfOk result (λ map. length map.states ≡ granule_total config.now) }
 {
     let mut map = GranuleMap::new(alloc, config.granules())?;
-    set(&mut map, 0, 7, false)?;
-    set(&mut map, 14, 4, false)?;
-    set(&mut map, 0, 1, true)?;
-    set(&mut map, 3, 1, true)?;
+    set_all(&mut map)?;
     Ok(map)
 }
 
@@ -66,8 +74,11 @@ fn see_turn(
     ensures { length map.new.states ≡ length map.old.states }
 {
     let freed = scrub(alloc, map, config, n)?;
-    assert!(rt; are_runs(&freed, runs));
-    assert_eq!(rt; map.next_dirty(0), next);
+    see(
+        rt,
+        &(are_runs(&freed, runs), map.next_dirty(0)),
+        &(true, next),
+    );
     Ok(())
 }
 
@@ -111,8 +122,8 @@ fn see_dirty(
     requires { length map.now.states ≡ granule_total config.now }
 {
     let found = dirty_runs(alloc, map, config, 6)?;
-    assert!(rt; are_runs(&found, &[(1, 2), (4, 3), (14, 1)]));
-    assert_eq!(rt; map.count(GranuleState::Dirty), 9);
+    see(rt, &are_runs(&found, &[(1, 2), (4, 3), (14, 1)]), &true);
+    see(rt, &map.count(GranuleState::Dirty), &9);
     Ok(())
 }
 
@@ -124,12 +135,17 @@ fn counts(map: &GranuleMap) -> (u32, u32) {
     )
 }
 
+/// Sees the dirty granules of the device, what its turns free, and what is free and held then.
+fn see_device(rt: &impl Abort, alloc: Global, config: &Config) -> Result<(), NoMemory> {
+    let mut map = map_of(alloc, config)?;
+    see_dirty(rt, alloc, &map, config)?;
+    see_turns(rt, alloc, &mut map, config)?;
+    see(rt, &counts(&map), &(22, 2));
+    Ok(())
+}
+
 #[test]
 fn the_lowest_dirty_granules_are_freed_in_runs_of_one_region(rt: HostRuntime) -> Result<(), Fail> {
-    let config = two_regions(rt.alloc(), M)?;
-    let mut map = map_of(rt.alloc(), &config)?;
-    see_dirty(&rt, rt.alloc(), &map, &config)?;
-    see_turns(&rt, rt.alloc(), &mut map, &config)?;
-    assert_eq!(rt; counts(&map), (22, 2));
+    see_device(&rt, rt.alloc(), &two_regions(rt.alloc(), M)?)?;
     Ok(())
 }

@@ -114,7 +114,6 @@ fn extents_meant(
         by_tag(alloc, accepted, &request.tag)
     } else {
         removal(
-            alloc,
             &state.present,
             host,
             accepted,

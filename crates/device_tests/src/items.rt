@@ -2,6 +2,7 @@
 
 ghost use Rattle.std.specs.Prelude.{◌≡◌, IfOk};
 
+use crate::seeing::{see, see_list};
 use cci_codec::{Payload, Request};
 use dcd_base::{
     AccessFault, Actor, Bytes, Extent, Extents, HostId, LogId, NoMemory, RegionId, Stamp, Tag,
@@ -58,21 +59,35 @@ fn told(host: HostId) -> Effect {
 }
 
 /// The manager offers each host a block and sets a block size.
-fn offers(alloc: Global) -> Result<EntryEffects, NoMemory> {
-    let mut effects = Effects::new(alloc);
+fn put_offers(effects: &mut Effects) -> Result<(), NoMemory> {
     effects.push(told(HostId(1)))?;
     effects.push(told(HostId(0)))?;
-    effects.push(Effect::Block(RegionId(0), MIB))?;
+    effects.push(Effect::Block(RegionId(0), MIB))
+}
+
+/// The effects of those offers.
+fn offers(alloc: Global) -> Result<EntryEffects, NoMemory> {
+    let mut effects = Effects::new(alloc);
+    put_offers(&mut effects)?;
     EntryEffects::of(effects)
 }
 
-/// The manager offers and sets; host 0 stores; host 1 loads.
+/// An access of the host.
+fn access(host: u8, act: Act) -> Entry {
+    entry(Actor::Host(HostId(host)), act, EntryEffects::none())
+}
+
+/// Enters that the manager offers and sets, host 0 stores, and host 1 loads.
+fn enter_three(alloc: Global, journal: &mut Journal) -> Result<(), NoMemory> {
+    journal.push(entry(Actor::Manager, Act::Scrub(0), offers(alloc)?))?;
+    journal.push(access(0, Act::Store(2 * MIB, 7)))?;
+    journal.push(access(1, Act::Load(0)))
+}
+
+/// The journal of those entries.
 fn journal(alloc: Global) -> Result<Journal, NoMemory> {
     let mut journal = Journal::new(alloc);
-    journal.push(entry(Actor::Manager, Act::Scrub(0), offers(alloc)?))?;
-    let (store, load) = (Act::Store(2 * MIB, 7), Act::Load(0));
-    journal.push(entry(Actor::Host(HostId(0)), store, EntryEffects::none()))?;
-    journal.push(entry(Actor::Host(HostId(1)), load, EntryEffects::none()))?;
+    enter_three(alloc, &mut journal)?;
     Ok(journal)
 }
 
@@ -89,22 +104,37 @@ fn letter_of(item: &Item) -> u8 {
     }
 }
 
-/// The letters of the items of a host.
-fn letters_of(alloc: Global, journal: &[Entry], host: u8) -> Result<Bytes, NoMemory> {
+/// The letters of items.
+fn letters_of(alloc: Global, items: &[Item]) -> Result<Bytes, NoMemory> {
     let mut letters = Bytes::new(alloc);
-    for item in own_items(alloc, journal, HostId(host))?.iter() {
+    for item in items {
         letters.push(letter_of(item))?;
     }
     Ok(letters)
 }
 
+/// Sees the letters of the items of a host.
+fn see_letters(
+    rt: &impl Abort,
+    alloc: Global,
+    journal: &[Entry],
+    host: u8,
+    expected: &[u8],
+) -> Result<(), NoMemory> {
+    let items = own_items(alloc, journal, HostId(host))?;
+    see_list(
+        rt,
+        letters_of(alloc, items.as_slice())?.as_slice(),
+        expected,
+    );
+    Ok(())
+}
+
 #[test]
 fn a_host_has_its_acts_and_what_is_told_to_it(rt: HostRuntime) -> Result<(), Fail> {
     let journal = journal(rt.alloc())?;
-    let first = letters_of(rt.alloc(), journal.as_slice(), 0)?;
-    assert_eq!(rt; first.as_slice(), b"gbs".as_slice());
-    let second = letters_of(rt.alloc(), journal.as_slice(), 1)?;
-    assert_eq!(rt; second.as_slice(), b"gbl".as_slice());
+    see_letters(&rt, rt.alloc(), journal.as_slice(), 0, b"gbs")?;
+    see_letters(&rt, rt.alloc(), journal.as_slice(), 1, b"gbl")?;
     Ok(())
 }
 
@@ -180,49 +210,58 @@ fn signs_of(alloc: Global, replies: &[SoloReply]) -> Result<Bytes, NoMemory> {
     Ok(signs)
 }
 
-/// What host 0 is replied to the items of the letters, as characters.
-fn replied(alloc: Global, config: &Config, letters: &[u8]) -> Result<Result<Bytes, SoloFault>, Fail>
-    requires { config.now.hosts ≡ 2 }
-{
-    let items = items_of(alloc, letters)?;
-    match solo_replies(alloc, config, HostId(0), items.as_slice()) {
-        Ok(replies) => Ok(Ok(signs_of(alloc, replies.as_slice())?)),
-        Err(fault) => Ok(Err(fault)),
-    }
-}
-
-/// Sees what a host alone is replied, or the fault.
+/// Sees the characters of what host 0 alone is replied to the items of the letters.
 fn see_alone(
     rt: &impl Abort,
     alloc: Global,
-    sanitize: bool,
+    config: &Config,
     letters: &[u8],
-    expected: Result<&[u8], SoloFault>,
-) -> Result<(), Fail> {
-    let config = two_hosts(alloc, sanitize)?;
-    let found = replied(alloc, &config, letters)?;
-    let found = match &found {
-        Ok(signs) => Ok(signs.as_slice()),
-        Err(fault) => Err(*fault),
+    expected: &[u8],
+) -> Result<(), Fail>
+    requires { config.now.hosts ≡ 2 }
+{
+    let items = items_of(alloc, letters)?;
+    let Ok(replies) = solo_replies(alloc, config, HostId(0), items.as_slice()) else {
+        return Err("these items are lawful".into());
     };
-    assert_eq!(rt; found, expected);
+    see_list(
+        rt,
+        signs_of(alloc, replies.as_slice())?.as_slice(),
+        expected,
+    );
     Ok(())
 }
 
-/// Whether the region is sanitized, the items, and the replies or the fault.
-const ALONE: [(bool, &[u8], Result<&[u8], SoloFault>); 4] = [
-    (true, b"gcsltlgcl", Ok(b"cs7nc0")),
-    (false, b"gcl", Ok(b"cu")),
-    (true, &[b'g'; 64], Ok(b"")),
-    (true, &[b'g'; 65], Err(SoloFault::Unlawful(64))),
+/// Whether the region is sanitized, the items, and the replies.
+static ALONE: [(bool, &[u8], &[u8]); 3] = [
+    (true, b"gcsltlgcl", b"cs7nc0"),
+    (false, b"gcl", b"cu"),
+    (true, &[b'g'; 64], b""),
 ];
 
 #[test]
 fn a_host_alone_is_replied_what_it_stored_and_nothing_of_others(
     rt: HostRuntime,
 ) -> Result<(), Fail> {
-    for (sanitize, letters, expected) in ALONE {
-        see_alone(&rt, rt.alloc(), sanitize, letters, expected)?;
+    for (sanitize, letters, expected) in &ALONE {
+        let config = two_hosts(rt.alloc(), *sanitize)?;
+        see_alone(&rt, rt.alloc(), &config, *letters, *expected)?;
     }
+    Ok(())
+}
+
+/// The fault of the items of the letters for host 0 alone.
+fn fault_of(alloc: Global, config: &Config, letters: &[u8]) -> Result<Option<SoloFault>, Fail>
+    requires { config.now.hosts ≡ 2 }
+{
+    let items = items_of(alloc, letters)?;
+    Ok(solo_replies(alloc, config, HostId(0), items.as_slice()).err())
+}
+
+#[test]
+fn a_host_alone_is_not_given_more_than_64_extents(rt: HostRuntime) -> Result<(), Fail> {
+    let config = two_hosts(rt.alloc(), true)?;
+    let fault = fault_of(rt.alloc(), &config, &[b'g'; 65])?;
+    see(&rt, &fault, &Some(SoloFault::Unlawful(64)));
     Ok(())
 }

@@ -1,9 +1,11 @@
 //! Journals that are merged, acts that fit, who holds a granule, and copies.
 
+use crate::seeing::{see, see_list};
 use cci_codec::{Payload, Request, Response};
 use dcd_base::{AccessFault, Actor, Bytes, Extents, Granule, HostId, NoMemory, Run, Stamp};
 use journal_core::{Act, Effect, Effects, Entry, EntryEffects, Journal, Reply, fits, holds, merge};
 use std::alloc::Global;
+use std::process::Abort;
 use std::test::Fail;
 
 /// A load of the host with this stamp.
@@ -20,19 +22,16 @@ fn entry(host: u8, number: u64, count: u64) -> Entry {
 }
 
 /// A journal of loads of the host with these stamps.
-fn journal(alloc: Global, host: u8, stamps: &[(u64, u64)]) -> Result<Journal, Fail> {
+fn journal(alloc: Global, host: u8, stamps: &[(u64, u64)]) -> Result<Journal, NoMemory> {
     let mut journal = Journal::new(alloc);
     for (number, count) in stamps {
-        journal
-            .push(entry(host, *number, *count))
-            .ok()
-            .ok_or("memory")?;
+        journal.push(entry(host, *number, *count))?;
     }
     Ok(journal)
 }
 
 /// The pass and the stamp of each entry.
-fn order(alloc: Global, journal: &Journal) -> Result<Vec<(u32, u64, u64)>, Fail> {
+fn order(alloc: Global, journal: &Journal) -> Result<Vec<(u32, u64, u64)>, NoMemory> {
     let mut order = Vec::new(alloc);
     for entry in journal.as_slice() {
         order.push((entry.pass, entry.stamp.number, entry.stamp.count))?;
@@ -41,21 +40,22 @@ fn order(alloc: Global, journal: &Journal) -> Result<Vec<(u32, u64, u64)>, Fail>
 }
 
 /// The journals of two shards.
-fn two_shards(alloc: Global) -> Result<Vec<Journal>, Fail> {
+fn two_shards(alloc: Global) -> Result<Vec<Journal>, NoMemory> {
     let mut shards = Vec::new(alloc);
     shards.push(journal(alloc, 0, &[(0, 1), (1, 0), (1, 2)])?)?;
     shards.push(journal(alloc, 1, &[(1, 1), (1, 2)])?)?;
     Ok(shards)
 }
 
-/// The order of the merged journal of the control and two shards.
-fn merged(alloc: Global) -> Result<Vec<(u32, u64, u64)>, Fail> {
+/// The order of the merged journal of the control and shards.
+fn order_with(alloc: Global, shards: &[Journal]) -> Result<Vec<(u32, u64, u64)>, NoMemory> {
     let control = journal(alloc, 9, &[(1, 0), (2, 0)])?;
-    let shards = two_shards(alloc)?;
-    let merged = merge(alloc, &control, shards.as_slice())
-        .ok()
-        .ok_or("memory")?;
-    order(alloc, &merged)
+    order(alloc, &merge(alloc, &control, shards)?)
+}
+
+/// The order of the merged journal of the control and two shards.
+fn merged(alloc: Global) -> Result<Vec<(u32, u64, u64)>, NoMemory> {
+    order_with(alloc, two_shards(alloc)?.as_slice())
 }
 
 /// The pass, the number and the count of each entry of the merged journal.
@@ -73,7 +73,7 @@ const MERGED: [(u32, u64, u64); 7] = [
 fn a_merge_is_in_the_order_of_the_stamps_and_the_control_first(
     rt: HostRuntime,
 ) -> Result<(), Fail> {
-    assert_eq!(rt; merged(rt.alloc())?.as_slice(), MERGED.as_slice());
+    see_list(&rt, merged(rt.alloc())?.as_slice(), &MERGED);
     Ok(())
 }
 
@@ -86,6 +86,24 @@ const FITS: [(Actor, [bool; 4]); 5] = [
     (Actor::Sanitizer, [false, false, false, true]),
 ];
 
+/// Whether an access or a scrub fits the actor.
+fn fitting(actor: &Actor) -> (bool, bool, bool) {
+    (
+        fits(2, actor, &Act::Load(0)),
+        fits(2, actor, &Act::Store(0, 1)),
+        fits(2, actor, &Act::Scrub(1)),
+    )
+}
+
+/// Sees which acts fit each actor of the table.
+fn see_fits(rt: &impl Abort, command: &Act) {
+    for (actor, expected) in &FITS {
+        let (load, store, scrub) = fitting(actor);
+        let found = [fits(2, actor, command), load, store, scrub];
+        see(rt, &(*actor, found), &(*actor, *expected));
+    }
+}
+
 #[test]
 fn hosts_command_and_access_the_manager_commands_and_the_sanitizer_scrubs(
     rt: HostRuntime,
@@ -93,17 +111,9 @@ fn hosts_command_and_access_the_manager_commands_and_the_sanitizer_scrubs(
     let command = Act::Command(Request {
         tag: 0,
         opcode: 0x4800,
-        payload: Payload::from_slice(rt.alloc(), &[]).ok().ok_or("memory")?,
+        payload: Payload::from_slice(rt.alloc(), &[])?,
     });
-    for (actor, expected) in FITS {
-        let found = [
-            fits(2, &actor, &command),
-            fits(2, &actor, &Act::Load(0)),
-            fits(2, &actor, &Act::Store(0, 1)),
-            fits(2, &actor, &Act::Scrub(1)),
-        ];
-        assert_eq!(rt; found, expected);
-    }
+    see_fits(&rt, &command);
     Ok(())
 }
 
@@ -127,20 +137,20 @@ fn holding(effects: &mut Effects, effect: Effect) -> Result<[bool; 3], NoMemory>
 }
 
 /// The same after each of four effects.
-fn held(alloc: Global) -> Result<[[bool; 3]; 4], NoMemory> {
-    let mut effects = Effects::new(alloc);
+fn held(effects: &mut Effects) -> Result<[[bool; 3]; 4], NoMemory> {
     Ok([
-        holding(&mut effects, Effect::Zero(two_granules()))?,
-        holding(&mut effects, Effect::Take(HostId(0), two_granules()))?,
-        holding(&mut effects, Effect::Zero(two_granules()))?,
-        holding(&mut effects, Effect::Leave(HostId(0), two_granules()))?,
+        holding(effects, Effect::Zero(two_granules()))?,
+        holding(effects, Effect::Take(HostId(0), two_granules()))?,
+        holding(effects, Effect::Zero(two_granules()))?,
+        holding(effects, Effect::Leave(HostId(0), two_granules()))?,
     ])
 }
 
 #[test]
 fn the_last_take_or_leave_says_who_holds(rt: HostRuntime) -> Result<(), Fail> {
     let (none, taken) = ([false, false, false], [true, false, false]);
-    assert_eq!(rt; held(rt.alloc())?, [none, taken, taken, none]);
+    let found = held(&mut Effects::new(rt.alloc()))?;
+    see(&rt, &found, &[none, taken, taken, none]);
     Ok(())
 }
 
@@ -170,13 +180,23 @@ fn whole(alloc: Global) -> Result<Entry, NoMemory> {
     })
 }
 
+/// A copy of that entry.
+fn copied(alloc: Global) -> Result<Entry, NoMemory> {
+    whole(alloc)?.copy()
+}
+
+/// The payload of a response.
+fn payload_of(reply: &Reply) -> &[u8] {
+    match reply {
+        Reply::Answer(response) => response.payload.as_slice(),
+        _ => &[],
+    }
+}
+
 #[test]
 fn a_copied_entry_has_all_parts(rt: HostRuntime) -> Result<(), Fail> {
-    let copy = whole(rt.alloc())?.copy()?;
-    assert_eq!(rt; (copy.pass, copy.effects.as_slice().len()), (3, 1));
-    let Reply::Answer(response) = &copy.reply else {
-        return Err("the reply is a response".into());
-    };
-    assert_eq!(rt; response.payload.as_slice(), [1, 2].as_slice());
+    let copy = copied(rt.alloc())?;
+    see(&rt, &(copy.pass, copy.effects.as_slice().len()), &(3, 1));
+    see_list(&rt, payload_of(&copy.reply), &[1, 2]);
     Ok(())
 }

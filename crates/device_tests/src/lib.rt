@@ -6,4 +6,6 @@ mod items;
 #[cfg(test)]
 mod journals;
 #[cfg(test)]
+mod seeing;
+#[cfg(test)]
 mod steps;

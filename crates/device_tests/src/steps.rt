@@ -2,9 +2,10 @@
 
 ghost use Rattle.std.specs.Prelude.{◌≡◌, IfOk};
 
+use crate::seeing::see;
 use cci_codec::{Payload, Request};
 use control_core::Control;
-use dcd_base::{AccessFault, Actor, HostId, LogId};
+use dcd_base::{AccessFault, Actor, HostId, LogId, NoMemory};
 use device_plain::Device;
 use event_records::EventKind;
 use journal_core::{Act, Entry, Reply, copies};
@@ -117,37 +118,23 @@ fn five_steps(alloc: Global, device: &mut Device) -> Result<[Told; 4], Fail>
     Ok([offered, accepted, loaded, stored])
 }
 
-/// A device after the five steps.
-fn stepped(rt: &impl Abort, alloc: Global) -> Result<Device, Fail>
-    ensures { IfOk result (λ device. device.config.hosts ≡ 1) }
-{
-    let mut device = device(alloc)?;
-    let told = five_steps(alloc, &mut device)?;
-    let expected = [Told::Success, Told::Success, Told::Zero, Told::NotGranted];
-    assert_eq!(rt; told, expected);
-    Ok(device)
-}
+/// The lines of five entries, and the number and the count of each one's stamp.
+static STAMPS: [(u32, u64, u64); 5] = [(1, 1, 0), (2, 2, 0), (3, 3, 0), (4, 3, 1), (5, 3, 2)];
 
-/// The stamps of five entries, each a number and a count.
-const STAMPS: [(u64, u64); 5] = [(1, 0), (2, 0), (3, 0), (3, 1), (3, 2)];
-
-/// Sees that the entries of pass 4 have the lines from 1 on and these stamps.
+/// Sees that the entries of pass 4 have these lines and stamps.
 fn see_stamps(rt: &impl Abort, journal: &[Entry]) {
-    assert_eq!(rt; journal.len(), STAMPS.len());
-    for (i, (entry, stamp)) in journal.iter().zip(STAMPS.iter()).enumerate() {
-        let place = (entry.pass, entry.line as usize);
-        let found = (entry.stamp.number, entry.stamp.count);
-        assert_eq!(rt; (place, found), ((4, i + 1), *stamp));
+    see(rt, &journal.len(), &STAMPS.len());
+    for (entry, (line, number, count)) in journal.iter().zip(&STAMPS) {
+        let stamp = (entry.stamp.number, entry.stamp.count);
+        let found = (entry.pass, entry.line, stamp);
+        see(rt, &found, &(4, *line, (*number, *count)));
     }
 }
 
-#[test]
-fn steps_are_entered_in_the_journal_with_their_stamps(rt: HostRuntime) -> Result<(), Fail> {
-    let alloc = rt.alloc();
-    let device = stepped(&rt, alloc)?;
-    let journal = copies(alloc, &mut device.journal())?;
-    see_stamps(&rt, journal.as_slice());
-    assert_eq!(rt; device.control().entries().len(), 3);
+/// Sees the stamps of the device's journal, and how many entries are of commands and scrubs.
+fn see_journal(rt: &impl Abort, alloc: Global, device: &Device) -> Result<(), NoMemory> {
+    see_stamps(rt, copies(alloc, &mut device.journal())?.as_slice());
+    see(rt, &device.control().entries().len(), &3);
     Ok(())
 }
 
@@ -188,14 +175,34 @@ fn oldest(control: &Control) -> Option<(EventKind, u16, u64)> {
     Some((record.kind, record.host, record.extent.start))
 }
 
-#[test]
-fn an_accepted_block_is_counted_and_told(rt: HostRuntime) -> Result<(), Fail> {
-    let device = stepped(&rt, rt.alloc())?;
-    let control = device.control();
-    assert_eq!(rt; counts(control), [15, 0, 1, 1, 1, 1]);
-    assert_eq!(rt; lengths(control), [1, 0, 0, 0, 1, 16]);
+/// Sees what is counted and told of the block.
+fn see_accepted(rt: &impl Abort, control: &Control)
+    requires { control.now.config.hosts ≡ 1 }
+{
+    see(rt, &counts(control), &[15, 0, 1, 1, 1, 1]);
+    see(rt, &lengths(control), &[1, 0, 0, 0, 1, 16]);
     let hosts = (control.present().hosts(), control.missed(LogId::Manager));
-    assert_eq!(rt; hosts, (1, 0));
-    assert_eq!(rt; oldest(control), Some((EventKind::AddResponse, 0, 2 * MIB)));
+    see(rt, &hosts, &(1, 0));
+    let record = (EventKind::AddResponse, 0, 2 * MIB);
+    see(rt, &oldest(control), &Some(record));
+}
+
+/// Sees the five steps, their entries, and the block counted and told.
+fn see_steps(rt: &impl Abort, alloc: Global, device: &mut Device) -> Result<(), Fail>
+    requires { device.old.config.hosts ≡ 1 }
+{
+    let told = five_steps(alloc, device)?;
+    let expected = [Told::Success, Told::Success, Told::Zero, Told::NotGranted];
+    see(rt, &told, &expected);
+    see_journal(rt, alloc, device)?;
+    see_accepted(rt, device.control());
     Ok(())
+}
+
+#[test]
+fn steps_are_entered_with_their_stamps_and_a_block_is_counted_and_told(
+    rt: HostRuntime,
+) -> Result<(), Fail> {
+    let mut device = device(rt.alloc())?;
+    see_steps(&rt, rt.alloc(), &mut device)
 }

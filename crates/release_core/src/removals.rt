@@ -30,7 +30,6 @@ use std::alloc::Global;
 ///
 /// `offered` is how many extents the host is offered.
 pub fn removal(
-    alloc: Global,
     config: &Config,
     host: HostId,
     accepted: &ExtentList,
@@ -66,6 +65,7 @@ pub fn removal(
             return Err(Refusal::Broken(rule));
         }
     }
+    let alloc = list.allocator();
     let rule = match incomplete(alloc, config, host, owners, listed)? {
         Some(rule) => Some(rule),
         None if forced => count_rule(accepted, offered, listed)?,

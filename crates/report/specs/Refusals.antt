@@ -38,7 +38,3 @@ refused_at number place = line_of (codes "script" ∷ codes "refused:" ∷ decim
 
 abbrev pub refusal_line : ScriptFault → List ℕ
 refusal_line fault = refused_at (script_fault_number fault) (fault_place fault)
-
--- the words that the program takes
-unfoldable pub usage_line : List ℕ
-usage_line = line_of (codes "usage:" ∷ codes "dcdsim" ∷ codes "[--gen" ∷ codes "N]" ∷ [])

@@ -1,4 +1,4 @@
-//! The printed text of a journal and its summary, and the lines of scripts and words that are refused.
+//! The printed text of a journal and its summary, and the lines of scripts that are refused.
 //!
 //! Whatever is printed goes to a sink in pieces and takes no memory.
 #![tactic(auto)]
@@ -12,5 +12,5 @@ mod rendering;
 mod state_lines;
 mod words;
 
-pub use refusals::{refusal, usage};
+pub use refusals::refusal;
 pub use rendering::{render, summary};

@@ -2,7 +2,7 @@
 
 ghost use Rattle.dcd_base.specs.Streams.{HasRisen, Passes};
 ghost use Rattle.report.specs.Printing.{Puts};
-ghost use Rattle.report.specs.Refusals.{fault_place, refusal_line, refused_at, script_fault_number, usage_line};
+ghost use Rattle.report.specs.Refusals.{fault_place, refusal_line, refused_at, script_fault_number};
 ghost use Rattle.script_codec.specs.declared.faults.ScriptFault.{ScriptFault};
 ghost use Rattle.std.specs.Prelude.{◌≡◌, ◌≢◌, ◌≤◌, [], List, OnErr, OnOk, ℕ};
 
@@ -84,26 +84,4 @@ pub fn refusal<K: Sink>(fault: &ScriptFault, sink: &mut K) -> Result<(), Failed>
     ensures never_falls { K.faults sink.old ≤ K.faults sink.new }
 {
     write_refused_at(number_of(fault), place_of(fault), sink)
-}
-
-/// Writes the line that says which words the program takes.
-///
-/// It takes no memory, and fails as `refusal` does.
-pub fn usage<K: Sink>(sink: &mut K) -> Result<(), Failed>
-    ensures whole { OnOk result (Passes (K.taken sink.old) (K.taken sink.new) [] usage_line) }
-    ensures front { OnErr result ((rest : List ℕ) × Passes (K.taken sink.old) (K.taken sink.new) rest usage_line) }
-    ensures failed { OnErr result (HasRisen (K.faults sink.old) (K.faults sink.new)) }
-    ensures never_falls { K.faults sink.old ≤ K.faults sink.new }
-{
-    let mut printer = Printer::new();
-    put_usage(&mut printer, sink);
-    printer.finish(sink)
-}
-
-/// Puts the line of the words that the program takes.
-#[tactic(auto, unfolding(crate::specs::Refusals::usage_line))]
-fn put_usage<K: Sink>(printer: &mut Printer, sink: &mut K)
-    ensures { Puts K.taken K.faults sink.old printer.old sink.new printer.new usage_line }
-{
-    printer.put(sink, b"usage: dcdsim [--gen N]\n");
 }

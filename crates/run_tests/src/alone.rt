@@ -1,5 +1,6 @@
 //! Each host beside a device that it has alone.
 
+use crate::seeing::{see, see_text};
 use crate::talk::Talk;
 use dcd_base::{Actor, HostId};
 use device_plain::Device;
@@ -12,6 +13,14 @@ use std::alloc::Global;
 use std::process::Abort;
 use std::test::Fail;
 
+/// Sees that two replies are the same.
+fn see_reply(rt: &impl Abort, alloc: Global, alone: &Reply, beside: &Reply) -> Result<(), Fail> {
+    let alone = format!(in alloc; "{alone:?}")?;
+    let beside = format!(in alloc; "{beside:?}")?;
+    see_text(rt, alone.as_str(), beside.as_str());
+    Ok(())
+}
+
 /// Whether a reply is said to the host alone: it is what the device replied then, and else that is a word.
 fn is_said(
     rt: &impl Abort,
@@ -21,13 +30,11 @@ fn is_said(
 ) -> Result<bool, Fail> {
     match alone {
         Some(SoloReply::Said(reply)) => {
-            let alone = format!(in alloc; "{reply:?}")?;
-            let beside = format!(in alloc; "{beside:?}")?;
-            assert_eq!(rt; alone.as_str(), beside.as_str());
+            see_reply(rt, alloc, reply, beside)?;
             Ok(true)
         }
         Some(SoloReply::Unsaid) => {
-            assert!(rt; matches!(beside, Reply::Word(_)));
+            see(rt, &matches!(beside, Reply::Word(_)), &true);
             Ok(false)
         }
         None => Err("an entry that a host alone does not have".into()),
@@ -54,7 +61,7 @@ fn told_beside(
             next = next.wrapping_add(1);
         }
     }
-    assert_eq!(rt; next, replies.len());
+    see(rt, &next, &replies.len());
     Ok((said, unsaid))
 }
 
@@ -67,12 +74,13 @@ fn told_alone(
     host: HostId,
 ) -> Result<(u32, u32), Fail> {
     let config = device.control().config();
-    assert!(rt; host.0 < config.hosts());
+    if host.0 >= config.hosts() {
+        return Err("the device has no such host".into());
+    }
     let kept = copies(alloc, &mut device.journal())?;
-    let journal = kept.as_slice();
-    let items = own_items(alloc, journal, host)?;
+    let items = own_items(alloc, kept.as_slice(), host)?;
     let replies = solo_replies(alloc, config, host, items.as_slice())?;
-    told_beside(rt, alloc, journal, host, replies.as_slice())
+    told_beside(rt, alloc, kept.as_slice(), host, replies.as_slice())
 }
 
 const MIB: u64 = 0x10_0000;
@@ -109,7 +117,7 @@ fn two_hosts(alloc: Global) -> Result<Talk, Fail> {
 /// A host whose part of the first region begins at this MiB gets blocks, in two messages and not all.
 fn put_offer(talk: &mut Talk, alloc: Global, host: u8, at: u16) -> Result<(), Fail> {
     let (first, second) = ((at, 3), (at.wrapping_add(4), 2));
-    talk.places(alloc, 0x5604, [host, 2, 0], 0, 0, &[first, second])?;
+    talk.places(alloc, 0x5604, [host, 2, 0, 0], 0, &[first, second])?;
     talk.lists(alloc, host, 0x4802, false, &[(at.wrapping_add(8), 1)])?;
     talk.lists(alloc, host, 0x4802, true, &[(at, 2)])?;
     talk.lists(alloc, host, 0x4802, false, &[second])?;
@@ -141,19 +149,19 @@ fn put_loss(talk: &mut Talk, alloc: Global, host: u8, at: u16) -> Result<(), Fai
     let (second, fifth) = ((at.wrapping_add(1), 1), (at.wrapping_add(4), 1));
     talk.lists(alloc, host, 0x4803, false, &[second])?;
     // By a list and not forced; the same forced, clean and from a list; and all that is left, forced.
-    talk.places(alloc, 0x5605, [host, 0x01, 0], 0, 0, &[fifth])?;
+    talk.places(alloc, 0x5605, [host, 0x01, 0, 0], 0, &[fifth])?;
     talk.lists(alloc, host, 0x4803, false, &[fifth])?;
-    talk.places(alloc, 0x5605, [host, 0x31, 0], 0, 0, &[(at, 1)])?;
-    talk.places(alloc, 0x5605, [host, 0x10, 0], 0, 0, &[])?;
+    talk.places(alloc, 0x5605, [host, 0x31, 0, 0], 0, &[(at, 1)])?;
+    talk.places(alloc, 0x5605, [host, 0x10, 0, 0], 0, &[])?;
     talk.loads(host, u64::from(at) * MIB + 8)?;
     talk.asks_of(alloc, host, 0x4801, &[10, 0, 0, 0, 0, 0, 0, 0])
 }
 
 /// Both hosts share a block under a tag, load what the other stored, and give it back.
 fn put_sharing(talk: &mut Talk, alloc: Global) -> Result<(), Fail> {
-    talk.places(alloc, 0x5604, [0, 1, 1], 1, 9, &[])?;
+    talk.places(alloc, 0x5604, [0, 1, 1, 9], 1, &[])?;
     talk.lists(alloc, 0, 0x4802, false, &[(256, 1)])?;
-    talk.places(alloc, 0x5604, [1, 3, 1], 0, 9, &[])?;
+    talk.places(alloc, 0x5604, [1, 3, 1, 9], 0, &[])?;
     talk.lists(alloc, 1, 0x4802, false, &[(512, 1)])?;
     talk.stores(0, 256 * MIB, 9)?;
     talk.loads(1, 512 * MIB)?;
@@ -176,7 +184,7 @@ fn put_host(
     put_use(talk, host, start, word)?;
     put_questions(talk, alloc, host, handle)?;
     put_loss(talk, alloc, host, at)?;
-    talk.plays(Actor::Sanitizer, Act::Scrub(scrubbed))
+    talk.plays(Actor::Sanitizer, &Act::Scrub(scrubbed))
 }
 
 /// Both hosts in the same blocks, with turns of the sanitizer, sharing, and a block size that is set.
@@ -190,46 +198,53 @@ fn put_round(talk: &mut Talk, alloc: Global, round: u8) -> Result<(), Fail> {
     talk.asks(alloc, Actor::Manager, 0x5600, &[])
 }
 
-/// The device after twelve rounds.
-fn after_twelve(alloc: Global) -> Result<Device, Fail> {
-    let mut talk = two_hosts(alloc)?;
+/// Plays twelve rounds, and sees what both hosts are told.
+fn see_rounds(rt: &impl Abort, alloc: Global, talk: &mut Talk) -> Result<(), Fail> {
     for round in 0..12 {
-        put_round(&mut talk, alloc, round)?;
+        put_round(talk, alloc, round)?;
     }
-    Ok(talk.into_device())
+    let first = told_alone(rt, alloc, &talk.device, HostId(0))?;
+    let second = told_alone(rt, alloc, &talk.device, HostId(1))?;
+    // A word that was loaded in the shareable region is not said.
+    see(rt, &(first, second), &((276, 0), (264, 12)));
+    Ok(())
 }
 
 #[test]
 fn each_of_two_hosts_is_told_what_it_is_told_alone(rt: HostRuntime) -> Result<(), Fail> {
-    let device = after_twelve(rt.alloc())?;
-    // A word that was loaded in the shareable region is not said.
-    for (host, told) in [(0, (276, 0)), (1, (264, 12))] {
-        assert_eq!(rt; told_alone(&rt, rt.alloc(), &device, HostId(host))?, told);
+    let mut talk = two_hosts(rt.alloc())?;
+    see_rounds(&rt, rt.alloc(), &mut talk)
+}
+
+/// A device of this configuration.
+fn device_of(alloc: Global, config: &Config) -> Result<Talk, Fail> {
+    Ok(Talk::new(Device::new(alloc, config.copy()?)?))
+}
+
+/// Plays all lines, and sees that each host is told something that it is told alone.
+fn see_lines(rt: &impl Abort, alloc: Global, talk: &mut Talk, lines: &[Line]) -> Result<(), Fail> {
+    for line in lines {
+        if let Line::Do { actor, act, .. } = line {
+            talk.plays(*actor, act)?;
+        }
+    }
+    for host in 0..4 {
+        let (said, _) = told_alone(rt, alloc, &talk.device, HostId(host))?;
+        see(rt, &(said != 0), &true);
     }
     Ok(())
 }
 
-/// The device after the script.
-fn ran(alloc: Global, script: Script) -> Result<Device, Fail> {
-    let Script { config, lines, .. } = script;
-    let mut talk = Talk::new(Device::new(alloc, config)?);
-    for line in lines.into_vec() {
-        if let Line::Do { actor, act, .. } = line {
-            talk.plays(actor, act)?;
-        }
-    }
-    Ok(talk.into_device())
+/// Sees that of a script, played by a device of its configuration.
+fn see_script(rt: &impl Abort, alloc: Global, script: &Script) -> Result<(), Fail> {
+    let mut talk = device_of(alloc, &script.config)?;
+    see_lines(rt, alloc, &mut talk, script.lines.as_slice())
 }
 
 #[test]
 fn each_host_of_the_generated_script_is_told_what_it_is_told_alone(
     rt: HostRuntime,
 ) -> Result<(), Fail> {
-    let alloc = rt.alloc();
-    let device = ran(alloc, generate(alloc, 5)?)?;
-    for host in 0..4 {
-        let (said, _) = told_alone(&rt, alloc, &device, HostId(host))?;
-        assert!(rt; said != 0);
-    }
-    Ok(())
+    let script = generate(rt.alloc(), 5)?;
+    see_script(&rt, rt.alloc(), &script)
 }

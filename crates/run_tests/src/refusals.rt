@@ -1,13 +1,15 @@
-//! The line that is printed of a script that is refused, or of words that are not taken.
+//! The line that is printed of a script that is refused.
 
 ghost use Rattle.script_codec.specs.declared.faults.ScriptFault.{ScriptFault};
 
+use crate::seeing::see_list;
 use cci_codec::MessageFault;
 use dcd_base::MemSink;
 use region_config::ConfigFault;
-use report::{refusal, usage};
+use report::refusal;
 use script_codec::ScriptFault;
 use std::alloc::Global;
+use std::process::Abort;
 use std::test::Fail;
 
 /// What is printed of the fault.
@@ -20,7 +22,7 @@ fn line_of(alloc: Global, fault: ScriptFault) -> MemSink {
 }
 
 /// Faults with the number and the place that are printed.
-const FAULTS: [(ScriptFault, u32, u32); 11] = [
+static FAULTS: [(ScriptFault, u32, u32); 11] = [
     (ScriptFault::BadMagic, 1, 0),
     (ScriptFault::BadVersion(9), 2, 4),
     (ScriptFault::BadConfig(ConfigFault::Count), 3, 8),
@@ -41,22 +43,24 @@ const FAULTS: [(ScriptFault, u32, u32); 11] = [
     (ScriptFault::BadLanes(5), 12, 10),
 ];
 
-#[test]
-fn a_refused_script_has_the_number_and_the_place_of_its_fault(rt: HostRuntime) -> Result<(), Fail> {
-    for (fault, number, place) in FAULTS {
-        let line = format!(in rt.alloc(); "script refused: {number} at {place}\n")?;
-        let printed = line_of(rt.alloc(), fault);
-        assert_eq!(rt; printed.taken().as_slice(), line.as_bytes());
-    }
+/// Sees the line of a fault.
+fn see_line(
+    rt: &impl Abort,
+    alloc: Global,
+    fault: ScriptFault,
+    number: u32,
+    place: u32,
+) -> Result<(), Fail> {
+    let line = format!(in alloc; "script refused: {number} at {place}\n")?;
+    let printed = line_of(alloc, fault);
+    see_list(rt, printed.taken().as_slice(), line.as_bytes());
     Ok(())
 }
 
 #[test]
-fn words_that_are_not_taken_have_a_line(rt: HostRuntime) {
-    let mut words = MemSink::new(rt.alloc(), 4, Vec::new(rt.alloc()));
-    assert_eq!(rt; usage(&mut words), Ok(()));
-    assert_eq!(rt;
-        words.taken().as_slice(),
-        b"usage: dcdsim [--gen N]\n".as_slice()
-    );
+fn a_refused_script_has_the_number_and_the_place_of_its_fault(rt: HostRuntime) -> Result<(), Fail> {
+    for (fault, number, place) in &FAULTS {
+        see_line(&rt, rt.alloc(), *fault, *number, *place)?;
+    }
+    Ok(())
 }

@@ -6,10 +6,10 @@
 #![tactic(auto)]
 
 mod faults;
-mod fields;
+pub mod fields;
 mod heads;
 mod laws;
-mod line_bytes;
+pub mod line_bytes;
 mod own_reader;
 mod passes;
 mod reader;

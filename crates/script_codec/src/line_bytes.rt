@@ -99,7 +99,7 @@ fn request_of(alloc: Global, at: usize, message: &[u8]) -> Result<Request, Scrip
 
 /// A message of so many bytes.
 #[tactic(auto, unfolding(crate::specs::Lines::message_from))]
-fn message_at(
+pub fn message_at(
     alloc: Global,
     size: u16,
     bytes: &[u8],

@@ -1,166 +1,117 @@
--- From how a run of the input ends to how the run of what the source has left ends.
-use Rattle.std.proofs.Common.{◌≡◌, ℕ, ◌<◌, ◌≤◌, true, List, [], Option, Some, None, length, take, refl, sym, ap, subst, ◌∙◌, arith, min}
-use Rattle.std.proofs.lemmas.List.{length-take, take_all}
-use Rattle.std.specs.Option.{IfSome}
-use Rattle.dcd_base.specs.Streams.{HasRisen, IsAtEnd, with_front}
+-- What an ending says at each status, and how the ending of a part is that of the whole.
+use Rattle.std.proofs.Common.{◌≡◌, ℕ, List, Option}
+use Rattle.dcd_base.specs.Streams.{HasRisen}
 use Rattle.script_codec.specs.declared.faults.ScriptFault.{ScriptFault}
-use Rattle.script_codec.specs.Reading.{fault_of, first_fault}
 use Rattle.script_runner.specs.declared.status.Status.{Status}
-use Rattle.script_runner.specs.Planning.{EndsFor, IsBegun, IsBegunFor, IsPlanned, IsPlannedFor, NothingFails, IsSoundInput, IsTaken, IsTakenWhole, IsTextOf, IsWritten, IsWrittenFor, TakesBytes, most_read}
-use Rattle.script_runner.proofs.Inputs.{IsInput}
-use Rattle.script_runner.specs.Statuses.{IfWhole, OnDone, OnNothing, OnRead, OnReadFault, OnUsage, OnWriteFault, UnlessFinished}
+use Rattle.script_runner.specs.Endings.{EndsAs, IsFaultPlan}
+use Rattle.script_runner.specs.Planning.{IsBegun, IsWritten}
+use Rattle.script_runner.specs.Statuses.{IfWhole, OnDone, OnNothing, OnRead, OnReadFault, OnWriteFault}
 
--- what holds of the input holds of what was left
-along : (left : Option (List ℕ)) (input : List ℕ) (P : List ℕ → Type 0) → IsInput left input → P input → IfSome left (λ all. P (take most_read all))
-along None input P is p = tt
-along (Some all) input P is p = subst P is p
+module _ {K : Type 0} (plan : Status → List ℕ → Type 0) (unread : Type 0) (taken : K → Option (List ℕ)) (faults : K → ℕ) (old new : K) where
+  pub whole : (status : Status) → EndsAs plan unread taken faults old new status → IfWhole status (IsWritten plan (taken old) (taken new))
+  whole Status.Done ends = ends
+  whole Status.Usage ends = ends
+  whole (Status.ScriptRefused fault) ends = ends
+  whole Status.NoMemory ends = tt
+  whole Status.ReadFault ends = tt
+  whole Status.WriteFault ends = tt
 
--- what is no longer than a script is all that was left
-whole_input : (all input : List ℕ) → input ≡ take most_read all → length input ≤ 16777216 → input ≡ all
-whole_input all input is short =
-    let counted : length input ≡ min most_read (length all) = ap length is ∙ length-take most_read all in
-    is ∙ take_all most_read all (omega (arith, counted, short))
+  pub begun : (status : Status) → EndsAs plan unread taken faults old new status → OnWriteFault status (IsBegun plan (taken old) (taken new))
+  begun Status.Done ends = tt
+  begun Status.Usage ends = tt
+  begun (Status.ScriptRefused fault) ends = tt
+  begun Status.NoMemory ends = tt
+  begun Status.ReadFault ends = tt
+  begun Status.WriteFault ends = ends.0
 
--- so the text of the input is that of all that was left
-all_along : (left : Option (List ℕ)) (input printed : List ℕ) → IsInput left input → IsTextOf input printed → IfSome left (λ all. IsTextOf all printed)
-all_along None input printed is p = tt
-all_along (Some all) input printed is p = subst (λ i. IsTextOf i printed) (whole_input all input is p.reads.short) p
+  pub nothing : (status : Status) → EndsAs plan unread taken faults old new status → OnNothing status (taken new ≡ taken old)
+  nothing Status.Done ends = tt
+  nothing Status.Usage ends = tt
+  nothing (Status.ScriptRefused fault) ends = tt
+  nothing Status.NoMemory ends = ends
+  nothing Status.ReadFault ends = ends.1
+  nothing Status.WriteFault ends = tt
 
-planned : (left : Option (List ℕ)) (input : List ℕ) (status : Status) (printed : List ℕ) → IsInput left input → IsPlannedFor input status printed
-    → IsPlanned true left status printed
-planned left input Status.Done printed is p = (refl, all_along left input printed is p)
-planned left input Status.Usage printed is p = absurd p
-planned left input (Status.ScriptRefused fault) printed is p = (refl, along left input (λ i. IsPlannedFor i (Status.ScriptRefused fault) printed) is p)
-planned left input Status.NoMemory printed is p = absurd p
-planned left input Status.ReadFault printed is p = absurd p
-planned left input Status.WriteFault printed is p = absurd p
+  pub read_fault : (status : Status) → EndsAs plan unread taken faults old new status → OnReadFault status unread
+  read_fault Status.Done ends = tt
+  read_fault Status.Usage ends = tt
+  read_fault (Status.ScriptRefused fault) ends = tt
+  read_fault Status.NoMemory ends = tt
+  read_fault Status.ReadFault ends = ends.0
+  read_fault Status.WriteFault ends = tt
 
-written_from : (left : Option (List ℕ)) (input : List ℕ) (old new : Option (List ℕ)) (status : Status) → IsInput left input
-    → IsWrittenFor input old new status → IsWritten true left old new status
-written_from left input old new status is w = record { printed = w.printed; planned = planned left input status w.printed is w.planned; took = w.took }
+  pub write_fault : (status : Status) → EndsAs plan unread taken faults old new status → OnWriteFault status (HasRisen (faults old) (faults new))
+  write_fault Status.Done ends = tt
+  write_fault Status.Usage ends = tt
+  write_fault (Status.ScriptRefused fault) ends = tt
+  write_fault Status.NoMemory ends = tt
+  write_fault Status.ReadFault ends = tt
+  write_fault Status.WriteFault ends = ends.1
 
-pub whole : (left : Option (List ℕ)) (input : List ℕ) (old new : Option (List ℕ)) (faults count : ℕ) (status : Status) → IsInput left input
-    → EndsFor input old faults new count status → IfWhole status (IsWritten true left old new)
-whole left input old new faults count Status.Done is ends = written_from left input old new Status.Done is ends.0
-whole left input old new faults count Status.Usage is ends = absurd ends
-whole left input old new faults count (Status.ScriptRefused fault) is ends = written_from left input old new (Status.ScriptRefused fault) is ends
-whole left input old new faults count Status.NoMemory is ends = tt
-whole left input old new faults count Status.ReadFault is ends = tt
-whole left input old new faults count Status.WriteFault is ends = tt
+  -- what is planned for the part is planned for the whole
+  module _ (other : Status → List ℕ → Type 0) (unread' : Type 0) (planned : (status : Status) (printed : List ℕ) → plan status printed → other status printed) (missed : unread → unread') where
+    written_so : (status : Status) → IsWritten plan (taken old) (taken new) status → IsWritten other (taken old) (taken new) status
+    written_so status w = record { printed = w.printed; planned = planned status w.printed w.planned; took = w.took }
 
-begun_from : (left : Option (List ℕ)) (input : List ℕ) (old new : Option (List ℕ)) → IsInput left input → IsBegunFor input old new → IsBegun true left old new
-begun_from left input old new is b = record {
-  status = b.status;
-  printed = b.printed;
-  rest = b.rest;
-  planned = planned left input b.status b.printed is b.planned;
-  took = b.took;
-}
+    begun_so : IsBegun plan (taken old) (taken new) → IsBegun other (taken old) (taken new)
+    begun_so b = record { status = b.status; printed = b.printed; rest = b.rest; planned = planned b.status b.printed b.planned; took = b.took }
 
-pub begun : (left : Option (List ℕ)) (input : List ℕ) (old new : Option (List ℕ)) (faults count : ℕ) (status : Status) → IsInput left input
-    → EndsFor input old faults new count status → OnWriteFault status (IsBegun true left old new)
-begun left input old new faults count Status.Done is ends = tt
-begun left input old new faults count Status.Usage is ends = tt
-begun left input old new faults count (Status.ScriptRefused fault) is ends = tt
-begun left input old new faults count Status.NoMemory is ends = tt
-begun left input old new faults count Status.ReadFault is ends = tt
-begun left input old new faults count Status.WriteFault is ends = begun_from left input old new is ends.0
+    pub ends_so : (status : Status) → EndsAs plan unread taken faults old new status → EndsAs other unread' taken faults old new status
+    ends_so Status.Done ends = written_so Status.Done ends
+    ends_so Status.Usage ends = written_so Status.Usage ends
+    ends_so (Status.ScriptRefused fault) ends = written_so (Status.ScriptRefused fault) ends
+    ends_so Status.NoMemory ends = ends
+    ends_so Status.ReadFault ends = (missed ends.0, ends.1)
+    ends_so Status.WriteFault ends = (begun_so ends.0, ends.1)
 
-pub nothing : (input : List ℕ) (old new : Option (List ℕ)) (faults count : ℕ) (status : Status) → EndsFor input old faults new count status
-    → OnNothing status (new ≡ old)
-nothing input old new faults count Status.Done ends = tt
-nothing input old new faults count Status.Usage ends = tt
-nothing input old new faults count (Status.ScriptRefused fault) ends = tt
-nothing input old new faults count Status.NoMemory ends = ends
-nothing input old new faults count Status.ReadFault ends = absurd ends
-nothing input old new faults count Status.WriteFault ends = tt
+-- ---- what holds in any case holds at each status
 
-pub to_the_end : (left : Option (List ℕ)) (input : List ℕ) (old new : Option (List ℕ)) (faults count : ℕ) (status : Status)
-    → (length input < most_read → IsAtEnd left) → EndsFor input old faults new count status → OnDone status (IsAtEnd left)
-to_the_end left input old new faults count Status.Done end ends = end (omega (arith, ends.1))
-to_the_end left input old new faults count Status.Usage end ends = tt
-to_the_end left input old new faults count (Status.ScriptRefused fault) end ends = tt
-to_the_end left input old new faults count Status.NoMemory end ends = tt
-to_the_end left input old new faults count Status.ReadFault end ends = tt
-to_the_end left input old new faults count Status.WriteFault end ends = tt
+pub on_done : (P : Type 0) (status : Status) → P → OnDone status P
+on_done P Status.Done p = p
+on_done P Status.Usage p = tt
+on_done P (Status.ScriptRefused fault) p = tt
+on_done P Status.NoMemory p = tt
+on_done P Status.ReadFault p = tt
+on_done P Status.WriteFault p = tt
 
--- ---- what was taken from the source
+pub on_read : (P : Type 0) (status : Status) → P → OnRead status P
+on_read P Status.Done p = p
+on_read P Status.Usage p = tt
+on_read P (Status.ScriptRefused fault) p = p
+on_read P Status.NoMemory p = tt
+on_read P Status.ReadFault p = tt
+on_read P Status.WriteFault p = p
 
-still : (left : Option (List ℕ)) → left ≡ with_front [] left
-still None = refl
-still (Some all) = refl
+pub done_lifted : (P Q : Type 0) (status : Status) → (P → Q) → OnDone status P → OnDone status Q
+done_lifted P Q Status.Done f p = f p
+done_lifted P Q Status.Usage f p = tt
+done_lifted P Q (Status.ScriptRefused fault) f p = tt
+done_lifted P Q Status.NoMemory f p = tt
+done_lifted P Q Status.ReadFault f p = tt
+done_lifted P Q Status.WriteFault f p = tt
 
--- Nothing was taken.
-pub taken_nothing : (left now : Option (List ℕ)) → now ≡ left → IsTaken left now
-taken_nothing left now same = ([], record { given = still left ∙ ap (with_front []) (sym same); most = omega arith })
+pub read_lifted : (P Q : Type 0) (status : Status) → (P → Q) → OnRead status P → OnRead status Q
+read_lifted P Q Status.Done f p = f p
+read_lifted P Q Status.Usage f p = tt
+read_lifted P Q (Status.ScriptRefused fault) f p = f p
+read_lifted P Q Status.NoMemory f p = tt
+read_lifted P Q Status.ReadFault f p = tt
+read_lifted P Q Status.WriteFault f p = f p
 
-pub taken_whole : (left now : Option (List ℕ)) (input : List ℕ) (old new : Option (List ℕ)) (faults count : ℕ) (status : Status) → TakesBytes input left now
-    → (length input < most_read → IsAtEnd now) → EndsFor input old faults new count status → OnRead status (IsTakenWhole left now)
-taken_whole left now input old new faults count Status.Done takes end ends = (input, takes, end)
-taken_whole left now input old new faults count Status.Usage takes end ends = tt
-taken_whole left now input old new faults count (Status.ScriptRefused fault) takes end ends = (input, takes, end)
-taken_whole left now input old new faults count Status.NoMemory takes end ends = tt
-taken_whole left now input old new faults count Status.ReadFault takes end ends = tt
-taken_whole left now input old new faults count Status.WriteFault takes end ends = (input, takes, end)
+pub unread_lifted : (P Q : Type 0) (status : Status) → (P → Q) → OnReadFault status P → OnReadFault status Q
+unread_lifted P Q Status.Done f p = tt
+unread_lifted P Q Status.Usage f p = tt
+unread_lifted P Q (Status.ScriptRefused fault) f p = tt
+unread_lifted P Q Status.NoMemory f p = tt
+unread_lifted P Q Status.ReadFault f p = f p
+unread_lifted P Q Status.WriteFault f p = tt
 
-pub no_usage : (input : List ℕ) (old new : Option (List ℕ)) (faults count : ℕ) (status : Status) → EndsFor input old faults new count status
-    → OnUsage status ⊥
-no_usage input old new faults count Status.Done ends = tt
-no_usage input old new faults count Status.Usage ends = ends
-no_usage input old new faults count (Status.ScriptRefused fault) ends = tt
-no_usage input old new faults count Status.NoMemory ends = tt
-no_usage input old new faults count Status.ReadFault ends = tt
-no_usage input old new faults count Status.WriteFault ends = tt
-
-pub no_read_fault : (P : Type 0) (input : List ℕ) (old new : Option (List ℕ)) (faults count : ℕ) (status : Status) → EndsFor input old faults new count status
-    → OnReadFault status P
-no_read_fault P input old new faults count Status.Done ends = tt
-no_read_fault P input old new faults count Status.Usage ends = tt
-no_read_fault P input old new faults count (Status.ScriptRefused fault) ends = tt
-no_read_fault P input old new faults count Status.NoMemory ends = tt
-no_read_fault P input old new faults count Status.ReadFault ends = absurd ends
-no_read_fault P input old new faults count Status.WriteFault ends = tt
-
-pub write_fault : (input : List ℕ) (old new : Option (List ℕ)) (faults count : ℕ) (status : Status) → EndsFor input old faults new count status
-    → OnWriteFault status (HasRisen faults count)
-write_fault input old new faults count Status.Done ends = tt
-write_fault input old new faults count Status.Usage ends = tt
-write_fault input old new faults count (Status.ScriptRefused fault) ends = tt
-write_fault input old new faults count Status.NoMemory ends = tt
-write_fault input old new faults count Status.ReadFault ends = tt
-write_fault input old new faults count Status.WriteFault ends = ends.1
-
--- ---- nothing stood in the way, and yet
-
-no_fault : (fault : ScriptFault) → None ≡ Some fault → ⊥
-no_fault fault e = cc
-
-refused_yet : (input : List ℕ) (writes : ℕ × ℕ) (fault : ScriptFault) → first_fault input ≡ Some fault → IsSoundInput input writes → ⊥
-refused_yet input writes fault e sound = no_fault fault (sym (ap fault_of sound.reads) ∙ e)
-
-incomplete : (input : List ℕ) (old new : Option (List ℕ)) (faults count : ℕ) (status : Status) → EndsFor input old faults new count status
-    → UnlessFinished status (¬ IsSoundInput input (faults, count))
-incomplete input old new faults count Status.Done ends = tt
-incomplete input old new faults count Status.Usage ends = absurd ends
-incomplete input old new faults count (Status.ScriptRefused fault) ends = λ sound. refused_yet input (faults, count) fault ends.planned.0 sound
-incomplete input old new faults count Status.NoMemory ends = tt
-incomplete input old new faults count Status.ReadFault ends = absurd ends
-incomplete input old new faults count Status.WriteFault ends = λ sound. sound.no_write_fault ends.1
-
-sound_input : (left : Option (List ℕ)) (input : List ℕ) (reads writes : ℕ × ℕ) → IsInput left input → NothingFails true left reads writes → IsSoundInput input writes
-sound_input left input reads writes is sound =
-    let told : IsInput (Some sound.input) input = subst (λ l. IsInput l input) sound.told is in
-    subst (λ i. IsSoundInput i writes) (sym told) sound.sound
-
-pub lifted : {P Q : Type 0} (status : Status) → (Q → P) → UnlessFinished status (¬ P) → UnlessFinished status (¬ Q)
-lifted Status.Done f unsound = tt
-lifted Status.Usage f unsound = λ q. unsound (f q)
-lifted (Status.ScriptRefused fault) f unsound = λ q. unsound (f q)
-lifted Status.NoMemory f unsound = tt
-lifted Status.ReadFault f unsound = λ q. unsound (f q)
-lifted Status.WriteFault f unsound = λ q. unsound (f q)
-
-pub complete : (left : Option (List ℕ)) (input : List ℕ) (old new : Option (List ℕ)) (faults count : ℕ) (reads : ℕ × ℕ) (status : Status) → IsInput left input
-    → EndsFor input old faults new count status → UnlessFinished status (¬ NothingFails true left reads (faults, count))
-complete left input old new faults count reads status is ends =
-    lifted status (sound_input left input reads (faults, count) is) (incomplete input old new faults count status ends)
+-- an input with a fault is not done
+pub fault_not_done : {K : Type 0} (fault : ScriptFault) (P unread : Type 0) (taken : K → Option (List ℕ)) (faults : K → ℕ) (old new : K) (status : Status)
+    → EndsAs (IsFaultPlan fault) unread taken faults old new status → OnDone status P
+fault_not_done fault P unread taken faults old new Status.Done ends = absurd ends.planned
+fault_not_done fault P unread taken faults old new Status.Usage ends = tt
+fault_not_done fault P unread taken faults old new (Status.ScriptRefused found) ends = tt
+fault_not_done fault P unread taken faults old new Status.NoMemory ends = tt
+fault_not_done fault P unread taken faults old new Status.ReadFault ends = tt
+fault_not_done fault P unread taken faults old new Status.WriteFault ends = tt

@@ -3,3 +3,4 @@ mod Endings
 mod Fronts
 mod Inputs
 mod Printed
+mod WordItems

@@ -2,20 +2,24 @@
 use Rattle.std.proofs.Common.{◌≡◌, ℕ, List, ap, subst}
 use Rattle.region_config.specs.Configurations.{Configuration}
 use Rattle.journal_core.specs.declared.entries.Entry.{Entry}
+use Rattle.journal_core.specs.Merging.{merged}
 use Rattle.device_rules.specs.Legal.{Exclusive, Legal}
 use Rattle.isolation_laws.specs.Solo.{Isolated}
 use Rattle.report.specs.Texts.{summary, text}
 use Rattle.script_codec.specs.Covering.{Covers}
 use Rattle.script_codec.specs.declared.scripts.Script.{Script}
 use Rattle.script_gen.specs.Generated.{generated}
-use Rattle.script_runner.specs.Choosing.{IsSummaryOf}
+use Rattle.script_runner.specs.declared.words.Mode.{Mode}
 use Rattle.script_runner.specs.Fronts.{RanAll, RanScript}
-use Rattle.script_runner.specs.Planning.{IsTextOf}
-use Rattle.script_runner.specs.Running.{IsLawful, IsSerialRun}
+use Rattle.script_runner.specs.Planning.{IsSummaryOf, IsTextOf}
+use Rattle.script_runner.specs.Running.{IsLawful, IsScriptRun}
+use Rattle.script_runner.specs.Threads.{RanInThreads, RanInput}
 use Rattle.std.specs.Prelude.{◌<◌, AllPairs}
 
+-- ---- on the serial device
+
 serial : (s : Script) (config : Configuration) (journal : List Entry) → config ≡ s.config → IsLawful config journal → Covers journal s
-    → AllPairs (λ (e f : Entry). e.line < f.line) journal → IsSerialRun s journal
+    → AllPairs (λ (e f : Entry). e.line < f.line) journal → IsScriptRun Mode.Serial s journal
 serial s config journal is lawful covers rising = record {
   legal = subst (λ (k : Configuration). Legal k journal) is lawful.legal;
   exclusive = subst (λ (k : Configuration). Exclusive k journal) is lawful.exclusive;
@@ -25,9 +29,8 @@ serial s config journal is lawful covers rising = record {
   rising = rising;
 }
 
--- what is printed of the device that ran it
 pub text_of_input : (input : List ℕ) (config : Configuration) (journal : List Entry) → RanScript input config journal → IsLawful config journal
-    → IsTextOf input (text config journal)
+    → IsTextOf Mode.Serial input (text config journal)
 text_of_input input config journal ran lawful = record {
   script = ran.script;
   journal = journal;
@@ -37,9 +40,40 @@ text_of_input input config journal ran lawful = record {
 }
 
 pub summary_of_seed : (seed : ℕ) (config : Configuration) (journal : List Entry) → RanAll (generated seed) config journal → IsLawful config journal
-    → IsSummaryOf seed (summary config journal)
+    → IsSummaryOf Mode.Serial seed (summary config journal)
 summary_of_seed seed config journal ran lawful = record {
   journal = journal;
   runs = serial (generated seed) config journal ran.config_is lawful ran.covers ran.rising;
   is = ap (λ k. summary k journal) ran.config_is;
+}
+
+-- ---- in threads
+
+in_threads : (s : Script) (config : Configuration) (entries : List Entry) (shards : List (List Entry)) → RanInThreads s config entries shards
+    → IsScriptRun Mode.Threads s (merged entries shards)
+in_threads s config entries shards ran = record {
+  legal = ran.runs.legal;
+  exclusive = ran.runs.exclusive;
+  numbered = ran.runs.numbered;
+  isolated = ran.runs.isolated;
+  covers = ran.runs.covers;
+  rising = tt;
+}
+
+pub text_of_threads : (input : List ℕ) (config : Configuration) (entries : List Entry) (shards : List (List Entry)) → RanInput input config entries shards
+    → IsTextOf Mode.Threads input (text config (merged entries shards))
+text_of_threads input config entries shards ran = record {
+  script = ran.script;
+  journal = merged entries shards;
+  reads = ran.reads;
+  runs = in_threads ran.script config entries shards ran.ran;
+  is = ap (λ k. text k (merged entries shards)) ran.ran.config_is;
+}
+
+pub summary_of_threads : (seed : ℕ) (config : Configuration) (entries : List Entry) (shards : List (List Entry)) → RanInThreads (generated seed) config entries shards
+    → IsSummaryOf Mode.Threads seed (summary config (merged entries shards))
+summary_of_threads seed config entries shards ran = record {
+  journal = merged entries shards;
+  runs = in_threads (generated seed) config entries shards ran;
+  is = ap (λ k. summary k (merged entries shards)) ran.config_is;
 }

@@ -1,6 +1,10 @@
-pub mod Choosing
+pub mod Completing
+pub mod Endings
 pub mod Fronts
+pub mod ItemByItem
 pub mod Planning
 pub mod Running
 pub mod Statuses
+pub mod Taking
+pub mod Threads
 pub mod Words

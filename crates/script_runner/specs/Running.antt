@@ -1,4 +1,4 @@
--- The journal that a serial run of a script makes.
+-- The journal that a run of a script makes.
 use Rattle.std.specs.Prelude.{◌<◌, List, AllPairs}
 use Rattle.journal_core.specs.declared.entries.Entry.{Entry}
 use Rattle.region_config.specs.Configurations.{Configuration}
@@ -7,6 +7,7 @@ use Rattle.script_codec.specs.Covering.{Covers}
 use Rattle.journal_core.specs.Merging.{Numbered}
 use Rattle.isolation_laws.specs.Solo.{Isolated}
 use Rattle.device_rules.specs.Legal.{Exclusive, Legal}
+use Rattle.script_runner.specs.declared.words.Mode.{Mode}
 
 -- What every device keeps of its journal: it is legal, exclusive, numbered and isolated.
 pub record IsLawful (c : Configuration) (journal : List Entry) : Type 0 where
@@ -15,12 +16,17 @@ pub record IsLawful (c : Configuration) (journal : List Entry) : Type 0 where
   pub numbered : Numbered journal
   pub isolated : Isolated c journal
 
--- The journal is legal, exclusive, numbered and isolated, has each line of the script that is no mark once, and its
--- lines rise.
-pub record IsSerialRun (s : Script) (journal : List Entry) : Type 0 where
+-- what holds in serial mode alone
+abbrev pub InSerial : Mode → Type 0 → Type 0
+InSerial Mode.Serial P = P
+InSerial Mode.Threads P = Unit {0}
+
+-- The journal is legal, exclusive, numbered and isolated, and has each line of the script that is no mark once, those of
+-- each pass in order; in serial mode all its lines rise.
+pub record IsScriptRun (mode : Mode) (s : Script) (journal : List Entry) : Type 0 where
   pub legal : Legal s.config journal
   pub exclusive : Exclusive s.config journal
   pub numbered : Numbered journal
   pub isolated : Isolated s.config journal
   pub covers : Covers journal s
-  pub rising : AllPairs (λ (e f : Entry). e.line < f.line) journal
+  pub rising : InSerial mode (AllPairs (λ (e f : Entry). e.line < f.line) journal)

@@ -1,18 +1,24 @@
 //! The run of a script, from the bytes of a source to the bytes of a sink.
 //!
-//! `run` reads the script line by line, does each line at once on the serial device, and writes the text of the journal,
-//! or one line that says why not. With a seed among the words it runs the generated script, reads nothing, and writes the
-//! summary.
+//! `run` does what the words of the command line ask for. In serial mode it reads the script line by line and does each
+//! line at once on the serial device; in threads mode it reads the whole script and does the lines of each lane by a worker
+//! of its own on the shared device. It writes the text of the journal, or one line that says why not. With a seed among the
+//! words it runs the generated script, reads nothing, and writes the summary.
 #![tactic(auto)]
 
 mod generated;
+mod in_threads;
 mod lines;
 mod printing;
 mod script;
 mod status;
+mod summaries;
+mod texts;
 mod top;
+mod usage;
 mod whole;
 mod words;
 
 pub use status::Status;
 pub use top::{run, run_and_leave};
+pub use words::{Choice, Mode, chosen};

@@ -67,9 +67,10 @@ pub(crate) fn is_lawful(device: &Device)
     let _journal = device.journal();
 }
 
-/// Leaves the memory of the device to the end of the program, when all of it goes back at once, or else gives it back.
-pub(crate) fn part(device: Device, leaves: bool) {
+/// Leaves the memory of what is left of a run to the end of the program, when all of it goes back at once, or else gives
+/// it back.
+pub(crate) fn part<T: Drop>(left: T, leaves: bool) {
     if leaves {
-        let _ = ManuallyDrop::new(device);
+        let _ = ManuallyDrop::new(left);
     }
 }

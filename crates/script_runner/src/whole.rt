@@ -1,45 +1,41 @@
-//! The steps of a run, each with what is to be written by then.
+//! The run of what a source has left.
 
 ghost use Rattle.dcd_base.specs.Streams.{HasRisen, IsAtEnd};
-ghost use Rattle.script_runner.specs.Planning.{EndsFor, EndsRefused, IsBegun, IsSoundFrom, IsTaken, IsTakenWhole, IsWritten};
-ghost use Rattle.script_runner.specs.Statuses.{IfWhole, OnDone, OnNothing, OnRead, OnReadFault, OnUsage, OnWriteFault, UnlessFinished};
-ghost use Rattle.std.specs.Prelude.{◌≡◌, ◌≢◌, true};
+ghost use Rattle.script_runner.specs.Endings.{EndsAs, IsPlannedFor, IsPlannedOf};
+ghost use Rattle.script_runner.specs.Statuses.{OnDone, OnRead};
+ghost use Rattle.script_runner.specs.Taking.{IsTaken, IsTakenWhole};
 
-use crate::lines::part;
-use crate::printing::print_text;
-use crate::script::run_script;
 use crate::status::Status;
-use dcd_base::{Bytes, Failed, Sink, Source};
+use crate::texts::{refused, text_in_threads, text_serially};
+use crate::words::Mode;
+use dcd_base::{Bytes, Gate, Sink, Source};
 use edge_io::{ReadEnd, read_all};
-use report::refusal;
 use script_codec::ScriptFault;
-use std::alloc::Global;
+use std::alloc::{AllocGlobal, Global};
+use std::sync::Wait;
+use std::thread::Threads;
 
 /// The most bytes that a script has.
 const MOST_BYTES: usize = 16_777_216;
 
-/// Runs what is left in the source, up to one byte more than a script may have. Where it `leaves`, the device of a whole
-/// run keeps its memory.
-#[tactic(auto, using(crate::proofs::Endings::whole, crate::proofs::Endings::begun, crate::proofs::Endings::nothing, crate::proofs::Endings::to_the_end, crate::proofs::Endings::no_usage, crate::proofs::Endings::write_fault, crate::proofs::Endings::complete, crate::proofs::Endings::taken_whole))]
-pub(crate) fn run_source<S: Source, K: Sink>(
+/// Runs what is left in the source in the mode, up to one byte more than a script may have. Where it `leaves`, what is left
+/// of a whole run keeps its memory.
+pub(crate) fn run_source<R: Threads + Wait + Sync + AllocGlobal, S: Source, K: Sink, G: Gate>(
+    rt: &R,
     alloc: Global,
+    mode: Mode,
     source: &mut S,
     sink: &mut K,
+    gate: &G,
     leaves: bool,
 ) -> Status
-    ensures written { IfWhole result (IsWritten true (S.left source.old) (K.taken sink.old) (K.taken sink.new)) }
-    ensures begun { OnWriteFault result (IsBegun true (S.left source.old) (K.taken sink.old) (K.taken sink.new)) }
-    ensures nothing { OnNothing result (K.taken sink.new ≡ K.taken sink.old) }
+    ensures ends { EndsAs (IsPlannedOf mode (S.left source.old)) (HasRisen (S.faults source.old) (S.faults source.new)) K.taken K.faults sink.old sink.new result }
     ensures taken { IsTaken (S.left source.old) (S.left source.new) }
     ensures taken_whole { OnRead result (IsTakenWhole (S.left source.old) (S.left source.new)) }
     ensures to_the_end { OnDone result (IsAtEnd (S.left source.new)) }
-    ensures no_usage { OnUsage result ⊥ }
-    ensures read_fault { OnReadFault result (HasRisen (S.faults source.old) (S.faults source.new)) }
-    ensures write_fault { OnWriteFault result (HasRisen (K.faults sink.old) (K.faults sink.new)) }
-    ensures complete { UnlessFinished result (¬ IsSoundFrom S.left S.faults K.faults source.old source.new sink.old sink.new) }
 {
     match read_all(alloc, source, MOST_BYTES) {
-        Ok(input) => run_input(alloc, input, sink, leaves),
+        Ok(input) => run_input(rt, alloc, mode, input, sink, gate, leaves),
         Err(ReadEnd::TooLong) => refused(ScriptFault::TooLong, sink),
         Err(ReadEnd::ReadFault) => Status::ReadFault,
         Err(ReadEnd::NoMemory) => Status::NoMemory,
@@ -47,29 +43,19 @@ pub(crate) fn run_source<S: Source, K: Sink>(
 }
 
 /// Runs the script that the input is, or writes the line on its first fault.
-fn run_input<K: Sink>(alloc: Global, input: Bytes, sink: &mut K, leaves: bool) -> Status
-    ensures { EndsFor input (K.taken sink.old) (K.faults sink.old) (K.taken sink.new) (K.faults sink.new) result }
+fn run_input<R: Threads + Wait + Sync + AllocGlobal, K: Sink, G: Gate>(
+    rt: &R,
+    alloc: Global,
+    mode: Mode,
+    input: Bytes,
+    sink: &mut K,
+    gate: &G,
+    leaves: bool,
+) -> Status
+    ensures { EndsAs (IsPlannedFor mode input) ⊥ K.taken K.faults sink.old sink.new result }
 {
-    match run_script(alloc, input) {
-        Ok(device) => match print_text(&device, sink) {
-            Ok(()) => {
-                part(device, leaves);
-                Status::Done
-            }
-            Err(Failed) => Status::WriteFault,
-        },
-        Err(ScriptFault::NoMemory) => Status::NoMemory,
-        Err(fault) => refused(fault, sink),
-    }
-}
-
-/// Writes the line on the first fault of an input.
-fn refused<K: Sink>(fault: ScriptFault, sink: &mut K) -> Status
-    requires { fault ≢ ScriptFault.NoMemory }
-    ensures { EndsRefused fault (K.taken sink.old) (K.faults sink.old) (K.taken sink.new) (K.faults sink.new) result }
-{
-    match refusal(&fault, sink) {
-        Ok(()) => Status::ScriptRefused(fault),
-        Err(Failed) => Status::WriteFault,
+    match mode {
+        Mode::Serial => text_serially(alloc, input, sink, leaves),
+        Mode::Threads => text_in_threads(rt, alloc, input, sink, gate, leaves),
     }
 }

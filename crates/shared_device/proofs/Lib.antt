@@ -2,6 +2,7 @@ mod ActorLists
 mod ClosedJournal
 mod EnteringSteps
 mod Fresh
+mod LentJournal
 mod NewPasses
 mod Rests
 mod ToldCalls

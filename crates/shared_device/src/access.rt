@@ -12,10 +12,11 @@ ghost use Rattle.shared_device.specs.Visiting.{HasVisited, MayVisit};
 ghost use Rattle.std.specs.Prelude.{◌≡◌, ◌^◌, ◌<◌, suc, IfOk, IsTrue, None, OnErr, false, length, slice_set};
 
 use crate::cells::{ControlCell, ShardCell};
+use crate::moment::Moment;
 use crate::pass::Pass;
 use crate::shared::Shared;
 use crate::target::{Target, target_of};
-use dcd_base::{Gate, NoMemory, Stamp};
+use dcd_base::{NoMemory, Stamp};
 use journal_core::{Act, Reply};
 use ruled_cells::Seat;
 use std::sync::Wait;
@@ -23,13 +24,13 @@ use std::sync::Wait;
 impl Shared {
     /// Takes a load or a store of a host's pass, and answers its reply. It waits for the turn of the shard of its place, or of
     /// shard 0 where there is none. Without memory nothing has changed.
-    pub fn access<R: Wait, G: Gate>(
+    pub fn access<R: Wait, M: Moment>(
         &self,
         rt: &R,
         pass: &mut Pass,
         line: u32,
         act: &Act,
-        gate: &G,
+        moment: &M,
     ) -> Result<Reply, NoMemory>
         requires of { IsOneOf self.now pass.old }
         requires fits { IsTrue (fits self.now.config.hosts (pass_actor pass.old) act.now) }
@@ -41,7 +42,7 @@ impl Shared {
     {
         let target = target_of(&self.config, pass.actor, act);
         let cell = self.cells.take(rt, &mut pass.seat, target.index);
-        gate.inside(pass.actor, line);
+        moment.inside(pass.actor, line);
         let (reply, stamp) = self.enter(&mut pass.seat, pass.seen, line, act, &target, cell)?;
         pass.seen = stamp;
         pass.calls += 1;

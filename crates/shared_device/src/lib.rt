@@ -7,7 +7,9 @@ mod cells;
 mod close;
 mod command;
 mod faults;
+mod lending;
 mod making;
+mod moment;
 mod pass;
 mod shared;
 mod start;
@@ -15,5 +17,7 @@ mod target;
 mod tries;
 
 pub use faults::TryFault;
+pub use lending::lend_journal;
+pub use moment::Moment;
 pub use pass::Pass;
 pub use shared::Shared;

@@ -2,7 +2,8 @@
 
 ghost use Rattle.std.specs.Prelude.{◌≡◌, IfOk};
 
-use dcd_base::{AccessFault, Extent, Granule, HostId, Place, RegionId, Tag};
+use crate::seeing::see;
+use dcd_base::{AccessFault, Extent, Granule, HostId, Place, RegionId, Run, Tag};
 use media_map::{dpa_of, extent_of, locate, region_at, run_of};
 use region_config::{Config, ConfigFault, RegionSpec};
 use std::alloc::Global;
@@ -49,7 +50,7 @@ fn found(config: &Config, host: u8, dpa: u64) -> Result<(u8, u32, u64), AccessFa
 }
 
 /// A host, an address, and its place.
-const PLACES: [(u8, u64, Result<(u8, u32, u64), AccessFault>); 14] = [
+static PLACES: [(u8, u64, Result<(u8, u32, u64), AccessFault>); 14] = [
     (0, 0, Ok((0, 0, 0))),
     (0, 0xFF_FFF8, Ok((0, 15, 0x1_FFFF))),
     (0, 0x100_0000, Err(AccessFault::OutsideRegions)),
@@ -66,12 +67,17 @@ const PLACES: [(u8, u64, Result<(u8, u32, u64), AccessFault>); 14] = [
     (1, 0x2040_0000, Err(AccessFault::OutsideRegions)),
 ];
 
+/// Sees the place of each address of the table.
+fn see_places(rt: &impl Abort, config: &Config) {
+    for (host, dpa, expected) in &PLACES {
+        let place = found(config, *host, *dpa);
+        see(rt, &(*host, *dpa, place), &(*host, *dpa, *expected));
+    }
+}
+
 #[test]
 fn addresses_of_two_hosts_have_places(rt: HostRuntime) -> Result<(), Fail> {
-    let config = two_hosts(rt.alloc())?;
-    for (host, dpa, expected) in PLACES {
-        assert_eq!(rt; found(&config, host, dpa), expected, "{host}, {dpa:x}");
-    }
+    see_places(&rt, &two_hosts(rt.alloc())?);
     Ok(())
 }
 
@@ -98,33 +104,36 @@ fn both(config: &Config) -> (Result<Place, AccessFault>, u64, Option<RegionId>)
 
 #[test]
 fn another_host_has_the_word_at_another_address(rt: HostRuntime) -> Result<(), Fail> {
-    let config = two_hosts(rt.alloc())?;
-    let expected = (Ok(WORD), 0x2010_0008, Some(RegionId(1)));
-    assert_eq!(rt; both(&config), expected);
+    let found = both(&two_hosts(rt.alloc())?);
+    see(&rt, &found, &(Ok(WORD), 0x2010_0008, Some(RegionId(1))));
     Ok(())
 }
 
-/// Ranges of host 1, each a start and a length, with the first granule and the count of its run.
-const RANGES: [(u64, u64, Option<(u32, u32)>); 7] = [
+/// Ranges of host 1, each a start and a length, with its run.
+const RANGES: [(u64, u64, Option<Run>); 7] = [
     (BASE, 0, None),
     (BASE + 8, M, None),
     (BASE, M + 8, None),
     (BASE + 15 * M, 2 * M, None),
     (0, M, None),
     (u64::MAX - M + 1, 2 * M, None),
-    (2 * BASE + M, 3 * M, Some((17, 3))),
+    (
+        2 * BASE + M,
+        3 * M,
+        Some(Run {
+            first: Granule(17),
+            count: 3,
+        }),
+    ),
 ];
 
 /// Sees the run of each range of the table.
 fn see_runs(rt: &impl Abort, config: &Config)
     requires { config.now.hosts ≡ 2 }
 {
-    for (start, length, expected) in RANGES {
-        let found = match run_of(config, HostId(1), start, length) {
-            Some(run) => Some((run.first.0, run.count)),
-            None => None,
-        };
-        assert_eq!(rt; found, expected, "{start:x}, {length:x}");
+    for (start, length, expected) in &RANGES {
+        let found = run_of(config, HostId(1), *start, *length);
+        see(rt, &(*start, *length, found), &(*start, *length, *expected));
     }
 }
 
@@ -136,16 +145,18 @@ fn extent_beside(config: &Config) -> Option<Extent>
     Some(extent_of(config, HostId(0), &run, Tag([7; 16]), 2))
 }
 
+/// The same 3 MiB, for host 0.
+const BESIDE: Extent = Extent {
+    start: BASE + M,
+    length: 3 * M,
+    tag: Tag([7; 16]),
+    sequence: 2,
+};
+
 #[test]
 fn a_range_of_whole_granules_of_one_region_has_a_run(rt: HostRuntime) -> Result<(), Fail> {
     let config = two_hosts(rt.alloc())?;
     see_runs(&rt, &config);
-    let expected = Extent {
-        start: BASE + M,
-        length: 3 * M,
-        tag: Tag([7; 16]),
-        sequence: 2,
-    };
-    assert_eq!(rt; extent_beside(&config), Some(expected));
+    see(&rt, &extent_beside(&config), &Some(BESIDE));
     Ok(())
 }

@@ -2,9 +2,11 @@
 
 ghost use Rattle.std.specs.Prelude.{◌≡◌, IfOk, length};
 
+use crate::seeing::see;
 use dcd_base::{Granule, HostId, RegionId};
 use region_config::{BlockFault, Config, ConfigFault, RegionSpec};
 use std::alloc::Global;
+use std::process::Abort;
 use std::test::Fail;
 
 /// 1 MiB.
@@ -66,7 +68,7 @@ const EMPTY: Form = (1, 0, M, M);
 const NO_SIZES: Form = (1, 0, 0, M);
 
 /// The hosts, two regions, their bases, and the first fault.
-const FAULTS: [(u8, [Form; 2], &[u64], ConfigFault); 15] = [
+static FAULTS: [(u8, [Form; 2], &[u64], ConfigFault); 15] = [
     (
         1,
         [NO_SIZES, WELL],
@@ -149,20 +151,32 @@ const FAULTS: [(u8, [Form; 2], &[u64], ConfigFault); 15] = [
     ),
 ];
 
+/// The fault of these regions and bases.
+fn fault_of(
+    alloc: Global,
+    hosts: u8,
+    regions: &[RegionSpec],
+    bases: &[u64],
+) -> Option<ConfigFault> {
+    made(alloc, hosts, regions, bases).err()
+}
+
 /// The fault of two regions of these forms.
-fn fault_of(alloc: Global, hosts: u8, forms: [Form; 2], bases: &[u64]) -> Option<ConfigFault> {
-    made(alloc, hosts, &[region(forms[0]), region(forms[1])], bases).err()
+fn fault_of_two(alloc: Global, hosts: u8, forms: &[Form; 2], bases: &[u64]) -> Option<ConfigFault> {
+    let regions = [region(forms[0]), region(forms[1])];
+    fault_of(alloc, hosts, &regions, bases)
 }
 
 #[test]
 fn the_first_fault_answers_with_its_host_and_region(rt: HostRuntime) {
-    for (hosts, forms, bases, fault) in FAULTS {
-        assert_eq!(rt; fault_of(rt.alloc(), hosts, forms, bases), Some(fault));
+    for (hosts, forms, bases, fault) in &FAULTS {
+        let found = fault_of_two(rt.alloc(), *hosts, forms, *bases);
+        see(&rt, &found, &Some(*fault));
     }
 }
 
 /// The hosts, the regions, their bases, and whether there are too many or too few of them.
-const COUNTS: [(u8, &[RegionSpec], &[u64], Option<ConfigFault>); 5] = [
+static COUNTS: [(u8, &[RegionSpec], &[u64], Option<ConfigFault>); 5] = [
     (0, &[GOOD], &[], Some(ConfigFault::Count)),
     (
         1,
@@ -182,8 +196,8 @@ const COUNTS: [(u8, &[RegionSpec], &[u64], Option<ConfigFault>); 5] = [
 
 #[test]
 fn up_to_16_hosts_and_8_regions(rt: HostRuntime) {
-    for (hosts, regions, bases, fault) in COUNTS {
-        assert_eq!(rt; made(rt.alloc(), hosts, regions, bases).err(), fault);
+    for (hosts, regions, bases, fault) in &COUNTS {
+        see(&rt, &fault_of(rt.alloc(), *hosts, *regions, *bases), fault);
     }
 }
 
@@ -193,7 +207,7 @@ fn granules(alloc: Global, form: Form) -> Result<u32, ConfigFault> {
 }
 
 /// The form of a region, and its granules: 2^52 bytes are 4,096 granules of 1 TiB, or 2^46 of 64 bytes.
-const GRANULES: [(Form, Result<u32, ConfigFault>); 4] = [
+static GRANULES: [(Form, Result<u32, ConfigFault>); 4] = [
     ((16, 4096 * M, M, M), Ok(4096)),
     (LARGE, Err(ConfigFault::TooManyGranules(4097))),
     ((1 << 24, 1 << 52, 1 << 40, 1 << 40), Ok(4096)),
@@ -205,8 +219,8 @@ const GRANULES: [(Form, Result<u32, ConfigFault>); 4] = [
 
 #[test]
 fn up_to_4096_granules(rt: HostRuntime) {
-    for (form, count) in GRANULES {
-        assert_eq!(rt; granules(rt.alloc(), form), count);
+    for (form, count) in &GRANULES {
+        see(&rt, &granules(rt.alloc(), *form), count);
     }
 }
 
@@ -239,33 +253,57 @@ fn second_region(config: &Config) -> (Granule, u32, u32, u64, u32)
     )
 }
 
+/// The regions of granules 15 and 16, if there are so many granules.
+fn regions_of_granules(config: &Config) -> Option<(RegionId, RegionId)> {
+    if config.granules() <= 16 {
+        return None;
+    }
+    Some((config.region_of(Granule(15)), config.region_of(Granule(16))))
+}
+
+/// Sees the numbers of the two hosts' configuration.
+fn see_numbers(rt: &impl Abort, config: &Config)
+    requires hosts { config.now.hosts ≡ 2 }
+    requires regions { length config.now.regions ≡ 2 }
+{
+    let counts = (config.hosts(), config.regions(), config.granules());
+    see(rt, &counts, &(2, 2, 20));
+    see(rt, &second_region(config), &(Granule(16), 4, 1, 2 * U, 1));
+    see(
+        rt,
+        &regions_of_granules(config),
+        &Some((RegionId(0), RegionId(1))),
+    );
+}
+
 #[test]
 fn granules_are_numbered_region_by_region(rt: HostRuntime) -> Result<(), Fail> {
-    let config = two_hosts(rt.alloc())?.copy()?;
-    let counts = (config.hosts(), config.regions(), config.granules());
-    assert_eq!(rt; counts, (2, 2, 20));
-    assert_eq!(rt; second_region(&config), (Granule(16), 4, 1, 2 * U, 1));
-    let regions = (config.region_of(Granule(15)), config.region_of(Granule(16)));
-    assert_eq!(rt; regions, (RegionId(0), RegionId(1)));
+    let config = two_hosts(rt.alloc())?;
+    see_numbers(&rt, &config.copy()?);
     Ok(())
 }
 
 /// A block, whether the region is to sanitize, how many granules are in use, the answer, and the block after it.
-const BLOCKS: [(u64, bool, u32, Result<(), BlockFault>, u64); 4] = [
+static BLOCKS: [(u64, bool, u32, Result<(), BlockFault>, u64); 4] = [
     (4 * M, false, 2, Err(BlockFault::NotSupportedSize(4 * M)), M),
     (2 * M, false, 2, Err(BlockFault::SanitizeDiffers), M),
     (2 * M, true, 2, Err(BlockFault::InUse(2)), M),
     (2 * M, true, 0, Ok(()), 2 * M),
 ];
 
+/// Sees what each change of the table comes to.
+fn see_blocks(rt: &impl Abort, config: &mut Config) {
+    for (block, sanitize, in_use, answer, after) in &BLOCKS {
+        let found = set(config, *block, *sanitize, *in_use);
+        see(rt, &found, &Some((*answer, *after, M)));
+    }
+}
+
 #[test]
 fn a_block_changes_to_a_supported_size_alone(rt: HostRuntime) -> Result<(), Fail> {
     // One region of 128 MiB with blocks of 1 MiB; 2 MiB is supported too.
     let mut config = made(rt.alloc(), 1, &[region((1, 128 * M, 3 * M, M))], &[0])?;
-    for (block, sanitize, in_use, answer, after) in BLOCKS {
-        let found = set(&mut config, block, sanitize, in_use);
-        assert_eq!(rt; found, Some((answer, after, M)));
-    }
+    see_blocks(&rt, &mut config);
     Ok(())
 }
 

@@ -2,6 +2,7 @@
 
 ghost use Rattle.std.specs.Prelude.{◌≡◌, ◌*◌, ◌<◌};
 
+use crate::seeing::{see, see_text};
 use dcd_base::{Extent, Extents, NoMemory, Tag};
 use extent_list::{ExtentList, TooMany};
 use std::alloc::Global;
@@ -43,7 +44,7 @@ type Case = (
 
 const THREE: [(u32, u32); 3] = [(20, 1), (0, 4), (10, 2)];
 
-const CUTS: [Case; 6] = [
+static CUTS: [Case; 6] = [
     (&THREE, (0, 1), 3, Ok(()), &[(20, 1), (1, 3), (10, 2)]),
     (
         &THREE,
@@ -73,19 +74,27 @@ fn cut(list: &mut ExtentList, first: u32, count: u32, most: usize) -> Option<Res
     Some(list.cut(range.start, range.length, most))
 }
 
+/// Sees that these are the extents of some MiB each.
+fn see_extents(rt: &impl Abort, found: &[Extent], expected: &[(u32, u32)]) {
+    see(rt, &found.len(), &expected.len());
+    for (extent, (first, count)) in found.iter().zip(expected) {
+        see(rt, extent, &mib(*first, *count));
+    }
+}
+
 /// Sees what a cut leaves.
-fn see_cut(rt: &impl Abort, alloc: Global, case: Case) -> Result<(), NoMemory> {
+fn see_cut(rt: &impl Abort, alloc: Global, case: &Case) -> Result<(), NoMemory> {
     let (before, (first, count), most, answer, after) = case;
-    let mut list = list_of(alloc, before)?;
+    let mut list = list_of(alloc, *before)?;
     list.reserve(1)?;
-    assert_eq!(rt; cut(&mut list, first, count, most), Some(answer));
-    assert_eq!(rt; list.as_slice(), list_of(alloc, after)?.as_slice());
+    see(rt, &cut(&mut list, *first, *count, *most), &Some(*answer));
+    see_extents(rt, list.as_slice(), *after);
     Ok(())
 }
 
 #[test]
 fn a_cut_leaves_the_pieces_of_the_first_holder_in_their_place(rt: HostRuntime) -> Result<(), Fail> {
-    for case in CUTS {
+    for case in &CUTS {
         see_cut(&rt, rt.alloc(), case)?;
     }
     Ok(())
@@ -94,7 +103,7 @@ fn a_cut_leaves_the_pieces_of_the_first_holder_in_their_place(rt: HostRuntime) -
 #[test]
 fn too_many_extents_have_a_text(rt: HostRuntime) -> Result<(), Fail> {
     let text = format!(in rt.alloc(); "{}", TooMany(3))?;
-    assert_eq!(rt; text.as_str(), "the list would have 3 extents");
+    see_text(&rt, text.as_str(), "the list would have 3 extents");
     Ok(())
 }
 
@@ -109,20 +118,24 @@ fn last(alloc: Global) -> Result<ExtentList, NoMemory> {
     Ok(list)
 }
 
-#[test]
-fn no_range_wraps(rt: HostRuntime) -> Result<(), Fail> {
-    let list = last(rt.alloc())?;
+/// Sees which ranges the last MiB has and overlaps.
+fn see_last(rt: &impl Abort, list: &ExtentList) {
     let holders = [
         list.holder_of(u64::MAX, 1),
         list.holder_of(u64::MAX, 2),
         list.holder_of(u64::MAX, u64::MAX),
     ];
-    assert_eq!(rt; holders, [Some(0), None, None]);
+    see(rt, &holders, &[Some(0), None, None]);
     let overlaps = [
         list.overlaps(u64::MAX, u64::MAX),
         list.overlaps(0, 0xFFFF_FFFF_FFF0_0000),
     ];
-    assert_eq!(rt; overlaps, [true, false]);
+    see(rt, &overlaps, &[true, false]);
+}
+
+#[test]
+fn no_range_wraps(rt: HostRuntime) -> Result<(), Fail> {
+    see_last(&rt, &last(rt.alloc())?);
     Ok(())
 }
 
@@ -146,17 +159,22 @@ fn second(list: &ExtentList) -> Option<Extent> {
 #[test]
 fn extents_are_read_in_pages(rt: HostRuntime) -> Result<(), Fail> {
     let list = list_of(rt.alloc(), &[(0, 1), (2, 1), (4, 1)])?;
-    assert_eq!(rt; list.part(1, 9), [mib(2, 1), mib(4, 1)].as_slice());
-    let expected = [mib(2, 1), mib(4, 1), mib(0, 1)];
-    assert_eq!(rt; pages(rt.alloc(), &list)?.as_slice(), expected.as_slice());
+    see_extents(&rt, list.part(1, 9), &[(2, 1), (4, 1)]);
+    let pages = pages(rt.alloc(), &list)?;
+    see_extents(&rt, pages.as_slice(), &[(2, 1), (4, 1), (0, 1)]);
     Ok(())
+}
+
+/// Sees three extents, and the second of them alone.
+fn see_three(rt: &impl Abort, list: &ExtentList) {
+    see_extents(rt, list.as_slice(), &[(0, 1), (2, 1), (4, 1)]);
+    let found = (list.is_empty(), second(list));
+    see(rt, &found, &(false, Some(mib(2, 1))));
 }
 
 #[test]
 fn a_copy_has_the_same_extents(rt: HostRuntime) -> Result<(), Fail> {
     let list = list_of(rt.alloc(), &[(0, 1), (2, 1), (4, 1)])?;
-    let copy = list.copy()?;
-    assert_eq!(rt; copy.as_slice(), list.as_slice());
-    assert_eq!(rt; (copy.is_empty(), second(&copy)), (false, Some(mib(2, 1))));
+    see_three(&rt, &list.copy()?);
     Ok(())
 }

@@ -3,6 +3,7 @@
 ghost use Rattle.granule_map.specs.Blocks.{IsArea};
 ghost use Rattle.std.specs.Prelude.{◌≡◌, ◌<◌, IfOk, length};
 
+use crate::seeing::see;
 use dcd_base::{Granule, HostId, Run, Tag};
 use granule_map::{GranuleMap, GranuleState};
 use std::process::Abort;
@@ -34,7 +35,7 @@ fn sixteen(rt: &HostRuntime) -> Result<GranuleMap, Fail>
 
 /// An area, how many granules a block has and how many blocks are wanted; the free blocks, the longest run of them,
 /// and the lowest run of so many.
-const AREAS: [((u32, u32), u32, u32, (u32, u32, Option<(u32, u32)>)); 6] = [
+static AREAS: [((u32, u32), u32, u32, (u32, u32, Option<(u32, u32)>)); 6] = [
     ((0, 16), 1, 3, (11, 6, Some((3, 3)))),
     ((0, 16), 2, 2, (4, 2, Some((4, 4)))),
     ((0, 16), 2, 3, (4, 2, None)),
@@ -58,13 +59,13 @@ fn lowest(map: &GranuleMap, area: Run, block: u32, need: u32) -> Option<(u32, u3
 fn see_areas(rt: &impl Abort, map: &GranuleMap)
     requires { length map.now.states ≡ 16 }
 {
-    for ((first, count), block, need, expected) in AREAS {
+    for ((first, count), block, need, expected) in &AREAS {
         let found = (
-            map.free_blocks(run(first, count), block),
-            map.longest(run(first, count), block),
-            lowest(map, run(first, count), block, need),
+            map.free_blocks(run(*first, *count), *block),
+            map.longest(run(*first, *count), *block),
+            lowest(map, run(*first, *count), *block, *need),
         );
-        assert_eq!(rt; found, expected, "{first}, {count}, {block}, {need}");
+        see(rt, &(*first, *need, found), &(*first, *need, *expected));
     }
 }
 
@@ -84,20 +85,22 @@ const STATES: [(GranuleState, u32); 6] = [
     (GranuleState::Tagged(Tag([8; 16])), 0),
 ];
 
-/// Sees how many granules each state of the table has.
-fn see_states(rt: &impl Abort, map: &GranuleMap) {
-    for (state, count) in STATES {
-        assert_eq!(rt; map.count(state), count);
+/// Sees how many granules each state of the table has, and the dirty ones from some on.
+fn see_states(rt: &impl Abort, map: &GranuleMap)
+    requires { length map.now.states ≡ 16 }
+{
+    let one = (map.len(), map.at(Granule(13)));
+    see(rt, &one, &(16, GranuleState::Reserved(HostId(0))));
+    for (state, count) in &STATES {
+        see(rt, &(*state, map.count(*state)), &(*state, *count));
     }
+    let dirty = [map.next_dirty(0), map.next_dirty(10), map.next_dirty(16)];
+    see(rt, &dirty, &[Some(Granule(9)), Some(Granule(15)), None]);
 }
 
 #[test]
 fn states_are_found_and_counted(rt: HostRuntime) -> Result<(), Fail> {
-    let map = sixteen(&rt)?.copy()?;
-    assert_eq!(rt; map.len(), 16);
-    assert_eq!(rt; map.at(Granule(13)), GranuleState::Reserved(HostId(0)));
-    see_states(&rt, &map);
-    let dirty = [map.next_dirty(0), map.next_dirty(10), map.next_dirty(16)];
-    assert_eq!(rt; dirty, [Some(Granule(9)), Some(Granule(15)), None]);
+    let map = sixteen(&rt)?;
+    see_states(&rt, &map.copy()?);
     Ok(())
 }

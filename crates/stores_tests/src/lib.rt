@@ -12,6 +12,8 @@ mod granules;
 #[cfg(test)]
 mod records;
 #[cfg(test)]
+mod seeing;
+#[cfg(test)]
 mod table;
 #[cfg(test)]
 mod tags;

@@ -1,9 +1,10 @@
 //! What a log does when it is full, when records are cleared, and when its handles begin again.
 
-use dcd_base::{Extent, NoMemory, Tag};
+use crate::seeing::see;
+use dcd_base::{Extent, Tag};
 use event_log::{ClearFault, EventLog, LogFull};
 use event_records::{Event, EventKind};
-use std::alloc::Global;
+use std::process::Abort;
 use std::test::Fail;
 
 /// A record of an offer of the first MiB to the host.
@@ -25,30 +26,32 @@ fn offer(host: u16) -> Event {
     }
 }
 
-/// A log of 64 records with one of each host 5, 6 and 7, and their handles.
-fn three(alloc: Global) -> Result<(EventLog, [Result<u16, LogFull>; 3]), NoMemory> {
-    let mut log = EventLog::new(alloc, 64)?;
-    let handles = [log.put(offer(5)), log.put(offer(6)), log.put(offer(7))];
-    Ok((log, handles))
+/// Puts a record of each host 5, 6 and 7: their handles.
+fn put_three(log: &mut EventLog) -> [Result<u16, LogFull>; 3] {
+    [log.put(offer(5)), log.put(offer(6)), log.put(offer(7))]
 }
 
 /// Handles that are not cleared, and the fault.
-const FAULTS: [(&[u16], ClearFault); 4] = [
+static FAULTS: [(&[u16], ClearFault); 4] = [
     (&[1, 3], ClearFault::OlderLeft(2)),
     (&[2, 1], ClearFault::OlderLeft(1)),
     (&[1, 1], ClearFault::UnknownHandle(1)),
     (&[1, 2, 3, 4], ClearFault::UnknownHandle(4)),
 ];
 
+/// Sees that each of the table is refused, and a clear of all, and that nothing is cleared.
+fn see_refused(rt: &impl Abort, log: &mut EventLog) {
+    see(rt, &put_three(log), &[Ok(1), Ok(2), Ok(3)]);
+    for (handles, fault) in &FAULTS {
+        see(rt, &(log.clear(*handles), log.len()), &(Err(*fault), 3));
+    }
+    let all = (log.clear_all(), log.len());
+    see(rt, &all, &(Err(ClearFault::NotOverflowed), 3));
+}
+
 #[test]
 fn records_that_are_not_the_oldest_are_not_cleared(rt: HostRuntime) -> Result<(), Fail> {
-    let (mut log, handles) = three(rt.alloc())?;
-    assert_eq!(rt; handles, [Ok(1), Ok(2), Ok(3)]);
-    for (handles, fault) in FAULTS {
-        assert_eq!(rt; (log.clear(handles), log.len()), (Err(fault), 3));
-    }
-    assert_eq!(rt; log.clear_all(), Err(ClearFault::NotOverflowed));
-    assert_eq!(rt; log.len(), 3);
+    see_refused(&rt, &mut EventLog::new(rt.alloc(), 64)?);
     Ok(())
 }
 
@@ -61,14 +64,20 @@ fn oldest(log: &EventLog) -> Option<(u16, u16)> {
     Some((record.handle, record.host))
 }
 
+/// Sees that the two oldest records are cleared, and what is left then.
+fn see_cleared(rt: &impl Abort, log: &mut EventLog) {
+    let _ = put_three(log);
+    let answers = (log.clear_fault(&[1]), log.clear(&[1, 2]));
+    see(rt, &answers, &(None, Ok(())));
+    let left = (log.len(), log.room(), log.next_handle(), oldest(log));
+    see(rt, &left, &(1, 63, 4, Some((3, 7))));
+    log.drop_oldest(5);
+    see(rt, &log.is_empty(), &true);
+}
+
 #[test]
 fn records_are_cleared_oldest_first(rt: HostRuntime) -> Result<(), Fail> {
-    let (mut log, _) = three(rt.alloc())?;
-    assert_eq!(rt; (log.clear_fault(&[1]), log.clear(&[1, 2])), (None, Ok(())));
-    assert_eq!(rt; (log.len(), log.room(), log.next_handle()), (1, 63, 4));
-    assert_eq!(rt; oldest(&log), Some((3, 7)));
-    log.drop_oldest(5);
-    assert!(rt; log.is_empty());
+    see_cleared(&rt, &mut EventLog::new(rt.alloc(), 64)?);
     Ok(())
 }
 
@@ -96,28 +105,42 @@ fn counted_anew(log: &mut EventLog) -> (u16, Option<u16>) {
     (log.missed(), log.put_or_count(offer(0)))
 }
 
+/// Sees what a log of two does as it is filled, as it misses records, and once all are cleared.
+fn see_full(rt: &impl Abort, log: &mut EventLog) {
+    see(rt, &filled(log), &(Some(1), Ok(2), Err(LogFull(2))));
+    see(rt, &missed(log), &(0, None, 2));
+    let cleared = (log.clear_all(), log.len(), log.missed());
+    see(rt, &cleared, &(Ok(()), 0, 0));
+    see(rt, &counted_anew(log), &(0, Some(3)));
+}
+
 #[test]
 fn a_full_log_refuses_or_counts(rt: HostRuntime) -> Result<(), Fail> {
-    let mut log = EventLog::new(rt.alloc(), 2)?;
-    assert_eq!(rt; filled(&mut log), (Some(1), Ok(2), Err(LogFull(2))));
-    assert_eq!(rt; missed(&mut log), (0, None, 2));
-    assert_eq!(rt; log.clear_all(), Ok(()));
-    assert_eq!(rt; (log.len(), log.missed()), (0, 0));
-    assert_eq!(rt; counted_anew(&mut log), (0, Some(3)));
+    see_full(&rt, &mut EventLog::new(rt.alloc(), 2)?);
     Ok(())
+}
+
+/// Sees that each handle comes once, and then the first again.
+fn see_handles(rt: &impl Abort, log: &mut EventLog) {
+    for handle in 1..=65_535 {
+        let answers = (log.put(offer(0)), log.clear(&[handle]));
+        see(rt, &answers, &(Ok(handle), Ok(())));
+    }
+    see(rt, &log.put(offer(0)), &Ok(1));
+}
+
+/// Sees that more than 65,535 records that find no room are counted as 65,535.
+fn see_most_missed(rt: &impl Abort, log: &mut EventLog) {
+    for _ in 0..65_540 {
+        see(rt, &log.put_or_count(offer(0)), &None);
+    }
+    see(rt, &log.missed(), &65_535);
 }
 
 #[test]
 fn handles_begin_again_and_the_missed_are_counted_to_65535(rt: HostRuntime) -> Result<(), Fail> {
     let mut log = EventLog::new(rt.alloc(), 1)?;
-    for handle in 1..=65_535 {
-        let answers = (log.put(offer(0)), log.clear(&[handle]));
-        assert_eq!(rt; answers, (Ok(handle), Ok(())));
-    }
-    assert_eq!(rt; log.put(offer(0)), Ok(1));
-    for _ in 0..65_540 {
-        assert_eq!(rt; log.put_or_count(offer(0)), None);
-    }
-    assert_eq!(rt; log.missed(), 65_535);
+    see_handles(&rt, &mut log);
+    see_most_missed(&rt, &mut log);
     Ok(())
 }

@@ -1,9 +1,11 @@
 //! What each change leaves, and runs that reach past the table.
 
 use crate::granules::run;
+use crate::seeing::see;
 use dcd_base::{Granule, HostId};
 use granule_map::GranuleState;
 use granule_table::GranuleTable;
+use std::process::Abort;
 use std::test::Fail;
 
 const HELD: GranuleState = GranuleState::Held(HostId(1));
@@ -29,18 +31,24 @@ fn changed(table: &mut GranuleTable) -> [(u32, u32, Option<Granule>); 5] {
     [given, soiled, settled, zeroed, counts(table)]
 }
 
+/// The counts after each of those changes.
+const AS_LEFT: [(u32, u32, Option<Granule>); 5] = [
+    (5, 0, None),
+    (5, 0, None),
+    (6, 2, Some(Granule(3))),
+    (7, 1, Some(Granule(4))),
+    (7, 1, Some(Granule(4))),
+];
+
+/// Sees the counts of a new table of eight granules, and those after each change.
+fn see_changes(rt: &impl Abort, table: &mut GranuleTable) {
+    see(rt, &(table.len(), counts(table)), &(8, (8, 0, None)));
+    see(rt, &changed(table), &AS_LEFT);
+}
+
 #[test]
 fn granules_come_back_as_they_were_left(rt: HostRuntime) -> Result<(), Fail> {
-    let mut table = GranuleTable::new(rt.alloc(), 8)?;
-    assert_eq!(rt; (table.len(), counts(&table)), (8, (8, 0, None)));
-    let expected = [
-        (5, 0, None),
-        (5, 0, None),
-        (6, 2, Some(Granule(3))),
-        (7, 1, Some(Granule(4))),
-        (7, 1, Some(Granule(4))),
-    ];
-    assert_eq!(rt; changed(&mut table), expected);
+    see_changes(&rt, &mut GranuleTable::new(rt.alloc(), 8)?);
     Ok(())
 }
 
@@ -57,15 +65,17 @@ fn changed_past_the_end(table: &mut GranuleTable) -> [(u32, u32, Option<Granule>
     [settled, outside, counts(table)]
 }
 
+/// The counts after each of those changes.
+const PAST_THE_END: [(u32, u32, Option<Granule>); 3] = [
+    (6, 2, Some(Granule(6))),
+    (6, 2, Some(Granule(6))),
+    (7, 1, Some(Granule(6))),
+];
+
 #[test]
 fn a_run_past_the_table_changes_what_is_there(rt: HostRuntime) -> Result<(), Fail> {
     let mut table = GranuleTable::new(rt.alloc(), 8)?;
-    let expected = [
-        (6, 2, Some(Granule(6))),
-        (6, 2, Some(Granule(6))),
-        (7, 1, Some(Granule(6))),
-    ];
-    assert_eq!(rt; changed_past_the_end(&mut table), expected);
-    assert_eq!(rt; table.len(), 8);
+    let found = (changed_past_the_end(&mut table), table.len());
+    see(&rt, &found, &(PAST_THE_END, 8));
     Ok(())
 }

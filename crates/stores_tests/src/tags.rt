@@ -2,8 +2,10 @@
 
 ghost use Rattle.std.specs.Prelude.{◌<◌};
 
+use crate::seeing::see;
 use dcd_base::{Granule, HostId, NoMemory, RegionId, Run, Runs, Tag, TagView};
 use std::alloc::Global;
+use std::process::Abort;
 use std::test::Fail;
 use tag_refs::{TagFault, Tags};
 
@@ -31,11 +33,10 @@ fn open(alloc: Global, tags: &mut Tags, tag: Tag) -> Result<(), NoMemory> {
     tags.begin(tag, RegionId(1), Runs::from_slice(alloc, &[block])?, FIRST)
 }
 
-/// Tags of which this one is opened.
-fn opened(alloc: Global, tag: Tag) -> Result<Tags, NoMemory> {
+/// Tags of which the one is opened.
+fn opened(alloc: Global) -> Result<Tags, NoMemory> {
     let mut tags = Tags::new(alloc);
-    tags.reserve(2)?;
-    open(alloc, &mut tags, tag)?;
+    open(alloc, &mut tags, TAG)?;
     Ok(tags)
 }
 
@@ -100,34 +101,48 @@ fn referred(tags: &mut Tags) -> [Result<bool, TagFault>; 4] {
     ]
 }
 
+/// The tag that no host has and a reference keeps.
+const LEFT: TagView = TagView {
+    tag: TAG,
+    holders: 0,
+    offered: 0,
+    referenced: true,
+};
+
+/// What each of those calls comes to.
+const REFERRED: [Result<bool, TagFault>; 4] = [
+    Ok(false),
+    Ok(true),
+    Err(TagFault::NotReferenced),
+    Err(TagFault::UnknownTag),
+];
+
+/// Sees the tag used, left to its reference, and ended with it.
+fn see_uses(rt: &impl Abort, tags: &mut Tags) {
+    see(rt, &used(tags), &[Some(false); 4]);
+    let left = (at(tags, 0), tags.len(), tags.ends_unreferenced(&TAG));
+    see(rt, &left, &(Some(LEFT), 1, true));
+    see(rt, &(referred(tags), tags.is_empty()), &(REFERRED, true));
+}
+
 #[test]
 fn a_tag_ends_with_its_last_use(rt: HostRuntime) -> Result<(), Fail> {
-    let mut tags = opened(rt.alloc(), TAG)?;
-    assert_eq!(rt; used(&mut tags), [Some(false); 4]);
-    let left = TagView {
-        tag: TAG,
-        holders: 0,
-        offered: 0,
-        referenced: true,
-    };
-    assert_eq!(rt; (at(&tags, 0), tags.len()), (Some(left), 1));
-    assert!(rt; tags.ends_unreferenced(&TAG));
-    let answers = [
-        Ok(false),
-        Ok(true),
-        Err(TagFault::NotReferenced),
-        Err(TagFault::UnknownTag),
-    ];
-    assert_eq!(rt; referred(&mut tags), answers);
-    assert!(rt; tags.is_empty());
+    see_uses(&rt, &mut opened(rt.alloc())?);
     Ok(())
+}
+
+/// Opens the tags of the bytes 1, 2 and 3.
+fn open_three(alloc: Global, tags: &mut Tags) -> Result<(), NoMemory> {
+    tags.reserve(3)?;
+    open(alloc, tags, other(1))?;
+    open(alloc, tags, other(2))?;
+    open(alloc, tags, other(3))
 }
 
 /// The tags of the bytes 1, 2 and 3.
 fn three(alloc: Global) -> Result<Tags, NoMemory> {
-    let mut tags = opened(alloc, other(1))?;
-    open(alloc, &mut tags, other(2))?;
-    open(alloc, &mut tags, other(3))?;
+    let mut tags = Tags::new(alloc);
+    open_three(alloc, &mut tags)?;
     Ok(tags)
 }
 
@@ -139,31 +154,31 @@ fn tag_at(tags: &Tags, index: usize) -> Option<Tag> {
     }
 }
 
-#[test]
-fn a_tag_that_ends_leaves_the_order_of_the_others(rt: HostRuntime) -> Result<(), Fail> {
-    let mut tags = three(rt.alloc())?;
-    assert_eq!(rt; settle(&mut tags, &other(2), FIRST, false), Some(true));
-    let left = [tag_at(&tags, 0), tag_at(&tags, 1), tag_at(&tags, 2)];
-    assert_eq!(rt; left, [Some(other(1)), Some(other(3)), None]);
-    assert!(rt; tags.find(&other(2)).is_none());
-    Ok(())
+/// Sees that the second tag ends as it is refused, and the order of the others.
+fn see_second_end(rt: &impl Abort, tags: &mut Tags) {
+    see(rt, &(at(tags, 1), tags.len()), &(Some(OFFERED), 3));
+    see(rt, &settle(tags, &other(2), FIRST, false), &Some(true));
+    let left = [tag_at(tags, 0), tag_at(tags, 1), tag_at(tags, 2)];
+    see(rt, &left, &[Some(other(1)), Some(other(3)), None]);
+    see(rt, &tags.find(&other(2)).is_none(), &true);
+}
+
+/// The second tag, offered to the first host.
+const OFFERED: TagView = TagView {
+    tag: Tag([2; 16]),
+    holders: 0,
+    offered: 1,
+    referenced: false,
+};
+
+/// A copy of three tags.
+fn copied(alloc: Global) -> Result<Tags, NoMemory> {
+    three(alloc)?.copy()
 }
 
 #[test]
-fn a_copy_keeps_a_tag_that_ends(rt: HostRuntime) -> Result<(), Fail> {
-    let mut tags = three(rt.alloc())?;
-    let before = tags.copy()?;
-    let _ = settle(&mut tags, &other(2), FIRST, false);
-    let second = TagView {
-        tag: other(2),
-        holders: 0,
-        offered: 1,
-        referenced: false,
-    };
-    assert_eq!(rt;
-        (at(&before, 1), before.len(), tags.len()),
-        (Some(second), 3, 2)
-    );
+fn a_tag_that_ends_leaves_the_order_of_the_others(rt: HostRuntime) -> Result<(), Fail> {
+    see_second_end(&rt, &mut copied(rt.alloc())?);
     Ok(())
 }
 
@@ -206,13 +221,17 @@ fn ended(tags: &mut Tags) -> [bool; 2] {
     [is_empty, tags.is_empty()]
 }
 
+/// Sees the tag soiled, the hosts of it set, and its end.
+fn see_soiled(rt: &impl Abort, tags: &mut Tags) {
+    see(rt, &soiled(tags), &[false, true]);
+    see(rt, &set(tags), &[true, false, false]);
+    see(rt, &ends(tags), &[false, false, true]);
+    see(rt, &ended(tags), &[true, true]);
+    see(rt, &tags.ends(&TAG, SECOND, false, false), &false);
+}
+
 #[test]
 fn a_soiled_tag_ends_with_the_last_host_that_is_set(rt: HostRuntime) -> Result<(), Fail> {
-    let mut tags = opened(rt.alloc(), TAG)?;
-    assert_eq!(rt; soiled(&mut tags), [false, true]);
-    assert_eq!(rt; set(&mut tags), [true, false, false]);
-    assert_eq!(rt; ends(&tags), [false, false, true]);
-    assert_eq!(rt; ended(&mut tags), [true, true]);
-    assert!(rt; !tags.ends(&TAG, SECOND, false, false));
+    see_soiled(&rt, &mut opened(rt.alloc())?);
     Ok(())
 }

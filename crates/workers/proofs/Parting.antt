@@ -3,8 +3,9 @@ use Rattle.std.proofs.Common.{◌≡◌, ◌⊎◌, inl, inr, ℕ, suc, ◌+◌,
 use Rattle.std.proofs.Math.Nat.{mul_comm}
 use Rattle.std.proofs.lemmas.Nat.{mul-add-lt}
 use Rattle.std.proofs.lemmas.List.{drop_more, get_or-replicate, length-replicate, length-set, get_or-set_same, get_or-set_other, get_or_default}
+use Rattle.std.proofs.lemmas.Option.{get_or_from_slice_get, slice_get_within}
 use Rattle.std.proofs.lemmas.Bool.{and_parts, both_ways, cases_eq, eqb-true, eq-eqb, ltb-true, ne_eqb}
-use Rattle.std.specs.Prelude.{slice_index, nat_lt, false, if◌then◌else◌}
+use Rattle.std.specs.Prelude.{Some, slice_get, slice_index, nat_lt, false, if◌then◌else◌}
 use Rattle.dcd_base.specs.declared.steps.Actor.{Actor}
 use Rattle.journal_core.specs.Entries.{fits}
 use Rattle.journal_core.specs.declared.acts.Act.{Act}
@@ -31,6 +32,13 @@ is_pass hosts lanes (Actor.Host h) lane act sound =
     omega (arith, place, turned)
 is_pass hosts lanes Actor.Manager lane act sound = omega arith
 is_pass hosts lanes Actor.Sanitizer lane act sound = omega arith
+
+-- so has the first of sound lines, if it is no mark
+pub first_inside : (hosts lanes : ℕ) (lines : List Line) (line : Line) (actor : Actor) (lane : ℕ) (act : Act) → Some line ≡ slice_get lines 0 → line ≡ Line.Do actor lane act
+    → IsTrue (list_all (is_sound_line hosts lanes) lines) → pass_of hosts lanes actor lane < hosts * lanes + 2
+first_inside hosts lanes lines line actor lane act at is sound =
+    let here = all_at (is_sound_line hosts lanes) lines 0 line (slice_get_within lines 0 line (sym at)) (sym (get_or_from_slice_get lines 0 line line (sym at))) sound in
+    is_pass hosts lanes actor lane act (subst (λ x. IsTrue (is_sound_line hosts lanes x)) is here)
 
 module _ (hosts lanes : ℕ) (lines : List Line) where
   -- the place itself

@@ -7,7 +7,7 @@ use Rattle.std.specs.Prelude.{slice_index, Bool, true, false}
 use Rattle.std.specs.List.{list_all}
 use Rattle.script_codec.specs.declared.script_line.Line.{Line}
 use Rattle.workers.specs.Handling.{HandlerReads}
-use Rattle.workers.specs.Phases.{GrownTo, Grown, is_line_of, phase, tasks}
+use Rattle.workers.specs.Phases.{GrownTo, Grown, is_line_of, is_no_others, phase, tasks}
 use Rattle.workers.specs.Serving.{IsReady, KeepsPass, HasServed, HasServedSome}
 use Rattle.workers.specs.Worklists.{IsNextOf, IsPlaceOf, AreLinked}
 use Rattle.workers.proofs.Growing.{tasks_then, grown_more, grown_none, room_left}
@@ -33,7 +33,6 @@ module _ {H P : Type 0} (reads : HandlerReads H P) (handler : H) where
 
   module _ (hosts lanes first : ℕ) (lines : List Line) (k : ℕ) where
     pub record StandsAt (place : ℕ) (p q : P) : Type 0 where
-      pub there : IsPlaceOf hosts lanes lines k place
       pub ready : IsReady reads handler (phase hosts lanes (first + place) (drop place lines)) k q
       pub same : KeepsPass reads handler p q
       pub grown : GrownTo (tasks hosts lanes k first lines) (tasks hosts lanes k (first + place) (drop place lines)) (reads.calls p) (reads.calls q)
@@ -46,10 +45,18 @@ module _ {H P : Type 0} (reads : HandlerReads H P) (handler : H) where
         let long = ap length skips in
         let room = ready.room in
         record {
-          there = next.there;
           ready = record { mine = ready.mine; number = ready.number; actor = ready.actor; room = omega (arith, long, room) };
           same = same_itself p ready.mine;
           grown = subst (λ left. GrownTo (tasks hosts lanes k first lines) left (reads.calls p) (reads.calls p)) skips (grown_none (tasks hosts lanes k first lines) (reads.calls p));
+        }
+
+    pub begins_first : (p : P) → IsReady reads handler (phase hosts lanes first lines) k p → StandsAt 0 p p
+    begins_first p ready =
+        let zero_more : first ≡ first + 0 = omega arith in
+        record {
+          ready = subst (λ n. IsReady reads handler (phase hosts lanes n lines) k p) zero_more ready;
+          same = same_itself p ready.mine;
+          grown = subst (λ n. GrownTo (tasks hosts lanes k first lines) (tasks hosts lanes k n lines) (reads.calls p) (reads.calls p)) zero_more (grown_none (tasks hosts lanes k first lines) (reads.calls p));
         }
 
     -- the tasks at a place are that of the line and those behind it
@@ -70,23 +77,26 @@ module _ {H P : Type 0} (reads : HandlerReads H P) (handler : H) where
         let room = at.ready.room in
         record { mine = at.ready.mine; number = at.ready.number; actor = at.ready.actor; room = omega (arith, long, room) }
 
-    pub line_own : (place : ℕ) (p q : P) (line : Line) → StandsAt place p q → place < length lines → line ≡ get_or lines place line → IsTrue (is_line_of hosts lanes k line)
-    line_own place p q line at lt is = ap (λ x. is_line_of hosts lanes k x) is ∙ at.there.own line lt
+    pub line_own : (place : ℕ) (line : Line) → IsPlaceOf hosts lanes lines k place → place < length lines → line ≡ get_or lines place line → IsTrue (is_no_others hosts lanes k line)
+    line_own place line there lt is = no_others line (ap (λ x. is_line_of hosts lanes k x) is ∙ there.own line lt)
+      where
+        no_others : (x : Line) → IsTrue (is_line_of hosts lanes k x) → IsTrue (is_no_others hosts lanes k x)
+        no_others Line.Mark own = refl
+        no_others (Line.Do actor lane act) own = own
 
-    pub goes_on : (place : ℕ) (p q r : P) (line : Line) (next : List ℕ) → StandsAt place p q → place < length lines → line ≡ get_or lines place line → AreLinked hosts lanes lines 0 next
-        → KeepsPass reads handler q r → Grown (tasks hosts lanes k (first + place) (line ∷ [])) (reads.calls q) (reads.calls r) → StandsAt (slice_index next place) p r
-    goes_on place p q r line next at lt is linked same grown =
-        let low : 0 ≤ place = omega arith in
-        let found : IsNextOf hosts lanes lines k (suc place) (slice_index next place) = linked place k line low lt (at.there.own line lt) in
+    -- from a line on to the next place, where no line between is the pass's
+    pub goes_to : (place next : ℕ) (p q r : P) (line : Line) → StandsAt place p q → place < length lines → line ≡ get_or lines place line
+        → tasks hosts lanes k (first + suc place) (drop (suc place) lines) ≡ tasks hosts lanes k (first + next) (drop next lines)
+        → KeepsPass reads handler q r → Grown (tasks hosts lanes k (first + place) (line ∷ [])) (reads.calls q) (reads.calls r) → StandsAt next p r
+    goes_to place next p q r line at lt is skips same grown =
         let now : List _ = tasks hosts lanes k (first + place) (line ∷ []) in
-        let rest : List _ = tasks hosts lanes k (first + slice_index next place) (drop (slice_index next place) lines) in
+        let rest : List _ = tasks hosts lanes k (first + next) (drop next lines) in
         let parts : tasks hosts lanes k (first + place) (drop place lines) ≡ now ++ rest =
-        tasks_at place line lt is ∙ ap (λ ts. tasks hosts lanes k (first + place) (line ∷ []) ++ ts) (found.skips first) in
+        tasks_at place line lt is ∙ ap (λ ts. tasks hosts lanes k (first + place) (line ∷ []) ++ ts) skips in
         let long = ap length parts ∙ length-append now rest in
         let room = at.ready.room in
         let more = room_left now [] (reads.calls q) (reads.calls r) grown in
         record {
-          there = found.there;
           ready = record {
             mine = same.mine;
             number = same.number ∙ at.ready.number;
@@ -96,6 +106,18 @@ module _ {H P : Type 0} (reads : HandlerReads H P) (handler : H) where
           same = same_pass p q r at.same same;
           grown = grown_more (tasks hosts lanes k first lines) (tasks hosts lanes k (first + place) (drop place lines)) now rest (reads.calls p) (reads.calls q) (reads.calls r) at.grown parts grown;
         }
+
+    -- to the next line of the pass, as they are linked
+    pub next_there : (place after : ℕ) (line : Line) (next : List ℕ) → after ≡ slice_index next place → IsPlaceOf hosts lanes lines k place → place < length lines → AreLinked hosts lanes lines 0 next
+        → IsPlaceOf hosts lanes lines k after
+    next_there place after line next is there lt linked = subst (λ n. IsPlaceOf hosts lanes lines k n) (sym is) (linked place k line (omega arith) lt (there.own line lt)).there
+
+    pub goes_on : (place after : ℕ) (p q r : P) (line : Line) (next : List ℕ) → after ≡ slice_index next place → IsPlaceOf hosts lanes lines k place → StandsAt place p q → place < length lines
+        → line ≡ get_or lines place line → AreLinked hosts lanes lines 0 next
+        → KeepsPass reads handler q r → Grown (tasks hosts lanes k (first + place) (line ∷ [])) (reads.calls q) (reads.calls r) → StandsAt after p r
+    goes_on place after p q r line next next_is there at lt is linked same grown =
+        subst (λ n. StandsAt n p r) (sym next_is)
+        (goes_to place (slice_index next place) p q r line at lt is ((linked place k line (omega arith) lt (there.own line lt)).skips first) same grown)
 
     pub ends : (place : ℕ) (p q : P) → StandsAt place p q → length lines ≤ place → HasServed reads handler (phase hosts lanes first lines) k p q
     ends place p q at over =

@@ -1,5 +1,5 @@
 -- The lines of a phase, and which of them are a pass's.
-use Rattle.std.specs.Prelude.{◌≡◌, ℕ, suc, ◌+◌, ◌==◌, Bool, false, List, [], ◌∷◌, ◌++◌, map, if◌then◌else◌}
+use Rattle.std.specs.Prelude.{◌≡◌, ℕ, suc, ◌+◌, ◌==◌, Bool, true, false, List, [], ◌∷◌, ◌++◌, map, if◌then◌else◌}
 use Rattle.journal_core.specs.declared.acts.Act.{Act}
 use Rattle.journal_core.specs.Merging.{Call}
 use Rattle.script_codec.specs.declared.script_line.Line.{Line}
@@ -27,6 +27,11 @@ tasks hosts lanes pass number (Line.Do actor lane act ∷ lines) =
 abbrev pub is_line_of : ℕ → ℕ → ℕ → Line → Bool
 is_line_of hosts lanes pass (Line.Do actor lane act) = pass_of hosts lanes actor lane == pass
 is_line_of hosts lanes pass Line.Mark = false
+
+-- whether a line is no other pass's
+abbrev pub is_no_others : ℕ → ℕ → ℕ → Line → Bool
+is_no_others hosts lanes pass (Line.Do actor lane act) = pass_of hosts lanes actor lane == pass
+is_no_others hosts lanes pass Line.Mark = true
 
 -- the calls of a pass have grown by those of the tasks but the last ones, each once and in order, and by nothing else
 pub record GrownTo (todo left : List Task) (old new : List Call) : Type 0 where

@@ -3,10 +3,12 @@
 ghost use Rattle.std.specs.List.{list_all};
 ghost use Rattle.std.specs.Prelude.{◌≡◌, ◌<◌, ◌≤◌, ◌+◌, ◌*◌, ◌^◌, IsTrue, OnOk, length, ℕ};
 ghost use Rattle.script_codec.specs.Scripts.{is_sound_line};
-ghost use Rattle.workers.specs.Phases.{phase};
+ghost use Rattle.workers.specs.Phases.{is_no_others, phase};
 ghost use Rattle.workers.specs.Serving.{EachReady, EachServed, EachServedSome};
 
+use crate::alone::lone_pass;
 use crate::handler::Handler;
+use crate::serving::serve_lines;
 use crate::workers::serve_all;
 use crate::worklists::{Worklist, parted};
 use dcd_base::{Gate, NoMemory};
@@ -31,9 +33,9 @@ fn hosts_of(passes: usize, lanes: u8) -> u8
 /// each pass have grown by its lines, each once and in order, and by nothing else. Without memory each pass has done
 /// some first ones of its lines. A mark among the lines is passed over.
 ///
-/// A pass without lines gets no worker, and the caller is one of the workers: lines of one pass alone start no thread.
-/// Where no thread can be made, the caller does the lines itself.
-#[tactic(auto, using(crate::proofs::Rows::none_served_yet, crate::proofs::Rows::whole_row))]
+/// Lines of one pass alone are done by the caller at once, without memory and without a look at the other passes. Else a
+/// pass without lines gets no worker, and the caller is one of the workers. Where no thread can be made, the caller does
+/// the lines itself.
 pub fn run_phase<R: Threads + Wait + Sync + AllocGlobal, H: Handler, G: Gate>(
     rt: &R,
     handler: &H,
@@ -53,11 +55,73 @@ pub fn run_phase<R: Threads + Wait + Sync + AllocGlobal, H: Handler, G: Gate>(
     ensures begun { EachServedSome H.reads handler.now (phase (H.reads.hosts handler.now) lanes first_line lines.now) 0 passes.old passes.new }
 {
     let hosts = hosts_of(passes.len(), lanes);
+    match lone_pass(hosts, lanes, lines) {
+        Some(k) => serve_alone(
+            rt, handler, gate, hosts, lanes, first_line, lines, k, passes,
+        ),
+        None => serve_parted(rt, handler, gate, hosts, lanes, first_line, lines, passes),
+    }
+}
+
+/// Does the lines of a phase that are no other pass's than that of this number.
+fn serve_alone<R: Wait, P: Send, H: Handler<Pass = P>, G: Gate>(
+    rt: &R,
+    handler: &H,
+    gate: &G,
+    hosts: u8,
+    lanes: u8,
+    first: u32,
+    lines: &[Line],
+    k: u32,
+    passes: &mut [P],
+) -> Result<(), NoMemory>
+    requires hosts { H.reads.hosts handler.now ≡ hosts }
+    requires pass { k < length passes.old }
+    requires sound { IsTrue (list_all (is_sound_line hosts lanes) lines.now) }
+    requires in_range { first + length lines.now ≤ 2 ^ 32 }
+    requires own { IsTrue (list_all (is_no_others hosts lanes k) lines.now) }
+    requires ready { EachReady H.reads handler.now (phase hosts lanes first lines.now) 0 passes.old }
+    ensures served { OnOk result (EachServed H.reads handler.now (phase hosts lanes first lines.now) 0 passes.old passes.new) }
+    ensures begun { EachServedSome H.reads handler.now (phase hosts lanes first lines.now) 0 passes.old passes.new }
+{
+    serve_lines(
+        rt,
+        handler,
+        gate,
+        hosts,
+        lanes,
+        first,
+        lines,
+        k,
+        &mut passes[k as usize],
+    )
+}
+
+/// Does the lines of a phase that several passes have.
+#[tactic(auto, using(crate::proofs::Rows::none_served_yet, crate::proofs::Rows::whole_row))]
+fn serve_parted<R: Threads + Wait + Sync + AllocGlobal, P: Send, H: Handler<Pass = P>, G: Gate>(
+    rt: &R,
+    handler: &H,
+    gate: &G,
+    hosts: u8,
+    lanes: u8,
+    first: u32,
+    lines: &[Line],
+    passes: &mut [P],
+) -> Result<(), NoMemory>
+    requires hosts { (H.reads.hosts handler.now ≡ hosts) × (hosts ≤ 16) }
+    requires count { length passes.old ≡ hosts * lanes + 2 }
+    requires sound { IsTrue (list_all (is_sound_line hosts lanes) lines.now) }
+    requires in_range { first + length lines.now ≤ 2 ^ 32 }
+    requires ready { EachReady H.reads handler.now (phase hosts lanes first lines.now) 0 passes.old }
+    ensures served { OnOk result (EachServed H.reads handler.now (phase hosts lanes first lines.now) 0 passes.old passes.new) }
+    ensures begun { EachServedSome H.reads handler.now (phase hosts lanes first lines.now) 0 passes.old passes.new }
+{
     let (heads, next) = parted(rt.alloc(), hosts, lanes, passes.len(), lines)?;
     let work = Worklist {
         hosts,
         lanes,
-        first: first_line,
+        first,
         next,
     };
     serve_all(rt, handler, gate, &work, lines, 0, heads.as_slice(), passes)

@@ -1,9 +1,10 @@
 //! The lines of one pass.
 
 ghost use Rattle.journal_core.specs.Entries.{fits};
-ghost use Rattle.std.specs.Prelude.{◌≡◌, ◌<◌, ◌+◌, ◌^◌, ◌∷◌, [], IsTrue, OnErr, OnOk, length};
+ghost use Rattle.std.specs.List.{list_all};
+ghost use Rattle.std.specs.Prelude.{◌≡◌, ◌<◌, ◌≤◌, ◌+◌, ◌^◌, ◌∷◌, [], IsTrue, OnErr, OnOk, length};
 ghost use Rattle.script_codec.specs.Scripts.{is_sound_line};
-ghost use Rattle.workers.specs.Phases.{Grown, is_line_of, phase, tasks};
+ghost use Rattle.workers.specs.Phases.{Grown, is_no_others, phase, tasks};
 ghost use Rattle.workers.specs.Serving.{HasServed, HasServedSome, IsReady, KeepsPass};
 ghost use Rattle.workers.specs.Worklists.{IsNextOf, IsWork, phase_of};
 
@@ -36,23 +37,24 @@ fn serve_act<R: Wait, P: Send, H: Handler<Pass = P>, G: Gate>(
     Ok(())
 }
 
-/// Does a line of the pass.
+/// Does a line of the pass. A mark is passed over.
 fn serve_line<R: Wait, P: Send, H: Handler<Pass = P>, G: Gate>(
     rt: &R,
     handler: &H,
     gate: &G,
-    work: &Worklist,
+    hosts: u8,
+    lanes: u8,
     k: u32,
     number: u32,
     line: &Line,
     pass: &mut P,
 ) -> Result<(), NoMemory>
-    requires hosts { H.reads.hosts handler.now ≡ work.now.hosts }
-    requires sound { IsTrue (is_sound_line work.now.hosts work.now.lanes line.now) }
-    requires own { IsTrue (is_line_of work.now.hosts work.now.lanes k line.now) }
-    requires ready { IsReady H.reads handler.now (phase work.now.hosts work.now.lanes number (line.now ∷ [])) k pass.old }
+    requires hosts { H.reads.hosts handler.now ≡ hosts }
+    requires sound { IsTrue (is_sound_line hosts lanes line.now) }
+    requires own { IsTrue (is_no_others hosts lanes k line.now) }
+    requires ready { IsReady H.reads handler.now (phase hosts lanes number (line.now ∷ [])) k pass.old }
     ensures same { KeepsPass H.reads handler.now pass.old pass.new }
-    ensures grown { OnOk result (Grown (tasks work.now.hosts work.now.lanes k number (line.now ∷ [])) (H.reads.calls pass.old) (H.reads.calls pass.new)) }
+    ensures grown { OnOk result (Grown (tasks hosts lanes k number (line.now ∷ [])) (H.reads.calls pass.old) (H.reads.calls pass.new)) }
     ensures kept { OnErr result (H.reads.calls pass.new ≡ H.reads.calls pass.old) }
 {
     match line {
@@ -85,13 +87,51 @@ pub(crate) fn serve<R: Wait, P: Send, H: Handler<Pass = P>, G: Gate>(
             rt,
             handler,
             gate,
-            work,
+            work.hosts,
+            work.lanes,
             k,
             work.first + place as u32,
             &lines[place],
             pass,
         )?;
         place = work.next_after(place);
+    }
+    Ok(())
+}
+
+/// Does lines that are no other pass's, in order. The first of them has this number.
+#[tactic(auto, using(crate::proofs::Standing::begins_first, crate::proofs::Standing::line_ready, crate::proofs::Standing::all_at, crate::proofs::Standing::ends, crate::proofs::Standing::ended, crate::proofs::Standing::stops))]
+pub(crate) fn serve_lines<R: Wait, P: Send, H: Handler<Pass = P>, G: Gate>(
+    rt: &R,
+    handler: &H,
+    gate: &G,
+    hosts: u8,
+    lanes: u8,
+    first: u32,
+    lines: &[Line],
+    k: u32,
+    pass: &mut P,
+) -> Result<(), NoMemory>
+    requires hosts { H.reads.hosts handler.now ≡ hosts }
+    requires sound { IsTrue (list_all (is_sound_line hosts lanes) lines.now) }
+    requires in_range { first + length lines.now ≤ 2 ^ 32 }
+    requires own { IsTrue (list_all (is_no_others hosts lanes k) lines.now) }
+    requires ready { IsReady H.reads handler.now (phase hosts lanes first lines.now) k pass.old }
+    ensures served { OnOk result (HasServed H.reads handler.now (phase hosts lanes first lines.now) k pass.old pass.new) }
+    ensures begun { HasServedSome H.reads handler.now (phase hosts lanes first lines.now) k pass.old pass.new }
+{
+    for place in 0..lines.len() {
+        serve_line(
+            rt,
+            handler,
+            gate,
+            hosts,
+            lanes,
+            k,
+            first + place as u32,
+            &lines[place],
+            pass,
+        )?;
     }
     Ok(())
 }

@@ -6,6 +6,7 @@ ghost use mathlib.Core.Option.{none};
 
 use crate::turns::plays::{Give, Lay, Mark, Pick, Try};
 use crate::turns::protocol::{Board, Marking, Outcome, Protocol, Token};
+use std::hint::spin_loop;
 use std::sync::Wait;
 
 /// One try, by one step.
@@ -67,7 +68,22 @@ pub fn try_take<X, V, K, P: Protocol<X, V, K>, M: Outcome<X, V>>(
     }
 }
 
-/// Takes a turn, and sleeps while it is another's.
+/// How often a turn that is another's is looked at again before a sleep.
+const LOOKS: u32 = 200;
+
+/// Looks at a turn again until it is given back, or so many times.
+fn look_again<X, V, K, P: Protocol<X, V, K>>(board: &Board<X, V, K, P>, cell: usize)
+    requires { (cell < board.now.table_id.slots) × (board.now.table_id.words ≡ board.now.table_id.slots + 1) }
+{
+    for _ in 0..LOOKS {
+        if board.peek(cell) == 0 {
+            return;
+        }
+        spin_loop();
+    }
+}
+
+/// Takes a turn. While it is another's, it looks again some times, and then sleeps.
 pub fn take<X, V, K, P: Protocol<X, V, K>, M: Outcome<X, V>, R: Wait>(
     rt: &R,
     board: &Board<X, V, K, P>,
@@ -85,7 +101,10 @@ pub fn take<X, V, K, P: Protocol<X, V, K>, M: Outcome<X, V>, R: Wait>(
     for _ in rt.forever() {
         match try_take::<X, V, K, P, M>(board, seat, number, cell) {
             Ok(value) => return value,
-            Err(other) => board.park(rt, cell, other + 1),
+            Err(other) => {
+                look_again(board, cell);
+                board.park(rt, cell, other + 1);
+            }
         }
     }
     unreachable!()

@@ -1,0 +1,4 @@
+pub mod AllRan
+pub mod LineActors
+pub mod LinesRan
+pub mod NewPassesReady

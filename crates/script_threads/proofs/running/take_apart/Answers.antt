@@ -1,0 +1,15 @@
+use Rattle.script_threads.proofs.AllRan.{are_all_passes, thread_run}
+use Rattle.script_threads.proofs.running.take_apart.Goals as goal
+
+pub close-requires : goal.close-requires
+close-requires c = record {
+  all =
+      are_all_passes c.args.device c.args.script.now c.args.passes.items
+      (record { config = c.requires.config; count = c.requires.count; seats = c.requires.seats; ran = c.requires.ran });
+}
+
+pub returns-in-Ok-clause-journal : goal.returns-in-Ok-clause-journal
+returns-in-Ok-clause-journal c =
+    thread_run c.args.device c.args.script.now c.args.passes.items
+    (record { config = c.requires.config; count = c.requires.count; seats = c.requires.seats; ran = c.requires.ran })
+    c.in-Ok.left.0.entries c.in-Ok.left.1.items c.in-Ok.ensures.journal c.requires.script c.hosts-hosts.ensures.sound c.law_isolated.ensures c.law_served_cover.ensures

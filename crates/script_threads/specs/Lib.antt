@@ -1,0 +1,3 @@
+pub mod ScriptPasses
+pub mod SharedPasses
+pub mod ThreadRuns

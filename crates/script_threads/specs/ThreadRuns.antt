@@ -1,0 +1,24 @@
+-- What a run of a script in threads leaves.
+use Rattle.std.specs.Prelude.{ℕ, List}
+use Rattle.device_rules.specs.Legal.{Exclusive, Legal}
+use Rattle.isolation_laws.specs.Solo.{Isolated}
+use Rattle.journal_core.specs.declared.entries.Entry.{Entry}
+use Rattle.journal_core.specs.Merging.{Numbered}
+use Rattle.region_config.specs.Configurations.{Configuration}
+use Rattle.script_codec.specs.declared.scripts.Script.{Script}
+use Rattle.script_codec.specs.Covering.{Covers}
+use Rattle.shared_device.specs.Closing.{IsClosed}
+use Rattle.shared_device.specs.declared.pass.Pass.{Pass}
+
+-- the entries are those of a shared device that was taken apart once all its passes came back
+abbrev pub IsTakenApart : Configuration → List Entry → List (List Entry) → Type 0
+IsTakenApart c control shards = (seats : ℕ) × (passes : List Pass) × IsClosed c seats passes control shards
+
+-- The journal is one of the script: it is legal and numbered, has each line that is no mark once, no granule of a region that
+-- is not shareable ever has two hosts, and each reply to a host is what a device with that host alone replies.
+pub record IsThreadRun (s : Script) (journal : List Entry) : Type 0 where
+  pub legal : Legal s.config journal
+  pub exclusive : Exclusive s.config journal
+  pub numbered : Numbered journal
+  pub isolated : Isolated s.config journal
+  pub covers : Covers journal s

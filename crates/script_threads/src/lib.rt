@@ -1,0 +1,9 @@
+//! The lines of a script on the shared device, each lane's in a thread of its own.
+#![tactic(auto)]
+
+mod gated;
+mod inside;
+mod lines;
+mod running;
+
+pub use running::run_in_threads;

@@ -1,0 +1,30 @@
+-- Passes of a device of sixteen hosts.
+use Rattle.std.proofs.Common.{◌≡◌, ℕ, IsTrue, List, length, sym, subst}
+use Rattle.std.specs.List.{All}
+use Rattle.std.proofs.lemmas.List.{length-map}
+use mathlib.Core.Option.{some}
+use lib.ListN.{get_elem?}
+use Rattle.control_core.specs.Steps.{MayStep}
+use Rattle.dcd_base.specs.declared.steps.Actor.{Actor}
+use Rattle.journal_core.proofs.Splits.{all_from_places}
+use Rattle.journal_core.specs.declared.acts.Act.{Act}
+use Rattle.journal_core.specs.Entries.{fits, is_control}
+use Rattle.journal_core.specs.Merging.{call_of}
+use Rattle.ruled_cells.specs.Seats.{seat_view}
+use Rattle.shared_device.specs.declared.pass.Pass.{Pass}
+use Rattle.shared_device.specs.declared.shared.Shared.{Shared}
+use Rattle.shared_device.specs.Passing.{IsNewPass, IsOneOf, pass_calls}
+
+pub calls_counted : (p : Pass) → length (pass_calls p) ≡ length (seat_view p.seat).calls
+calls_counted p = length-map (seat_view p.seat).calls call_of
+
+-- a command or a scrub that its actor may do on a device of sixteen hosts
+pub may_step : (s : Shared) (actor : Actor) (act : Act) → s.config.hosts ≡ 16 → IsTrue (fits 16 actor act) → IsTrue (is_control act) → MayStep s.config actor act
+may_step s actor act hosts fit control = record { fits = subst (λ (n : ℕ). IsTrue (fits n actor act)) (sym hosts) fit; control = control }
+
+pub may_access : (s : Shared) (actor : Actor) (act : Act) → s.config.hosts ≡ 16 → IsTrue (fits 16 actor act) → IsTrue (fits s.config.hosts actor act)
+may_access s actor act hosts fit = subst (λ (n : ℕ). IsTrue (fits n actor act)) (sym hosts) fit
+
+-- all passes that a device was made with are of it
+pub all_of : (s : Shared) (actors : List Actor) (l : List Pass) → ((k : ℕ) (p : Pass) → get_elem? l k ≡ some p → IsNewPass s actors k p) → All (λ p. IsOneOf s p) l
+all_of s actors l each = all_from_places (λ p. IsOneOf s p) l (λ k p e. (each k p e).of)

@@ -1,0 +1,2 @@
+mod Leavings
+mod Passes
