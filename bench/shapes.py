@@ -484,3 +484,30 @@ MODES = [
     ("commands of all hosts and the manager, scrubs", commands_of_all),
     ("a mark behind each of 32,751 loads", marks),
 ]
+
+
+# Several devices behind a tunnel, and the script of each as one device's
+
+
+def chassis(count, each):
+    """A fabric of so many devices of 16 hosts, each with so many lines: offers through the tunnel, and what its hosts do; and the script of each alone."""
+    import tunnelling
+
+    def there(number, line):
+        """A line of the device: a command of the manager as a message through the tunnel, all else as a local line."""
+        if line[:2] == bytes([1, MANAGER]):
+            return tunnelling.outer(tunnelling.message(tunnelling.through(number, line[4:]), 0))
+        return tunnelling.local(number, line)
+
+    whole, alone = [], []
+    for number in range(count):
+        start, lines = shared_out(lambda host: blocks(host, 8, 16))
+        lines = [line for line in lines if line != mark()]
+        x = draws()
+        for n in range(each - len(lines)):
+            host, draw = n % HOSTS, next(x) >> 20
+            address = (host + 16 * (draw % 8)) * MIB + (draw >> 3) % (MIB // 8) * 8
+            lines.append(load(host, address) if n // HOSTS % 2 else store(host, address, draw))
+        alone.append(script(start, lines))
+        whole.append([there(number, line) for line in lines])
+    return tunnelling.fabric([start] * count, [lines[n] for n in range(each) for lines in whole]), alone

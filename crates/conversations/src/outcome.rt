@@ -62,6 +62,16 @@ impl Outcome {
         self.status == status && self.text.as_slice() == text
     }
 
+    /// How many bytes it wrote, if it is this status and they are a front of this text.
+    pub(crate) fn front(&self, status: u8, text: &[u8]) -> Option<usize> {
+        let written = self.text.as_slice();
+        if self.status == status && text.starts_with(written) {
+            Some(written.len())
+        } else {
+            None
+        }
+    }
+
     /// Where it first differs from what the conversation has to come to.
     pub(crate) fn difference(&self, conversation: &Conversation) -> Option<Difference> {
         if self.status != conversation.status {

@@ -7,6 +7,7 @@ use std::alloc::{AllocGlobal, Global};
 use std::io::{self, ErrorKind};
 use std::sync::Wait;
 use std::thread::Threads;
+use tunnel_fabric::run_fabric;
 
 /// A program that reads a script from a source and writes a text to a sink.
 #[derive(Clone, Copy, Debug, PartialEq, Eq)]
@@ -15,6 +16,8 @@ pub(crate) enum Program {
     Dcdsim,
     /// Drives one host over a script.
     HostDriver,
+    /// Runs several devices behind a tunnel.
+    TunnelFabric,
 }
 
 impl Program {
@@ -23,6 +26,7 @@ impl Program {
         match name.trim() {
             "" | "dcdsim" => Ok(Program::Dcdsim),
             "host_driver" => Ok(Program::HostDriver),
+            "tunnel_fabric" => Ok(Program::TunnelFabric),
             _ => Err(io::Error::from(ErrorKind::InvalidData)),
         }
     }
@@ -39,6 +43,7 @@ impl Program {
         match self {
             Program::Dcdsim => run(rt, alloc, words, source, sink, &NoGate).number(),
             Program::HostDriver => run_driver(alloc, words, source, sink).number(),
+            Program::TunnelFabric => run_fabric(alloc, words, source, sink).number(),
         }
     }
 
@@ -49,7 +54,15 @@ impl Program {
                 Some(choice) => choice.seed.is_none(),
                 None => false,
             },
-            Program::HostDriver => status != USAGE,
+            Program::HostDriver | Program::TunnelFabric => status != USAGE,
+        }
+    }
+
+    /// How few bytes a write takes at least that may take so many, but for the last one.
+    pub(crate) fn least_written(self, most: usize) -> usize {
+        match self {
+            Program::Dcdsim | Program::HostDriver => most,
+            Program::TunnelFabric => 1,
         }
     }
 }

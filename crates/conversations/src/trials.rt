@@ -118,7 +118,8 @@ fn wrong_read<R: Threads + Wait + Sync + AllocGlobal>(
     Ok(None)
 }
 
-/// The first of the writes whose failure does not end the run with just what the writes before it took.
+/// The first of the writes whose failure does not end the run with a front of the text that the writes before it took, each of
+/// them as many bytes as it may, or some of them where the program writes in parts.
 fn wrong_write<R: Threads + Wait + Sync + AllocGlobal>(
     rt: &R,
     alloc: Global,
@@ -126,21 +127,24 @@ fn wrong_write<R: Threads + Wait + Sync + AllocGlobal>(
     words: &[String],
 ) -> Result<Option<usize>, NoMemory> {
     let text = conversation.text.as_slice();
-    let mut taken = 0usize;
+    let few = conversation.program.least_written(SMALL.written);
+    let (mut least, mut most) = (0usize, 0usize);
     for call in 1..MOST_FAILING.saturating_add(1) {
-        if taken >= text.len() {
-            return Ok(None);
-        }
         let ends = Ends {
             failing_write: call as u64,
             ..SMALL
         };
         let outcome = Outcome::of(rt, alloc, conversation, words, ends)?;
-        let (front, _) = text.split_at(taken);
-        if !outcome.is(WRITE_FAULT, front) {
-            return Ok(Some(call));
+        if most >= text.len() && outcome.is(conversation.status, text) {
+            return Ok(None);
         }
-        taken = taken.saturating_add(SMALL.written);
+        match outcome.front(WRITE_FAULT, text) {
+            Some(taken) if least <= taken && taken <= most => {
+                least = taken.saturating_add(few);
+                most = taken.saturating_add(SMALL.written);
+            }
+            _ => return Ok(Some(call)),
+        }
     }
     Ok(None)
 }

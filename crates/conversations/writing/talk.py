@@ -56,12 +56,18 @@ def needs_marks(script):
 class Case:
     """The bytes of a script, or None; the words of each run; the exit status, the lines of the text, and the program, or None for dcdsim.
 
-    Where no words are given it is run in both modes if it is refused or its text is the same in both, and else in serial mode.
+    Where no words are given dcdsim runs it in both modes if it is refused or its text is the same in both, and else in serial mode.
     """
 
     def __init__(self, text, script=None, runs=None, status=DONE, program=None):
         self.text, self.script, self.status, self.program = text, script, status, program
-        self.runs = (BOTH if status == REFUSED or is_alike(script) else SERIAL) if runs is None else runs
+        self.runs = self.modes() if runs is None else runs
+
+    def modes(self):
+        """The words of each run, where none are given."""
+        if self.program is not None:
+            return ((),)
+        return BOTH if self.status == REFUSED or is_alike(self.script) else SERIAL
 
     def write(self, path):
         if self.program is not None:
@@ -70,8 +76,9 @@ class Case:
         if self.script is not None:
             with open(path + ".dcds", "wb") as file:
                 file.write(self.script)
-        with open(path + ".words", "w") as file:
-            file.write("\n".join("".join(word + "\n" for word in words) for words in self.runs))
+        if self.runs != ((),):
+            with open(path + ".words", "w") as file:
+                file.write("\n".join("".join(word + "\n" for word in words) for words in self.runs))
         if self.status != DONE:
             with open(path + ".status", "w") as file:
                 file.write(f"{self.status}\n")

@@ -1,0 +1,4 @@
+pub mod FabricDevices
+pub mod FabricLaws
+pub mod FabricLineLaws
+pub mod FabricLists

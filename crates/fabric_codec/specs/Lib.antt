@@ -1,0 +1,4 @@
+pub mod FabricFaults
+pub mod FabricLayout
+pub mod FabricLines
+pub mod FabricReading
