@@ -2,6 +2,7 @@
 
 use dcd_base::{MemSink, MemSource, NoGate};
 use host_driver::run_driver;
+use journal_check::run_check;
 use script_runner::{chosen, run};
 use std::alloc::{AllocGlobal, Global};
 use std::io::{self, ErrorKind};
@@ -16,6 +17,8 @@ pub(crate) enum Program {
     Dcdsim,
     /// Drives one host over a script.
     HostDriver,
+    /// Checks a printed text against a script.
+    JournalCheck,
     /// Runs several devices behind a tunnel.
     TunnelFabric,
 }
@@ -26,6 +29,7 @@ impl Program {
         match name.trim() {
             "" | "dcdsim" => Ok(Program::Dcdsim),
             "host_driver" => Ok(Program::HostDriver),
+            "journal_check" => Ok(Program::JournalCheck),
             "tunnel_fabric" => Ok(Program::TunnelFabric),
             _ => Err(io::Error::from(ErrorKind::InvalidData)),
         }
@@ -43,6 +47,7 @@ impl Program {
         match self {
             Program::Dcdsim => run(rt, alloc, words, source, sink, &NoGate).number(),
             Program::HostDriver => run_driver(alloc, words, source, sink).number(),
+            Program::JournalCheck => run_check(alloc, words, source, sink).number(),
             Program::TunnelFabric => run_fabric(alloc, words, source, sink).number(),
         }
     }
@@ -54,14 +59,14 @@ impl Program {
                 Some(choice) => choice.seed.is_none(),
                 None => false,
             },
-            Program::HostDriver | Program::TunnelFabric => status != USAGE,
+            Program::HostDriver | Program::JournalCheck | Program::TunnelFabric => status != USAGE,
         }
     }
 
     /// How few bytes a write takes at least that may take so many, but for the last one.
     pub(crate) fn least_written(self, most: usize) -> usize {
         match self {
-            Program::Dcdsim | Program::HostDriver => most,
+            Program::Dcdsim | Program::HostDriver | Program::JournalCheck => most,
             Program::TunnelFabric => 1,
         }
     }

@@ -1,0 +1,9 @@
+pub mod Claims
+pub mod FirstWrong
+pub mod Following
+pub mod Fronts
+pub mod Frames
+pub mod Lines
+pub mod Parting
+pub mod CheckPlanning
+pub mod CheckStatuses

@@ -1,0 +1,18 @@
+//! Whether a text is the printed text of a journal of a script, or which line is the first wrong one.
+#![tactic(auto)]
+
+mod checking;
+mod claims;
+mod comparing;
+mod following;
+mod fronts;
+mod laws;
+mod parting;
+mod printing;
+mod program;
+mod status;
+
+pub use checking::check;
+pub use laws::{law_one_answer, law_one_journal};
+pub use program::run_check;
+pub use status::CheckStatus;
