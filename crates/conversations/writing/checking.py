@@ -5,7 +5,7 @@ Which line is the first wrong one is worked out by hand: it is the line that was
 import struct
 
 from talk import *
-from using import memory
+from using import CASES as USING, memory
 
 WRONG, SHORT = 1, 7
 
@@ -92,6 +92,27 @@ def ordered(*lines, wrong=None):
     return checked(LANES.script, spelled(text + LANES.text[13:]), wrong)
 
 
+FOUR_HOSTS = USING["four-hosts"]
+
+
+def four_hosts_in_order(step):
+    """The text of four hosts with their loads and stores in another order: those of each host stay in order, and the hosts take turns of so many."""
+    entries = [line for line in FOUR_HOSTS.text if line.split()[0].isdigit()]
+    places = [at for at, line in enumerate(entries) if line.split()[3] in ("ld", "st")]
+    waiting = {}
+    for at in places:
+        waiting.setdefault(entries[at].split()[2], []).append(entries[at])
+    taken, hosts = [], sorted(waiting, reverse=step % 2 == 0)
+    while any(waiting.values()):
+        for host in hosts:
+            taken += waiting[host][:step]
+            del waiting[host][:step]
+    for at, line in zip(places, taken):
+        entries[at] = line
+    numbered = [f"{number} " + line.split(" ", 1)[1] for number, line in enumerate(entries, 1)]
+    return checked(FOUR_HOSTS.script, spelled([FOUR_HOSTS.text[0], *numbered, *FOUR_HOSTS.text[len(entries) + 1:]]))
+
+
 # ---- the frame
 
 def misses(need, have):
@@ -135,6 +156,8 @@ CASES = {
     "checked-across-marks": ordered(1, 4, 7, 9, 2, 8, 5, 10, 11, 13, 14, 12),
     "checked-records-of-another-order": ordered(1, 2, 5, 4, 7, 8, 9, 10, 11, 12, 13, 14, wrong=16),
     "checked-lane-out-of-order": ordered(1, 2, 4, 5, 7, 9, 10, 12, 8, 11, 13, 14, wrong=9),
+    "checked-four-hosts": checked(FOUR_HOSTS.script, spelled(FOUR_HOSTS.text)),
+    **{f"checked-four-hosts-by-turns-of-{step}": four_hosts_in_order(step) for step in range(1, 11)},
     "checked-mark": changed(LANES, 4, "3 4 h0", "3 3 h0"),
     # frames that are none
     "checked-nothing": misses(4, 0),

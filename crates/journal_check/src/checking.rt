@@ -54,11 +54,14 @@ fn first_wrong(script: &Script, text: &[u8], device: &Device, all: bool) -> Opti
     ensures { IsChecked script.now text.now result }
 {
     let (agreed, same) = compare(device, text);
-    let line = line_behind(text, agreed);
     if all {
-        if same { None } else { Some(line) }
+        if same {
+            None
+        } else {
+            Some(line_behind(text, agreed))
+        }
     } else {
-        Some(line.min(device.len() + 2))
+        Some(line_behind(text, agreed).min(device.len() + 2))
     }
 }
 
