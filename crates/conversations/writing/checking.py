@@ -5,7 +5,7 @@ Which line is the first wrong one is worked out by hand: it is the line that was
 import struct
 
 from talk import *
-from using import CASES as USING, memory
+from using import CASES as USING, memory, with_lanes
 
 WRONG, SHORT = 1, 7
 
@@ -65,13 +65,7 @@ def exchanged():
 
 def four_lanes():
     """Two hosts with two lanes each: the entries by their lines, and the rest of the text."""
-    talk = Talk(two_regions(lanes=2))
-    talk.manager(offer(0, FREE, 0, 2 * M), SUCCESS)
-    talk.manager(offer(1, FREE, 0, M), SUCCESS)
-    talk.mark()
-    talk.host(0, respond([(0, 2 * M)]), SUCCESS, lane=1)
-    talk.host(1, respond([(B + 2 * M, M)]), SUCCESS)
-    talk.mark()
+    talk = with_lanes()
     for address, host, lane in ((0, 0, 0), (8, 0, 1), (B + 2 * M, 1, 0), (B + 2 * M + 8, 1, 1)):
         talk.store(host, address, address + 1, lane)
         talk.load(host, address, address + 1, lane)

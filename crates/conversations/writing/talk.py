@@ -146,8 +146,13 @@ class Talk:
     def scrub(self, most, zeroed):
         self.put(scrub(most), "sz", f"sc {zeroed}")
 
-    def end(self, hosts, manager=(), missed=0, free=20, dirty=0, runs=None):
-        """The whole conversation; of each host its extents, their granules, and the records in its log; then the manager's records."""
+    def end(self, *state, runs=None, **counts):
+        """The whole conversation, with this state behind it."""
+        self.put_state(*state, **counts)
+        return Case(self.text, self.head + b"".join(self.lines) + b"\0", runs)
+
+    def put_state(self, hosts, manager=(), missed=0, free=20, dirty=0):
+        """The lines behind the entries; of each host its extents, their granules, and the records in its log; then the manager's records."""
         for host, (_, _, records) in enumerate(hosts):
             self.text += [f"rec h{host} {it.hex()}" for it in records]
         self.text += [f"rec fm {it.hex()}" for it in manager]
@@ -156,4 +161,3 @@ class Talk:
         self.text.append(f"fm log {len(manager)} missed {missed}")
         self.text.append(f"granules free {free} dirty {dirty}")
         self.text.append(f"end {len(self.lines) - self.marks}")
-        return Case(self.text, self.head + b"".join(self.lines) + b"\0", runs)

@@ -68,19 +68,6 @@ class Behind(Talk):
         self.chassis.replies.append(f"t {number} " + response((TUNNEL,), tag, SUCCESS, struct.pack("<H2x", self.number) + its_response).hex())
         self.enter("fm", "cmd " + its_response.hex())
 
-    def close(self, hosts, **state):
-        self.end(hosts, **state)
-
-    def end(self, hosts, manager=(), missed=0, free=20, dirty=0):
-        for host, (_, _, records) in enumerate(hosts):
-            self.text += [f"rec h{host} {it.hex()}" for it in records]
-        self.text += [f"rec fm {it.hex()}" for it in manager]
-        for host, (extents, granules, records) in enumerate(hosts):
-            self.text.append(f"host h{host} extents {extents} granules {granules} log {len(records)}")
-        self.text.append(f"fm log {len(manager)} missed {missed}")
-        self.text.append(f"granules free {free} dirty {dirty}")
-        self.text.append(f"end {len(self.lines)}")
-
 
 class Chassis:
     """Devices behind a tunnel, and the lines that go to them."""
@@ -109,7 +96,7 @@ def one_message_reaches_the_second_device():
     chassis = Chassis(two_regions(), two_regions())
     chassis[1].manager(get_info(), info(2, [M, M], 20, 20, 0))
     for device in chassis.devices:
-        device.end([NOTHING, NOTHING])
+        device.put_state([NOTHING, NOTHING])
     return chassis.finish()
 
 
@@ -117,7 +104,7 @@ def one_message_reaches_no_device():
     chassis = Chassis(two_regions(), two_regions())
     chassis.refuses(message(through(2, message(get_info(), 2)), 1), INVALID_INPUT)
     for device in chassis.devices:
-        device.end([NOTHING, NOTHING])
+        device.put_state([NOTHING, NOTHING])
     return chassis.finish()
 
 
@@ -137,7 +124,7 @@ def rules_of_the_tunnel():
     chassis.refuses(message(through(1, message(get_info(), 9, length=1)), 10), INVALID_INPUT)
     chassis.refuses(message(through(1, inner + b"\0"), 11), INVALID_INPUT)
     for device in chassis.devices:
-        device.end([NOTHING, NOTHING])
+        device.put_state([NOTHING, NOTHING])
     return chassis.finish()
 
 
@@ -149,7 +136,7 @@ def refused_by_a_device():
     chassis[0].manager((0x5600, b"\0"), INVALID_LENGTH)
     chassis[1].manager(offer(2, PRESCRIPTIVE, 0, extents=[(0, M)]), INVALID_INPUT)
     for device in chassis.devices:
-        device.end([NOTHING, NOTHING])
+        device.put_state([NOTHING, NOTHING])
     return chassis.finish()
 
 
@@ -163,7 +150,7 @@ def plays(device, word):
 
 
 def has_played(device):
-    device.end(
+    device.put_state(
         [(1, 1, [record(1, ADD, 0, (0, M), 63)]), NOTHING],
         [record(1, RESPONSE, 0, (0, M), 63)], free=19)
 
@@ -191,7 +178,7 @@ def two_devices_by_turns():
     second.scrub(9, 0)
     first.load(0, 8, 5)
     has_played(first)
-    second.end([NOTHING, NOTHING])
+    second.put_state([NOTHING, NOTHING])
     return chassis.finish()
 
 
@@ -200,13 +187,13 @@ def eight_devices():
     for number in (7, 0, 6, 1, 5, 2, 4, 3):
         chassis[number].manager(get_info(), info(2, [M, M], 20, 20, 0) if number % 2 == 0 else info(1, [M], 128, 128, 0))
     for device in chassis.devices:
-        device.end([NOTHING, NOTHING] if device.number % 2 == 0 else [NOTHING], free=20 if device.number % 2 == 0 else 128)
+        device.put_state([NOTHING, NOTHING] if device.number % 2 == 0 else [NOTHING], free=20 if device.number % 2 == 0 else 128)
     return chassis.finish()
 
 
 def no_lines():
     chassis = Chassis(one_region())
-    chassis[0].end([NOTHING], free=128)
+    chassis[0].put_state([NOTHING], free=128)
     return chassis.finish()
 
 

@@ -122,8 +122,8 @@ def four_hosts():
     return talk.end(hosts, told, free=512 - 12 * granules, dirty=6 * granules)
 
 
-def lanes():
-    """A script of version 2: each host has two lanes, marks end phases and have no entry, and all lanes use one memory."""
+def with_lanes():
+    """Two hosts of two lanes each, which hold two blocks and one."""
     talk = Talk(two_regions(lanes=2))
     talk.manager(offer(0, FREE, 0, 2 * M), SUCCESS)
     talk.manager(offer(1, FREE, 0, M), SUCCESS)
@@ -131,6 +131,12 @@ def lanes():
     talk.host(0, respond([(0, 2 * M)]), SUCCESS, lane=1)
     talk.host(1, respond([(B + 2 * M, M)]), SUCCESS)
     talk.mark()
+    return talk
+
+
+def lanes():
+    """A script of version 2: each host has two lanes, marks end phases and have no entry, and all lanes use one memory."""
+    talk = with_lanes()
     talk.store(0, 0, 1)
     talk.store(0, 8, 2, lane=1)
     talk.load(0, 8, 2)
