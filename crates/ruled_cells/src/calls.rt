@@ -30,6 +30,7 @@ impl<F: Chief, S: Member> Cells<F, S> {
         let kept = turns::take::<CellValue<F, S>, _, _, _, TakeFirst<F, S>, R>(
             rt,
             &self.table.shared,
+            &self.sleepers,
             &mut seat.token,
             seat.number,
             0,
@@ -53,6 +54,7 @@ impl<F: Chief, S: Member> Cells<F, S> {
         let kept = turns::take::<CellValue<F, S>, _, _, _, TakeCell<F, S>, R>(
             rt,
             &self.table.shared,
+            &self.sleepers,
             &mut seat.token,
             seat.number,
             index as usize + 1,
@@ -118,6 +120,7 @@ impl<F: Chief, S: Member> Cells<F, S> {
     {
         turns::give::<CellValue<F, S>, _, _, _, GiveFirst<F, S>>(
             &self.table.shared,
+            &self.sleepers,
             &mut seat.token,
             seat.number,
             0,
@@ -137,6 +140,7 @@ impl<F: Chief, S: Member> Cells<F, S> {
     {
         turns::give::<CellValue<F, S>, _, _, _, GiveCell<F, S>>(
             &self.table.shared,
+            &self.sleepers,
             &mut seat.token,
             seat.number,
             index as usize + 1,

@@ -94,7 +94,11 @@ impl<F: Chief, S: Member> Cells<F, S> {
         ensures no_others { NoOthers F.reads S.reads self result.0 result.1.items }
     {
         let last = gather(&self, seats);
-        let Cells { table, row: count } = self;
+        let Cells {
+            table,
+            row: count,
+            sleepers: _,
+        } = self;
         unpack(turns::close(table, last.into_token()), row, count)
     }
 

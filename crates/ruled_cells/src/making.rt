@@ -17,7 +17,7 @@ use crate::chief::Chief;
 use crate::member::Member;
 use crate::ruling::{Enter, Fill, Ruling};
 use crate::seat::Seat;
-use crate::turns::{self, Board, Token};
+use crate::turns::{self, Board, Sleepers, Token};
 use dcd_base::NoMemory;
 use std::alloc::Global;
 
@@ -27,6 +27,7 @@ pub type Shelf<F, S> = Board<CellValue<F, S>, SeatView, OpeningValues<F, S>, Rul
 /// Seat 0 gives each cell back with the value that it was made with.
 fn fill<F: Chief, S: Member>(
     shelf: &Shelf<F, S>,
+    sleepers: &Sleepers,
     token: &mut Token<CellValue<F, S>, SeatView>,
     first: F,
     mut rest: Vec<S>,
@@ -43,6 +44,7 @@ fn fill<F: Chief, S: Member>(
 {
     turns::give::<CellValue<F, S>, _, _, _, Fill<F, S>>(
         shelf,
+        sleepers,
         token,
         0,
         0,
@@ -51,6 +53,7 @@ fn fill<F: Chief, S: Member>(
     while let Some(value) = rest.pop() {
         turns::give::<CellValue<F, S>, _, _, _, Fill<F, S>>(
             shelf,
+            sleepers,
             token,
             0,
             rest.len() + 1,
@@ -121,6 +124,9 @@ impl<F: Chief, S: Member> Cells<F, S> {
         let Ok(mut all) = Vec::with_capacity(alloc, seats as usize) else {
             return Err((NoMemory, first, rest));
         };
+        let Ok(sleepers) = Sleepers::none(alloc, row as usize + 1) else {
+            return Err((NoMemory, first, rest));
+        };
         let contents = OpeningValues { first, rest, seats };
         let Ok((table, mut token)) = turns::open(alloc, row as usize + 1, &contents) else {
             let OpeningValues {
@@ -135,8 +141,12 @@ impl<F: Chief, S: Member> Cells<F, S> {
             rest,
             seats: _,
         } = contents;
-        fill(&table.shared, &mut token, first, rest);
-        let cells = Cells { table, row };
+        fill(&table.shared, &sleepers, &mut token, first, rest);
+        let cells = Cells {
+            table,
+            row,
+            sleepers,
+        };
         enroll_all(&cells, &mut token, &mut all, seats);
         put_first(&mut all, Seat { number: 0, token });
         Ok((cells, all))

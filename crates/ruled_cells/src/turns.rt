@@ -6,9 +6,11 @@ mod plays;
 mod protocol;
 mod seat_state;
 mod seats;
+mod sleepers;
 mod steps;
 
 pub(crate) use protocol::{Admission, Board, Marking, Merging, Outcome, Protocol, Token, Turns};
 pub(crate) use seat_state::SeatState;
 pub(crate) use seats::{Store, absorb, close, enroll, open};
+pub(crate) use sleepers::Sleepers;
 pub(crate) use steps::{give, mark, take, try_take};

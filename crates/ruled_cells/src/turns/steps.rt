@@ -6,6 +6,7 @@ ghost use mathlib.Core.Option.{none};
 
 use crate::turns::plays::{Give, Lay, Mark, Pick, Try};
 use crate::turns::protocol::{Board, Marking, Outcome, Protocol, Token};
+use crate::turns::sleepers::Sleepers;
 use std::hint::spin_loop;
 use std::sync::Wait;
 
@@ -83,10 +84,26 @@ fn look_again<X, V, K, P: Protocol<X, V, K>>(board: &Board<X, V, K, P>, cell: us
     }
 }
 
+/// Sleeps while the turn is this seat's, which its word tells by the seat's number plus 1.
+fn sleep<X, V, K, P: Protocol<X, V, K>, R: Wait>(
+    rt: &R,
+    board: &Board<X, V, K, P>,
+    sleepers: &Sleepers,
+    cell: usize,
+    word: u32,
+)
+    requires { (cell < board.now.table_id.slots) × (board.now.table_id.words ≡ board.now.table_id.slots + 1) }
+{
+    sleepers.come(cell);
+    board.park(rt, cell, word);
+    sleepers.leave(cell);
+}
+
 /// Takes a turn. While it is another's, it looks again some times, and then sleeps.
 pub fn take<X, V, K, P: Protocol<X, V, K>, M: Outcome<X, V>, R: Wait>(
     rt: &R,
     board: &Board<X, V, K, P>,
+    sleepers: &Sleepers,
     seat: &mut Token<X, V>,
     number: u32,
     cell: usize,
@@ -103,7 +120,7 @@ pub fn take<X, V, K, P: Protocol<X, V, K>, M: Outcome<X, V>, R: Wait>(
             Ok(value) => return value,
             Err(other) => {
                 look_again(board, cell);
-                board.park(rt, cell, other + 1);
+                sleep(rt, board, sleepers, cell, other + 1);
             }
         }
     }
@@ -129,9 +146,19 @@ fn fill<X, V, K, P: Protocol<X, V, K>>(
     let None = empty else { unreachable!() };
 }
 
-/// Gives a turn back with a value, and wakes one that waits for it.
+/// Wakes one that sleeps for the turn, if one says so.
+fn wake<X, V, K, P: Protocol<X, V, K>>(board: &Board<X, V, K, P>, sleepers: &Sleepers, cell: usize)
+    requires { (cell < board.now.table_id.slots) × (board.now.table_id.words ≡ board.now.table_id.slots + 1) }
+{
+    if sleepers.are_there(cell) {
+        board.wake_one(cell);
+    }
+}
+
+/// Gives a turn back with a value, and wakes one that sleeps for it.
 pub fn give<X, V, K, P: Protocol<X, V, K>, M: Outcome<X, V>>(
     board: &Board<X, V, K, P>,
+    sleepers: &Sleepers,
     seat: &mut Token<X, V>,
     number: u32,
     cell: usize,
@@ -145,7 +172,7 @@ pub fn give<X, V, K, P: Protocol<X, V, K>, M: Outcome<X, V>>(
 {
     fill(board, seat, number, cell, value);
     board.store::<Give<M>>(seat, cell, 0);
-    board.wake_one(cell);
+    wake(board, sleepers, cell);
 }
 
 /// Sets the user's word, which stands behind the turns.
