@@ -16,7 +16,7 @@ use dcd_base::{Bytes, HostId, NoMemory};
 use dcd_codes::{Refusal, Rule};
 use device_state::State;
 use fm_payloads::lists_head;
-use host_payloads::put_extents;
+use host_payloads::with_extents;
 use region_config::Config;
 use std::alloc::Global;
 
@@ -63,6 +63,5 @@ fn payload_of(
     let mut payload = Bytes::with_capacity(alloc, 24 + 40 * extents.len())?;
     let head = lists_head(host, first, extents.len() as u32, total, lists.generation());
     payload.extend_from_slice(&head)?;
-    put_extents(&mut payload, extents)?;
-    Ok(payload)
+    with_extents(payload, extents)
 }

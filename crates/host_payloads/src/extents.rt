@@ -2,7 +2,7 @@
 
 ghost use Rattle.field_bytes.specs.Extents.{FitsExtent, extent_bytes};
 ghost use Rattle.std.specs.List.{AllByRecursion};
-ghost use Rattle.std.specs.Prelude.{◌≡◌, ◌++◌, OnOk, flat_map};
+ghost use Rattle.std.specs.Prelude.{◌≡◌, ◌++◌, IfOk, OnOk, flat_map};
 
 use dcd_base::{Bytes, Extent, NoMemory};
 use field_bytes::put_extent;
@@ -19,13 +19,14 @@ pub fn extent_bytes(extent: &Extent) -> [u8; 40]
     bytes
 }
 
-/// Appends extents, 40 bytes each.
-pub fn put_extents(out: &mut Bytes, extents: &[Extent]) -> Result<(), NoMemory>
-    ensures put { OnOk result (out.new ≡ out.old ++ flat_map extent_bytes extents.now) }
+/// The bytes with extents behind them, 40 bytes each. Without memory the bytes are let go.
+pub fn with_extents(bytes: Bytes, extents: &[Extent]) -> Result<Bytes, NoMemory>
+    ensures put { IfOk result (λ put. put ≡ bytes ++ flat_map extent_bytes extents.now) }
     ensures fit { OnOk result (AllByRecursion FitsExtent extents.now) }
 {
+    let mut out = bytes;
     for extent in extents {
         out.extend_from_slice(&extent_bytes(extent))?;
     }
-    Ok(())
+    Ok(out)
 }

@@ -18,7 +18,7 @@ mod views;
 
 pub use decoding::decode;
 pub use encoding::encode;
-pub use extents::{extent_bytes, put_extents};
+pub use extents::{extent_bytes, with_extents};
 pub use field_bytes::PayloadFault;
 pub use pages::{ExtentsPage, read_extents, write_extents};
 pub use replies::{write_configuration, write_events};

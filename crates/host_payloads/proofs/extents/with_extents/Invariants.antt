@@ -1,10 +1,10 @@
 use Rattle.std.proofs.Common.{◌≡◌, ◌++◌, flat_map, take}
 use Rattle.std.specs.List.{AllByRecursion}
 use Rattle.field_bytes.specs.Extents.{extent_bytes, FitsExtent}
-use Rattle.host_payloads.proofs.extents.put_extents.Given as goal
+use Rattle.host_payloads.proofs.extents.with_extents.Given as goal
 
 abbrev pub invariant-loop-extent : goal.invariant-loop-extent
 invariant-loop-extent l = record {
-  put : l.out ≡ l.fn.out ++ flat_map extent_bytes (take l.extent-index l.extents);
+  put : l.out ≡ l.fn.bytes ++ flat_map extent_bytes (take l.extent-index l.extents);
   fit : AllByRecursion FitsExtent (take l.extent-index l.extents);
 }
