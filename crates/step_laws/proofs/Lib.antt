@@ -5,6 +5,7 @@ pub mod LegalLogs
 pub mod LogHistories
 pub mod LogOutcomes
 pub mod LogSteps
+pub mod RefusalSteps
 pub mod StatusAnswers
 pub mod StatusKept
 pub mod StatusLeaves

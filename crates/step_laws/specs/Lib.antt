@@ -1,3 +1,4 @@
 pub mod GranuleStates
 pub mod Logs
+pub mod Refusals
 pub mod Steps

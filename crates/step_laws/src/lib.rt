@@ -3,4 +3,4 @@
 
 mod laws;
 
-pub use laws::{law_logs, law_scrubbed, law_unseen};
+pub use laws::{law_logs, law_refused, law_scrubbed, law_unseen};
