@@ -486,6 +486,24 @@ MODES = [
 ]
 
 
+def mixed_lines(count):
+    """Commands of all kinds, scrubs, loads and stores, by all hosts and the manager."""
+    start, lines = mixed(count // 2)
+    x = draws()
+    for n in range(count - len(lines)):
+        draw = next(x) >> 20
+        lines.append(load(n % HOSTS, draw % GRANULES * MIB) if n // HOSTS % 2 else store(n % HOSTS, draw % GRANULES * MIB, draw))
+    return start, lines
+
+
+# What texts are timed on.
+TEXTS = [
+    ("loads and stores", accesses_apart),
+    ("commands of all hosts and the manager, scrubs", commands_of_all),
+    ("commands of all kinds, loads and stores", mixed_lines),
+]
+
+
 # Several devices behind a tunnel, and the script of each as one device's
 
 

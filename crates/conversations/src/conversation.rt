@@ -12,6 +12,8 @@ pub(crate) struct Conversation {
     pub(crate) program: Program,
     /// The bytes that the source gives.
     pub(crate) script: Vec<u8>,
+    /// The readable form of these bytes, where they are a script that has one.
+    pub(crate) readable: Option<Vec<u8>>,
     /// The words of the command line of each run, without the program's name.
     pub(crate) runs: Vec<Vec<String>>,
     /// The exit status.
@@ -28,12 +30,17 @@ impl Conversation {
         name: &str,
     ) -> Result<Conversation, anyhow::Error> {
         let program = program_of(rt, folder, name)?;
-        let runs = runs_of(rt, folder, name)?;
         let status = status_of(rt, folder, name)?;
-        let text = text_of(rt, folder, name)?;
+        let (script, readable) = sources_of(rt, folder, name)?;
+        let (runs, text) = if is_readable_alone(rt, folder, name, readable.is_some())? {
+            (Vec::new(rt.alloc()), Vec::new(rt.alloc()))
+        } else {
+            (runs_of(rt, folder, name)?, text_of(rt, folder, name)?)
+        };
         Ok(Conversation {
             program,
-            script: bytes_of(rt, folder, name, "dcds")?,
+            script,
+            readable,
             runs,
             status,
             text,
@@ -41,17 +48,55 @@ impl Conversation {
     }
 }
 
-/// The bytes of the conversation's file with this ending, none where there is no such file.
-fn bytes_of(rt: &HostRuntime, folder: &str, name: &str, ending: &str) -> io::Result<Vec<u8>> {
+/// The bytes of the conversation's file with this ending, if there is one.
+fn file_of(
+    rt: &HostRuntime,
+    folder: &str,
+    name: &str,
+    ending: &str,
+) -> io::Result<Option<Vec<u8>>> {
     let alloc: Global = rt.alloc();
     let file = format!(in alloc; "{folder}/{name}.{ending}")?;
     match fs::read(rt, file.as_str()) {
-        Err(error) if error.kind() == ErrorKind::NotFound => Ok(Vec::new(alloc)),
-        read => read,
+        Ok(bytes) => Ok(Some(bytes)),
+        Err(error) if error.kind() == ErrorKind::NotFound => Ok(None),
+        Err(error) => Err(error),
     }
 }
 
-/// The bytes of the file that each conversation has.
+/// The same, none where there is no such file.
+fn bytes_of(rt: &HostRuntime, folder: &str, name: &str, ending: &str) -> io::Result<Vec<u8>> {
+    match file_of(rt, folder, name, ending)? {
+        Some(bytes) => Ok(bytes),
+        None => Ok(Vec::new(rt.alloc())),
+    }
+}
+
+/// What the source gives, and the readable form of it. Where there are no bytes, the source gives the readable form.
+fn sources_of(
+    rt: &HostRuntime,
+    folder: &str,
+    name: &str,
+) -> io::Result<(Vec<u8>, Option<Vec<u8>>)> {
+    let readable = file_of(rt, folder, name, "dcdt")?;
+    match (file_of(rt, folder, name, "dcds")?, readable) {
+        (Some(bytes), readable) => Ok((bytes, readable)),
+        (None, Some(text)) => Ok((text, None)),
+        (None, None) => Ok((Vec::new(rt.alloc()), None)),
+    }
+}
+
+/// Whether it is a readable form and its bytes, and no run.
+fn is_readable_alone(
+    rt: &HostRuntime,
+    folder: &str,
+    name: &str,
+    readable: bool,
+) -> io::Result<bool> {
+    Ok(readable && file_of(rt, folder, name, "txt")?.is_none())
+}
+
+/// The bytes of the file that each conversation with a run has.
 fn text_of(rt: &HostRuntime, folder: &str, name: &str) -> io::Result<Vec<u8>> {
     let alloc: Global = rt.alloc();
     let file = format!(in alloc; "{folder}/{name}.txt")?;

@@ -4,7 +4,7 @@ use std::alloc::Global;
 use std::fs;
 
 /// The ends of the names of a conversation's files.
-const ENDS: [&str; 5] = [".program", ".dcds", ".words", ".status", ".txt"];
+const ENDS: [&str; 6] = [".program", ".dcdt", ".dcds", ".words", ".status", ".txt"];
 
 /// The name of the conversation that a file is of, if it is of one.
 fn stem(file: &str) -> Option<&str> {

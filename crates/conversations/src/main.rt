@@ -1,21 +1,25 @@
 //! Runs each conversation of a folder over ends in memory, and says which ones come out otherwise than they are written.
 //!
-//! A conversation NAME is a few files: the name of the program `NAME.program`, the script `NAME.dcds`, the words of the
-//! command line `NAME.words`, one a line, the exit status `NAME.status` in decimal digits, and the text `NAME.txt` that the
-//! run has to print. An empty line among the words parts the words of one run from those of the next, and all runs have to
-//! come out alike. Without the first the program is `dcdsim`, without the second the source is empty, without the third
-//! there is one run without words, and without the fourth the status is 0. Other files are left alone.
+//! A conversation NAME is a few files: the name of the program `NAME.program`, the script `NAME.dcds`, its readable form
+//! `NAME.dcdt`, the words of the command line `NAME.words`, one a line, the exit status `NAME.status` in decimal digits, and
+//! the text `NAME.txt` that the run has to print. An empty line among the words parts the words of one run from those of the
+//! next, and all runs have to come out alike. Without the first the program is `dcdsim`. A readable form beside a script has to
+//! say that script, and the text that is printed for the script has to say it too; without the script it is what the source
+//! gives, and without both the source is empty. Without words there is one run that has none, and without a status it is 0.
+//! Without a text there are no runs, if there are a readable form and a script. Other files are left alone.
 #![tactic(auto)]
 
 mod conversation;
 mod folder;
 mod outcome;
 mod program;
+mod readable;
 mod trials;
 
 use conversation::Conversation;
 use folder::names_in;
 use outcome::Difference;
+use readable::first_other;
 use std::alloc::AllocGlobal;
 use std::process::ExitCode;
 use std::sync::Wait;
@@ -54,6 +58,10 @@ fn is_right<R: Threads + Wait + Sync + AllocGlobal + Print>(
     conversation: &Conversation,
 ) -> Result<bool, anyhow::Error> {
     let mut is_right = true;
+    if let Some(other) = first_other(rt.alloc(), conversation)? {
+        println!(rt; "{name}: {other}")?;
+        is_right = false;
+    }
     let mut run = 0usize;
     for words in &conversation.runs {
         run = run.saturating_add(1);

@@ -8,6 +8,7 @@ use std::alloc::{AllocGlobal, Global};
 use std::io::{self, ErrorKind};
 use std::sync::Wait;
 use std::thread::Threads;
+use text_converter::run as run_text;
 use tunnel_fabric::run_fabric;
 
 /// A program that reads a script from a source and writes a text to a sink.
@@ -15,6 +16,8 @@ use tunnel_fabric::run_fabric;
 pub(crate) enum Program {
     /// Runs a script, or a generated one without reading.
     Dcdsim,
+    /// Turns texts into scripts, scripts into texts, and what a run printed into words.
+    Dcdtext,
     /// Drives one host over a script.
     HostDriver,
     /// Checks a printed text against a script.
@@ -28,6 +31,7 @@ impl Program {
     pub(crate) fn named(name: &str) -> io::Result<Program> {
         match name.trim() {
             "" | "dcdsim" => Ok(Program::Dcdsim),
+            "dcdtext" => Ok(Program::Dcdtext),
             "host_driver" => Ok(Program::HostDriver),
             "journal_check" => Ok(Program::JournalCheck),
             "tunnel_fabric" => Ok(Program::TunnelFabric),
@@ -46,6 +50,7 @@ impl Program {
     ) -> u8 {
         match self {
             Program::Dcdsim => run(rt, alloc, words, source, sink, &NoGate).number(),
+            Program::Dcdtext => run_text(alloc, words, source, sink).number(),
             Program::HostDriver => run_driver(alloc, words, source, sink).number(),
             Program::JournalCheck => run_check(alloc, words, source, sink).number(),
             Program::TunnelFabric => run_fabric(alloc, words, source, sink).number(),
@@ -59,14 +64,18 @@ impl Program {
                 Some(choice) => choice.seed.is_none(),
                 None => false,
             },
-            Program::HostDriver | Program::JournalCheck | Program::TunnelFabric => status != USAGE,
+            Program::Dcdtext
+            | Program::HostDriver
+            | Program::JournalCheck
+            | Program::TunnelFabric => status != USAGE,
         }
     }
 
     /// How few bytes a write takes at least that may take so many, but for the last one.
     pub(crate) fn least_written(self, most: usize) -> usize {
         match self {
-            Program::Dcdsim | Program::HostDriver | Program::JournalCheck => most,
+            Program::Dcdsim | Program::Dcdtext | Program::HostDriver | Program::JournalCheck =>
+                most,
             Program::TunnelFabric => 1,
         }
     }

@@ -5,7 +5,7 @@ Which line is the first wrong one is worked out by hand: it is the line that was
 import struct
 
 from talk import *
-from using import CASES as USING, memory, with_lanes
+from using import CASES as USING, memory, one_block, with_lanes
 
 WRONG, SHORT = 1, 7
 
@@ -23,18 +23,6 @@ def checked(script, text, wrong=None):
     if wrong is None:
         return Case(["yes"], frame(script, text), program="journal_check")
     return Case([f"no at {wrong}"], frame(script, text), status=WRONG, program="journal_check")
-
-
-def one_block():
-    """A host gets a block, and loads, stores and loads a word of it."""
-    talk = Talk(two_regions())
-    talk.manager(offer(0, PRESCRIPTIVE, 0, extents=[(2 * M, M)]), SUCCESS)
-    talk.host(0, respond([(2 * M, M)]), SUCCESS)
-    talk.load(0, 2 * M, 0)
-    talk.store(0, 2 * M, 7)
-    talk.load(0, 2 * M, 7)
-    log = [record(1, ADD, 0, (2 * M, M), 63)]
-    return talk.end([(1, 1, log), NOTHING], [record(1, RESPONSE, 0, (2 * M, M), 63)], free=19)
 
 
 ONE_BLOCK, MEMORY, NO_LINES = one_block(), memory(), Talk(two_regions()).end([NOTHING, NOTHING])

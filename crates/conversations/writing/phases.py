@@ -40,6 +40,7 @@ CASES = {
     "scrubbing-in-turns-in-phases": in_phases(releasing.CASES["scrubbing-in-turns"]),
     "orders-of-the-manager-in-phases": in_phases(orders.CASES["orders-of-the-manager"]),
     "memory-mark-by-mark": mark_by_mark(using.CASES["memory"]),
+    "one-block-mark-by-mark": mark_by_mark(using.CASES["one-block"]),
     "stored-words-mark-by-mark": mark_by_mark(using.CASES["stored-words"]),
     "shared-memory-mark-by-mark": mark_by_mark(using.CASES["shared-memory"]),
     "four-hosts-mark-by-mark": mark_by_mark(using.CASES["four-hosts"]),

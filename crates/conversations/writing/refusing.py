@@ -28,6 +28,14 @@ def refused_commands():
     return talk.end([NOTHING, NOTHING])
 
 
+def long_lists():
+    """As many extents as a message can have, none of which has a length, and a count of extents that are not there."""
+    talk = Talk(two_regions())
+    talk.host(0, respond([(0, 0)] * 2729), RESOURCES_EXHAUSTED)
+    talk.host(0, (0x4802, struct.pack("<II", 0xFFFFFFFF, 0)), INVALID_LENGTH)
+    return talk.end([NOTHING, NOTHING])
+
+
 def asks_for_regions(first, answer):
     """Host 0 asks for its regions from this one on, under the message tag 2Ah."""
     talk = Talk(two_regions())
@@ -57,12 +65,13 @@ MARKS = two_regions() + 65536 * b"\5"
 REGION_1 = bytes([2, 1]) + bytes(6) + region_part(B, 1, 4 * M, M, 1, 1) + counts(64)
 
 CASES = {
-    **played(refused_commands),
+    **played(refused_commands, long_lists),
     "no-lines": Talk(two_regions()).end([NOTHING, NOTHING], runs=WITHOUT_WORDS + BOTH),
     "most-lines": Case(Talk(two_regions()).end([NOTHING, NOTHING]).text, MARKS + b"\0"),
     "get-configuration": asks_for_regions(1, REGION_1),
     "no-such-region": asks_for_regions(2, INVALID_INPUT),
     "script-magic": refused(changed(3, b"T"), 1, 0),
+    "script-magic-first": refused(changed(0, b"E"), 1, 0),
     "script-version": refused(changed(4, b"\3"), 2, 4),
     "script-cut": refused(CUT, 4, len(CUT)),
     "script-kind": refused(changed(128, b"\6"), 5, 128),

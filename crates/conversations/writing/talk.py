@@ -3,6 +3,9 @@
 M is 1 MiB, B the first address of region 1 for host 0 and of region 0 for host 1, and C that of region 1 for host 1, where the device is
 that of `two_regions`. T is a tag.
 """
+import os
+import sys
+
 from dcds import *
 
 M, B, C = MIB, 1 << 28, 2 << 28
@@ -55,17 +58,19 @@ def needs_marks(script):
 
 class Case:
     """The bytes of a script, or None; the words of each run; the exit status, the lines of the text, and the program, or None for dcdsim.
+    The readable form of the script, where it is written here. Where a person wrote it, the bytes are made of it, and have to be these. The text is
+    None where a readable form and its bytes are all there is.
 
     Where no words are given dcdsim runs it in both modes if it is refused or its text is the same in both, and else in serial mode.
     """
 
-    def __init__(self, text, script=None, runs=None, status=DONE, program=None):
-        self.text, self.script, self.status, self.program = text, script, status, program
+    def __init__(self, text, script=None, runs=None, status=DONE, program=None, readable=None):
+        self.text, self.script, self.status, self.program, self.readable = text, script, status, program, readable
         self.runs = self.modes() if runs is None else runs
 
     def modes(self):
         """The words of each run, where none are given."""
-        if self.program is not None:
+        if self.program is not None or self.text is None:
             return ((),)
         return BOTH if self.status == REFUSED or is_alike(self.script) else SERIAL
 
@@ -73,17 +78,29 @@ class Case:
         if self.program is not None:
             with open(path + ".program", "w") as file:
                 file.write(self.program + "\n")
+        if self.readable is not None:
+            with open(path + ".dcdt", "w", newline="") as file:
+                file.write(self.readable)
         if self.script is not None:
-            with open(path + ".dcds", "wb") as file:
-                file.write(self.script)
+            self.write_script(path)
         if self.runs != ((),):
             with open(path + ".words", "w") as file:
                 file.write("\n".join("".join(word + "\n" for word in words) for words in self.runs))
         if self.status != DONE:
             with open(path + ".status", "w") as file:
                 file.write(f"{self.status}\n")
-        with open(path + ".txt", "w") as file:
-            file.write("".join(line + "\n" for line in self.text))
+        if self.text is not None:
+            with open(path + ".txt", "w") as file:
+                file.write("".join(line + "\n" for line in self.text))
+
+    def write_script(self, path):
+        if self.readable is None and os.path.exists(path + ".dcdt"):
+            with open(path + ".dcds", "rb") as file:
+                if file.read() != self.script:
+                    sys.exit(f"{path}.dcds has other lines than those that are answered here")
+            return
+        with open(path + ".dcds", "wb") as file:
+            file.write(self.script)
 
 
 def refused(script, number, place):

@@ -19,6 +19,18 @@ def memory():
     return talk.end([NOTHING, NOTHING])
 
 
+def one_block():
+    """A host gets a block, and loads, stores and loads a word of it."""
+    talk = Talk(two_regions())
+    talk.manager(offer(0, PRESCRIPTIVE, 0, extents=[(2 * M, M)]), SUCCESS)
+    talk.host(0, respond([(2 * M, M)]), SUCCESS)
+    talk.load(0, 2 * M, 0)
+    talk.store(0, 2 * M, 7)
+    talk.load(0, 2 * M, 7)
+    log = [record(1, ADD, 0, (2 * M, M), 63)]
+    return talk.end([(1, 1, log), NOTHING], [record(1, RESPONSE, 0, (2 * M, M), 63)], free=19)
+
+
 def two_hosts():
     """Two hosts get a block each, use it at the same time, and clear their logs."""
     talk = Talk(two_regions())
@@ -184,4 +196,20 @@ def shared_memory():
     return talk.end([(0, 0, [record(1, ADD, 0, at_0, 63, 31)]), (0, 0, of_1)], told)
 
 
-CASES = played(memory, two_hosts, refused_accesses, stored_words, one_host_alone, four_hosts, lanes, shared_memory)
+def first():
+    """Two hosts share a block: what one stores the other loads."""
+    tag = bytes.fromhex("00112233445566778899aabbccddeeff")
+    talk = Talk(head(2, [region(1, 4 * M, M, M, 0, shareable=True)], [0, 0]))
+    talk.command(MANAGER, "fm", offer(0, CONTIGUOUS, 0, M, tag=tag), SUCCESS, tag=0)
+    talk.host(0, respond([(0, M)]), SUCCESS, tag=0)
+    talk.command(MANAGER, "fm", offer(1, SHARED, 0, tag=tag), SUCCESS, tag=0)
+    talk.host(1, respond([(0, M)]), SUCCESS, tag=0)
+    talk.store(0, 8, 7)
+    talk.load(1, 8, 7)
+    block = (0, M, tag, 1)
+    told = [record(1, RESPONSE, 0, block, 63, 31), record(2, RESPONSE, 1, block, 63, 31)]
+    logs = [(1, 1, [record(1, ADD, host, block, 63, 31)]) for host in (0, 1)]
+    return talk.end(logs, told, free=3)
+
+
+CASES = played(first, memory, one_block, two_hosts, refused_accesses, stored_words, one_host_alone, four_hosts, lanes, shared_memory)

@@ -5,6 +5,8 @@ use Rattle.std.specs.declared.result.Result.{Result}
 use Rattle.std.proofs.lemmas.List.Sums.{count_by-le-length}
 use Rattle.region_config.specs.Configurations.{Configuration}
 use Rattle.region_config.proofs.Faultless
+use Rattle.device_plain.specs.Devices.{Plain}
+use Rattle.journal_core.specs.Merging.{Numbered}
 use Rattle.journal_core.specs.declared.entries.Entry.{Entry}
 use Rattle.script_codec.specs.declared.scripts.Script.{Script}
 use Rattle.script_codec.specs.Covering.{is_line}
@@ -12,10 +14,11 @@ use Rattle.script_codec.specs.Scripts.{IsScript}
 use Rattle.device_rules.specs.Legal.{Legal}
 use Rattle.report.specs.Texts.{text}
 use Rattle.journal_check.specs.Claims.{behind_line}
-use Rattle.journal_check.specs.FirstWrong.{IfNoneWrong, IsChecked, IsFirstWrong, IsRightText}
+use Rattle.journal_check.specs.FirstWrong.{IsFirstWrong, IsJournalOf, IsRightText}
 use Rattle.journal_check.specs.Following.{IsFollowed}
 use Rattle.journal_check.specs.Parting.{PartAt}
-use Rattle.journal_check.proofs.Deciding.{no_all, no_some, yes_all}
+use Rattle.journal_check.specs.Replaying.{IsCompared, IsDeviceOf}
+use Rattle.journal_check.proofs.Deciding.{covers_whole, no_all, no_some}
 use Rattle.journal_check.proofs.Feeds.{feeds}
 
 -- it took no more steps than there are lines
@@ -30,11 +33,12 @@ module _ (s : Script) (is : IsScript s) (given : List ℕ) (c : Configuration) (
   its_part : (same : Bool) → PartAt given (text c journal) agreed same → PartAt given (text s.config journal) agreed same
   its_part same part = subst (λ k. PartAt given (text k journal) agreed same) config part
 
-  pub checked_yes : (all same : Bool) → all ≡ true → same ≡ true → IsFollowed s (behind_line given) journal all → PartAt given (text c journal) agreed same → IsRightText s given
-  checked_yes all same whole alike followed part =
+  pub checked_yes : (all same : Bool) → all ≡ true → same ≡ true → Numbered journal → IsFollowed s (behind_line given) journal all → PartAt given (text c journal) agreed same
+      → IsJournalOf s given journal
+  checked_yes all same whole alike numbered followed part =
       let it : IsFollowed s (behind_line given) journal true = subst (IsFollowed s (behind_line given) journal) whole followed in
-      yes_all s (Faultless.sound s.config is.configured) is.sound is.few given journal its_legal it.follows it.claims it.ends agreed
-      (subst (PartAt given (text s.config journal) agreed) alike (its_part same part))
+      let parts : PartAt given (text s.config journal) agreed true = subst (PartAt given (text s.config journal) agreed) alike (its_part same part) in
+      record { legal = its_legal; numbered = numbered; covers = covers_whole s journal it.follows it.ends; is = parts.parts.0 }
 
   pub checked_no : (all same : Bool) → all ≡ true → same ≡ false → IsFollowed s (behind_line given) journal all → PartAt given (text c journal) agreed same
       → IsFirstWrong s given (feeds (take agreed given) + 1)
@@ -50,12 +54,11 @@ module _ (s : Script) (is : IsScript s) (given : List ℕ) (c : Configuration) (
       no_some s (Faultless.sound s.config is.configured) is.sound is.few given journal its_legal it.follows it.claims it.ends agreed same (its_part same part)
 
 -- ---- the number in 32 bits
-pub checked_short : {E : Type 0} (s : Script) (given : List ℕ) (first : Option ℕ) (found : Result (Option ℕ) E) → IfOk found (λ short. short ≡ first) → IsChecked s given first
-    → IfOk found (λ short. IsChecked s given short)
-checked_short s given first (Ok short) is checked = subst (IsChecked s given) (sym is) checked
-checked_short s given first (Err e) is checked = tt
+pub compared_short : {E : Type 0} (s : Script) (given : List ℕ) (journal : List Entry) (first : Option ℕ) (found : Result (Option ℕ) E) → IfOk found (λ short. short ≡ first)
+    → IsCompared s given journal first → IfOk found (λ short. IsCompared s given journal short)
+compared_short s given journal first (Ok short) is compared = subst (IsCompared s given journal) (sym is) compared
+compared_short s given journal first (Err e) is compared = tt
 
-pub lawful_short : {E : Type 0} (P : Type 0) (found : Result (Option ℕ) E) → P → IfOk found (λ first. IfNoneWrong first P)
-lawful_short P (Ok None) p = p
-lawful_short P (Ok (Some line)) p = tt
-lawful_short P (Err e) p = tt
+-- the text of the journal of a device is right
+pub right_text : (s : Script) (given : List ℕ) (device : Plain) → IsDeviceOf s given device → IsRightText s given
+right_text s given device is = record { journal = device.journal; legal = is.journal.legal; covers = is.journal.covers; is = is.journal.is }

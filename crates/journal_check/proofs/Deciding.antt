@@ -212,9 +212,6 @@ module _ (s : Script) (sound : IsSound s.config) (sound_lines : list_all (is_sou
         | inr within ↦ wrong_within agreed k parts less within right
       ]
 
-      pub yes_all : (agreed : ℕ) → PartAt given (text s.config one) agreed true → IsRightText s given
-      yes_all agreed part = record { journal = one; legal = legal; covers = covers_one; is = part.parts.0 }
-
       not_text : (agreed : ℕ) → slice_get given agreed ≢ slice_get (text s.config one) agreed → IsRightText s given → ⊥
       not_text agreed parts right =
           let same : text s.config one ≡ text s.config right.journal =

@@ -7,3 +7,4 @@ pub mod Lines
 pub mod Parting
 pub mod CheckPlanning
 pub mod CheckStatuses
+pub mod Replaying

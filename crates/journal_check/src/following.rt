@@ -4,6 +4,7 @@ ghost use Rattle.device_rules.specs.Legal.{Legal};
 ghost use Rattle.journal_check.specs.Claims.{behind_line};
 ghost use Rattle.journal_check.specs.Following.{IsFollowed, IsNumbered, StepsLine};
 ghost use Rattle.journal_check.specs.Fronts.{AreFronts, undone_of};
+ghost use Rattle.journal_core.specs.Merging.{Numbered};
 ghost use Rattle.script_codec.specs.Scripts.{is_sound_line};
 ghost use Rattle.std.specs.List.{list_all};
 ghost use Rattle.std.specs.Prelude.{◌≡◌, ◌≤◌, [], IfOk, IsTrue, OnOk, length};
@@ -60,9 +61,10 @@ fn follow_lines(
     Ok(true)
 }
 
-/// The journal of a device is legal. It does nothing.
+/// The journal of a device is legal and numbered. It does nothing.
 fn is_legal(device: &Device)
-    ensures { Legal device.now.config device.now.journal }
+    ensures legal { Legal device.now.config device.now.journal }
+    ensures numbered { Numbered device.now.journal }
 {
     let _journal = device.journal();
 }
@@ -78,6 +80,7 @@ pub(crate) fn follow(
     requires few { length script.now.lines ≤ 65536 }
     ensures config { IfOk result (λ run. run.0.config ≡ script.now.config) }
     ensures legal { IfOk result (λ run. Legal run.0.config run.0.journal) }
+    ensures numbered { IfOk result (λ run. Numbered run.0.journal) }
     ensures followed { IfOk result (λ run. IsFollowed script.now (behind_line text.now) run.0.journal run.1) }
 {
     let mut device = Device::new(alloc, script.config.copy()?)?;

@@ -10,9 +10,11 @@ mod laws;
 mod parting;
 mod printing;
 mod program;
+mod replaying;
 mod status;
 
 pub use checking::check;
 pub use laws::{law_one_answer, law_one_journal};
 pub use program::run_check;
+pub use replaying::replay;
 pub use status::CheckStatus;

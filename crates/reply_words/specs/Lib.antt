@@ -1,0 +1,5 @@
+pub mod CodeWords
+pub mod PartWords
+pub mod RecordWords
+pub mod ReplyKinds
+pub mod ReplyWords

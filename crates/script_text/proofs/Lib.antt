@@ -1,0 +1,5 @@
+pub mod HeadLaws
+pub mod LineLoops
+pub mod PrintedScripts
+pub mod ScriptSizes
+pub mod WholeTexts

@@ -1,0 +1,117 @@
+-- How many bytes a script has.
+use Rattle.std.proofs.Common.{◌≡◌, ℕ, ◌+◌, ◌*◌, ◌-◌, ◌^◌, ◌<◌, ◌≤◌, Bool, true, false, ◌==◌, nat_le, nat_lt, List, [], ◌∷◌, ◌++◌, length, map, take, drop, get_or, Ok, Err, refl, sym, ap, ◌∙◌, inl, inr, arith, length-append, take-append-drop}
+use Rattle.std.specs.Prelude.{flat_map}
+use Rattle.std.specs.Int.{w8, w64}
+use Rattle.std.proofs.lemmas.Bool.{cases_Bool, cond-false, cond-true, le-leb, le-ltb, leb-false, leb-true, lt-leb, lt-ltb}
+use Rattle.std.proofs.lemmas.Grind.{flat_map-append}
+use Rattle.std.proofs.Math.Nat.{mul_assoc}
+use Rattle.std.proofs.lemmas.List.{take_all, take_more}
+use Rattle.field_bytes.specs.Layouts.{Field, Number, spell, spelling}
+use Rattle.region_config.specs.declared.region_spec.RegionSpec.{RegionSpec}
+use Rattle.script_codec.specs.Scripts.{lanes_fields, line_fields, region_fields, script_head, start_fields}
+use Rattle.script_codec.specs.Reading.{most_bytes}
+use Rattle.script_codec.specs.Writing.{script_bytes}
+use Rattle.script_codec.specs.declared.script_line.Line.{Line}
+use Rattle.script_codec.specs.declared.scripts.Script.{Script}
+use Rattle.text_lines.specs.declared.faults.Cause.{Cause}
+use Rattle.text_lines.specs.declared.faults.TextFault.{TextFault}
+use Rattle.script_text.specs.Texts.{short_script}
+
+joined_size : (fs gs : List Field) → length (spelling (fs ++ gs)) ≡ length (spelling fs) + length (spelling gs)
+joined_size fs gs = ap length (flat_map-append spell fs gs) ∙ length-append (spelling fs) (spelling gs)
+
+-- ---- the head
+lanes_size : (version lanes : ℕ) → length (spelling (lanes_fields version lanes)) ≡ 6
+lanes_size version lanes = elim (cases_Bool (version == 2)) [
+  | inl e ↦ rw e refl
+  | inr e ↦ rw e refl
+]
+
+start_size : (s : Script) → length (spelling (start_fields s)) ≡ 16
+start_size s = omega (arith, lanes_size s.version s.lanes)
+
+regions_size : (xs : List RegionSpec) → length (spelling (flat_map region_fields xs)) ≡ 40 * length xs
+regions_size [] = refl
+regions_size (x ∷ xs) = omega (arith, regions_size xs)
+
+bases_size : (bases : List ℕ) → length (spelling (map (λ base. Number w64 base) bases)) ≡ 8 * length bases
+bases_size [] = refl
+bases_size (base ∷ bases) = omega (arith, bases_size bases)
+
+head_size : (s : Script) (n : ℕ) → length s.config.bases ≡ n → length (spelling (script_head s)) ≡ 16 + 40 * length s.config.regions + 8 * n
+head_size s n all =
+    let first = joined_size (start_fields s ++ flat_map region_fields s.config.regions) (map (λ base. Number w64 base) s.config.bases) in
+    let second = joined_size (start_fields s) (flat_map region_fields s.config.regions) in
+    omega (arith, first, second, start_size s, regions_size s.config.regions, bases_size s.config.bases, all)
+
+pub head_told : (s : Script) (regions hosts : ℕ) → regions ≡ length s.config.regions → hosts ≡ s.config.hosts → length s.config.bases ≡ s.config.hosts * length s.config.regions → 16 + 40 * regions + 8 * hosts * regions ≡ length (spelling (script_head s))
+head_told s regions hosts r h all =
+    let n = length s.config.regions in
+    let times : 8 * s.config.hosts * n ≡ 8 * (s.config.hosts * n) = mul_assoc 8 s.config.hosts n in
+    let size = head_size s (s.config.hosts * n) all in
+    (λ i. 16 + 40 * r i + 8 * h i * r i) ∙ omega (arith, times, size)
+
+-- ---- the lines
+pub lines_more : (lines : List Line) (i : ℕ) (line : Line) → i < length lines → length (spelling (flat_map line_fields (take (i + 1) lines))) ≡ length (spelling (flat_map line_fields (take i lines))) + length (spelling (line_fields (get_or lines i line)))
+lines_more lines i line under =
+    let one = get_or lines i line in
+    ap (λ ls. length (spelling (flat_map line_fields ls))) (take_more lines i line under)
+    ∙ ap (λ fs. length (spelling fs)) (flat_map-append line_fields (take i lines) (one ∷ []))
+    ∙ joined_size (flat_map line_fields (take i lines)) (line_fields one ++ [])
+    ∙ ap (λ n. length (spelling (flat_map line_fields (take i lines))) + n) (joined_size (line_fields one) [] ∙ (let e : length (spelling (line_fields one)) + 0 ≡ length (spelling (line_fields one)) = omega arith in e))
+
+front_size : (lines : List Line) (i : ℕ) → length (spelling (flat_map line_fields (take i lines))) ≤ length (spelling (flat_map line_fields lines))
+front_size lines i =
+    let whole = ap (λ ls. length (spelling (flat_map line_fields ls))) (take-append-drop i lines) in
+    let parts = ap (λ fs. length (spelling fs)) (flat_map-append line_fields (take i lines) (drop i lines)) in
+    let sizes = joined_size (flat_map line_fields (take i lines)) (flat_map line_fields (drop i lines)) in
+    omega (arith, whole, parts, sizes)
+
+-- with one line more, so many bytes are left
+pub lines_left : (lines : List Line) (i : ℕ) (line : Line) (left most size : ℕ) → i < length lines → left + length (spelling (flat_map line_fields (take i lines))) ≡ most → size ≡ length (spelling (line_fields (get_or lines i line))) → size ≤ left
+    → (left - size) + length (spelling (flat_map line_fields (take (i + 1) lines))) ≡ most
+lines_left lines i line left most size under is one room = let more = lines_more lines i line under in omega (arith, is, one, room, more)
+
+-- a line that has no room
+pub lines_over : (lines : List Line) (i : ℕ) (line : Line) (left most size : ℕ) → i < length lines → left + length (spelling (flat_map line_fields (take i lines))) ≡ most → size ≡ length (spelling (line_fields (get_or lines i line))) → left < size
+    → nat_le (length (spelling (flat_map line_fields lines))) most ≡ false
+lines_over lines i line left most size under is one over =
+    let more = lines_more lines i line under in
+    let front = front_size lines (i + 1) in
+    lt-leb (length (spelling (flat_map line_fields lines))) most (omega (arith, is, one, over, more, front))
+
+-- all lines have room
+pub lines_fit : (lines : List Line) (i left most : ℕ) → length lines ≤ i → left + length (spelling (flat_map line_fields (take i lines))) ≡ most → nat_le (length (spelling (flat_map line_fields lines))) most ≡ true
+lines_fit lines i left most whole is =
+    let all : length (spelling (flat_map line_fields (take i lines))) ≡ length (spelling (flat_map line_fields lines)) = ap (λ ls. length (spelling (flat_map line_fields ls))) (take_all i lines whole) in
+    le-leb (length (spelling (flat_map line_fields lines))) most (omega (arith, is, all))
+
+-- ---- the whole
+whole_size : (s : Script) → length (script_bytes s) ≡ length (spelling (script_head s)) + length (spelling (flat_map line_fields s.lines)) + 1
+unfolding script_bytes
+whole_size s =
+    let first = joined_size (script_head s ++ flat_map line_fields s.lines) (Number w8 0 ∷ []) in
+    let second = joined_size (script_head s) (flat_map line_fields s.lines) in
+    omega (arith, first, second)
+
+same_test : (a b c d : ℕ) → (a ≤ b → c ≤ d) → (c ≤ d → a ≤ b) → nat_le a b ≡ nat_le c d
+same_test a b c d to from = elim (cases_Bool (nat_le a b)) [
+  | inl e ↦ e ∙ sym (le-leb c d (to (leb-true a b e)))
+  | inr e ↦ e ∙ sym (other (nat_le c d) refl (leb-false a b e))
+]
+  where
+    other : (test : Bool) → nat_le c d ≡ test → b < a → nat_le c d ≡ false
+    other true f over = let under = from (leb-true c d f) in absurd (omega (arith, over, under))
+    other false f over = f
+
+-- the bytes of a script fit where those of its lines fit behind those of its head
+pub script_fits : (s : Script) (head most : ℕ) → length (spelling (script_head s)) ≡ head → head < 2 ^ 16 → most ≡ 16777215 - head → nat_le (length (spelling (flat_map line_fields s.lines))) most ≡ nat_le (length (script_bytes s)) 16777216
+script_fits s head most size small left =
+    let whole = whole_size s in
+    same_test (length (spelling (flat_map line_fields s.lines))) most (length (script_bytes s)) 16777216 (λ h. omega (arith, h, whole, size, small, left)) (λ h. omega (arith, h, whole, size, small, left))
+
+pub script_over : (end : ℕ) (s : Script) → nat_le (length (script_bytes s)) 16777216 ≡ false → short_script end s ≡ Err (TextFault.Refused end 1 Cause.TooLong)
+script_over end s over = cond-true (nat_lt most_bytes (length (script_bytes s))) (Err (TextFault.Refused end 1 Cause.TooLong)) (Ok s) (lt-ltb most_bytes (length (script_bytes s)) (leb-false (length (script_bytes s)) 16777216 over))
+
+pub script_within : (end : ℕ) (s : Script) → nat_le (length (script_bytes s)) 16777216 ≡ true → short_script end s ≡ Ok s
+script_within end s within = cond-false (nat_lt most_bytes (length (script_bytes s))) (Err (TextFault.Refused end 1 Cause.TooLong)) (Ok s) (le-ltb most_bytes (length (script_bytes s)) (leb-true (length (script_bytes s)) 16777216 within))

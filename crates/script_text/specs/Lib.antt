@@ -1,0 +1,4 @@
+pub mod Heads
+pub mod Layouts
+pub mod Printing
+pub mod Texts

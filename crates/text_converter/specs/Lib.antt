@@ -1,0 +1,6 @@
+pub mod Asking
+pub mod Columns
+pub mod Converting
+pub mod Faults
+pub mod Runs
+pub mod Statuses

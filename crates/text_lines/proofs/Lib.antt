@@ -1,0 +1,12 @@
+pub mod FieldLaws
+pub mod KeywordLaws
+pub mod LineLaws
+pub mod ListLaws
+pub mod LoopLaws
+pub mod MessageLaws
+pub mod NameLaws
+pub mod OpeningLaws
+pub mod PartLaws
+pub mod PolicyLaws
+pub mod RequestLaws
+pub mod SoundLaws

@@ -1,0 +1,10 @@
+pub mod Actors
+pub mod Commands
+pub mod Fields
+pub mod HostRequests
+pub mod Keywords
+pub mod Layouts
+pub mod Lines
+pub mod ManagerRequests
+pub mod Parts
+pub mod Policies

@@ -1,0 +1,10 @@
+pub mod AheadLaws
+pub mod ExtentLaws
+pub mod NumberLaws
+pub mod PairLaws
+pub mod PrintedNumbers
+pub mod PrintedPairs
+pub mod PrintedWords
+pub mod SizeLaws
+pub mod TextLaws
+pub mod WordLaws
