@@ -5,6 +5,8 @@
 #[cfg(test)]
 mod alone;
 #[cfg(test)]
+mod cuts;
+#[cfg(test)]
 mod gates;
 #[cfg(test)]
 mod lanes;
