@@ -1,3 +1,4 @@
+pub mod DraftedRows
 pub mod Changed
 pub mod ChangedHolders
 pub mod Decisions

@@ -30,6 +30,13 @@ use Rattle.holding_laws.proofs.Homes.{made_granular, made_is_run, made_region}
 use Rattle.holding_laws.proofs.LegalSound.{legal_is_sound}
 use Rattle.holding_laws.specs.Pictures.{picture_of}
 use Rattle.holding_laws.specs.Standing.{IsHome, Stands}
+use Rattle.device_commands.proofs.FreeGranules.{free_at}
+use Rattle.device_commands.proofs.Reached.{total_kept}
+use Rattle.device_rules.specs.Adding.{area_of, is_free_now, per_block, present, region_free_blocks}
+use Rattle.granule_map.specs.Blocks.{free_block_count}
+use Rattle.granule_map.specs.StateLists.{is_free_at}
+use Rattle.region_config.proofs.Faultless.{granules_within}
+use Rattle.selection.proofs.Agreeing.{free_blocks_agree}
 use Rattle.device_rules.specs.Counts.{dirty_count, extent_count, free_count, granules_held, missed_of, records_of}
 use Rattle.device_rules.specs.Hosts.{accepted_of, held_of, offers_of}
 use Rattle.device_rules.specs.Logs.{log_of}
@@ -177,3 +184,11 @@ pub held_in_kept : (c : Configuration) (before : List Entry) (s : State) → Hol
 held_in_kept c before s holds h host =
     subst (AreHeld c h) (sym (accepted_told c before s holds.kept h host))
     (all_held c holds.sound (effects before) (legal_is_sound c holds.sound before holds.legal).stands h host)
+
+-- the free blocks of a region
+pub free_blocks_told : (c : Configuration) (before : List Entry) (s : State) (kept : IsStateAfter c before s) (r : ℕ) → r < length s.present.regions →
+    free_block_count s.granules.states (area_of s.present r) (per_block s.present r) ≡ region_free_blocks (present c (effects before)) (is_free_now c (effects before)) r
+free_blocks_told c before s kept r known =
+    free_blocks_agree (is_free_at s.granules.states) (is_free_now c (effects before)) (area_of s.present r) (per_block s.present r)
+    (λ g low high. free_at c (effects before) s.granules kept.granule_count kept.cells g (omega (arith, high, granules_within s.present r known, total_kept c before s kept)))
+    ∙ ap (λ p. region_free_blocks p (is_free_now c (effects before)) r) kept.present_is

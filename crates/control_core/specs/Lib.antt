@@ -1,3 +1,4 @@
+pub mod Broken
 pub mod Deciding
 pub mod Doing
 pub mod Fitting

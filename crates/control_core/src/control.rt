@@ -29,7 +29,7 @@ use std::marker::Model;
 /// Contracts see the configuration that it was made with, its entries, and how many more entries it has room for.
 #[derive(Drop)]
 pub struct Control {
-    alloc: Global,
+    pub(crate) alloc: Global,
     pub(crate) config: Config,
     pub(crate) state: State,
     entries: Vec<Entry>,

@@ -4,6 +4,7 @@
 //! fail. What the device keeps is `device_state::State`, and each command has a room in `device_commands`.
 #![tactic(auto)]
 
+mod broken;
 mod changing;
 mod control;
 mod decided;

@@ -1,7 +1,7 @@
 //! What a control tells of its device: blocks, extents, granules and logs.
 
 ghost use Rattle.control_core.specs.HeldExtents.{AreHeld};
-ghost use Rattle.device_rules.specs.Adding.{present as present_in};
+ghost use Rattle.device_rules.specs.Adding.{is_free_now, present as present_in, region_free_blocks};
 ghost use Rattle.device_rules.specs.Counts.{dirty_count, extent_count, free_count, granules_held, missed_of, records_of};
 ghost use Rattle.device_rules.specs.Hosts.{accepted_of, held_of, offers_of};
 ghost use Rattle.device_rules.specs.Logs.{log_of};
@@ -15,7 +15,7 @@ ghost use Rattle.media_map.specs.Places.{run_of as run_with};
 ghost use Rattle.std.specs.Prelude.{◌≡◌, ◌<◌, Some, length, map, slice_get, sum_by};
 
 use crate::control::Control;
-use dcd_base::{Extent, HostId, LogId};
+use dcd_base::{Extent, HostId, LogId, RegionId};
 use device_commands::run_of;
 use event_log::EventLog;
 use event_records::Event;
@@ -106,6 +106,17 @@ impl Control {
         ensures { result ≡ free_count self.now.config (effects self.now.entries) }
     {
         self.state.granules.free()
+    }
+
+    /// How many blocks of the region are free: blocks of its present size.
+    pub fn free_blocks(&self, region: RegionId) -> u32
+        requires { region < length self.now.config.regions }
+        ensures { result ≡ region_free_blocks (present_in self.now.config (effects self.now.entries)) (is_free_now self.now.config (effects self.now.entries)) region }
+    {
+        let present = &self.state.present;
+        let area = present.granules_of(region);
+        let per_block = present.per_block(region);
+        self.state.granules.states().free_blocks(area, per_block)
     }
 
     /// How many granules are dirty.

@@ -1,0 +1,33 @@
+-- What a draft says of the first broken rule.
+use Rattle.std.proofs.Common.{◌≡◌, ℕ, ◌+◌, ◌*◌, ◌/◌, ◌<◌, ◌≤◌, Bool, List, length, sym, ap, subst, ◌∙◌, arith, Option, Some, None}
+use Rattle.std.specs.Result.{result_err}
+use Rattle.std.specs.List.{list_all, range_with_len}
+use Rattle.std.specs.declared.result.Result.{Result}
+use Rattle.std.specs.declared.result.Result.TheVariants.{Ok, Err}
+use Rattle.cci_codec.specs.declared.messages.Request.{Request}
+use Rattle.dcd_base.specs.declared.ids.HostId.{HostId}
+use Rattle.dcd_codes.specs.Rules.{ByRow}
+use Rattle.dcd_codes.specs.declared.refusals.Refusal.{Refusal}
+use Rattle.dcd_codes.specs.declared.rules.Rule.{Rule}
+use Rattle.fm_payloads.specs.ManagerPayloads.{manager_request}
+use Rattle.fm_payloads.specs.declared.requests.FmRequest.{FmRequest}
+use Rattle.journal_core.specs.Entries.{effects}
+use Rattle.journal_core.specs.declared.entries.Entry.{Entry}
+use Rattle.region_config.specs.Configurations.{Configuration}
+use Rattle.device_commands.specs.HostMessages.{IsDrafted}
+use Rattle.device_commands.specs.ManagerMessages.{rule_after}
+use Rattle.device_commands.specs.declared.draft.DraftParts.{DraftParts}
+use Rattle.device_rules.specs.Answers.{host_outcome, host_result, host_result_in, manager_outcome, manager_result, unless}
+use Rattle.device_rules.specs.Views.{View, view_of}
+use Rattle.control_core.specs.Broken.{HasRow}
+
+pub host_row : (c : Configuration) (h : HostId) (v : View) (q : Request) (r : Result DraftParts Refusal) → IsDrafted c h v q r → HasRow (result_err (host_result_in c h v q)) r
+host_row c h v q (Ok d) it = ap (λ a. result_err (host_result c h v a)) it.asked ∙ ap (λ row. result_err (unless row (host_outcome c h v it.request))) it.row
+host_row c h v q (Err (Refusal.Broken rule)) it = ap result_err it
+host_row c h v q (Err Refusal.NoMemory) it = tt
+
+pub manager_row : (c : Configuration) (journal : List Entry) (q : Request) (asked : FmRequest) (Makes : DraftParts → Type 0) → manager_request q.opcode q.payload ≡ Ok asked →
+    (r : Result DraftParts Refusal) → ByRow (rule_after c journal asked) Makes r → HasRow (result_err (manager_result c journal (manager_request q.opcode q.payload))) r
+manager_row c journal q asked Makes is (Ok d) it = ap (λ a. result_err (manager_result c journal a)) is ∙ ap (λ row. result_err (unless row (manager_outcome c (effects journal) (λ h. view_of c h journal) asked))) it.0
+manager_row c journal q asked Makes is (Err (Refusal.Broken rule)) it = ap (λ a. result_err (manager_result c journal a)) is ∙ ap (λ row. result_err (unless row (manager_outcome c (effects journal) (λ h. view_of c h journal) asked))) it
+manager_row c journal q asked Makes is (Err Refusal.NoMemory) it = tt

@@ -1,0 +1,13 @@
+-- The rule of a row, by what a command is drafted as.
+use Rattle.std.specs.Prelude.{◌≡◌, Option, Some, None}
+use Rattle.std.specs.declared.result.Result.{Result}
+use Rattle.std.specs.declared.result.Result.TheVariants.{Ok, Err}
+use Rattle.dcd_codes.specs.declared.refusals.Refusal.{Refusal}
+use Rattle.dcd_codes.specs.declared.rules.Rule.{Rule}
+use Rattle.device_commands.specs.declared.draft.DraftParts.{DraftParts}
+
+-- The first broken rule of the row is the one that it was refused for, and it was drafted where there is none.
+abbrev pub HasRow : Option Rule → Result DraftParts Refusal → Type 0
+HasRow row (Ok draft) = row ≡ None
+HasRow row (Err (Refusal.Broken rule)) = row ≡ Some rule
+HasRow row (Err Refusal.NoMemory) = Unit {0}

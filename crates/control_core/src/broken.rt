@@ -1,0 +1,142 @@
+//! Which rule a command would break.
+
+ghost use Rattle.control_core.specs.Broken.{HasRow};
+ghost use Rattle.control_core.specs.Steps.{MayStep};
+ghost use Rattle.dcd_base.specs.declared.steps.Actor.{Actor};
+ghost use Rattle.dcd_codes.specs.declared.rules.Rule.{Rule as BrokenRule};
+ghost use Rattle.device_commands.specs.ManagerMessages.{FewCleared, ManagerAnswers};
+ghost use Rattle.device_rules.specs.Answers.{broken as broken_by};
+ghost use Rattle.device_state.specs.StateAfter.{IsReached};
+ghost use Rattle.journal_core.specs.declared.acts.Act.{Act};
+ghost use Rattle.std.specs.Prelude.{◌≡◌, ◌<◌, IfOk, Option};
+
+use crate::control::Control;
+use cci_codec::Request;
+use dcd_base::{Actor, HostId, NoMemory};
+use dcd_codes::{Refusal, Rule};
+use device_commands::{
+    AddRequest, Draft, RemoveRequest, add, add_reference, host_draft, quiet_draft, remove,
+    remove_reference,
+};
+use device_state::State;
+use fm_payloads::{FmRequest, PayloadFault, decode};
+use journal_core::Act;
+use region_config::Config;
+use std::alloc::Global;
+
+impl Control {
+    /// The first rule that the act would break, were it the next step; None exactly where it breaks none, as a scrub.
+    ///
+    /// The act is a command or a scrub that fits its actor. `NoMemory` may come in place of any answer.
+    pub fn broken(&self, actor: &Actor, act: &Act) -> Result<Option<Rule>, NoMemory>
+        requires { MayStep self.now.config actor.now act.now }
+        ensures { IfOk result (λ rule. rule ≡ broken_by self.now.config self.now.entries actor.now act.now) }
+    {
+        match actor {
+            Actor::Host(host) => match act {
+                Act::Command(request) => self.broken_by_host(*host, request),
+                _ => unreachable!(),
+            },
+            Actor::Manager => match act {
+                Act::Command(request) => self.broken_by_manager(request),
+                _ => unreachable!(),
+            },
+            Actor::Sanitizer => Ok(None),
+        }
+    }
+
+    /// The first rule that a host's message would break.
+    fn broken_by_host(&self, host: HostId, request: &Request) -> Result<Option<Rule>, NoMemory>
+        requires { host < self.now.config.hosts }
+        ensures { IfOk result (λ rule. rule ≡ broken_by self.now.config self.now.entries (Actor.Host host) (Act.Command request.now)) }
+    {
+        let (config, state) = (&self.config, &self.state);
+        let part = state.part(host);
+        rule_of(host_draft(
+            self.alloc,
+            config,
+            &state.present,
+            host,
+            &part.lists,
+            &part.log,
+            request,
+        ))
+    }
+
+    /// The first rule that a message of the manager would break.
+    fn broken_by_manager(&self, request: &Request) -> Result<Option<Rule>, NoMemory>
+        ensures { IfOk result (λ rule. rule ≡ broken_by self.now.config self.now.entries Actor.Manager (Act.Command request.now)) }
+    {
+        match decode(self.alloc, request.opcode, request.payload.as_slice()) {
+            Ok(asked) => rule_of(manager_draft(self.alloc, &self.config, &self.state, &asked)),
+            Err(PayloadFault::UnknownOpcode(opcode)) => Ok(Some(Rule::UnknownOpcode(opcode))),
+            Err(PayloadFault::WrongLength { need, have }) => {
+                Ok(Some(Rule::WrongLength { need, have }))
+            }
+            Err(PayloadFault::NoMemory) => Err(NoMemory),
+        }
+    }
+}
+
+/// The draft of the manager's request, or the first rule that it breaks.
+fn manager_draft(
+    alloc: Global,
+    config: &Config,
+    state: &State,
+    asked: &FmRequest,
+) -> Result<Draft, Refusal>
+    requires reached { IsReached config.now state.now }
+    requires few { FewCleared asked.now }
+    ensures { ManagerAnswers config.now state.now asked.now result }
+{
+    match asked {
+        FmRequest::Add {
+            host,
+            policy,
+            region,
+            length,
+            tag,
+            extents,
+        } => {
+            let request = AddRequest {
+                host: *host,
+                policy: *policy,
+                region: *region,
+                length: *length,
+                tag: *tag,
+            };
+            add(alloc, config, state, &request, extents)
+        }
+        FmRequest::Remove {
+            host,
+            flags,
+            region,
+            length,
+            tag,
+            extents,
+        } => {
+            let request = RemoveRequest {
+                host: *host,
+                flags: *flags,
+                region: *region,
+                length: *length,
+                tag: *tag,
+            };
+            remove(alloc, config, state, &request, extents)
+        }
+        FmRequest::AddReference { tag } => add_reference(alloc, config, state, tag),
+        FmRequest::RemoveReference { tag } => remove_reference(alloc, config, state, tag),
+        _ => quiet_draft(alloc, config, state, asked),
+    }
+}
+
+/// The rule that a command was refused for.
+fn rule_of(drafted: Result<Draft, Refusal>) -> Result<Option<Rule>, NoMemory>
+    ensures { (row : Option BrokenRule) → HasRow row drafted → IfOk result (λ rule. rule ≡ row) }
+{
+    match drafted {
+        Ok(_draft) => Ok(None),
+        Err(Refusal::Broken(rule)) => Ok(Some(rule)),
+        Err(Refusal::NoMemory) => Err(NoMemory),
+    }
+}
