@@ -7,8 +7,9 @@ use Rattle.region_config.specs.declared.region_spec.RegionSpec.{RegionSpec}
 use Rattle.script_codec.proofs.Writable.{laned}
 use Rattle.script_codec.specs.Scripts.{are_lanes}
 use Rattle.text_words.specs.Sizes.{sizes_said}
-use Rattle.text_words.specs.Unread.{UnreadWords, first_unread, first_word}
-use Rattle.text_lines.specs.Fields.{◌>>=◌, end_ahead, flag_ahead, keyword_ahead, may_ahead, named_ahead, number_ahead, number_of_word, one_word}
+use Rattle.text_words.specs.Unread.{UnreadWords, first_unread, leading_word}
+use Rattle.text_lines.specs.Chains.{◌>>!◌ as ◌>>=◌}
+use Rattle.text_lines.specs.Fields.{end_ahead, flag_ahead, keyword_ahead, may_ahead, named_ahead, number_ahead, number_of_word, one_word}
 use Rattle.text_lines.specs.Keywords.{keyword_text}
 use Rattle.text_lines.specs.Layouts.{most_32, most_64}
 use Rattle.text_lines.specs.Parts.{Form, Part, ReadsPart, ReadsParts, SaysNumber, Takes, key}
@@ -224,7 +225,7 @@ decode_sound u x is =
 -- ---- regions
 flag_not : (k other : Keyword) (set : Bool) (words front behind : List (List ℕ)) → pointwise ◌==◌ (keyword_text other) (keyword_text k) ≡ false → words ≡ front ++ behind → ReadsPart front (Part.Flag other set) → IsNot k behind → IsNot k words
 flag_not k other set words front behind differs is (inl absent) rest = subst (IsNot k) (sym (is ∙ ap (λ ws. ws ++ behind) absent.0)) rest
-flag_not k other set words front behind differs is (inr present) rest = ap (λ ws. pointwise ◌==◌ (first_word ws) (keyword_text k)) (is ∙ ap (λ ws. ws ++ behind) present.0) ∙ differs
+flag_not k other set words front behind differs is (inr present) rest = ap (λ ws. pointwise ◌==◌ (leading_word ws) (keyword_text k)) (is ∙ ap (λ ws. ws ++ behind) present.0) ∙ differs
 
 -- the parts of a region up to its decode length
 abbrev front_parts : ℕ → RegionSpec → List Part

@@ -4,7 +4,8 @@ use Rattle.std.proofs.lemmas.Bool.{cond-false, cond-true, eq-eqb, ne_eqb}
 use Rattle.region_config.specs.declared.region_spec.RegionSpec.{RegionSpec}
 use Rattle.script_codec.specs.declared.script_line.Line.{Line}
 use Rattle.text_words.specs.Unread.{UnreadWords}
-use Rattle.text_lines.specs.Fields.{◌>>=◌, begins, number_ahead}
+use Rattle.text_lines.specs.Chains.{◌>>!◌ as ◌>>=◌}
+use Rattle.text_lines.specs.Fields.{begins, number_ahead}
 use Rattle.text_lines.specs.Layouts.{most_64}
 use Rattle.text_lines.specs.Lines.{opening_ahead, rest_ahead}
 use Rattle.text_lines.specs.declared.actors.Frame.{Frame}
@@ -12,7 +13,7 @@ use Rattle.text_lines.specs.declared.faults.Cause.{Cause}
 use Rattle.text_lines.specs.declared.faults.TextFault.{TextFault}
 use Rattle.text_lines.specs.declared.keywords.Keyword.{Keyword}
 use Rattle.text_lines.specs.declared.openings.Opening.{Opening}
-use Rattle.script_text.specs.Heads.{base_list_behind, bases_at, bases_behind, host_line_ahead, hosts_at, hosts_behind, region_ahead, regions_at, regions_behind}
+use Rattle.script_text.specs.Heads.{base_list_behind, bases_at, bases_behind, host_line_ahead, host_lines_at, hosts_behind, region_ahead, regions_at, regions_behind}
 use Rattle.script_text.specs.Texts.{first_begins, lines_at, lines_behind, room_for_line}
 
 -- ---- regions
@@ -73,8 +74,8 @@ pub hosts_begin : (read : Result ((ℕ × List ℕ) × List UnreadWords) TextFau
 hosts_begin (Ok x) = refl
 hosts_begin (Err fault) = refl
 
-pub hosts_end : (regions turn : ℕ) (done : List ℕ) (us : List UnreadWords) (whole : Result ((ℕ × List ℕ) × List UnreadWords) TextFault) → first_begins Keyword.Host us ≡ false → hosts_behind done (hosts_at regions turn us) ≡ whole → whole ≡ Ok ((turn, done), us)
-unfolding hosts_at
+pub hosts_end : (regions turn : ℕ) (done : List ℕ) (us : List UnreadWords) (whole : Result ((ℕ × List ℕ) × List UnreadWords) TextFault) → first_begins Keyword.Host us ≡ false → hosts_behind done (host_lines_at regions turn us) ≡ whole → whole ≡ Ok ((turn, done), us)
+unfolding host_lines_at
 hosts_end regions turn done [] whole none is = sym is ∙ ap (λ bs. Ok ((turn, bs), [])) (append-nil done)
 hosts_end regions turn done (u ∷ us) whole none is = sym is ∙ ap (hosts_behind done) (cond-false (begins Keyword.Host u) _ _ none) ∙ ap (λ bs. Ok ((turn, bs), u ∷ us)) (append-nil done)
 
@@ -82,28 +83,28 @@ hosts_push : (done bases : List ℕ) (rest : Result ((ℕ × List ℕ) × List U
 hosts_push done bases (Ok others) = ap (λ bs. Ok ((others.0.0, bs), others.1)) (append_assoc done bases others.0.1)
 hosts_push done bases (Err fault) = refl
 
-hosts_step : (regions turn : ℕ) (u : UnreadWords) (us : List UnreadWords) → begins Keyword.Host u ≡ true → hosts_at regions turn (u ∷ us) ≡ (host_line_ahead regions turn u >>= (λ b. hosts_behind b (hosts_at regions (turn + 1) us)))
-unfolding hosts_at
+hosts_step : (regions turn : ℕ) (u : UnreadWords) (us : List UnreadWords) → begins Keyword.Host u ≡ true → host_lines_at regions turn (u ∷ us) ≡ (host_line_ahead regions turn u >>= (λ b. hosts_behind b (host_lines_at regions (turn + 1) us)))
+unfolding host_lines_at
 hosts_step regions turn u us begun = cond-true (begins Keyword.Host u) _ _ begun
 
 -- a line of a host behind bases, and the hosts behind it
-hosts_one : (regions turn : ℕ) (done : List ℕ) (us : List UnreadWords) (read : Result (List ℕ) TextFault) (new : List ℕ) → base_list_behind done read ≡ Ok new → hosts_behind done (read >>= (λ b. hosts_behind b (hosts_at regions (turn + 1) us))) ≡ hosts_behind new (hosts_at regions (turn + 1) us)
-hosts_one regions turn done us (Ok bases) new is = sym (hosts_push done bases (hosts_at regions (turn + 1) us)) ∙ ap (λ bs. hosts_behind bs (hosts_at regions (turn + 1) us)) (let e : done ++ bases ≡ new = (cc) in e)
+hosts_one : (regions turn : ℕ) (done : List ℕ) (us : List UnreadWords) (read : Result (List ℕ) TextFault) (new : List ℕ) → base_list_behind done read ≡ Ok new → hosts_behind done (read >>= (λ b. hosts_behind b (host_lines_at regions (turn + 1) us))) ≡ hosts_behind new (host_lines_at regions (turn + 1) us)
+hosts_one regions turn done us (Ok bases) new is = sym (hosts_push done bases (host_lines_at regions (turn + 1) us)) ∙ ap (λ bs. hosts_behind bs (host_lines_at regions (turn + 1) us)) (let e : done ++ bases ≡ new = (cc) in e)
 hosts_one regions turn done us (Err fault) new is = cc
 
-hosts_bad : (regions turn : ℕ) (done : List ℕ) (us : List UnreadWords) (read : Result (List ℕ) TextFault) (fault : TextFault) → base_list_behind done read ≡ Err fault → hosts_behind done (read >>= (λ b. hosts_behind b (hosts_at regions (turn + 1) us))) ≡ Err fault
+hosts_bad : (regions turn : ℕ) (done : List ℕ) (us : List UnreadWords) (read : Result (List ℕ) TextFault) (fault : TextFault) → base_list_behind done read ≡ Err fault → hosts_behind done (read >>= (λ b. hosts_behind b (host_lines_at regions (turn + 1) us))) ≡ Err fault
 hosts_bad regions turn done us (Ok bases) fault is = cc
 hosts_bad regions turn done us (Err other) fault is = let e : other ≡ fault = (cc) in ap (λ (f : TextFault). Err f) e
 
 pub hosts_go_on : (regions turn : ℕ) (done new : List ℕ) (u : UnreadWords) (old us : List UnreadWords) (whole : Result ((ℕ × List ℕ) × List UnreadWords) TextFault) → old ≡ u ∷ us → begins Keyword.Host u ≡ true → base_list_behind done (host_line_ahead regions turn u) ≡ Ok new
-    → hosts_behind done (hosts_at regions turn old) ≡ whole → hosts_behind new (hosts_at regions (turn + 1) us) ≡ whole
+    → hosts_behind done (host_lines_at regions turn old) ≡ whole → hosts_behind new (host_lines_at regions (turn + 1) us) ≡ whole
 hosts_go_on regions turn done new u old us whole here begun read is =
-    sym (ap (λ vs. hosts_behind done (hosts_at regions turn vs)) here ∙ ap (hosts_behind done) (hosts_step regions turn u us begun) ∙ hosts_one regions turn done us (host_line_ahead regions turn u) new read) ∙ is
+    sym (ap (λ vs. hosts_behind done (host_lines_at regions turn vs)) here ∙ ap (hosts_behind done) (hosts_step regions turn u us begun) ∙ hosts_one regions turn done us (host_line_ahead regions turn u) new read) ∙ is
 
 pub hosts_fail : (regions turn : ℕ) (done : List ℕ) (u : UnreadWords) (old us : List UnreadWords) (fault : TextFault) (whole : Result ((ℕ × List ℕ) × List UnreadWords) TextFault) → old ≡ u ∷ us → begins Keyword.Host u ≡ true → base_list_behind done (host_line_ahead regions turn u) ≡ Err fault
-    → hosts_behind done (hosts_at regions turn old) ≡ whole → whole ≡ Err fault
+    → hosts_behind done (host_lines_at regions turn old) ≡ whole → whole ≡ Err fault
 hosts_fail regions turn done u old us fault whole here begun read is =
-    sym is ∙ ap (λ vs. hosts_behind done (hosts_at regions turn vs)) here ∙ ap (hosts_behind done) (hosts_step regions turn u us begun) ∙ hosts_bad regions turn done us (host_line_ahead regions turn u) fault read
+    sym is ∙ ap (λ vs. hosts_behind done (host_lines_at regions turn vs)) here ∙ ap (hosts_behind done) (hosts_step regions turn u us begun) ∙ hosts_bad regions turn done us (host_line_ahead regions turn u) fault read
 
 -- ---- the lines of the script
 pub lines_begin : (read : Result (List Line) TextFault) → lines_behind [] read ≡ read

@@ -17,8 +17,9 @@ use Rattle.script_codec.specs.declared.heads.Head.{Head}
 use Rattle.script_codec.specs.declared.script_line.Line.{Line}
 use Rattle.script_codec.specs.declared.scripts.Script.{Script}
 use Rattle.script_codec.proofs.Writable.{counted}
-use Rattle.text_words.specs.Unread.{Ahead, UnreadWords, all_of, first_word}
-use Rattle.text_lines.specs.Fields.{◌>>=◌, GivesLast, begins}
+use Rattle.text_words.specs.Unread.{Ahead, UnreadWords, all_of, leading_word}
+use Rattle.text_lines.specs.Chains.{◌>>!◌ as ◌>>=◌}
+use Rattle.text_lines.specs.Fields.{GivesLast, begins}
 use Rattle.text_lines.specs.Keywords.{keyword_text}
 use Rattle.text_lines.specs.Layouts.{SaysLine}
 use Rattle.text_lines.specs.Lines.{opening_ahead, opening_of_word, rest_ahead}
@@ -33,9 +34,9 @@ use Rattle.text_lines.proofs.FieldLaws.{begins_with, begins_words, bound, ok_is,
 use Rattle.text_lines.proofs.LineLaws.{line_goes, line_sound, word_first}
 use Rattle.text_lines.proofs.OpeningLaws.{host_never_opens}
 use Rattle.text_lines.proofs.SoundLaws.{short_message, sound_line}
-use Rattle.script_text.specs.Heads.{host_line_ahead, hosts_at, hosts_behind, region_ahead, regions_at, regions_behind, start_ahead}
+use Rattle.script_text.specs.Heads.{host_line_ahead, host_lines_at, hosts_behind, region_ahead, regions_at, regions_behind, start_ahead}
 use Rattle.script_text.specs.Layouts.{ReadsLines, Says, SaysLines, frame_of_script, head_parts, host_parts, hosts_parts, regions_parts, start_parts}
-use Rattle.script_text.specs.Texts.{IsParsed, IsParsedAs, config_ahead, config_or_fault, config_told, first_begins, frame_of, frame_of_head, head_ahead, lines_at, lines_behind, made_config, opening_read, refused_before, room_for_line, script_of_lines, script_said, script_with, short_script, some_hosts_ahead, some_read, some_regions_ahead, started}
+use Rattle.script_text.specs.Texts.{IsParsed, IsParsedAs, config_ahead, config_or_fault, config_checked, first_begins, frame_of, frame_of_head, head_ahead, lines_at, lines_behind, made_config, opening_read, refused_before, room_for_line, script_of_lines, script_said, script_with, short_script, some_hosts_ahead, some_read, some_regions_ahead, started}
 use Rattle.script_text.proofs.HeadLaws.{host_goes, host_sound, region_goes, region_sound, start_goes, start_sound}
 
 -- ---- lines with words that are still to come
@@ -152,8 +153,8 @@ regions_sound turn (u ∷ us) x is = elim (cases_Bool (begins Keyword.Region u))
 ]
 
 -- ---- hosts
-no_hosts : (regions turn : ℕ) (us : List UnreadWords) → first_begins Keyword.Host us ≡ false → hosts_at regions turn us ≡ Ok ((turn, []), us)
-unfolding hosts_at
+no_hosts : (regions turn : ℕ) (us : List UnreadWords) → first_begins Keyword.Host us ≡ false → host_lines_at regions turn us ≡ Ok ((turn, []), us)
+unfolding host_lines_at
 no_hosts regions turn [] none = refl
 no_hosts regions turn (u ∷ us) none = cond-false (begins Keyword.Host u) _ _ none
 
@@ -161,12 +162,12 @@ nothing : (bases : List ℕ) → length bases ≡ 0 → bases ≡ []
 nothing [] none = refl
 nothing (b ∷ bases) none = absurd (omega (arith, none))
 
-hosts_go : (n regions turn : ℕ) (bases : List ℕ) (us rest : List UnreadWords) → length bases ≡ n * regions → LinesTake us (hosts_parts n turn regions bases) rest → first_begins Keyword.Host rest ≡ false → hosts_at regions turn us ≡ Ok ((turn + n, bases), rest)
-unfolding hosts_at
+hosts_go : (n regions turn : ℕ) (bases : List ℕ) (us rest : List UnreadWords) → length bases ≡ n * regions → LinesTake us (hosts_parts n turn regions bases) rest → first_begins Keyword.Host rest ≡ false → host_lines_at regions turn us ≡ Ok ((turn + n, bases), rest)
+unfolding host_lines_at
 hosts_go zero regions turn bases us rest all takes none =
     let e : turn ≡ turn + 0 = omega arith in
     let few : [] ≡ bases = sym (nothing bases (omega (arith, all))) in
-    subst (λ vs. hosts_at regions turn us ≡ Ok ((turn + 0, bases), vs)) takes
+    subst (λ vs. host_lines_at regions turn us ≡ Ok ((turn + 0, bases), vs)) takes
     (no_hosts regions turn us (subst (λ vs. first_begins Keyword.Host vs ≡ false) (sym takes) none)
     ∙ (λ i. Ok ((e i, few i), us)))
 hosts_go (suc n) regions turn bases [] rest all takes none = absurd takes
@@ -179,7 +180,7 @@ hosts_go (suc n) regions turn bases (u ∷ us) rest all takes none =
     let e : (turn + 1) + n ≡ turn + suc n = omega arith in
     let both : take regions bases ++ drop regions bases ≡ bases = take-append-drop regions bases in
     cond-true (begins Keyword.Host u) _ _ begun
-    ∙ ap (λ (r : Result (List ℕ) TextFault). r >>= (λ x. hosts_behind x (hosts_at regions (turn + 1) us))) (host_goes regions turn (take regions bases) u front takes.0)
+    ∙ ap (λ (r : Result (List ℕ) TextFault). r >>= (λ x. hosts_behind x (host_lines_at regions (turn + 1) us))) (host_goes regions turn (take regions bases) u front takes.0)
     ∙ ap (hosts_behind (take regions bases)) (hosts_go n regions (turn + 1) (drop regions bases) us rest back takes.1 none)
     ∙ (λ i. Ok ((e i, both i), rest))
   where
@@ -197,13 +198,13 @@ hosts_are : (bases : List ℕ) (read : Result ((ℕ × List ℕ) × List UnreadW
 hosts_are bases (Ok y) x is = (y, refl, ok_is ((y.0.0, bases ++ y.0.1), y.1) x is)
 hosts_are bases (Err fault) x is = cc
 
-hosts_sound : (regions turn : ℕ) (us : List UnreadWords) (x : (ℕ × List ℕ) × List UnreadWords) → hosts_at regions turn us ≡ Ok x → HostsRead regions turn us x
-unfolding hosts_at
+hosts_sound : (regions turn : ℕ) (us : List UnreadWords) (x : (ℕ × List ℕ) × List UnreadWords) → host_lines_at regions turn us ≡ Ok x → HostsRead regions turn us x
+unfolding host_lines_at
 hosts_sound regions turn [] x is = subst (HostsRead regions turn []) (ok_is ((turn, []), []) x is) (record { count = 0; hosts = omega arith; all = omega arith; takes = refl })
 hosts_sound regions turn (u ∷ us) x is = elim (cases_Bool (begins Keyword.Host u)) [
   | inl e ↦
-      let bases = bound (host_line_ahead regions turn u) (λ b. hosts_behind b (hosts_at regions (turn + 1) us)) x (sym (cond-true (begins Keyword.Host u) _ _ e) ∙ is) in
-      let more = hosts_are bases.value (hosts_at regions (turn + 1) us) x bases.done in
+      let bases = bound (host_line_ahead regions turn u) (λ b. hosts_behind b (host_lines_at regions (turn + 1) us)) x (sym (cond-true (begins Keyword.Host u) _ _ e) ∙ is) in
+      let more = hosts_are bases.value (host_lines_at regions (turn + 1) us) x bases.done in
       let one = host_sound regions turn u bases.value bases.begun in
       let rest = hosts_sound regions (turn + 1) us more.0 more.1 in
       subst (HostsRead regions turn (u ∷ us)) more.2 (record {
@@ -264,11 +265,11 @@ other_key : (k other : Keyword) (us : List UnreadWords) (ps : List Part) (more :
 other_key k other [] ps more rest differs takes = absurd takes
 other_key k other (u ∷ us) ps more rest differs takes =
     let t = takes.0.all in
-    ap (λ ws. pointwise ◌==◌ (first_word ws) (keyword_text k)) (word_first u.words t.0 t.1 (keyword_text other) t.2 t.3) ∙ differs
+    ap (λ ws. pointwise ◌==◌ (leading_word ws) (keyword_text k)) (word_first u.words t.0 t.1 (keyword_text other) t.2 t.3) ∙ differs
 
-opened_word : (frame : Frame) (u : UnreadWords) (o : Opening) (v : UnreadWords) → opening_ahead frame u ≡ Ok (o, v) → opening_of_word frame (first_word u.words) ≡ Ok o
+opened_word : (frame : Frame) (u : UnreadWords) (o : Opening) (v : UnreadWords) → opening_ahead frame u ≡ Ok (o, v) → opening_of_word frame (leading_word u.words) ≡ Ok o
 unfolding opening_ahead
-opened_word frame u o v is = (one_sound Wanted.Line u (opening_of_word frame (first_word u.words)) (o, v) is).said
+opened_word frame u o v is = (one_sound Wanted.Line u (opening_of_word frame (leading_word u.words)) (o, v) is).said
 
 no_host : (frame : Frame) (us : List UnreadWords) (ls : List Line) → LinesSay frame us ls → first_begins Keyword.Host us ≡ false
 no_host frame [] ls says = refl
@@ -276,7 +277,7 @@ no_host frame (u ∷ us) [] says = absurd says
 no_host frame (u ∷ us) (l ∷ ls) says = elim (cases_Bool (begins Keyword.Host u)) [
   | inl e ↦
       let r = line_goes frame l u says.0 in
-      let word : first_word u.words ≡ keyword_text Keyword.Host = ap first_word (begins_words Keyword.Host u.line u.word u.words e) in
+      let word : leading_word u.words ≡ keyword_text Keyword.Host = ap leading_word (begins_words Keyword.Host u.line u.word u.words e) in
       absurd (host_never_opens frame r.opening (ap (opening_of_word frame) (sym word) ∙ opened_word frame u r.opening r.left r.opened))
   | inr e ↦ e
 ]
@@ -320,7 +321,7 @@ head_goes end s u us rest may start takes says =
     ∙ ap (λ (r : Result (Unit {0}) TextFault). (r >>= (λ some. as_listed s.config.regions c.mid)) >>= (λ regions. some_hosts_ahead end (length regions.0) regions.1 >>= (λ hosts. made_config end (s.version, s.lanes) regions.0 hosts))) (some_is_read end c.mid Keyword.Region n good.some_region)
     ∙ ap (λ (r : Result ((ℕ × List ℕ) × List UnreadWords) TextFault). (r >>= (λ hosts. some_read end hosts.1 Keyword.Host hosts.0.0 >>= (λ some. Ok hosts))) >>= (λ hosts. made_config end (s.version, s.lanes) s.config.regions hosts)) hosts
     ∙ ap (λ (r : Result (Unit {0}) TextFault). (r >>= (λ some. as_seated s.config.hosts s.config.bases rest)) >>= (λ hosts. made_config end (s.version, s.lanes) s.config.regions hosts)) (some_is_read end rest Keyword.Host s.config.hosts good.some_host)
-    ∙ ap (λ (r : Result (Unit {0}) TextFault). r >>= (λ opened. config_told end rest s.config >>= (λ config. Ok (record { version = s.version; lanes = s.lanes; config = config }, rest)))) (opening_is_read (frame_of_script s) rest s.lines says)
+    ∙ ap (λ (r : Result (Unit {0}) TextFault). r >>= (λ opened. config_checked end rest s.config >>= (λ config. Ok (record { version = s.version; lanes = s.lanes; config = config }, rest)))) (opening_is_read (frame_of_script s) rest s.lines says)
     ∙ ap (λ (fault : Option ConfigFault). config_or_fault end rest s.config fault >>= (λ config. Ok (record { version = s.version; lanes = s.lanes; config = config }, rest))) may.script.configured
   where
     hosts_follow : (h n : ℕ) (bases : List ℕ) (mid rest : List UnreadWords) → 0 < h → LinesTake mid (hosts_parts h 0 n bases) rest → first_begins Keyword.Region mid ≡ false
@@ -365,11 +366,11 @@ head_sound end (u ∷ us) x is =
     let any = bound (some_read end listed.value.1 Keyword.Region (length listed.value.0)) (λ some. Ok listed.value) regions.value listed.done in
     let same : listed.value ≡ regions.value = ok_is listed.value regions.value any.done in
     let hosts = bound (some_hosts_ahead end (length regions.value.0) regions.value.1) (λ hosts. made_config end start.value regions.value.0 hosts) x regions.done in
-    let seats = bound (hosts_at (length regions.value.0) 0 regions.value.1) (λ hosts. some_read end hosts.1 Keyword.Host hosts.0.0 >>= (λ some. Ok hosts)) hosts.value hosts.begun in
+    let seats = bound (host_lines_at (length regions.value.0) 0 regions.value.1) (λ hosts. some_read end hosts.1 Keyword.Host hosts.0.0 >>= (λ some. Ok hosts)) hosts.value hosts.begun in
     let some = bound (some_read end seats.value.1 Keyword.Host seats.value.0.0) (λ some. Ok seats.value) hosts.value seats.done in
     let alike : seats.value ≡ hosts.value = ok_is seats.value hosts.value some.done in
     let opened = bound (opening_read (frame_of start.value.0 hosts.value.0.0 start.value.1) hosts.value.1) _ x hosts.done in
-    let config = bound (config_told end hosts.value.1 (record { hosts = hosts.value.0.0; regions = regions.value.0; bases = hosts.value.0.1 })) _ x opened.done in
+    let config = bound (config_checked end hosts.value.1 (record { hosts = hosts.value.0.0; regions = regions.value.0; bases = hosts.value.0.1 })) _ x opened.done in
     let sound = config_sound end hosts.value.1 (record { hosts = hosts.value.0.0; regions = regions.value.0; bases = hosts.value.0.1 }) config.value (config_fault (record { hosts = hosts.value.0.0; regions = regions.value.0; bases = hosts.value.0.1 })) refl config.begun in
     let made : (record { version = start.value.0; lanes = start.value.1; config = config.value }, hosts.value.1) ≡ x = ok_is _ x config.done in
     let version = start_sound u start.value start.begun in

@@ -5,7 +5,8 @@ use Rattle.region_config.specs.declared.region_spec.RegionSpec.{RegionSpec}
 use Rattle.text_words.specs.Unread.{UnreadWords, first_unread}
 use Rattle.text_words.specs.Sizes.{sizes_said}
 use Rattle.text_lines.specs.Layouts.{most_64}
-use Rattle.text_lines.specs.Fields.{◌>>=◌, begins, end_ahead, flag_ahead, keyword_ahead, may_ahead, named_ahead, number_ahead, number_of_word, one_word}
+use Rattle.text_lines.specs.Chains.{◌>>!◌ as ◌>>=◌}
+use Rattle.text_lines.specs.Fields.{begins, end_ahead, flag_ahead, keyword_ahead, may_ahead, named_ahead, number_ahead, number_of_word, one_word}
 use Rattle.text_lines.specs.declared.faults.Cause.{Cause}
 use Rattle.text_lines.specs.declared.faults.TextFault.{TextFault}
 use Rattle.text_lines.specs.declared.faults.Wanted.{Wanted}
@@ -141,10 +142,10 @@ hosts_behind before (Ok hosts) = Ok ((hosts.0.0, before ++ hosts.0.1), hosts.1)
 hosts_behind before (Err fault) = Err fault
 
 -- how many hosts there are, their bases host by host, and the lines behind them
-unfoldable pub hosts_at : ℕ → ℕ → List UnreadWords → Result ((ℕ × List ℕ) × List UnreadWords) TextFault
-hosts_at regions turn [] = Ok ((turn, []), [])
-hosts_at regions turn (u ∷ us) =
+unfoldable pub host_lines_at : ℕ → ℕ → List UnreadWords → Result ((ℕ × List ℕ) × List UnreadWords) TextFault
+host_lines_at regions turn [] = Ok ((turn, []), [])
+host_lines_at regions turn (u ∷ us) =
     if begins Keyword.Host u then (do
       bases ← host_line_ahead regions turn u
-      hosts_behind bases (hosts_at regions (turn + 1) us))
+      hosts_behind bases (host_lines_at regions (turn + 1) us))
     else Ok ((turn, []), u ∷ us)

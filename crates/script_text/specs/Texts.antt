@@ -10,14 +10,15 @@ use Rattle.script_codec.specs.declared.heads.Head.{Head}
 use Rattle.script_codec.specs.declared.script_line.Line.{Line}
 use Rattle.script_codec.specs.declared.scripts.Script.{Script}
 use Rattle.text_words.specs.Unread.{UnreadWords, Ahead, all_of}
-use Rattle.text_lines.specs.Fields.{◌>>=◌, begins, refused}
+use Rattle.text_lines.specs.Chains.{◌>>!◌ as ◌>>=◌}
+use Rattle.text_lines.specs.Fields.{begins, refused}
 use Rattle.text_lines.specs.Lines.{opening_ahead, rest_ahead}
 use Rattle.text_lines.specs.declared.actors.Frame.{Frame}
 use Rattle.text_lines.specs.declared.faults.Cause.{Cause}
 use Rattle.text_lines.specs.declared.faults.TextFault.{TextFault}
 use Rattle.text_lines.specs.declared.faults.Wanted.{Wanted}
 use Rattle.text_lines.specs.declared.keywords.Keyword.{Keyword}
-use Rattle.script_text.specs.Heads.{start_ahead, regions_at, hosts_at}
+use Rattle.script_text.specs.Heads.{start_ahead, regions_at, host_lines_at}
 
 -- The call answers what the definition reads, and leaves these lines. Memory may be wanting at any time.
 abbrev pub GivesLines : {A B : Type 0} → (A → B) → Result A TextFault → List UnreadWords → Result (B × List UnreadWords) TextFault → Type 0
@@ -65,8 +66,8 @@ abbrev pub config_or_fault : ℕ → List UnreadWords → Configuration → Opti
 config_or_fault end lines config None = Ok config
 config_or_fault end lines config (Some fault) = Err (refused_before end lines (Cause.BadConfig fault))
 
-abbrev pub config_told : ℕ → List UnreadWords → Configuration → Result Configuration TextFault
-config_told end lines config = config_or_fault end lines config (config_fault config)
+abbrev pub config_checked : ℕ → List UnreadWords → Configuration → Result Configuration TextFault
+config_checked end lines config = config_or_fault end lines config (config_fault config)
 
 -- at least one region
 unfoldable pub some_regions_ahead : ℕ → List UnreadWords → Result (List RegionSpec × List UnreadWords) TextFault
@@ -78,7 +79,7 @@ some_regions_ahead end lines = do
 -- at least one host
 unfoldable pub some_hosts_ahead : ℕ → ℕ → List UnreadWords → Result ((ℕ × List ℕ) × List UnreadWords) TextFault
 some_hosts_ahead end regions lines = do
-  hosts ← hosts_at regions 0 lines
+  hosts ← host_lines_at regions 0 lines
   some ← some_read end hosts.1 Keyword.Host hosts.0.0
   Ok hosts
 
@@ -86,7 +87,7 @@ some_hosts_ahead end regions lines = do
 unfoldable pub made_config : ℕ → ℕ × ℕ → List RegionSpec → (ℕ × List ℕ) × List UnreadWords → Result (Head × List UnreadWords) TextFault
 made_config end start regions hosts = do
   opened ← opening_read (frame_of start.0 hosts.0.0 start.1) hosts.1
-  config ← config_told end hosts.1 (record { hosts = hosts.0.0; regions = regions; bases = hosts.0.1 })
+  config ← config_checked end hosts.1 (record { hosts = hosts.0.0; regions = regions; bases = hosts.0.1 })
   Ok (record { version = start.0; lanes = start.1; config = config }, hosts.1)
 
 -- the regions and the hosts, and the lines behind them

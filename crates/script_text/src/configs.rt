@@ -1,7 +1,7 @@
 //! The head of a text: all of its lines before those of the script.
 
-ghost use Rattle.script_text.specs.Heads.{hosts_at, regions_at};
-ghost use Rattle.script_text.specs.Texts.{GivesLines, TakesLineWith, config_ahead, config_told as config_said, head_ahead, made_config, opening_read, refused_before, some_hosts_ahead, some_read, some_regions_ahead, started};
+ghost use Rattle.script_text.specs.Heads.{host_lines_at, regions_at};
+ghost use Rattle.script_text.specs.Texts.{GivesLines, TakesLineWith, config_ahead, config_checked as config_said, head_ahead, made_config, opening_read, refused_before, some_hosts_ahead, some_read, some_regions_ahead, started};
 ghost use Rattle.std.specs.Prelude.{◌≡◌, ◌*◌, ◌≤◌, [], IfOk, OnOk, length};
 ghost use Rattle.text_lines.specs.Fields.{GivesLast};
 
@@ -54,7 +54,7 @@ fn fill_regions(lines: &mut TextLines<'_>, regions: &mut Vec<RegionSpec>) -> Res
 /// Puts the bases of the hosts into the empty list, and answers how many hosts there are, at most 255.
 fn fill_hosts(lines: &mut TextLines<'_>, regions: u8, bases: &mut Vec<u64>) -> Result<u8, TextFault>
     requires { bases.old.items ≡ [] }
-    ensures value { GivesLines (λ hosts. (hosts, bases.new.items)) result lines.new.lines (hosts_at regions 0 lines.old.lines) }
+    ensures value { GivesLines (λ hosts. (hosts, bases.new.items)) result lines.new.lines (host_lines_at regions 0 lines.old.lines) }
     ensures count { IfOk result (λ hosts. length bases.new.items ≡ hosts * regions) }
     ensures end { lines.new.end ≡ lines.old.end }
 {

@@ -15,11 +15,11 @@ lone_task word =
 abbrev pub named_task : List ℕ → Option Task
 named_task word = if pointwise ◌==◌ word (codes "to-script") then Some Task.ToScript else None
 
-abbrev pub task_of : List (List ℕ) → Option Task
-task_of [] = None
-task_of (word ∷ []) = lone_task word
-task_of (word ∷ name ∷ []) = named_task word
-task_of (word ∷ name ∷ other ∷ words) = None
+abbrev pub task_asked : List (List ℕ) → Option Task
+task_asked [] = None
+task_asked (word ∷ []) = lone_task word
+task_asked (word ∷ name ∷ []) = named_task word
+task_asked (word ∷ name ∷ other ∷ words) = None
 
 unfoldable pub no_name : List ℕ
 no_name = codes "text"
@@ -28,8 +28,8 @@ abbrev pub told_name : List ℕ → List ℕ
 told_name name = if pointwise ◌==◌ name (codes "-") then no_name else name
 
 -- what faults of the text call it
-abbrev pub name_of : List (List ℕ) → List ℕ
-name_of [] = no_name
-name_of (word ∷ []) = no_name
-name_of (word ∷ name ∷ []) = told_name name
-name_of (word ∷ name ∷ other ∷ words) = no_name
+abbrev pub name_asked : List (List ℕ) → List ℕ
+name_asked [] = no_name
+name_asked (word ∷ []) = no_name
+name_asked (word ∷ name ∷ []) = told_name name
+name_asked (word ∷ name ∷ other ∷ words) = no_name

@@ -1,6 +1,6 @@
 -- Where a word of a text stands.
 use Rattle.std.specs.Prelude.{ℕ, zero, suc, ◌+◌, ◌-◌, List, length, drop}
-use Rattle.text_words.specs.Characters.{front_from, is_gap, is_plain}
+use Rattle.text_words.specs.Characters.{passed_from, is_gap, is_plain}
 use Rattle.text_words.specs.Extents.{before, after}
 use Rattle.text_words.specs.Words.{without_return}
 
@@ -15,15 +15,15 @@ line_said line text = without_return (before 10 (lines_later (line - 1) text))
 
 -- from the next word on; where none comes, from the comment or the end on
 abbrev pub from_word : List ℕ → List ℕ
-from_word bytes = drop (front_from is_gap 0 bytes) bytes
+from_word bytes = drop (passed_from is_gap 0 bytes) bytes
 
 -- behind the word that begins here
-abbrev pub behind_word : List ℕ → List ℕ
-behind_word bytes = from_word (drop (front_from is_plain 0 bytes) bytes)
+abbrev pub after_word : List ℕ → List ℕ
+after_word bytes = from_word (drop (passed_from is_plain 0 bytes) bytes)
 
 abbrev pub words_later : ℕ → List ℕ → List ℕ
 words_later zero bytes = bytes
-words_later (suc n) bytes = words_later n (behind_word bytes)
+words_later (suc n) bytes = words_later n (after_word bytes)
 
 -- the line from the word of this number on, from 1
 abbrev pub word_onward : ℕ → List ℕ → List ℕ

@@ -27,12 +27,12 @@ wanted_text Wanted.Bytes = codes "pairs of hexadecimal digits"
 wanted_text Wanted.End = codes "the end of the line"
 
 -- words and a number behind them
-abbrev pub counted : List ℕ → ℕ → List ℕ
-counted text number = text ++ decimal number
+abbrev pub with_number : List ℕ → ℕ → List ℕ
+with_number text number = text ++ decimal number
 
 -- a region, and a region of a host
 abbrev pub of_region : ℕ → List ℕ
-of_region region = counted (codes " of region ") region
+of_region region = with_number (codes " of region ") region
 
 abbrev pub of_seat : ℕ → ℕ → List ℕ
 of_seat host region = codes " of host " ++ decimal host ++ codes ", region " ++ decimal region
@@ -51,7 +51,7 @@ config_text ConfigFault.NoMemory = codes "memory"
 abbrev pub message_text : MessageFault → List ℕ
 message_text (MessageFault.Short count) = codes "a message of fewer than 12 bytes, " ++ decimal count
 message_text (MessageFault.NotRequest category) = codes "no request but category " ++ decimal category
-message_text (MessageFault.LengthDiffers field rest) = counted (codes "a header for ") field ++ counted (codes " bytes of payload before ") rest
+message_text (MessageFault.LengthDiffers field rest) = with_number (codes "a header for ") field ++ with_number (codes " bytes of payload before ") rest
 message_text MessageFault.NoMemory = codes "memory"
 
 -- what is wrong with a word
@@ -73,8 +73,8 @@ fault_line name line column cause = name ++ codes ":" ++ decimal line ++ codes "
 
 -- a frame that ends within its script
 unfoldable pub cut_line : ℕ → ℕ → List ℕ
-cut_line need have = counted (codes "frame refused: it needs ") need ++ counted (codes " bytes and has ") have ++ 10 ∷ []
+cut_line need have = with_number (codes "frame refused: it needs ") need ++ with_number (codes " bytes and has ") have ++ 10 ∷ []
 
 -- a text that no run of its script prints
 unfoldable pub stopped_line : ℕ → List ℕ
-stopped_line line = counted (codes "stopped at line ") line ++ codes ": no run of this script prints it" ++ 10 ∷ []
+stopped_line line = with_number (codes "stopped at line ") line ++ codes ": no run of this script prints it" ++ 10 ∷ []

@@ -5,7 +5,7 @@ use Rattle.edge_io.specs.ReadEnds.{TakesAll, TakesMore}
 use Rattle.journal_check.specs.Frames.{most_input}
 use Rattle.report.specs.Refusals.{refusal_line}
 use Rattle.script_codec.specs.declared.faults.ScriptFault.{ScriptFault}
-use Rattle.text_converter.specs.Asking.{name_of, task_of}
+use Rattle.text_converter.specs.Asking.{name_asked, task_asked}
 use Rattle.text_converter.specs.Converting.{IsConverted, IsRefused}
 use Rattle.text_converter.specs.Faults.{cut_line, fault_line, stopped_line}
 use Rattle.text_converter.specs.declared.converting.Task.{Task}
@@ -141,4 +141,4 @@ EndsAsked name None source sink status = (source.1.0 ≡ source.0.0) × EndsUsag
 
 -- How a run by these words ends.
 abbrev pub EndsRun : List (List ℕ) → StreamEnd × StreamEnd → StreamEnd × StreamEnd → Status → Type 0
-EndsRun words source sink status = EndsAsked (name_of words) (task_of words) source sink status
+EndsRun words source sink status = EndsAsked (name_asked words) (task_asked words) source sink status

@@ -2,7 +2,7 @@
 
 ghost use Rattle.edge_io.specs.Words.{words_of};
 ghost use Rattle.std.specs.Prelude.{◌≡◌};
-ghost use Rattle.text_converter.specs.Asking.{lone_task, name_of as named, named_task, no_name as without_name, task_of as asked, told_name};
+ghost use Rattle.text_converter.specs.Asking.{lone_task, name_asked as named, named_task, no_name as without_name, task_asked as asked, told_name};
 
 use crate::converting::Task;
 

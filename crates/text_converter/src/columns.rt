@@ -1,8 +1,8 @@
 //! Where a word of a text stands.
 
 ghost use Rattle.std.specs.Prelude.{◌≡◌, ◌-◌, ◌≤◌, length};
-ghost use Rattle.text_converter.specs.Columns.{behind_word, column_of, from_word, line_said, lines_later, word_onward};
-ghost use Rattle.text_words.specs.Characters.{front_from, is_gap as gap, is_plain as plain_byte};
+ghost use Rattle.text_converter.specs.Columns.{after_word, column_of, from_word, line_said, lines_later, word_onward};
+ghost use Rattle.text_words.specs.Characters.{passed_from, is_gap as gap, is_plain as plain_byte};
 ghost use Rattle.text_words.specs.Extents.{after, before};
 ghost use Rattle.text_words.specs.Words.{without_return as cut_return};
 
@@ -31,7 +31,7 @@ fn is_plain(byte: u8) -> bool
 
 /// How many spaces and tabs the bytes begin with.
 fn gaps(bytes: &[u8]) -> usize
-    ensures value { result ≡ front_from gap 0 bytes.now }
+    ensures value { result ≡ passed_from gap 0 bytes.now }
     ensures within { result ≤ length bytes.now }
 {
     for (i, b) in bytes.iter().enumerate() {
@@ -44,7 +44,7 @@ fn gaps(bytes: &[u8]) -> usize
 
 /// How many characters of a word the bytes begin with.
 fn plain(bytes: &[u8]) -> usize
-    ensures value { result ≡ front_from plain_byte 0 bytes.now }
+    ensures value { result ≡ passed_from plain_byte 0 bytes.now }
     ensures within { result ≤ length bytes.now }
 {
     for (i, b) in bytes.iter().enumerate() {
@@ -66,7 +66,7 @@ fn to_word(bytes: &[u8]) -> &[u8]
 
 /// Behind the word that begins here.
 fn past_word(bytes: &[u8]) -> &[u8]
-    ensures value { result.now ≡ behind_word bytes.now }
+    ensures value { result.now ≡ after_word bytes.now }
     ensures within { length result.now ≤ length bytes.now }
 {
     let (_, rest) = bytes.split_at(plain(bytes));

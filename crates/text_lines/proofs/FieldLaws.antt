@@ -3,9 +3,10 @@ use Rattle.std.proofs.Common.{◌≡◌, ℕ, ◌<◌, ◌≤◌, Bool, true, fa
 use lib.Pointwise.{pointwise, bytes_decides}
 use Rattle.std.proofs.lemmas.Bool.{cases_Bool, cond-false, cond-true, le-leb, leb-true}
 use Rattle.text_words.specs.Numbers.{limited, number_said}
-use Rattle.text_words.specs.Unread.{UnreadWords, behind, behind_first, first_word, is_done, first_unread, none_left}
+use Rattle.text_words.specs.Unread.{UnreadWords, behind_next, behind_first, leading_word, is_done, first_unread, none_left}
 use Rattle.text_words.specs.declared.faults.NumberFault.{NumberFault}
-use Rattle.text_lines.specs.Fields.{◌>>=◌, begins, flag_ahead, end_ahead, keyword_ahead, may_ahead, named_ahead, number_ahead, number_of_word, number_or, one_word, refused, told}
+use Rattle.text_lines.specs.Chains.{◌>>!◌ as ◌>>=◌}
+use Rattle.text_lines.specs.Fields.{begins, flag_ahead, end_ahead, keyword_ahead, may_ahead, named_ahead, number_ahead, number_of_word, number_or, one_word, refused, told}
 use Rattle.text_lines.specs.Keywords.{keyword_text}
 use Rattle.text_lines.specs.Parts.{Form, Part, ReadsPart, SaysNumber, Takes, key}
 use Rattle.text_lines.specs.declared.faults.Cause.{Cause}
@@ -55,15 +56,15 @@ took_one words front rest part is reads = record { all = (front, rest, is, reads
 -- ---- one word
 goes_word : {A : Type 0} (wanted : Wanted) (u : UnreadWords) (read : Result A Cause) (x : A) (w : List ℕ) (rest : List (List ℕ)) → u.words ≡ w ∷ rest → read ≡ Ok x → Goes (one_word wanted u read) x rest
 goes_word wanted u read x w rest is said = record {
-  left = behind u;
+  left = behind_next u;
   is = cond-false (is_done u) (Err (refused u (Cause.Wanted wanted))) (told u read) (ap none_left is) ∙ ap (told u) said;
   words = ap (λ ws. (behind_first u.line u.word ws).words) is;
 }
 
 pub one_goes : {A : Type 0} (wanted : Wanted) (u : UnreadWords) (f : List ℕ → Result A Cause) (x : A) (w : List ℕ) (rest : List (List ℕ)) → u.words ≡ w ∷ rest → f w ≡ Ok x → Goes (one_word wanted u (f (first_unread u))) x rest
-one_goes wanted u f x w rest is said = goes_word wanted u (f (first_unread u)) x w rest is (ap (λ ws. f (first_word ws)) is ∙ said)
+one_goes wanted u f x w rest is said = goes_word wanted u (f (first_unread u)) x w rest is (ap (λ ws. f (leading_word ws)) is ∙ said)
 
-first_and_rest : (line word : ℕ) (words : List (List ℕ)) → none_left words ≡ false → words ≡ first_word words ∷ (behind_first line word words).words
+first_and_rest : (line word : ℕ) (words : List (List ℕ)) → none_left words ≡ false → words ≡ leading_word words ∷ (behind_first line word words).words
 first_and_rest line word [] some = cc
 first_and_rest line word (w ∷ ws) some = refl
 
@@ -74,7 +75,7 @@ pub record OneRead {A : Type 0} (u : UnreadWords) (read : Result A Cause) (x : A
 
 told_sound : {A : Type 0} (u : UnreadWords) (read : Result A Cause) (x : A × UnreadWords) → is_done u ≡ false → told u read ≡ Ok x → OneRead u read x
 told_sound {A} u (Ok y) x some is =
-    let e : (y, behind u) ≡ x = ok_is (y, behind u) x is in
+    let e : (y, behind_next u) ≡ x = ok_is (y, behind_next u) x is in
     record { said = ap (λ (p : A × UnreadWords). Ok p.0) e; words = first_and_rest u.line u.word u.words some ∙ ap (λ (p : A × UnreadWords). first_unread u ∷ p.1.words) e }
 told_sound u (Err cause) x some is = cc
 
@@ -87,22 +88,22 @@ one_sound wanted u read x is = elim (cases_Bool (is_done u)) [
 -- ---- keywords
 -- the next word is not this one
 abbrev pub IsNot : Keyword → List (List ℕ) → Type 0
-IsNot k words = pointwise ◌==◌ (first_word words) (keyword_text k) ≡ false
+IsNot k words = pointwise ◌==◌ (leading_word words) (keyword_text k) ≡ false
 
 own_word : (word : List ℕ) → pointwise ◌==◌ word word ≡ true
 own_word word = (bytes_decides word word).1 refl
 
 pub begins_with : (k : Keyword) (u : UnreadWords) (rest : List (List ℕ)) → u.words ≡ keyword_text k ∷ rest → begins k u ≡ true
-begins_with k u rest is = ap (λ ws. pointwise ◌==◌ (first_word ws) (keyword_text k)) is ∙ own_word (keyword_text k)
+begins_with k u rest is = ap (λ ws. pointwise ◌==◌ (leading_word ws) (keyword_text k)) is ∙ own_word (keyword_text k)
 
 pub begins_not : (k : Keyword) (u : UnreadWords) (rest : List (List ℕ)) → u.words ≡ rest → IsNot k rest → begins k u ≡ false
-begins_not k u rest is other = ap (λ ws. pointwise ◌==◌ (first_word ws) (keyword_text k)) is ∙ other
+begins_not k u rest is other = ap (λ ws. pointwise ◌==◌ (leading_word ws) (keyword_text k)) is ∙ other
 
 pub keyword_goes : (k : Keyword) (u : UnreadWords) (rest : List (List ℕ)) → u.words ≡ keyword_text k ∷ rest → Goes (keyword_ahead k u) tt rest
 unfolding keyword_ahead
 keyword_goes k u rest is = record {
-  left = behind u;
-  is = cond-true (begins k u) (Ok (tt, behind u)) (Err (refused u (Cause.Wanted (Wanted.Keyword k)))) (begins_with k u rest is);
+  left = behind_next u;
+  is = cond-true (begins k u) (Ok (tt, behind_next u)) (Err (refused u (Cause.Wanted (Wanted.Keyword k)))) (begins_with k u rest is);
   words = ap (λ ws. (behind_first u.line u.word ws).words) is;
 }
 
@@ -132,7 +133,7 @@ some_keyword Keyword.Forced = omega arith
 some_keyword Keyword.Flags = omega arith
 
 -- a keyword that comes next is the first word
-pub begins_words : (k : Keyword) (line word : ℕ) (words : List (List ℕ)) → pointwise ◌==◌ (first_word words) (keyword_text k) ≡ true → words ≡ keyword_text k ∷ (behind_first line word words).words
+pub begins_words : (k : Keyword) (line word : ℕ) (words : List (List ℕ)) → pointwise ◌==◌ (leading_word words) (keyword_text k) ≡ true → words ≡ keyword_text k ∷ (behind_first line word words).words
 begins_words k line word [] is = let e : [] ≡ keyword_text k = (bytes_decides [] (keyword_text k)).0 is in absurd (omega (arith, some_keyword k, ap length e))
 begins_words k line word (w ∷ ws) is = ap (λ x. x ∷ ws) ((bytes_decides w (keyword_text k)).0 is)
 
@@ -140,9 +141,9 @@ pub keyword_sound : (k : Keyword) (u : UnreadWords) (x : Unit {0} × UnreadWords
 unfolding keyword_ahead
 keyword_sound k u x is = elim (cases_Bool (begins k u)) [
   | inl e ↦
-      let f : (tt, behind u) ≡ x = ok_is (tt, behind u) x (sym (cond-true (begins k u) (Ok (tt, behind u)) (Err (refused u (Cause.Wanted (Wanted.Keyword k)))) e) ∙ is) in
+      let f : (tt, behind_next u) ≡ x = ok_is (tt, behind_next u) x (sym (cond-true (begins k u) (Ok (tt, behind_next u)) (Err (refused u (Cause.Wanted (Wanted.Keyword k)))) e) ∙ is) in
       took_one u.words (keyword_text k ∷ []) x.1.words (key k) (begins_words k u.line u.word u.words e ∙ ap (λ (p : Unit {0} × UnreadWords). keyword_text k ∷ p.1.words) f) refl
-  | inr e ↦ let f : Err (refused u (Cause.Wanted (Wanted.Keyword k))) ≡ Ok x = sym (cond-false (begins k u) (Ok (tt, behind u)) (Err (refused u (Cause.Wanted (Wanted.Keyword k)))) e) ∙ is in cc
+  | inr e ↦ let f : Err (refused u (Cause.Wanted (Wanted.Keyword k))) ≡ Ok x = sym (cond-false (begins k u) (Ok (tt, behind_next u)) (Err (refused u (Cause.Wanted (Wanted.Keyword k)))) e) ∙ is in cc
 ]
 
 -- ---- flags
@@ -157,14 +158,14 @@ flag_goes k u set front rest is (inl absent) other =
     let words : u.words ≡ rest = is ∙ ap (λ ws. ws ++ rest) absent.0 in
     record {
       left = u;
-      is = cond-false (begins k u) (true, behind u) (false, u) (begins_not k u rest words other) ∙ ap (λ b. (b, u)) (sym absent.1);
+      is = cond-false (begins k u) (true, behind_next u) (false, u) (begins_not k u rest words other) ∙ ap (λ b. (b, u)) (sym absent.1);
       words = words;
     }
 flag_goes k u set front rest is (inr present) other =
     let words : u.words ≡ keyword_text k ∷ rest = is ∙ ap (λ ws. ws ++ rest) present.0 in
     record {
-      left = behind u;
-      is = cond-true (begins k u) (true, behind u) (false, u) (begins_with k u rest words) ∙ ap (λ b. (b, behind u)) (sym present.1);
+      left = behind_next u;
+      is = cond-true (begins k u) (true, behind_next u) (false, u) (begins_with k u rest words) ∙ ap (λ b. (b, behind_next u)) (sym present.1);
       words = ap (λ ws. (behind_first u.line u.word ws).words) words;
     }
 
@@ -176,7 +177,7 @@ flag_then {B} {k} {u} {set} {mid} next y rest g f =
 pub flag_sound : (k : Keyword) (u : UnreadWords) → Took u.words (Part.Flag k (flag_ahead k u).0 ∷ []) (flag_ahead k u).1.words
 unfolding flag_ahead
 flag_sound k u = elim (cases_Bool (begins k u)) [
-  | inl e ↦ rw e (took_one u.words (keyword_text k ∷ []) (behind u).words (Part.Flag k true) (begins_words k u.line u.word u.words e) (inr (refl, refl)))
+  | inl e ↦ rw e (took_one u.words (keyword_text k ∷ []) (behind_next u).words (Part.Flag k true) (begins_words k u.line u.word u.words e) (inr (refl, refl)))
   | inr e ↦ rw e (took_one u.words [] u.words (Part.Flag k false) refl (inl (refl, refl)))
 ]
 
@@ -232,24 +233,24 @@ may_goes k form most n u front rest is (inl absent) other =
     let words : u.words ≡ rest = is ∙ ap (λ ws. ws ++ rest) absent.0 in
     record {
       left = u;
-      is = cond-false (begins k u) (number_ahead most (behind u)) (Ok (0, u)) (begins_not k u rest words other) ∙ ap (λ m. Ok (m, u)) (sym absent.1);
+      is = cond-false (begins k u) (number_ahead most (behind_next u)) (Ok (0, u)) (begins_not k u rest words other) ∙ ap (λ m. Ok (m, u)) (sym absent.1);
       words = words;
     }
 may_goes k form most n u front rest is (inr present) other =
     let words : u.words ≡ keyword_text k ∷ (present.0 ∷ rest) = is ∙ ap (λ ws. ws ++ rest) present.1 in
-    let g = number_goes form most n (behind u) (present.0 ∷ []) rest (ap (λ ws. (behind_first u.line u.word ws).words) words) (present.0, refl, present.2) in
-    record { left = g.left; is = cond-true (begins k u) (number_ahead most (behind u)) (Ok (0, u)) (begins_with k u (present.0 ∷ rest) words) ∙ g.is; words = g.words }
+    let g = number_goes form most n (behind_next u) (present.0 ∷ []) rest (ap (λ ws. (behind_first u.line u.word ws).words) words) (present.0, refl, present.2) in
+    record { left = g.left; is = cond-true (begins k u) (number_ahead most (behind_next u)) (Ok (0, u)) (begins_with k u (present.0 ∷ rest) words) ∙ g.is; words = g.words }
 
 pub may_sound : (k : Keyword) (form : Form) (most : ℕ) (u : UnreadWords) (x : ℕ × UnreadWords) → may_ahead k most u ≡ Ok x → Took u.words (Part.May k form most x.0 ∷ []) x.1.words
 unfolding may_ahead number_ahead
 may_sound k form most u x is = elim (cases_Bool (begins k u)) [
   | inl e ↦
-      let p = one_sound Wanted.Number (behind u) (number_of_word most (first_unread (behind u))) x (sym (cond-true (begins k u) (number_ahead most (behind u)) (Ok (0, u)) e) ∙ is) in
-      took_one u.words (keyword_text k ∷ first_unread (behind u) ∷ []) x.1.words (Part.May k form most x.0)
+      let p = one_sound Wanted.Number (behind_next u) (number_of_word most (first_unread (behind_next u))) x (sym (cond-true (begins k u) (number_ahead most (behind_next u)) (Ok (0, u)) e) ∙ is) in
+      took_one u.words (keyword_text k ∷ first_unread (behind_next u) ∷ []) x.1.words (Part.May k form most x.0)
       (begins_words k u.line u.word u.words e ∙ ap (λ ws. keyword_text k ∷ ws) p.words)
-      (inr (first_unread (behind u), refl, number_says most x.0 (first_unread (behind u)) p.said))
+      (inr (first_unread (behind_next u), refl, number_says most x.0 (first_unread (behind_next u)) p.said))
   | inr e ↦
-      let f : (0, u) ≡ x = ok_is (0, u) x (sym (cond-false (begins k u) (number_ahead most (behind u)) (Ok (0, u)) e) ∙ is) in
+      let f : (0, u) ≡ x = ok_is (0, u) x (sym (cond-false (begins k u) (number_ahead most (behind_next u)) (Ok (0, u)) e) ∙ is) in
       subst (λ (y : ℕ × UnreadWords). Took u.words (Part.May k form most y.0 ∷ []) y.1.words) f (took_one u.words [] u.words (Part.May k form most 0) refl (inl (refl, refl)))
 ]
 

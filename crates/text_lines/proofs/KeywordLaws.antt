@@ -5,7 +5,7 @@ use Rattle.std.proofs.lemmas.Bool.{cases_Bool}
 use Rattle.dcd_base.specs.declared.capacity.Extent.{Extent}
 use Rattle.text_words.specs.Extents.{extent_said}
 use Rattle.text_words.specs.Numbers.{digits_from, number_said}
-use Rattle.text_words.specs.Unread.{first_word}
+use Rattle.text_words.specs.Unread.{leading_word}
 use Rattle.text_lines.specs.Keywords.{keyword_text}
 use Rattle.text_lines.specs.Parts.{AllSay, SaysExtent, SaysNumber}
 use Rattle.text_lines.specs.declared.keywords.Keyword.{Keyword}
@@ -80,7 +80,7 @@ extent_not k x word says = other_word extent_said word (keyword_text k) x (no_ex
 
 -- another keyword, or the end, comes next
 pub is_key : (k other : Keyword) (words rest : List (List ℕ)) → words ≡ keyword_text other ∷ rest → pointwise ◌==◌ (keyword_text other) (keyword_text k) ≡ false → IsNot k words
-is_key k other words rest is differs = ap (λ ws. pointwise ◌==◌ (first_word ws) (keyword_text k)) is ∙ differs
+is_key k other words rest is differs = ap (λ ws. pointwise ◌==◌ (leading_word ws) (keyword_text k)) is ∙ differs
 
 -- A keyword that is neither empty nor that of the message tag.
 pub record IsInner (k : Keyword) : Type 0 where
@@ -88,7 +88,7 @@ pub record IsInner (k : Keyword) : Type 0 where
   pub no_tag : pointwise ◌==◌ (keyword_text Keyword.MessageTag) (keyword_text k) ≡ false
 
 pub stops_not : (k : Keyword) (words : List (List ℕ)) → IsInner k → Stops words → IsNot k words
-stops_not k words inner (inl none) = ap (λ ws. pointwise ◌==◌ (first_word ws) (keyword_text k)) none ∙ inner.some
+stops_not k words inner (inl none) = ap (λ ws. pointwise ◌==◌ (leading_word ws) (keyword_text k)) none ∙ inner.some
 stops_not k words inner (inr tag) = is_key k Keyword.MessageTag words tag.0 tag.1 inner.no_tag
 
 pub extents_not : (k : Keyword) (xs : List Extent) (front rest : List (List ℕ)) → IsInner k → AllSay SaysExtent xs front → Stops rest → IsNot k (front ++ rest)

@@ -14,7 +14,8 @@ use Rattle.script_codec.specs.declared.script_line.Line.{Line}
 use Rattle.text_words.specs.Unread.{UnreadWords, first_unread}
 use Rattle.text_lines.specs.Actors.{SaysActor, actor_ahead, actor_of_word}
 use Rattle.text_lines.specs.Commands.{host_command_said, host_command_text, manager_command_said, manager_command_text}
-use Rattle.text_lines.specs.Fields.{◌>>=◌, end_ahead, may_ahead, number_ahead, one_word}
+use Rattle.text_lines.specs.Chains.{◌>>!◌ as ◌>>=◌}
+use Rattle.text_lines.specs.Fields.{end_ahead, may_ahead, number_ahead, one_word}
 use Rattle.text_lines.specs.HostRequests.{host_request_ahead}
 use Rattle.text_lines.specs.Keywords.{keyword_text}
 use Rattle.text_lines.specs.Layouts.{NamesHostCommand, NamesManagerCommand, SaysAct, SaysLine, TellsBytes, command_line, host_command_of, host_line_parts, host_request_parts, host_tail, load_parts, manager_command_of, manager_request_parts, manager_tail, most_64, store_parts, tag_part}

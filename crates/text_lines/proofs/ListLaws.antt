@@ -4,9 +4,10 @@ use lib.Pointwise.{pointwise, bytes_decides}
 use Rattle.std.proofs.lemmas.Bool.{cases_Bool, cond-false, cond-true, eqb-false, ne_eqb}
 use Rattle.dcd_base.specs.declared.capacity.Extent.{Extent}
 use Rattle.text_words.specs.Extents.{extent_said, fits_64, limited_extent}
-use Rattle.text_words.specs.Unread.{UnreadWords, behind, first_word}
+use Rattle.text_words.specs.Unread.{UnreadWords, behind_next, leading_word}
 use Rattle.text_words.specs.declared.faults.NumberFault.{NumberFault}
-use Rattle.text_lines.specs.Fields.{◌>>=◌, and_room, extent_of_word, extent_or, list_at, list_behind, told}
+use Rattle.text_lines.specs.Chains.{◌>>!◌ as ◌>>=◌}
+use Rattle.text_lines.specs.Fields.{and_room, extent_of_word, extent_or, list_at, list_behind, told}
 use Rattle.text_lines.specs.Keywords.{keyword_text}
 use Rattle.text_lines.specs.Parts.{AllSay, SaysExtent}
 use Rattle.text_lines.specs.declared.faults.Cause.{Cause}
@@ -53,7 +54,7 @@ module _ {A : Type 0} (read : List ℕ → Result A Cause) (Says : A → List �
   stops_empty left line word [] stops = record { left = record { line = line; word = word; words = [] }; is = refl; words = refl }
   stops_empty left line word (w ∷ ws) (inl none) = cc
   stops_empty left line word (w ∷ ws) (inr tag) =
-      let first : w ≡ keyword_text Keyword.MessageTag = ap first_word tag.1 in
+      let first : w ≡ keyword_text Keyword.MessageTag = ap leading_word tag.1 in
       record {
         left = record { line = line; word = word; words = w ∷ ws };
         is = cond-true (pointwise ◌==◌ w (keyword_text Keyword.MessageTag)) _ _ ((bytes_decides w (keyword_text Keyword.MessageTag)).1 first);
@@ -96,7 +97,7 @@ module _ {A : Type 0} (read : List ℕ → Result A Cause) (Says : A → List �
   told_item u left r x is = by (and_room left r) refl is
     where
       by : (s : Result A Cause) → and_room left r ≡ s → told u s ≡ Ok x → (r ≡ Ok x.0) × (0 < left)
-      by (Ok y) e f = let g : (y, behind u) ≡ x = ok_is (y, behind u) x f in room_left left r x.0 (e ∙ ap (λ (p : A × UnreadWords). Ok p.0) g)
+      by (Ok y) e f = let g : (y, behind_next u) ≡ x = ok_is (y, behind_next u) x f in room_left left r x.0 (e ∙ ap (λ (p : A × UnreadWords). Ok p.0) g)
       by (Err cause) e f = cc
 
   pub list_sound : ((x : A) (w : List ℕ) → read w ≡ Ok x → Says x w) → (left line word : ℕ) (words : List (List ℕ)) (x : List A × UnreadWords) → list_at read left line word words ≡ Ok x → ListRead words left x

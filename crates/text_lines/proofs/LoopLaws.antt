@@ -6,8 +6,9 @@ use Rattle.std.proofs.lemmas.Bool.{cases_Bool, cond-false, cond-true, le-ltb, lt
 use Rattle.dcd_base.specs.declared.capacity.Extent.{Extent}
 use Rattle.host_payloads.specs.HostPayloads.{is_untagged}
 use Rattle.text_words.specs.Pairs.{AppendsPairs, pairs_said}
-use Rattle.text_words.specs.Unread.{UnreadWords, behind, first_word, is_done, first_unread, none_left}
-use Rattle.text_lines.specs.Fields.{◌>>=◌, and_room, begins, list_at, list_behind, list_ahead, one_word, refused, told}
+use Rattle.text_words.specs.Unread.{UnreadWords, behind_next, leading_word, is_done, first_unread, none_left}
+use Rattle.text_lines.specs.Chains.{◌>>!◌ as ◌>>=◌}
+use Rattle.text_lines.specs.Fields.{and_room, begins, list_at, list_behind, list_ahead, one_word, refused, told}
 use Rattle.text_lines.specs.Keywords.{keyword_text}
 use Rattle.text_lines.specs.Lines.{bytes_at, bytes_or, bytes_with_room}
 use Rattle.text_lines.specs.declared.faults.Cause.{Cause}
@@ -18,7 +19,7 @@ use Rattle.text_lines.proofs.FieldLaws.{ok_is}
 
 module _ {A : Type 0} (read : List ℕ → Result A Cause) where
   -- the list ends where no word is left, or the message tag comes
-  ends_at : (left line word : ℕ) (words : List (List ℕ)) → (none_left words ≡ true) ⊎ (pointwise ◌==◌ (first_word words) (keyword_text Keyword.MessageTag) ≡ true) → list_at read left line word words ≡ Ok ([], record { line = line; word = word; words = words })
+  ends_at : (left line word : ℕ) (words : List (List ℕ)) → (none_left words ≡ true) ⊎ (pointwise ◌==◌ (leading_word words) (keyword_text Keyword.MessageTag) ≡ true) → list_at read left line word words ≡ Ok ([], record { line = line; word = word; words = words })
   unfolding list_at
   ends_at left line word [] ends = refl
   ends_at left line word (w ∷ ws) (inl none) = cc
@@ -38,8 +39,8 @@ module _ {A : Type 0} (read : List ℕ → Result A Cause) where
   same_rest line word left w ws (Err cause) = refl
 
   -- the next word of a list
-  steps_at : (left line word : ℕ) (words : List (List ℕ)) → none_left words ≡ false → pointwise ◌==◌ (first_word words) (keyword_text Keyword.MessageTag) ≡ false
-      → list_at read left line word words ≡ item_then left (told (record { line = line; word = word; words = words }) (and_room left (read (first_word words))))
+  steps_at : (left line word : ℕ) (words : List (List ℕ)) → none_left words ≡ false → pointwise ◌==◌ (leading_word words) (keyword_text Keyword.MessageTag) ≡ false
+      → list_at read left line word words ≡ item_then left (told (record { line = line; word = word; words = words }) (and_room left (read (leading_word words))))
   unfolding list_at
   steps_at left line word [] some other = cc
   steps_at left line word (w ∷ ws) some other = cond-false (pointwise ◌==◌ w (keyword_text Keyword.MessageTag)) _ _ other ∙ same_rest line word left w ws (and_room left (read w))
@@ -97,7 +98,7 @@ room_untagged left (Err cause) x is each = cc
 
 told_untagged : (u v : UnreadWords) (left : ℕ) (r s : Result Extent Cause) (x : Extent) → and_room left r ≡ s → told u s ≡ Ok (x, v) → IfOk r (λ y. IsTrue (is_untagged y)) → is_untagged x ≡ true
 told_untagged u v left r (Ok y) x e is each =
-    let f : y ≡ x = ap (λ (p : Extent × UnreadWords). p.0) (ok_is (y, behind u) (x, v) is) in
+    let f : y ≡ x = ap (λ (p : Extent × UnreadWords). p.0) (ok_is (y, behind_next u) (x, v) is) in
     room_untagged left r x (e ∙ ap (λ (z : Extent). Ok z) f) each
 told_untagged u v left r (Err cause) x e is each = cc
 
@@ -123,7 +124,7 @@ bytes_same : (line word : ℕ) (w : List ℕ) (ws : List (List ℕ)) (r : Result
 bytes_same line word w ws (Ok x) = refl
 bytes_same line word w ws (Err cause) = refl
 
-bytes_step : (before : List ℕ) (line word : ℕ) (words : List (List ℕ)) → none_left words ≡ false → bytes_at before line word words ≡ bytes_then (told (record { line = line; word = word; words = words }) (bytes_with_room before (bytes_or (pairs_said (first_word words)))))
+bytes_step : (before : List ℕ) (line word : ℕ) (words : List (List ℕ)) → none_left words ≡ false → bytes_at before line word words ≡ bytes_then (told (record { line = line; word = word; words = words }) (bytes_with_room before (bytes_or (pairs_said (leading_word words)))))
 unfolding bytes_at
 bytes_step before line word [] some = cc
 bytes_step before line word (w ∷ ws) some = bytes_same line word w ws (bytes_with_room before (bytes_or (pairs_said w)))
@@ -141,12 +142,12 @@ bytes_long before new u (Some bytes) whole some e appends long is =
     sym is ∙ bytes_step before u.line u.word u.words some ∙ ap (λ o. bytes_then (told u (bytes_with_room before (bytes_or o)))) e
     ∙ ap (λ r. bytes_then (told u r)) (cond-true (nat_lt 65535 (length (before ++ bytes))) (Err Cause.MessageTooLong) (Ok (before ++ bytes)) (lt-ltb 65535 (length (before ++ bytes)) (omega (arith, long, ap length appends))))
 
-pub bytes_go_on : (before new : List ℕ) (u v : UnreadWords) (said : Option (List ℕ)) (whole : Result (List ℕ × UnreadWords) TextFault) → is_done u ≡ false → pairs_said (first_unread u) ≡ said → AppendsPairs before new said true → length new ≤ 65535 → v ≡ behind u
+pub bytes_go_on : (before new : List ℕ) (u v : UnreadWords) (said : Option (List ℕ)) (whole : Result (List ℕ × UnreadWords) TextFault) → is_done u ≡ false → pairs_said (first_unread u) ≡ said → AppendsPairs before new said true → length new ≤ 65535 → v ≡ behind_next u
     → bytes_at before u.line u.word u.words ≡ whole → bytes_at new v.line v.word v.words ≡ whole
 bytes_go_on before new u v None whole some e appends short next is = absurd appends
 bytes_go_on before new u v (Some bytes) whole some e appends short next is =
     ap (λ (w : UnreadWords). bytes_at new w.line w.word w.words) next
-    ∙ ap (λ xs. bytes_at xs (behind u).line (behind u).word (behind u).words) appends
+    ∙ ap (λ xs. bytes_at xs (behind_next u).line (behind_next u).word (behind_next u).words) appends
     ∙ sym (bytes_step before u.line u.word u.words some ∙ ap (λ o. bytes_then (told u (bytes_with_room before (bytes_or o)))) e
     ∙ ap (λ r. bytes_then (told u r)) (cond-false (nat_lt 65535 (length (before ++ bytes))) (Err Cause.MessageTooLong) (Ok (before ++ bytes)) (le-ltb 65535 (length (before ++ bytes)) (omega (arith, short, ap length appends)))))
     ∙ is

@@ -8,8 +8,9 @@ use Rattle.cci_codec.proofs.Reading.{no_message_fault, request_read, request_rea
 use Rattle.field_bytes.proofs.Fields.{IsBytes}
 use Rattle.text_words.specs.Pairs.{pairs_said}
 use Rattle.text_words.proofs.PrintedPairs.{pairs_small}
-use Rattle.text_words.specs.Unread.{UnreadWords, behind, is_done}
-use Rattle.text_lines.specs.Fields.{◌>>=◌, refused, told}
+use Rattle.text_words.specs.Unread.{UnreadWords, behind_next, is_done}
+use Rattle.text_lines.specs.Chains.{◌>>!◌ as ◌>>=◌}
+use Rattle.text_lines.specs.Fields.{refused, told}
 use Rattle.text_lines.specs.Lines.{bytes_ahead, bytes_at, bytes_or, bytes_with_room, message_or_fault, message_said}
 use Rattle.text_lines.specs.Parts.{AreBytes}
 use Rattle.text_lines.specs.declared.faults.Cause.{Cause}
@@ -58,7 +59,7 @@ room_found before w u (Some front) y e is = elim (cases_Bool (nat_lt 65535 (leng
   | inl long ↦
       let f : Err (refused u Cause.MessageTooLong) ≡ Ok y = sym (ap (told u) (cond-true (nat_lt 65535 (length (before ++ front))) (Err Cause.MessageTooLong) (Ok (before ++ front)) long)) ∙ is in cc
   | inr fits ↦
-      let f : (before ++ front, behind u) ≡ y = ok_is (before ++ front, behind u) y (sym (ap (told u) (cond-false (nat_lt 65535 (length (before ++ front))) (Err Cause.MessageTooLong) (Ok (before ++ front)) fits)) ∙ is) in
+      let f : (before ++ front, behind_next u) ≡ y = ok_is (before ++ front, behind_next u) y (sym (ap (told u) (cond-false (nat_lt 65535 (length (before ++ front))) (Err Cause.MessageTooLong) (Ok (before ++ front)) fits)) ∙ is) in
       let first : y.0 ≡ before ++ front = sym (ap (λ (p : List ℕ × UnreadWords). p.0) f) in
       record { front = front; said = e; is = first; short = omega (arith, ltb-false 65535 (length (before ++ front)) fits, ap length first) }
 ]

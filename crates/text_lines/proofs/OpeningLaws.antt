@@ -5,7 +5,7 @@ use Rattle.std.specs.Prelude.{Option, codes}
 use Rattle.std.proofs.lemmas.Bool.{cases_Bool, cond-false, cond-true}
 use Rattle.text_words.specs.Numbers.{digits_from, under}
 use Rattle.text_words.specs.declared.faults.NumberFault.{NumberFault}
-use Rattle.text_lines.specs.Actors.{actor_of_seat, actor_of_word, has_dot, host_said, is_manager, seat_of_parts, seat_said}
+use Rattle.text_lines.specs.Actors.{actor_of_seat, actor_of_word, has_dot, host_said, is_manager_word, seat_of_parts, seat_said}
 use Rattle.text_lines.specs.Keywords.{keyword_text}
 use Rattle.text_lines.specs.Lines.{opening_of_actor, opening_of_word}
 use Rattle.text_lines.specs.declared.actors.Frame.{Frame}
@@ -26,9 +26,9 @@ no_seat frame word plain none =
     cond-false ((frame.version == 2) && has_dot word) _ _ (ap (λ b. (frame.version == 2) && b) plain ∙ no_dot (frame.version == 2))
     ∙ ap (λ (o : Option ℕ). seat_of_parts (under frame.hosts o) (under frame.lanes (Some 0))) none
 
-no_actor : (frame : Frame) (wanted : Wanted) (word : List ℕ) → is_manager word ≡ false → has_dot word ≡ false → host_said word ≡ None → actor_of_word frame wanted word ≡ Err (Cause.Wanted wanted)
+no_actor : (frame : Frame) (wanted : Wanted) (word : List ℕ) → is_manager_word word ≡ false → has_dot word ≡ false → host_said word ≡ None → actor_of_word frame wanted word ≡ Err (Cause.Wanted wanted)
 unfolding actor_of_word
-no_actor frame wanted word other plain none = cond-false (is_manager word) _ _ other ∙ ap (actor_of_seat wanted) (no_seat frame word plain none)
+no_actor frame wanted word other plain none = cond-false (is_manager_word word) _ _ other ∙ ap (actor_of_seat wanted) (no_seat frame word plain none)
 
 mark_no_actor : (frame : Frame) (wanted : Wanted) → actor_of_word frame wanted (codes "mark") ≡ Err (Cause.Wanted wanted)
 unfolding host_said
@@ -53,9 +53,9 @@ host_no_actor frame wanted = no_actor frame wanted (keyword_text Keyword.Host) r
 -- ---- what is wanted matters only where there is no actor
 pub actor_same : (frame : Frame) (a b : Wanted) (word : List ℕ) (speaker : Speaker) → actor_of_word frame a word ≡ Ok speaker → actor_of_word frame b word ≡ Ok speaker
 unfolding actor_of_word
-actor_same frame a b word speaker is = elim (cases_Bool (is_manager word)) [
-  | inl e ↦ cond-true (is_manager word) (Ok Speaker.Manager) (actor_of_seat b (seat_said frame word)) e ∙ (sym (cond-true (is_manager word) (Ok Speaker.Manager) (actor_of_seat a (seat_said frame word)) e) ∙ is)
-  | inr e ↦ cond-false (is_manager word) (Ok Speaker.Manager) (actor_of_seat b (seat_said frame word)) e ∙ seat_same (seat_said frame word) (sym (cond-false (is_manager word) (Ok Speaker.Manager) (actor_of_seat a (seat_said frame word)) e) ∙ is)
+actor_same frame a b word speaker is = elim (cases_Bool (is_manager_word word)) [
+  | inl e ↦ cond-true (is_manager_word word) (Ok Speaker.Manager) (actor_of_seat b (seat_said frame word)) e ∙ (sym (cond-true (is_manager_word word) (Ok Speaker.Manager) (actor_of_seat a (seat_said frame word)) e) ∙ is)
+  | inr e ↦ cond-false (is_manager_word word) (Ok Speaker.Manager) (actor_of_seat b (seat_said frame word)) e ∙ seat_same (seat_said frame word) (sym (cond-false (is_manager_word word) (Ok Speaker.Manager) (actor_of_seat a (seat_said frame word)) e) ∙ is)
 ]
   where
     seat_same : (seat : Result (ℕ × ℕ) NumberFault) → actor_of_seat a seat ≡ Ok speaker → actor_of_seat b seat ≡ Ok speaker

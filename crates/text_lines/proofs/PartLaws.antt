@@ -7,7 +7,7 @@ use Rattle.dcd_base.specs.declared.capacity.Tag.{Tag}
 use Rattle.dcd_base.specs.declared.steps.Actor.{Actor}
 use Rattle.text_words.specs.Numbers.{under}
 use Rattle.text_words.specs.Pairs.{tag_said}
-use Rattle.text_words.specs.Unread.{UnreadWords, behind, behind_first, first_unread}
+use Rattle.text_words.specs.Unread.{UnreadWords, behind_next, behind_first, first_unread}
 use Rattle.text_words.specs.declared.faults.NumberFault.{NumberFault}
 use Rattle.text_lines.specs.Actors.{SaysActor, actor_ahead, actor_of_word, host_ahead, host_or, host_said}
 use Rattle.text_lines.specs.Fields.{begins, extent_of_word, extents_ahead, handles_ahead, list_behind, list_ahead, may_tag_ahead, number_ahead, number_of_word, tag_ahead, tag_or}
@@ -52,7 +52,7 @@ handles_goes handles u front rest is (inr tells) stops other = more handles tell
     more (h ∷ hs) [] some few each words = absurd each
     more (h ∷ hs) (w ∷ ws) some few each words =
         let g = goes_then (λ first. list_behind (first.0 ∷ []) (list_ahead (number_of_word 65535) 254 first.1)) (h ∷ hs) rest
-        (number_goes Form.Count 65535 h (behind u) (w ∷ []) (ws ++ rest) (ap (λ xs. (behind_first u.line u.word xs).words) words) (w, refl, each.0))
+        (number_goes Form.Count 65535 h (behind_next u) (w ∷ []) (ws ++ rest) (ap (λ xs. (behind_first u.line u.word xs).words) words) (w, refl, each.0))
         (λ left here. subst (λ xs. Goes (list_behind (h ∷ []) (list_ahead (number_of_word 65535) 254 (record { line = left.line; word = left.word; words = xs }))) (h ∷ hs) rest) (sym here)
         (behind_goes (h ∷ []) hs _ rest (list_goes (number_of_word 65535) (SaysNumber 65535) (λ x v says. (says_number 65535 x v says, number_not Keyword.MessageTag 65535 x v says)) 254 left.line left.word hs ws rest (omega (arith, few)) each.1 stops))) in
         record { left = g.left; is = cond-true (begins Keyword.Handles u) _ _ (begins_with Keyword.Handles u ((w ∷ ws) ++ rest) words) ∙ g.is; words = g.words }
@@ -61,14 +61,14 @@ pub handles_sound : (u : UnreadWords) (x : List ℕ × UnreadWords) → handles_
 unfolding handles_ahead number_ahead
 handles_sound u x is = elim (cases_Bool (begins Keyword.Handles u)) [
   | inl e ↦
-      let first = bound (number_ahead 65535 (behind u)) (λ f. list_behind (f.0 ∷ []) (list_ahead (number_of_word 65535) 254 f.1)) x (sym (cond-true (begins Keyword.Handles u) _ _ e) ∙ is) in
-      let p = one_sound Wanted.Number (behind u) (number_of_word 65535 (first_unread (behind u))) first.value first.begun in
+      let first = bound (number_ahead 65535 (behind_next u)) (λ f. list_behind (f.0 ∷ []) (list_ahead (number_of_word 65535) 254 f.1)) x (sym (cond-true (begins Keyword.Handles u) _ _ e) ∙ is) in
+      let p = one_sound Wanted.Number (behind_next u) (number_of_word 65535 (first_unread (behind_next u))) first.value first.begun in
       let q = behind_is (first.value.0 ∷ []) (list_ahead (number_of_word 65535) 254 first.value.1) x first.done in
       let r = list_sound (number_of_word 65535) (SaysNumber 65535) (λ y w f. number_says 65535 y w f) 254 first.value.1.line first.value.1.word first.value.1.words q.0 q.1 in
       subst (λ (y : List ℕ × UnreadWords). Took u.words (Part.Handles y.0 ∷ []) y.1.words) q.2
-      (took_one u.words (keyword_text Keyword.Handles ∷ first_unread (behind u) ∷ r.front) q.0.1.words (Part.Handles (first.value.0 ∷ q.0.0))
-      (begins_words Keyword.Handles u.line u.word u.words e ∙ ap (λ ws. keyword_text Keyword.Handles ∷ ws) (p.words ∙ ap (λ ws. first_unread (behind u) ∷ ws) r.is))
-      (inr (record { rest = first_unread (behind u) ∷ r.front; words_are = refl; some = omega arith; few = omega (arith, r.few); each = (number_says 65535 first.value.0 (first_unread (behind u)) p.said, r.all) })))
+      (took_one u.words (keyword_text Keyword.Handles ∷ first_unread (behind_next u) ∷ r.front) q.0.1.words (Part.Handles (first.value.0 ∷ q.0.0))
+      (begins_words Keyword.Handles u.line u.word u.words e ∙ ap (λ ws. keyword_text Keyword.Handles ∷ ws) (p.words ∙ ap (λ ws. first_unread (behind_next u) ∷ ws) r.is))
+      (inr (record { rest = first_unread (behind_next u) ∷ r.front; words_are = refl; some = omega arith; few = omega (arith, r.few); each = (number_says 65535 first.value.0 (first_unread (behind_next u)) p.said, r.all) })))
   | inr e ↦
       let f : ([], u) ≡ x = ok_is ([], u) x (sym (cond-false (begins Keyword.Handles u) _ _ e) ∙ is) in
       subst (λ (y : List ℕ × UnreadWords). Took u.words (Part.Handles y.0 ∷ []) y.1.words) f (took_one u.words [] u.words (Part.Handles []) refl (inl (refl, refl)))
@@ -98,24 +98,24 @@ may_tag_goes tag u front rest is (inl absent) other =
     let words : u.words ≡ rest = is ∙ ap (λ ws. ws ++ rest) absent.0 in
     record {
       left = u;
-      is = cond-false (begins Keyword.Tag u) (tag_ahead (behind u)) (Ok (zero_tag, u)) (begins_not Keyword.Tag u rest words other) ∙ ap (λ t. Ok (t, u)) (sym absent.1);
+      is = cond-false (begins Keyword.Tag u) (tag_ahead (behind_next u)) (Ok (zero_tag, u)) (begins_not Keyword.Tag u rest words other) ∙ ap (λ t. Ok (t, u)) (sym absent.1);
       words = words;
     }
 may_tag_goes tag u front rest is (inr present) other =
     let words : u.words ≡ keyword_text Keyword.Tag ∷ (present.0 ∷ rest) = is ∙ ap (λ ws. ws ++ rest) present.1 in
-    let g = tag_goes tag (behind u) (present.0 ∷ []) rest (ap (λ ws. (behind_first u.line u.word ws).words) words) (present.0, refl, present.2) in
-    record { left = g.left; is = cond-true (begins Keyword.Tag u) (tag_ahead (behind u)) (Ok (zero_tag, u)) (begins_with Keyword.Tag u (present.0 ∷ rest) words) ∙ g.is; words = g.words }
+    let g = tag_goes tag (behind_next u) (present.0 ∷ []) rest (ap (λ ws. (behind_first u.line u.word ws).words) words) (present.0, refl, present.2) in
+    record { left = g.left; is = cond-true (begins Keyword.Tag u) (tag_ahead (behind_next u)) (Ok (zero_tag, u)) (begins_with Keyword.Tag u (present.0 ∷ rest) words) ∙ g.is; words = g.words }
 
 pub may_tag_sound : (u : UnreadWords) (x : Tag × UnreadWords) → may_tag_ahead u ≡ Ok x → Took u.words (Part.MayTag x.0 ∷ []) x.1.words
 unfolding may_tag_ahead tag_ahead
 may_tag_sound u x is = elim (cases_Bool (begins Keyword.Tag u)) [
   | inl e ↦
-      let p = one_sound Wanted.Tag (behind u) (tag_or (tag_said (first_unread (behind u)))) x (sym (cond-true (begins Keyword.Tag u) (tag_ahead (behind u)) (Ok (zero_tag, u)) e) ∙ is) in
-      took_one u.words (keyword_text Keyword.Tag ∷ first_unread (behind u) ∷ []) x.1.words (Part.MayTag x.0)
+      let p = one_sound Wanted.Tag (behind_next u) (tag_or (tag_said (first_unread (behind_next u)))) x (sym (cond-true (begins Keyword.Tag u) (tag_ahead (behind_next u)) (Ok (zero_tag, u)) e) ∙ is) in
+      took_one u.words (keyword_text Keyword.Tag ∷ first_unread (behind_next u) ∷ []) x.1.words (Part.MayTag x.0)
       (begins_words Keyword.Tag u.line u.word u.words e ∙ ap (λ ws. keyword_text Keyword.Tag ∷ ws) p.words)
-      (inr (first_unread (behind u), refl, tag_says (first_unread (behind u)) x.0 (tag_said (first_unread (behind u))) refl p.said))
+      (inr (first_unread (behind_next u), refl, tag_says (first_unread (behind_next u)) x.0 (tag_said (first_unread (behind_next u))) refl p.said))
   | inr e ↦
-      let f : (zero_tag, u) ≡ x = ok_is (zero_tag, u) x (sym (cond-false (begins Keyword.Tag u) (tag_ahead (behind u)) (Ok (zero_tag, u)) e) ∙ is) in
+      let f : (zero_tag, u) ≡ x = ok_is (zero_tag, u) x (sym (cond-false (begins Keyword.Tag u) (tag_ahead (behind_next u)) (Ok (zero_tag, u)) e) ∙ is) in
       subst (λ (y : Tag × UnreadWords). Took u.words (Part.MayTag y.0 ∷ []) y.1.words) f (took_one u.words [] u.words (Part.MayTag zero_tag) refl (inl (refl, refl)))
 ]
 

@@ -1,7 +1,7 @@
 -- Policies: what is read of them is what their words say.
 use Rattle.std.proofs.Common.{◌≡◌, ℕ, Bool, true, false, List, [], ◌∷◌, ◌++◌, Option, Some, None, Result, Ok, refl, sym, ap, ◌∙◌, subst, inl, inr, append_assoc}
 use Rattle.std.proofs.lemmas.Bool.{cases_Bool, cond-false, cond-true}
-use Rattle.text_words.specs.Unread.{UnreadWords, behind, behind_first, first_unread}
+use Rattle.text_words.specs.Unread.{UnreadWords, behind_next, behind_first, first_unread}
 use Rattle.text_lines.specs.Fields.{begins, flag_ahead, number_ahead, number_of_word}
 use Rattle.text_lines.specs.Keywords.{keyword_text}
 use Rattle.text_lines.specs.Parts.{Form, NamesRelease, Part, ReadsPart}
@@ -28,7 +28,7 @@ unfolding release_policy_said
 no_release_policy = refl
 
 -- a word and what is behind it
-one_behind : (u : UnreadWords) (k : Keyword) (word : List ℕ) (rest : List (List ℕ)) → u.words ≡ keyword_text k ∷ (word ∷ rest) → (behind u).words ≡ word ∷ rest
+one_behind : (u : UnreadWords) (k : Keyword) (word : List ℕ) (rest : List (List ℕ)) → u.words ≡ keyword_text k ∷ (word ∷ rest) → (behind_next u).words ≡ word ∷ rest
 one_behind u k word rest words = ap (λ ws. (behind_first u.line u.word ws).words) words
 
 -- ---- adds
@@ -39,24 +39,24 @@ add_policy_goes policy u front rest is (inl name) =
     let g = one_goes Wanted.AddPolicy u (λ w. policy_or Wanted.AddPolicy (add_policy_said w)) policy name.0 rest words (ap (policy_or Wanted.AddPolicy) name.2) in
     record {
       left = g.left;
-      is = cond-false (begins Keyword.Policy u) (number_ahead 255 (behind u)) (add_name_ahead u) (begins_not Keyword.Policy u (name.0 ∷ rest) words (other_word add_policy_said name.0 (keyword_text Keyword.Policy) policy no_add_policy name.2)) ∙ g.is;
+      is = cond-false (begins Keyword.Policy u) (number_ahead 255 (behind_next u)) (add_name_ahead u) (begins_not Keyword.Policy u (name.0 ∷ rest) words (other_word add_policy_said name.0 (keyword_text Keyword.Policy) policy no_add_policy name.2)) ∙ g.is;
       words = g.words;
     }
 add_policy_goes policy u front rest is (inr number) =
     let words : u.words ≡ keyword_text Keyword.Policy ∷ (number.0 ∷ rest) = is ∙ ap (λ ws. ws ++ rest) number.1 in
-    let g = number_goes Form.Count 255 policy (behind u) (number.0 ∷ []) rest (one_behind u Keyword.Policy number.0 rest words) (number.0, refl, number.2) in
-    record { left = g.left; is = cond-true (begins Keyword.Policy u) (number_ahead 255 (behind u)) (add_name_ahead u) (begins_with Keyword.Policy u (number.0 ∷ rest) words) ∙ g.is; words = g.words }
+    let g = number_goes Form.Count 255 policy (behind_next u) (number.0 ∷ []) rest (one_behind u Keyword.Policy number.0 rest words) (number.0, refl, number.2) in
+    record { left = g.left; is = cond-true (begins Keyword.Policy u) (number_ahead 255 (behind_next u)) (add_name_ahead u) (begins_with Keyword.Policy u (number.0 ∷ rest) words) ∙ g.is; words = g.words }
 
 pub add_policy_sound : (u : UnreadWords) (x : ℕ × UnreadWords) → add_policy_ahead u ≡ Ok x → Took u.words (Part.AddPolicy x.0 ∷ []) x.1.words
 unfolding add_policy_ahead number_ahead
 add_policy_sound u x is = elim (cases_Bool (begins Keyword.Policy u)) [
   | inl e ↦
-      let p = one_sound Wanted.Number (behind u) (number_of_word 255 (first_unread (behind u))) x (sym (cond-true (begins Keyword.Policy u) (number_ahead 255 (behind u)) (add_name_ahead u) e) ∙ is) in
-      took_one u.words (keyword_text Keyword.Policy ∷ first_unread (behind u) ∷ []) x.1.words (Part.AddPolicy x.0)
+      let p = one_sound Wanted.Number (behind_next u) (number_of_word 255 (first_unread (behind_next u))) x (sym (cond-true (begins Keyword.Policy u) (number_ahead 255 (behind_next u)) (add_name_ahead u) e) ∙ is) in
+      took_one u.words (keyword_text Keyword.Policy ∷ first_unread (behind_next u) ∷ []) x.1.words (Part.AddPolicy x.0)
       (begins_words Keyword.Policy u.line u.word u.words e ∙ ap (λ ws. keyword_text Keyword.Policy ∷ ws) p.words)
-      (inr (first_unread (behind u), refl, number_says 255 x.0 (first_unread (behind u)) p.said))
+      (inr (first_unread (behind_next u), refl, number_says 255 x.0 (first_unread (behind_next u)) p.said))
   | inr e ↦
-      let p = one_sound Wanted.AddPolicy u (policy_or Wanted.AddPolicy (add_policy_said (first_unread u))) x (sym (cond-false (begins Keyword.Policy u) (number_ahead 255 (behind u)) (add_name_ahead u) e) ∙ is) in
+      let p = one_sound Wanted.AddPolicy u (policy_or Wanted.AddPolicy (add_policy_said (first_unread u))) x (sym (cond-false (begins Keyword.Policy u) (number_ahead 255 (behind_next u)) (add_name_ahead u) e) ∙ is) in
       took_one u.words (first_unread u ∷ []) x.1.words (Part.AddPolicy x.0) p.words (inl (first_unread u, refl, policy_says Wanted.AddPolicy (add_policy_said (first_unread u)) x.0 p.said))
 ]
 
@@ -93,13 +93,13 @@ release_flags_goes flags u front rest is (inl names) forced sanitize =
     let words : u.words ≡ names.name ∷ ((word_where names.forced (keyword_text Keyword.Forced) ++ word_where names.sanitize (keyword_text Keyword.Sanitize)) ++ rest) = is ∙ ap (λ ws. ws ++ rest) names.words_are in
     record {
       left = g.left;
-      is = cond-false (begins Keyword.Flags u) (number_ahead 255 (behind u)) (named_flags_ahead u) (begins_not Keyword.Flags u _ words (other_word release_policy_said names.name (keyword_text Keyword.Flags) names.policy no_release_policy names.named)) ∙ g.is;
+      is = cond-false (begins Keyword.Flags u) (number_ahead 255 (behind_next u)) (named_flags_ahead u) (begins_not Keyword.Flags u _ words (other_word release_policy_said names.name (keyword_text Keyword.Flags) names.policy no_release_policy names.named)) ∙ g.is;
       words = g.words;
     }
 release_flags_goes flags u front rest is (inr number) forced sanitize =
     let words : u.words ≡ keyword_text Keyword.Flags ∷ (number.0 ∷ rest) = is ∙ ap (λ ws. ws ++ rest) number.1 in
-    let g = number_goes Form.Count 255 flags (behind u) (number.0 ∷ []) rest (one_behind u Keyword.Flags number.0 rest words) (number.0, refl, number.2) in
-    record { left = g.left; is = cond-true (begins Keyword.Flags u) (number_ahead 255 (behind u)) (named_flags_ahead u) (begins_with Keyword.Flags u (number.0 ∷ rest) words) ∙ g.is; words = g.words }
+    let g = number_goes Form.Count 255 flags (behind_next u) (number.0 ∷ []) rest (one_behind u Keyword.Flags number.0 rest words) (number.0, refl, number.2) in
+    record { left = g.left; is = cond-true (begins Keyword.Flags u) (number_ahead 255 (behind_next u)) (named_flags_ahead u) (begins_with Keyword.Flags u (number.0 ∷ rest) words) ∙ g.is; words = g.words }
 
 -- the words of a flag that was read
 flag_read : (k : Keyword) (u : UnreadWords) → u.words ≡ word_where (flag_ahead k u).0 (keyword_text k) ++ (flag_ahead k u).1.words
@@ -137,9 +137,9 @@ pub release_flags_sound : (u : UnreadWords) (x : ℕ × UnreadWords) → release
 unfolding release_flags_ahead number_ahead
 release_flags_sound u x is = elim (cases_Bool (begins Keyword.Flags u)) [
   | inl e ↦
-      let p = one_sound Wanted.Number (behind u) (number_of_word 255 (first_unread (behind u))) x (sym (cond-true (begins Keyword.Flags u) (number_ahead 255 (behind u)) (named_flags_ahead u) e) ∙ is) in
-      took_one u.words (keyword_text Keyword.Flags ∷ first_unread (behind u) ∷ []) x.1.words (Part.ReleaseFlags x.0)
+      let p = one_sound Wanted.Number (behind_next u) (number_of_word 255 (first_unread (behind_next u))) x (sym (cond-true (begins Keyword.Flags u) (number_ahead 255 (behind_next u)) (named_flags_ahead u) e) ∙ is) in
+      took_one u.words (keyword_text Keyword.Flags ∷ first_unread (behind_next u) ∷ []) x.1.words (Part.ReleaseFlags x.0)
       (begins_words Keyword.Flags u.line u.word u.words e ∙ ap (λ ws. keyword_text Keyword.Flags ∷ ws) p.words)
-      (inr (first_unread (behind u), refl, number_says 255 x.0 (first_unread (behind u)) p.said))
-  | inr e ↦ named_flags_sound u x (sym (cond-false (begins Keyword.Flags u) (number_ahead 255 (behind u)) (named_flags_ahead u) e) ∙ is)
+      (inr (first_unread (behind_next u), refl, number_says 255 x.0 (first_unread (behind_next u)) p.said))
+  | inr e ↦ named_flags_sound u x (sym (cond-false (begins Keyword.Flags u) (number_ahead 255 (behind_next u)) (named_flags_ahead u) e) ∙ is)
 ]

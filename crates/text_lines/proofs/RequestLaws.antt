@@ -6,10 +6,11 @@ use Rattle.dcd_base.specs.declared.capacity.Extent.{Extent}
 use Rattle.dcd_base.specs.declared.capacity.Tag.{Tag}
 use Rattle.fm_payloads.specs.declared.requests.FmRequest.{FmRequest}
 use Rattle.host_payloads.specs.declared.requests.HostRequest.{HostRequest}
-use Rattle.text_words.specs.Unread.{UnreadWords, first_word}
+use Rattle.text_words.specs.Unread.{UnreadWords, leading_word}
 use Rattle.text_lines.specs.Actors.{host_ahead}
 use Rattle.text_lines.specs.Commands.{host_command_said, host_command_text, manager_command_said, manager_command_text}
-use Rattle.text_lines.specs.Fields.{◌>>=◌, extents_ahead, flag_ahead, handles_ahead, keyword_ahead, may_ahead, may_tag_ahead, named_ahead, number_ahead, tag_ahead}
+use Rattle.text_lines.specs.Chains.{◌>>!◌ as ◌>>=◌}
+use Rattle.text_lines.specs.Fields.{extents_ahead, flag_ahead, handles_ahead, keyword_ahead, may_ahead, may_tag_ahead, named_ahead, number_ahead, tag_ahead}
 use Rattle.text_lines.specs.HostRequests.{clearing_ahead, host_request_ahead, listing_ahead, page_ahead}
 use Rattle.text_lines.specs.Keywords.{keyword_text}
 use Rattle.text_lines.specs.Layouts.{capacity_parts, clearing_parts, host_command_of, host_tail, listing_parts, log_parts, manager_command_of, manager_tail, most_32, most_64, page_parts, setting_parts, spot_parts}

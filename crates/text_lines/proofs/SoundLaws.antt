@@ -23,10 +23,11 @@ use Rattle.script_codec.specs.Scripts.{is_sound_line}
 use Rattle.script_codec.specs.Writing.{has_short_message}
 use Rattle.script_codec.specs.declared.script_line.Line.{Line}
 use Rattle.text_words.specs.Extents.{after, before, extent_said, untagged}
-use Rattle.text_words.specs.Numbers.{◌>>=◌, digits_said, number_said, under}
+use Rattle.text_words.specs.Chains.{◌>>?◌ as ◌>>=◌}
+use Rattle.text_words.specs.Numbers.{digits_said, number_said, under}
 use Rattle.text_words.specs.Pairs.{pairs_said, tag_of_bytes, tag_said}
 use Rattle.text_words.specs.declared.faults.NumberFault.{NumberFault}
-use Rattle.text_lines.specs.Actors.{actor_of_seat, actor_of_word, has_dot, host_said, is_manager, seat_of_parts, seat_said}
+use Rattle.text_lines.specs.Actors.{actor_of_seat, actor_of_word, has_dot, host_said, is_manager_word, seat_of_parts, seat_said}
 use Rattle.text_lines.specs.Layouts.{NamesHostCommand, NamesManagerCommand, SaysLine, TellsBytes, host_tail, manager_tail, tag_part}
 use Rattle.text_lines.specs.Lines.{host_message, manager_message}
 use Rattle.text_lines.specs.Parts.{AllSay, Part, ReadsPart, SaysExtent, Takes}
@@ -88,9 +89,9 @@ spoken_seat frame word host lane (Err NumberFault.TooLarge) e is = cc
 
 host_is : (frame : Frame) (word : List ℕ) (host lane : ℕ) → actor_of_word frame Wanted.Actor word ≡ Ok (Speaker.Host host lane) → IsSeat frame host lane
 unfolding actor_of_word
-host_is frame word host lane is = elim (cases_Bool (is_manager word)) [
-  | inl e ↦ let f : Ok Speaker.Manager ≡ Ok (Speaker.Host host lane) = sym (cond-true (is_manager word) (Ok Speaker.Manager) (actor_of_seat Wanted.Actor (seat_said frame word)) e) ∙ is in cc
-  | inr e ↦ spoken_seat frame word host lane (seat_said frame word) refl (sym (cond-false (is_manager word) (Ok Speaker.Manager) (actor_of_seat Wanted.Actor (seat_said frame word)) e) ∙ is)
+host_is frame word host lane is = elim (cases_Bool (is_manager_word word)) [
+  | inl e ↦ let f : Ok Speaker.Manager ≡ Ok (Speaker.Host host lane) = sym (cond-true (is_manager_word word) (Ok Speaker.Manager) (actor_of_seat Wanted.Actor (seat_said frame word)) e) ∙ is in cc
+  | inr e ↦ spoken_seat frame word host lane (seat_said frame word) refl (sym (cond-false (is_manager_word word) (Ok Speaker.Manager) (actor_of_seat Wanted.Actor (seat_said frame word)) e) ∙ is)
 ]
 
 seat_sound : (frame : Frame) (word : List ℕ) (host : HostId) (lane : ℕ) → actor_of_word frame Wanted.Actor word ≡ Ok (Speaker.Host host lane) → (nat_lt host frame.hosts && nat_lt lane frame.lanes) ≡ true

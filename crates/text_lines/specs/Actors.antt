@@ -2,7 +2,7 @@
 use Rattle.std.specs.Prelude.{◌≡◌, ℕ, ◌&&◌, ◌==◌, nat_lt, Bool, List, ◌++◌, length, drop, slice_index, Option, Some, None, Result, Ok, Err, if◌then◌else◌, codes, decimal}
 use lib.Pointwise.{pointwise}
 use Rattle.dcd_base.specs.declared.steps.Actor.{Actor}
-use Rattle.text_words.specs.Characters.{front_from, is_other}
+use Rattle.text_words.specs.Characters.{passed_from, is_other}
 use Rattle.text_words.specs.Numbers.{digits_said, under}
 use Rattle.text_words.specs.Extents.{before, after}
 use Rattle.text_words.specs.Unread.{UnreadWords, first_unread}
@@ -20,7 +20,7 @@ host_said word = if slice_index word 0 == 104 then digits_said 10 (drop 1 word) 
 
 -- whether a lane is told behind a dot
 abbrev pub has_dot : List ℕ → Bool
-has_dot word = nat_lt (front_from (is_other 46) 0 word) (length word)
+has_dot word = nat_lt (passed_from (is_other 46) 0 word) (length word)
 
 -- a host and a lane; what is out of form comes before what the script does not have
 abbrev pub seat_of_parts : Result ℕ NumberFault → Result ℕ NumberFault → Result (ℕ × ℕ) NumberFault
@@ -38,8 +38,8 @@ seat_said frame word =
     then seat_of_parts (under frame.hosts (host_said (before 46 word))) (under frame.lanes (digits_said 10 (after 46 word)))
     else seat_of_parts (under frame.hosts (host_said word)) (under frame.lanes (Some 0))
 
-abbrev pub is_manager : List ℕ → Bool
-is_manager word = pointwise ◌==◌ word (codes "fm")
+abbrev pub is_manager_word : List ℕ → Bool
+is_manager_word word = pointwise ◌==◌ word (codes "fm")
 
 -- a host in its lane; what is wanted where the word says none
 abbrev pub actor_of_seat : Wanted → Result (ℕ × ℕ) NumberFault → Result Speaker Cause
@@ -49,7 +49,7 @@ actor_of_seat wanted (Err NumberFault.TooLarge) = Err Cause.NoSuchActor
 
 -- the actor that a word says
 unfoldable pub actor_of_word : Frame → Wanted → List ℕ → Result Speaker Cause
-actor_of_word frame wanted word = if is_manager word then Ok Speaker.Manager else actor_of_seat wanted (seat_said frame word)
+actor_of_word frame wanted word = if is_manager_word word then Ok Speaker.Manager else actor_of_seat wanted (seat_said frame word)
 
 -- an actor behind a word
 unfoldable pub actor_ahead : Frame → UnreadWords → Result (Speaker × UnreadWords) TextFault

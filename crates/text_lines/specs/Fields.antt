@@ -5,7 +5,7 @@ use Rattle.dcd_base.specs.declared.capacity.Extent.{Extent}
 use Rattle.dcd_base.specs.declared.capacity.Tag.{Tag}
 use Rattle.dcd_base.specs.Words.{zero_tag}
 use Rattle.text_words.specs.declared.faults.NumberFault.{NumberFault}
-use Rattle.text_words.specs.Unread.{UnreadWords, is_done, first_unread, behind}
+use Rattle.text_words.specs.Unread.{UnreadWords, is_done, first_unread, behind_next}
 use Rattle.text_words.specs.Numbers.{number_said, limited}
 use Rattle.text_words.specs.Extents.{extent_said, limited_extent}
 use Rattle.text_words.specs.Pairs.{tag_said}
@@ -14,12 +14,7 @@ use Rattle.text_lines.specs.declared.faults.Wanted.{Wanted}
 use Rattle.text_lines.specs.declared.faults.Cause.{Cause}
 use Rattle.text_lines.specs.declared.faults.TextFault.{TextFault}
 use Rattle.text_lines.specs.Keywords.{keyword_text}
-
--- What is read next, unless there was a fault.
-infixl 10 ◌>>=◌
-abbrev pub ◌>>=◌ : {A B : Type 0} → Result A TextFault → (A → Result B TextFault) → Result B TextFault
-Ok x >>= next = next x
-Err fault >>= next = Err fault
+use Rattle.text_lines.specs.Chains.{◌>>!◌ as ◌>>=◌}
 
 -- The call answers what the definition reads, and leaves what is still to come. Memory may be wanting at any time.
 abbrev pub GivesWords : {A B : Type 0} → (A → B) → Result A TextFault → UnreadWords → Result (B × UnreadWords) TextFault → Type 0
@@ -44,7 +39,7 @@ begins keyword u = is_next (keyword_text keyword) u
 
 -- what a word says, with what comes behind it
 abbrev pub told : {A : Type 0} → UnreadWords → Result A Cause → Result (A × UnreadWords) TextFault
-told u (Ok x) = Ok (x, behind u)
+told u (Ok x) = Ok (x, behind_next u)
 told u (Err cause) = Err (refused u cause)
 
 -- the next word, which has to be there
@@ -53,11 +48,11 @@ one_word wanted u read = if is_done u then Err (refused u (Cause.Wanted wanted))
 
 -- a word of the grammar
 unfoldable pub keyword_ahead : Keyword → UnreadWords → Result (Unit {0} × UnreadWords) TextFault
-keyword_ahead keyword u = if begins keyword u then Ok (tt, behind u) else Err (refused u (Cause.Wanted (Wanted.Keyword keyword)))
+keyword_ahead keyword u = if begins keyword u then Ok (tt, behind_next u) else Err (refused u (Cause.Wanted (Wanted.Keyword keyword)))
 
 -- a word of the grammar that may be there
 unfoldable pub flag_ahead : Keyword → UnreadWords → Bool × UnreadWords
-flag_ahead keyword u = if begins keyword u then (true, behind u) else (false, u)
+flag_ahead keyword u = if begins keyword u then (true, behind_next u) else (false, u)
 
 -- nothing more on the line
 unfoldable pub end_ahead : UnreadWords → Result (Unit {0} × UnreadWords) TextFault
@@ -80,7 +75,7 @@ number_ahead most u = one_word Wanted.Number u (number_of_word most (first_unrea
 
 -- a number behind its keyword; 0 where it is left out
 unfoldable pub may_ahead : Keyword → ℕ → UnreadWords → Result (ℕ × UnreadWords) TextFault
-may_ahead keyword most u = if begins keyword u then number_ahead most (behind u) else Ok (0, u)
+may_ahead keyword most u = if begins keyword u then number_ahead most (behind_next u) else Ok (0, u)
 
 -- a number behind its keyword
 unfoldable pub named_ahead : Keyword → ℕ → UnreadWords → Result (ℕ × UnreadWords) TextFault
@@ -99,7 +94,7 @@ tag_ahead u = one_word Wanted.Tag u (tag_or (tag_said (first_unread u)))
 
 -- a tag behind its keyword; none where it is left out
 unfoldable pub may_tag_ahead : UnreadWords → Result (Tag × UnreadWords) TextFault
-may_tag_ahead u = if begins Keyword.Tag u then tag_ahead (behind u) else Ok (zero_tag, u)
+may_tag_ahead u = if begins Keyword.Tag u then tag_ahead (behind_next u) else Ok (zero_tag, u)
 
 -- ---- lists up to the message tag or the end
 
@@ -144,6 +139,6 @@ extents_ahead left u = list_ahead extent_of_word left u
 unfoldable pub handles_ahead : UnreadWords → Result (List ℕ × UnreadWords) TextFault
 handles_ahead u =
     if begins Keyword.Handles u then (do
-      first ← number_ahead 65535 (behind u)
+      first ← number_ahead 65535 (behind_next u)
       list_behind (first.0 ∷ []) (list_ahead (number_of_word 65535) 254 first.1))
     else Ok ([], u)

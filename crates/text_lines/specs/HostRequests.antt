@@ -8,7 +8,8 @@ use Rattle.text_lines.specs.declared.forms.Clearing.{Clearing}
 use Rattle.text_lines.specs.declared.forms.Listing.{Listing}
 use Rattle.text_lines.specs.declared.forms.Page.{Page}
 use Rattle.text_lines.specs.declared.keywords.Keyword.{Keyword}
-use Rattle.text_lines.specs.Fields.{◌>>=◌, extents_ahead, flag_ahead, handles_ahead, may_ahead, named_ahead}
+use Rattle.text_lines.specs.Chains.{◌>>!◌ as ◌>>=◌}
+use Rattle.text_lines.specs.Fields.{extents_ahead, flag_ahead, handles_ahead, may_ahead, named_ahead}
 
 -- a log, whether all records are meant, and handles
 unfoldable pub clearing_ahead : UnreadWords → Result (Clearing × UnreadWords) TextFault

@@ -1,4 +1,5 @@
 pub mod Actors
+pub mod Chains
 pub mod Commands
 pub mod Fields
 pub mod HostRequests

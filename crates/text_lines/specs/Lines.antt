@@ -16,7 +16,8 @@ use Rattle.text_words.specs.Pairs.{pairs_said}
 use Rattle.text_words.specs.Unread.{UnreadWords, is_done, first_unread}
 use Rattle.text_lines.specs.Actors.{actor_ahead, actor_of_word}
 use Rattle.text_lines.specs.Commands.{host_command_said, manager_command_said}
-use Rattle.text_lines.specs.Fields.{◌>>=◌, end_ahead, may_ahead, number_ahead, one_word, refused}
+use Rattle.text_lines.specs.Chains.{◌>>!◌ as ◌>>=◌}
+use Rattle.text_lines.specs.Fields.{end_ahead, may_ahead, number_ahead, one_word, refused}
 use Rattle.text_lines.specs.HostRequests.{host_request_ahead}
 use Rattle.text_lines.specs.ManagerRequests.{manager_request_ahead}
 use Rattle.text_lines.specs.declared.actors.Frame.{Frame}

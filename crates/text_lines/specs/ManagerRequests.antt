@@ -10,7 +10,8 @@ use Rattle.text_lines.specs.declared.forms.HostPage.{HostPage}
 use Rattle.text_lines.specs.declared.forms.Setting.{Setting}
 use Rattle.text_lines.specs.declared.forms.Spot.{Spot}
 use Rattle.text_lines.specs.declared.keywords.Keyword.{Keyword}
-use Rattle.text_lines.specs.Fields.{◌>>=◌, extents_ahead, flag_ahead, may_ahead, may_tag_ahead, named_ahead, tag_ahead}
+use Rattle.text_lines.specs.Chains.{◌>>!◌ as ◌>>=◌}
+use Rattle.text_lines.specs.Fields.{extents_ahead, flag_ahead, may_ahead, may_tag_ahead, named_ahead, tag_ahead}
 use Rattle.text_lines.specs.HostRequests.{clearing_ahead, page_ahead}
 use Rattle.text_lines.specs.Policies.{add_policy_ahead, release_flags_ahead}
 

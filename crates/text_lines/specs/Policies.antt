@@ -2,13 +2,14 @@
 use Rattle.std.specs.Prelude.{ℕ, ◌+◌, ◌*◌, ◌/◌, ◌%◌, ◌&&◌, ◌==◌, nat_lt, Bool, List, [], ◌∷◌, ◌++◌, Option, Some, None, Result, Ok, Err, if◌then◌else◌, codes, decimal}
 use lib.Pointwise.{pointwise}
 use Rattle.dcd_base.specs.Words.{flag_of}
-use Rattle.text_words.specs.Unread.{UnreadWords, first_unread, behind}
+use Rattle.text_words.specs.Unread.{UnreadWords, first_unread, behind_next}
 use Rattle.text_words.specs.Numbers.{hexadecimal}
 use Rattle.text_lines.specs.declared.faults.Wanted.{Wanted}
 use Rattle.text_lines.specs.declared.faults.Cause.{Cause}
 use Rattle.text_lines.specs.declared.faults.TextFault.{TextFault}
 use Rattle.text_lines.specs.declared.keywords.Keyword.{Keyword}
-use Rattle.text_lines.specs.Fields.{◌>>=◌, begins, flag_ahead, number_ahead, one_word}
+use Rattle.text_lines.specs.Chains.{◌>>!◌ as ◌>>=◌}
+use Rattle.text_lines.specs.Fields.{begins, flag_ahead, number_ahead, one_word}
 
 -- the policy of an add that a word names
 unfoldable pub add_policy_said : List ℕ → Option ℕ
@@ -30,7 +31,7 @@ add_name_ahead u = one_word Wanted.AddPolicy u (policy_or Wanted.AddPolicy (add_
 -- its name, or its number behind a keyword
 unfoldable pub add_policy_ahead : UnreadWords → Result (ℕ × UnreadWords) TextFault
 add_policy_ahead u =
-    if begins Keyword.Policy u then number_ahead 255 (behind u)
+    if begins Keyword.Policy u then number_ahead 255 (behind_next u)
     else add_name_ahead u
 
 -- the policy of a release that a word names
@@ -56,7 +57,7 @@ named_flags_ahead u = do
 
 -- the policy by its name and what is set, or all flags behind a keyword
 unfoldable pub release_flags_ahead : UnreadWords → Result (ℕ × UnreadWords) TextFault
-release_flags_ahead u = if begins Keyword.Flags u then number_ahead 255 (behind u) else named_flags_ahead u
+release_flags_ahead u = if begins Keyword.Flags u then number_ahead 255 (behind_next u) else named_flags_ahead u
 
 -- ---- printed
 

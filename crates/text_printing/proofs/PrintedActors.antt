@@ -6,13 +6,13 @@ use Rattle.std.specs.List.{list_all}
 use Rattle.std.proofs.lemmas.Bool.{and_from, and_parts, cases_Bool, cond-false, cond-true, eqb-true, lt-ltb, ltb-true}
 use Rattle.dcd_base.specs.declared.steps.Actor.{Actor}
 use Rattle.script_codec.specs.Scripts.{are_lanes, bad_lanes}
-use Rattle.text_words.specs.Characters.{IsNumberWord, IsTextWord, front_from, is_high, is_other}
+use Rattle.text_words.specs.Characters.{IsNumberWord, IsTextWord, passed_from, is_high, is_other}
 use Rattle.text_words.specs.Extents.{after, before}
 use Rattle.text_words.specs.Numbers.{digits_said, under}
 use Rattle.text_words.specs.declared.faults.NumberFault.{NumberFault}
 use Rattle.text_words.proofs.PrintedNumbers.{decimal_digits, decimal_reads, number_high}
 use Rattle.text_words.proofs.PrintedWords.{after_sign, before_sign, joined_word, number_is_word, sign_at}
-use Rattle.text_lines.specs.Actors.{SaysActor, actor_of_seat, actor_of_word, actor_text, has_dot, host_said, host_text, is_manager, seat_of_parts, seat_said, seat_text}
+use Rattle.text_lines.specs.Actors.{SaysActor, actor_of_seat, actor_of_word, actor_text, has_dot, host_said, host_text, is_manager_word, seat_of_parts, seat_said, seat_text}
 use Rattle.text_lines.specs.Parts.{Part}
 use Rattle.text_printing.specs.Printing.{AddsParts, IsSmall, StartsLine, has_word}
 use Rattle.text_lines.specs.declared.actors.Frame.{Frame}
@@ -39,8 +39,8 @@ unfolding seat_said
 dotted frame host lane small short second hosts lanes =
     let word : List ℕ = host_text host ++ 46 ∷ decimal lane in
     let high : list_all is_high (host_text host) ≡ true = (h_number host small).0 in
-    let place : front_from (is_other 46) 0 word ≡ length (host_text host) = sign_at 46 (host_text host) (decimal lane) (omega arith) high in
-    let dot : has_dot word ≡ true = lt-ltb (front_from (is_other 46) 0 word) (length word) (omega (arith, place, length-append (host_text host) (46 ∷ decimal lane))) in
+    let place : passed_from (is_other 46) 0 word ≡ length (host_text host) = sign_at 46 (host_text host) (decimal lane) (omega arith) high in
+    let dot : has_dot word ≡ true = lt-ltb (passed_from (is_other 46) 0 word) (length word) (omega (arith, place, length-append (host_text host) (46 ∷ decimal lane))) in
     let front : under frame.hosts (host_said (before 46 word)) ≡ Ok host =
     ap (λ w. under frame.hosts (host_said w)) (before_sign 46 (host_text host) (decimal lane) (omega arith) high) ∙ ap (under frame.hosts) (host_reads host (digits_of host small)) ∙ below_limit frame.hosts host hosts in
     let back : under frame.lanes (digits_said 10 (after 46 word)) ≡ Ok lane =
@@ -69,7 +69,7 @@ first_lane version lanes lane are other low = elim (cases_Bool (version == 1)) [
 ]
 
 -- no word that begins with h is that of the manager
-no_manager : (ds : List ℕ) → is_manager (104 ∷ ds) ≡ false
+no_manager : (ds : List ℕ) → is_manager_word (104 ∷ ds) ≡ false
 no_manager ds = refl
 
 seat_text_is : (version host lane : ℕ) → (version == 2) ≡ true → seat_text version host lane ≡ host_text host ++ 46 ∷ decimal lane

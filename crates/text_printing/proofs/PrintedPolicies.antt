@@ -6,7 +6,7 @@ use Rattle.std.proofs.lemmas.Bool.{and_parts, cond-false, cond-true, ltb-true, n
 use Rattle.dcd_base.specs.Words.{flag_of}
 use Rattle.text_words.specs.Characters.{IsNumberWord, IsTextWord}
 use Rattle.text_words.specs.Numbers.{hexadecimal, number_said}
-use Rattle.text_words.specs.Unread.{first_word}
+use Rattle.text_words.specs.Unread.{leading_word}
 use Rattle.text_words.specs.Words.{spaced}
 use Rattle.text_words.proofs.PrintedWords.{number_is_word}
 use Rattle.text_lines.specs.Keywords.{keyword_text}
@@ -24,10 +24,10 @@ pub record NamesAdd (policy : ℕ) (name : List ℕ) : Type 0 where
 
 add_named : (policy : ℕ) (name : List ℕ) → policy < 4 → add_policy_text policy ≡ name ∷ [] → NamesAdd policy name
 unfolding add_policy_said
-add_named zero name low is = subst (NamesAdd 0) (ap first_word is) (record { said = refl; word = (refl, omega arith) })
-add_named (suc zero) name low is = subst (NamesAdd 1) (ap first_word is) (record { said = refl; word = (refl, omega arith) })
-add_named (suc (suc zero)) name low is = subst (NamesAdd 2) (ap first_word is) (record { said = refl; word = (refl, omega arith) })
-add_named (suc (suc (suc zero))) name low is = subst (NamesAdd 3) (ap first_word is) (record { said = refl; word = (refl, omega arith) })
+add_named zero name low is = subst (NamesAdd 0) (ap leading_word is) (record { said = refl; word = (refl, omega arith) })
+add_named (suc zero) name low is = subst (NamesAdd 1) (ap leading_word is) (record { said = refl; word = (refl, omega arith) })
+add_named (suc (suc zero)) name low is = subst (NamesAdd 2) (ap leading_word is) (record { said = refl; word = (refl, omega arith) })
+add_named (suc (suc (suc zero))) name low is = subst (NamesAdd 3) (ap leading_word is) (record { said = refl; word = (refl, omega arith) })
 add_named (suc (suc (suc (suc n)))) name low is = absurd (omega (arith, low))
 
 pub named_policy_adds : {old new : List ℕ} (policy : ℕ) (name : List ℕ) → policy < 4 → add_policy_text policy ≡ name ∷ [] → new ≡ old ++ spaced name → AddsParts old new (Part.AddPolicy policy ∷ [])

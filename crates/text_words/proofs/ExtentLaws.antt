@@ -1,9 +1,10 @@
 -- Extents as a word says them.
 use Rattle.std.proofs.Common.{◌≡◌, ℕ, ◌+◌, ◌-◌, ◌^◌, Bool, true, false, cond, ◌&&◌, nat_le, List, [], length, Option, Some, None, Ok, Err, refl, sym, ap, ◌∙◌, arith}
 use Rattle.std.proofs.lemmas.List.{drop_all}
-use Rattle.text_words.specs.Characters.{front_from, is_other}
+use Rattle.text_words.specs.Characters.{passed_from, is_other}
 use Rattle.text_words.specs.Extents.{after, before, extent_of_parts, extent_said, limited_extent, untagged}
-use Rattle.text_words.specs.Numbers.{◌>>=◌, limited, number_said}
+use Rattle.text_words.specs.Chains.{◌>>?◌ as ◌>>=◌}
+use Rattle.text_words.specs.Numbers.{limited, number_said}
 use Rattle.text_words.specs.declared.faults.NumberFault.{NumberFault}
 
 -- nothing says no number
@@ -16,10 +17,10 @@ no_end None = refl
 no_end (Some a) = refl
 
 -- without a plus sign there is no length
-pub no_sign : (word : List ℕ) → front_from (is_other 43) 0 word ≡ length word → extent_said word ≡ None
+pub no_sign : (word : List ℕ) → passed_from (is_other 43) 0 word ≡ length word → extent_said word ≡ None
 unfolding extent_said
 no_sign word none =
-    let e : after 43 word ≡ [] = drop_all (front_from (is_other 43) 0 word + 1) word (omega (arith, none)) in
+    let e : after 43 word ≡ [] = drop_all (passed_from (is_other 43) 0 word + 1) word (omega (arith, none)) in
     ap (λ (size : Option ℕ). number_said (before 43 word) >>= (λ a. size >>= (λ b. Some (untagged a b)))) (ap number_said e ∙ nothing_said) ∙ no_end (number_said (before 43 word))
 
 large_then_none : (test : Bool) (a : ℕ) → Err NumberFault.NoNumber ≡ extent_of_parts (cond test (Ok a) (Err NumberFault.TooLarge)) (Err NumberFault.NoNumber)

@@ -5,7 +5,8 @@ use Rattle.std.proofs.Math.Nat.{le-mul_of_pos_right}
 use Rattle.std.proofs.lemmas.Bool.{cases_lt}
 use Rattle.std.proofs.lemmas.List.{drop_all, drop_more}
 use Rattle.text_words.specs.Characters.{digit_in}
-use Rattle.text_words.specs.Numbers.{◌>>=◌, capped_64, digits_from}
+use Rattle.text_words.specs.Chains.{◌>>?◌ as ◌>>=◌}
+use Rattle.text_words.specs.Numbers.{capped_64, digits_from}
 
 -- a number above the bound stays above it
 above : (base n d : ℕ) → 0 < base → 2 ^ 64 ≤ n → capped_64 (n * base + d) ≡ 2 ^ 64

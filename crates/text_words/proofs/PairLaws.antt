@@ -1,6 +1,6 @@
 -- Bytes as pairs of digits.
 use Rattle.std.proofs.Common.{◌≡◌, ℕ, ◌<◌, ◌≤◌, ◌==◌, false, List, [], ◌∷◌, ◌++◌, length, take, drop, get_or, Option, Some, None, refl, sym, ap, ◌∙◌, arith, append-nil, append_assoc}
-use Rattle.text_words.specs.Numbers.{◌>>=◌}
+use Rattle.text_words.specs.Chains.{◌>>?◌ as ◌>>=◌}
 use Rattle.text_words.specs.Pairs.{AppendsPairs, pair_said, pairs_said}
 
 -- bytes behind those that are there

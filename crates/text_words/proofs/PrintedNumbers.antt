@@ -9,7 +9,8 @@ use Rattle.std.proofs.lemmas.Bool.{agree_below_at, and_parts, and_from, and_righ
 use Rattle.std.proofs.lemmas.List.{take_at, get_or_at, length_push}
 use Rattle.std.proofs.lemmas.List.Folds.{list_all-append}
 use Rattle.text_words.specs.Characters.{below, digit_in, digit_value, unit_of, is_high}
-use Rattle.text_words.specs.Numbers.{◌>>=◌, digits_from, digits_said, front_of, last_character, has_prefix, prefixed_said, scaled_said, number_said, hexadecimal, is_scaled, size_text}
+use Rattle.text_words.specs.Chains.{◌>>?◌ as ◌>>=◌}
+use Rattle.text_words.specs.Numbers.{digits_from, digits_said, without_last, last_character, has_prefix, prefixed_said, scaled_said, number_said, hexadecimal, is_scaled, size_text}
 
 -- ---- one digit
 abbrev glyph_reads_back : ℕ → Bool
@@ -92,19 +93,19 @@ front_at : (b : ℕ) (bytes : List ℕ) → take (length bytes) (b ∷ bytes) ++
 front_at b [] = refl
 front_at b (c ∷ cs) = ap (λ xs. b ∷ xs) (front_at c cs)
 
-front_and_last : (c : ℕ) (cs : List ℕ) → front_of (c ∷ cs) ++ last_character (c ∷ cs) ∷ [] ≡ c ∷ cs
+front_and_last : (c : ℕ) (cs : List ℕ) → without_last (c ∷ cs) ++ last_character (c ∷ cs) ∷ [] ≡ c ∷ cs
 front_and_last c cs = let e : length (c ∷ cs) - 1 ≡ length cs = omega arith in ap (λ n. take n (c ∷ cs) ++ slice_index (c ∷ cs) n ∷ []) e ∙ front_at c cs
 
 last_push : (xs : List ℕ) (c : ℕ) → last_character (xs ++ c ∷ []) ≡ c
 last_push xs c = let e : length (xs ++ c ∷ []) - 1 ≡ length xs = omega (arith, length_push xs c) in ap (slice_index (xs ++ c ∷ [])) e ∙ get_or_at xs c [] 0 (length xs) refl
 
-front_push : (xs : List ℕ) (c : ℕ) → front_of (xs ++ c ∷ []) ≡ xs
+front_push : (xs : List ℕ) (c : ℕ) → without_last (xs ++ c ∷ []) ≡ xs
 front_push xs c = let e : length (xs ++ c ∷ []) - 1 ≡ length xs = omega (arith, length_push xs c) in ap (λ n. take n (xs ++ c ∷ [])) e ∙ take_at xs (c ∷ []) (length xs) refl
 
-high_word : (c : ℕ) (cs : List ℕ) → list_all is_high (front_of (c ∷ cs)) ≡ true → is_high (last_character (c ∷ cs)) ≡ true → list_all is_high (c ∷ cs) ≡ true
+high_word : (c : ℕ) (cs : List ℕ) → list_all is_high (without_last (c ∷ cs)) ≡ true → is_high (last_character (c ∷ cs)) ≡ true → list_all is_high (c ∷ cs) ≡ true
 high_word c cs front last =
-    ap (list_all is_high) (sym (front_and_last c cs)) ∙ list_all-append is_high (front_of (c ∷ cs)) (last_character (c ∷ cs) ∷ [])
-    ∙ and_from (list_all is_high (front_of (c ∷ cs))) (is_high (last_character (c ∷ cs)) && true) front (and_from (is_high (last_character (c ∷ cs))) true last refl)
+    ap (list_all is_high) (sym (front_and_last c cs)) ∙ list_all-append is_high (without_last (c ∷ cs)) (last_character (c ∷ cs) ∷ [])
+    ∙ and_from (list_all is_high (without_last (c ∷ cs))) (is_high (last_character (c ∷ cs)) && true) front (and_from (is_high (last_character (c ∷ cs))) true last refl)
 
 two_high : (c d : ℕ) (cs : List ℕ) → (c == 48) ≡ true → (d == 120) ≡ true → list_all is_high cs ≡ true → list_all is_high (c ∷ d ∷ cs) ≡ true
 two_high c d cs p q rest =
@@ -135,27 +136,27 @@ unit_high c unit is = elim (cases_lt 47 c) [
 ]
 
 -- characters before a last one
-ends_high : (word : List ℕ) → (list_all is_high (front_of word) ≡ true) × (0 < length (front_of word)) → is_high (last_character word) ≡ true → (list_all is_high word ≡ true) × (0 < length word)
+ends_high : (word : List ℕ) → (list_all is_high (without_last word) ≡ true) × (0 < length (without_last word)) → is_high (last_character word) ≡ true → (list_all is_high word ≡ true) × (0 < length word)
 ends_high [] front last = absurd (omega (arith, front.1))
 ends_high (c ∷ cs) front last = (high_word c cs front.0 last, omega arith)
 
 scaled_high : (word : List ℕ) (v : ℕ) (unit : Option ℕ) → unit_of (last_character word) ≡ unit → scaled_said word unit ≡ Some v → (list_all is_high word ≡ true) × (0 < length word)
 scaled_high word v None e is = prefixed_high v word is
-scaled_high word v (Some unit) e is = more (prefixed_said (front_of word)) refl is
+scaled_high word v (Some unit) e is = more (prefixed_said (without_last word)) refl is
   where
-    more : (n : Option ℕ) → prefixed_said (front_of word) ≡ n → option_map (λ m. m * unit) n ≡ Some v → (list_all is_high word ≡ true) × (0 < length word)
+    more : (n : Option ℕ) → prefixed_said (without_last word) ≡ n → option_map (λ m. m * unit) n ≡ Some v → (list_all is_high word ≡ true) × (0 < length word)
     more None f g = cc
-    more (Some n) f g = ends_high word (prefixed_high n (front_of word) f) (unit_high (last_character word) unit e)
+    more (Some n) f g = ends_high word (prefixed_high n (without_last word) f) (unit_high (last_character word) unit e)
 
 -- a word that says a number has high characters alone
 pub number_high : (v : ℕ) (word : List ℕ) → number_said word ≡ Some v → (list_all is_high word ≡ true) × (0 < length word)
 unfolding number_said
 number_high v word is = elim (cases_Bool (last_character word == 104)) [
   | inl e ↦
-      let p = said_high 16 v (front_of word) (sym (cond-true (last_character word == 104) (digits_said 16 (front_of word)) (scaled_said word (unit_of (last_character word))) e) ∙ is) in
+      let p = said_high 16 v (without_last word) (sym (cond-true (last_character word == 104) (digits_said 16 (without_last word)) (scaled_said word (unit_of (last_character word))) e) ∙ is) in
       let h = eqb-true (last_character word) 104 e in
       ends_high word p (lt-ltb 47 (last_character word) (omega (arith, h)))
-  | inr e ↦ scaled_high word v (unit_of (last_character word)) refl (sym (cond-false (last_character word == 104) (digits_said 16 (front_of word)) (scaled_said word (unit_of (last_character word))) e) ∙ is)
+  | inr e ↦ scaled_high word v (unit_of (last_character word)) refl (sym (cond-false (last_character word == 104) (digits_said 16 (without_last word)) (scaled_said word (unit_of (last_character word))) e) ∙ is)
 ]
 
 -- ---- printed numbers
@@ -196,7 +197,7 @@ ends_plain base n word front some high is =
     let last : last_character word ≡ digit_glyph false (n % base) = ap last_character is ∙ last_push front (digit_glyph false (n % base)) in
     let below_base : n % base < base = mod-lt n (omega (arith, some)) in
     let low : n % base < 16 = omega (arith, below_base, high) in
-    cond-false (last_character word == 104) (digits_said 16 (front_of word)) (scaled_said word (unit_of (last_character word))) (ap (λ c. c == 104) last ∙ glyph_plain (n % base) low)
+    cond-false (last_character word == 104) (digits_said 16 (without_last word)) (scaled_said word (unit_of (last_character word))) (ap (λ c. c == 104) last ∙ glyph_plain (n % base) low)
     ∙ ap (scaled_said word) (ap unit_of last ∙ glyph_no_unit (n % base) low)
 
 no_prefix : (v : ℕ) (word : List ℕ) → digits_said 10 word ≡ Some v → has_prefix word ≡ false
@@ -236,7 +237,7 @@ unfolding number_said
 suffixed n suffix unit fits plain is =
     let word : List ℕ = decimal n ++ suffix ∷ [] in
     let last : last_character word ≡ suffix = last_push (decimal n) suffix in
-    cond-false (last_character word == 104) (digits_said 16 (front_of word)) (scaled_said word (unit_of (last_character word))) (ap (λ c. c == 104) last ∙ plain)
+    cond-false (last_character word == 104) (digits_said 16 (without_last word)) (scaled_said word (unit_of (last_character word))) (ap (λ c. c == 104) last ∙ plain)
     ∙ ap (scaled_said word) (ap unit_of last ∙ is)
     ∙ ap (λ w. option_map (λ m. m * unit) (prefixed_said w)) (front_push (decimal n) suffix)
     ∙ ap (option_map (λ m. m * unit)) (decimal_said n (decimal n) (decimal_digits n fits))

@@ -6,7 +6,7 @@ use Rattle.hex.specs.Hex.{IsBytes, encode_lower, encode_with, lower_digits}
 use Rattle.dcd_base.specs.declared.capacity.Tag.{Tag}
 use Rattle.field_bytes.specs.Layouts.{is_byte}
 use Rattle.text_words.specs.Characters.{IsNumberWord, IsTextWord, below, digit_in, digit_value, is_high}
-use Rattle.text_words.specs.Numbers.{◌>>=◌}
+use Rattle.text_words.specs.Chains.{◌>>?◌ as ◌>>=◌}
 use Rattle.text_words.specs.Pairs.{pair_said, pair_text, pairs_said, tag_of_bytes, tag_said, tag_text}
 use Rattle.text_words.proofs.PrintedNumbers.{high_by, some_is}
 use Rattle.text_words.proofs.PrintedWords.{number_is_word}

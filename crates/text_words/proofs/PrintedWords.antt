@@ -10,9 +10,10 @@ use Rattle.std.proofs.lemmas.Nat.{mod-pow-add}
 use Rattle.std.proofs.Math.Nat.{mod-lt, mod-le, mod-eq_of_lt, div-eq_of_lt, one-le-pow, pow-le-pow_right}
 use lib.Count.{ones, ones_cat, ones_in}
 use Rattle.dcd_base.specs.declared.capacity.Extent.{Extent}
-use Rattle.text_words.specs.Characters.{IsNumberWord, IsTextWord, front_from, is_high, is_other, is_printed}
+use Rattle.text_words.specs.Characters.{IsNumberWord, IsTextWord, passed_from, is_high, is_other, is_printed}
 use Rattle.text_words.specs.Extents.{after, before, extent_said, extent_text, untagged}
-use Rattle.text_words.specs.Numbers.{◌>>=◌, number_said, size_text}
+use Rattle.text_words.specs.Chains.{◌>>?◌ as ◌>>=◌}
+use Rattle.text_words.specs.Numbers.{number_said, size_text}
 use Rattle.text_words.specs.Sizes.{comma_pieces, comma_then, commas_text, is_size, put_in_piece, size_said, size_where, sizes_below, sizes_from, sizes_said, sizes_text, sound_size, with_64_bits, with_size}
 use Rattle.text_words.proofs.PrintedNumbers.{number_high, size_reads}
 use Rattle.text_words.proofs.WordLaws.{front_more, front_none}
@@ -21,7 +22,7 @@ use Rattle.text_words.proofs.WordLaws.{front_more, front_none}
 high_other : (sign c : ℕ) → sign ≤ 47 → is_high c ≡ true → is_other sign c ≡ true
 high_other sign c low high = ap not (ne_eqb c sign (λ e. let h = ltb-true 47 c high in omega (arith, low, e, h)))
 
-pub sign_at : (sign : ℕ) (xs ys : List ℕ) → sign ≤ 47 → list_all is_high xs ≡ true → front_from (is_other sign) 0 (xs ++ sign ∷ ys) ≡ length xs
+pub sign_at : (sign : ℕ) (xs ys : List ℕ) → sign ≤ 47 → list_all is_high xs ≡ true → passed_from (is_other sign) 0 (xs ++ sign ∷ ys) ≡ length xs
 sign_at sign [] ys low high = front_none (is_other sign) sign ys (ap not (eq-eqb sign sign refl))
 sign_at sign (c ∷ cs) ys low high =
     let p = and_parts (is_high c) (list_all is_high cs) high in

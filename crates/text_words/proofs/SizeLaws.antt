@@ -3,8 +3,9 @@ use Rattle.std.proofs.Common.{◌≡◌, ℕ, suc, ◌+◌, ◌/◌, ◌%◌, �
 use Rattle.std.specs.List.{flat_map}
 use Rattle.std.proofs.lemmas.Bool.{cases_Bool}
 use Rattle.std.proofs.lemmas.Grind.{flat_map-append}
-use Rattle.text_words.specs.Characters.{front_from, is_other}
-use Rattle.text_words.specs.Numbers.{◌>>=◌, size_text}
+use Rattle.text_words.specs.Characters.{passed_from, is_other}
+use Rattle.text_words.specs.Chains.{◌>>?◌ as ◌>>=◌}
+use Rattle.text_words.specs.Numbers.{size_text}
 use Rattle.text_words.specs.Sizes.{comma_pieces, comma_then, commas_text, put_in_piece, size_behind, size_said, size_where, sizes_below, sizes_from, with_size}
 use Rattle.text_words.proofs.WordLaws.{front_more, front_none}
 
@@ -40,15 +41,15 @@ piece_none : CutPiece [] 0
 unfolding comma_pieces
 piece_none = record { whole = λ all. refl; parted = λ less. absurd (omega (arith, less)) }
 
-piece_is : (word : List ℕ) → CutPiece word (front_from (is_other 44) 0 word)
+piece_is : (word : List ℕ) → CutPiece word (passed_from (is_other 44) 0 word)
 piece_is [] = piece_none
 piece_is (c ∷ cs) = elim (cases_Bool (c == 44)) [
   | inl e ↦ subst (CutPiece (c ∷ cs)) (sym (front_none (is_other 44) c cs (ap not e))) (piece_ends c cs e)
-  | inr e ↦ subst (CutPiece (c ∷ cs)) (sym (front_more (is_other 44) c cs (ap not e))) (piece_more c cs (front_from (is_other 44) 0 cs) e (piece_is cs))
+  | inr e ↦ subst (CutPiece (c ∷ cs)) (sym (front_more (is_other 44) c cs (ap not e))) (piece_more c cs (passed_from (is_other 44) 0 cs) e (piece_is cs))
 ]
 
 -- a piece, and the pieces behind its comma
-pub piece_cut : (word : List ℕ) (n : ℕ) → n ≡ front_from (is_other 44) 0 word → CutPiece word n
+pub piece_cut : (word : List ℕ) (n : ℕ) → n ≡ passed_from (is_other 44) 0 word → CutPiece word n
 piece_cut word n is = subst (CutPiece word) (sym is) (piece_is word)
 
 -- ---- the steps of the loop over pieces

@@ -1,11 +1,11 @@
 -- How a line is parted into words and a text into lines.
 use Rattle.std.proofs.Common.{◌≡◌, ℕ, suc, ◌+◌, ◌-◌, ◌<◌, Bool, true, false, not, ◌&&◌, ◌||◌, ◌==◌, List, [], ◌∷◌, length, take, drop, slice_index, refl, sym, ap, ◌∙◌, subst, arith, inl, inr}
 use Rattle.std.proofs.lemmas.Bool.{cases_Bool, eqb-true, eq-eqb, ne_eqb}
-use Rattle.text_words.specs.Characters.{is_gap, is_hash, is_plain, is_other, front_from}
+use Rattle.text_words.specs.Characters.{is_gap, is_hash, is_plain, is_other, passed_from}
 use Rattle.text_words.specs.Words.{ahead, goes_on, put_front, words_in, without_return, put_in_line, lines_in}
 
 -- counting from one more
-pub front_shift : (test : ℕ → Bool) (k : ℕ) (cs : List ℕ) → front_from test (k + 1) cs ≡ front_from test k cs + 1
+pub front_shift : (test : ℕ → Bool) (k : ℕ) (cs : List ℕ) → passed_from test (k + 1) cs ≡ passed_from test k cs + 1
 front_shift test k [] = refl
 front_shift test k (c ∷ cs) = elim (cases_Bool (test c)) [
   | inl e ↦ rw e (front_shift test (k + 1) cs)
@@ -13,10 +13,10 @@ front_shift test k (c ∷ cs) = elim (cases_Bool (test c)) [
 ]
 
 -- one character more
-pub front_more : (test : ℕ → Bool) (c : ℕ) (cs : List ℕ) → test c ≡ true → front_from test 0 (c ∷ cs) ≡ suc (front_from test 0 cs)
-front_more test c cs passes = let e : front_from test (0 + 1) cs ≡ suc (front_from test 0 cs) = front_shift test 0 cs ∙ omega arith in rw passes e
+pub front_more : (test : ℕ → Bool) (c : ℕ) (cs : List ℕ) → test c ≡ true → passed_from test 0 (c ∷ cs) ≡ suc (passed_from test 0 cs)
+front_more test c cs passes = let e : passed_from test (0 + 1) cs ≡ suc (passed_from test 0 cs) = front_shift test 0 cs ∙ omega arith in rw passes e
 
-pub front_none : (test : ℕ → Bool) (c : ℕ) (cs : List ℕ) → test c ≡ false → front_from test 0 (c ∷ cs) ≡ 0
+pub front_none : (test : ℕ → Bool) (c : ℕ) (cs : List ℕ) → test c ≡ false → passed_from test 0 (c ∷ cs) ≡ 0
 front_none test c cs fails = rw fails refl
 
 gap_by : (a b c : Bool) (n : ℕ) → (n == 32) ≡ a → (n == 9) ≡ b → (n == 35) ≡ c → (a || b) ≡ true → c ≡ false
@@ -38,7 +38,7 @@ plain_parts true hash is = cc
 -- ---- words
 
 -- gaps in front count for nothing
-pub skip_gaps : (bytes : List ℕ) → words_in (drop (front_from is_gap 0 bytes) bytes) ≡ words_in bytes
+pub skip_gaps : (bytes : List ℕ) → words_in (drop (passed_from is_gap 0 bytes) bytes) ≡ words_in bytes
 unfolding words_in
 skip_gaps [] = refl
 skip_gaps (c ∷ cs) = elim (cases_Bool (is_gap c)) [
@@ -51,7 +51,7 @@ pub plain_step : (b : ℕ) (bytes : List ℕ) → is_plain b ≡ true → words_
 unfolding words_in
 plain_step b bytes plain = let p = plain_parts (is_gap b) (is_hash b) plain in rw (p.1, p.0) refl
 
-pub one_word : (b : ℕ) (bytes : List ℕ) → is_plain b ≡ true → words_in (b ∷ bytes) ≡ (b ∷ take (front_from is_plain 0 bytes) bytes) ∷ words_in (drop (front_from is_plain 0 bytes) bytes)
+pub one_word : (b : ℕ) (bytes : List ℕ) → is_plain b ≡ true → words_in (b ∷ bytes) ≡ (b ∷ take (passed_from is_plain 0 bytes) bytes) ∷ words_in (drop (passed_from is_plain 0 bytes) bytes)
 unfolding words_in
 one_word b [] plain = plain_step b [] plain
 one_word b (c ∷ cs) plain = elim (cases_Bool (is_plain c)) [
@@ -70,7 +70,7 @@ pub record Front (bytes : List ℕ) (n : ℕ) : Type 0 where
   pub last : take n bytes ≡ [] → words_in (drop n bytes) ≡ []
 
 -- bytes that begin with no gap begin with a word or a comment, or they end
-cut_front : (bytes : List ℕ) → front_from is_gap 0 bytes ≡ 0 → Front bytes (front_from is_plain 0 bytes)
+cut_front : (bytes : List ℕ) → passed_from is_gap 0 bytes ≡ 0 → Front bytes (passed_from is_plain 0 bytes)
 unfolding words_in
 cut_front [] none = record { words = refl; last = λ e. refl }
 cut_front (c ∷ cs) none = elim (cases_Bool (is_gap c)) [
@@ -86,15 +86,15 @@ cut_front (c ∷ cs) none = elim (cases_Bool (is_gap c)) [
 ]
 
 -- behind the gaps no gap stands
-no_gap : (bytes : List ℕ) → front_from is_gap 0 (drop (front_from is_gap 0 bytes) bytes) ≡ 0
+no_gap : (bytes : List ℕ) → passed_from is_gap 0 (drop (passed_from is_gap 0 bytes) bytes) ≡ 0
 no_gap [] = refl
 no_gap (c ∷ cs) = elim (cases_Bool (is_gap c)) [
-  | inl e ↦ ap (λ n. front_from is_gap 0 (drop n (c ∷ cs))) (front_more is_gap c cs e) ∙ no_gap cs
-  | inr e ↦ ap (λ n. front_from is_gap 0 (drop n (c ∷ cs))) (front_none is_gap c cs e) ∙ front_none is_gap c cs e
+  | inl e ↦ ap (λ n. passed_from is_gap 0 (drop n (c ∷ cs))) (front_more is_gap c cs e) ∙ no_gap cs
+  | inr e ↦ ap (λ n. passed_from is_gap 0 (drop n (c ∷ cs))) (front_none is_gap c cs e) ∙ front_none is_gap c cs e
 ]
 
-pub cut_whole : (bytes : List ℕ) → Front (drop (front_from is_gap 0 bytes) bytes) (front_from is_plain 0 (drop (front_from is_gap 0 bytes) bytes))
-cut_whole bytes = cut_front (drop (front_from is_gap 0 bytes) bytes) (no_gap bytes)
+pub cut_whole : (bytes : List ℕ) → Front (drop (passed_from is_gap 0 bytes) bytes) (passed_from is_plain 0 (drop (passed_from is_gap 0 bytes) bytes))
+cut_whole bytes = cut_front (drop (passed_from is_gap 0 bytes) bytes) (no_gap bytes)
 
 -- ---- lines
 
@@ -102,7 +102,7 @@ pub record CutLine (text : List ℕ) (n : ℕ) : Type 0 where
   pub whole : n ≡ length text → lines_in text ≡ take n text ∷ []
   pub parted : n < length text → lines_in text ≡ take n text ∷ lines_in (drop (suc n) text)
 
-line_feed : (c : ℕ) (cs : List ℕ) → (c == 10) ≡ true → CutLine (c ∷ cs) (front_from (is_other 10) 0 (c ∷ cs))
+line_feed : (c : ℕ) (cs : List ℕ) → (c == 10) ≡ true → CutLine (c ∷ cs) (passed_from (is_other 10) 0 (c ∷ cs))
 unfolding lines_in
 line_feed c cs e = subst (CutLine (c ∷ cs)) (sym (front_none (is_other 10) c cs (ap not e))) (record { whole = λ all. absurd (omega (arith, all)); parted = λ less. rw e refl })
 
@@ -118,12 +118,12 @@ line_more c (d ∷ ds) n e none rest =
     }
 
 -- the first line goes up to the first line feed
-pub first_line_is : (text : List ℕ) → 0 < length text → CutLine text (front_from (is_other 10) 0 text)
+pub first_line_is : (text : List ℕ) → 0 < length text → CutLine text (passed_from (is_other 10) 0 text)
 first_line_is [] some = absurd (omega (arith, some))
 first_line_is (c ∷ cs) some = elim (cases_Bool (c == 10)) [
   | inl e ↦ line_feed c cs e
   | inr e ↦ subst (CutLine (c ∷ cs)) (sym (front_more (is_other 10) c cs (ap not e)))
-      (line_more c cs (front_from (is_other 10) 0 cs) e (λ z. ap (front_from (is_other 10) 0) z) (first_line_is cs))
+      (line_more c cs (passed_from (is_other 10) 0 cs) e (λ z. ap (passed_from (is_other 10) 0) z) (first_line_is cs))
 ]
 
 -- a line without the carriage return at its end
@@ -156,5 +156,5 @@ lines_none [] e = refl
 lines_none (c ∷ cs) e = absurd (omega (arith, e))
 
 -- a whole line, and the lines behind its line feed
-pub line_cut : (text : List ℕ) (n : ℕ) → n ≡ front_from (is_other 10) 0 text → 0 < length text → CutLine text n
+pub line_cut : (text : List ℕ) (n : ℕ) → n ≡ passed_from (is_other 10) 0 text → 0 < length text → CutLine text n
 line_cut text n is some = subst (CutLine text) (sym is) (first_line_is text some)

@@ -40,9 +40,9 @@ unit_of c =
     else None
 
 -- how many characters pass the test before the first that does not, counted from k
-abbrev pub front_from : (ℕ → Bool) → ℕ → List ℕ → ℕ
-front_from test k [] = k
-front_from test k (c ∷ cs) = if test c then front_from test (k + 1) cs else k
+abbrev pub passed_from : (ℕ → Bool) → ℕ → List ℕ → ℕ
+passed_from test k [] = k
+passed_from test k (c ∷ cs) = if test c then passed_from test (k + 1) cs else k
 
 -- whether it is another character than this
 abbrev pub is_other : ℕ → ℕ → Bool

@@ -2,16 +2,17 @@
 use Rattle.std.specs.Prelude.{ℕ, ◌+◌, ◌-◌, ◌^◌, Bool, ◌&&◌, nat_le, List, ◌++◌, take, drop, Option, Some, None, Result, Ok, Err, if◌then◌else◌, codes}
 use Rattle.dcd_base.specs.declared.capacity.Extent.{Extent}
 use Rattle.dcd_base.specs.Words.{zero_tag}
-use Rattle.text_words.specs.Characters.{front_from, is_other}
-use Rattle.text_words.specs.Numbers.{◌>>=◌, number_said, size_text}
+use Rattle.text_words.specs.Characters.{passed_from, is_other}
+use Rattle.text_words.specs.Chains.{◌>>?◌ as ◌>>=◌}
+use Rattle.text_words.specs.Numbers.{number_said, size_text}
 use Rattle.text_words.specs.declared.faults.NumberFault.{NumberFault}
 
 -- what stands before the first such character, and what stands behind it
 abbrev pub before : ℕ → List ℕ → List ℕ
-before sign word = take (front_from (is_other sign) 0 word) word
+before sign word = take (passed_from (is_other sign) 0 word) word
 
 abbrev pub after : ℕ → List ℕ → List ℕ
-after sign word = drop (front_from (is_other sign) 0 word + 1) word
+after sign word = drop (passed_from (is_other sign) 0 word + 1) word
 
 -- an extent without a tag
 abbrev pub untagged : ℕ → ℕ → Extent

@@ -1,3 +1,4 @@
+pub mod Chains
 pub mod Characters
 pub mod Extents
 pub mod Numbers

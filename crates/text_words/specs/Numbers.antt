@@ -4,12 +4,7 @@ use Rattle.std.specs.Option.{option_map}
 use Rattle.std.specs.Fmt.{digits}
 use Rattle.text_words.specs.Characters.{digit_in, unit_of}
 use Rattle.text_words.specs.declared.faults.NumberFault.{NumberFault}
-
--- what comes next, where there was something before
-infixl 10 ◌>>=◌
-abbrev pub ◌>>=◌ : {A B : Type 0} → Option A → (A → Option B) → Option B
-None >>= next = None
-(Some x) >>= next = next x
+use Rattle.text_words.specs.Chains.{◌>>?◌ as ◌>>=◌}
 
 -- the value of digits behind those that make this number; None where one is no digit of the base
 unfoldable pub digits_from : ℕ → ℕ → List ℕ → Option ℕ
@@ -23,8 +18,8 @@ abbrev pub digits_said : ℕ → List ℕ → Option ℕ
 digits_said base [] = None
 digits_said base (c ∷ cs) = digits_from base 0 (c ∷ cs)
 
-abbrev pub front_of : List ℕ → List ℕ
-front_of word = take (length word - 1) word
+abbrev pub without_last : List ℕ → List ℕ
+without_last word = take (length word - 1) word
 
 -- the last character of a word, or 0
 abbrev pub last_character : List ℕ → ℕ
@@ -41,11 +36,11 @@ prefixed_said word = if has_prefix word then digits_said 16 (drop 2 word) else d
 -- digits, and a suffix that multiplies by this unit, where there is one
 abbrev pub scaled_said : List ℕ → Option ℕ → Option ℕ
 scaled_said word None = prefixed_said word
-scaled_said word (Some unit) = option_map (λ n. n * unit) (prefixed_said (front_of word))
+scaled_said word (Some unit) = option_map (λ n. n * unit) (prefixed_said (without_last word))
 
 -- The number that a word says: hexadecimal digits and h, or decimal digits or 0x and hexadecimal ones, which may have a suffix.
 unfoldable pub number_said : List ℕ → Option ℕ
-number_said word = if last_character word == 104 then digits_said 16 (front_of word) else scaled_said word (unit_of (last_character word))
+number_said word = if last_character word == 104 then digits_said 16 (without_last word) else scaled_said word (unit_of (last_character word))
 
 -- what 65 bits have room for: 2^64 stands for every number that 64 bits have no room for
 abbrev pub capped_64 : ℕ → ℕ

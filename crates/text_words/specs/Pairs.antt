@@ -3,7 +3,7 @@ use Rattle.std.specs.Prelude.{◌≡◌, ℕ, ◌+◌, ◌*◌, ◌==◌, Bool, 
 use Rattle.hex.specs.Hex.{encode_lower}
 use Rattle.dcd_base.specs.declared.capacity.Tag.{Tag}
 use Rattle.text_words.specs.Characters.{digit_in}
-use Rattle.text_words.specs.Numbers.{◌>>=◌}
+use Rattle.text_words.specs.Chains.{◌>>?◌ as ◌>>=◌}
 
 -- the byte that two digits say
 abbrev pub pair_said : ℕ → ℕ → Option ℕ

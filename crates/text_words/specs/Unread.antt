@@ -12,9 +12,9 @@ abbrev pub none_left : List (List ℕ) → Bool
 none_left [] = true
 none_left (word ∷ words) = false
 
-abbrev pub first_word : List (List ℕ) → List ℕ
-first_word [] = []
-first_word (word ∷ words) = word
+abbrev pub leading_word : List (List ℕ) → List ℕ
+leading_word [] = []
+leading_word (word ∷ words) = word
 
 -- whether no word comes any more
 abbrev pub is_done : UnreadWords → Bool
@@ -22,15 +22,15 @@ is_done u = none_left u.words
 
 -- the next word, or nothing
 abbrev pub first_unread : UnreadWords → List ℕ
-first_unread u = first_word u.words
+first_unread u = leading_word u.words
 
 abbrev pub behind_first : ℕ → ℕ → List (List ℕ) → UnreadWords
 behind_first line word [] = record { line = line; word = word; words = [] }
 behind_first line word (first ∷ words) = record { line = line; word = word + 1; words = words }
 
 -- what comes behind the next word
-abbrev pub behind : UnreadWords → UnreadWords
-behind u = behind_first u.line u.word u.words
+abbrev pub behind_next : UnreadWords → UnreadWords
+behind_next u = behind_first u.line u.word u.words
 
 -- a line, where it has a word
 abbrev pub with_line : UnreadWords → Bool → List UnreadWords → List UnreadWords

@@ -1,13 +1,13 @@
 //! How far characters of one kind go.
 
 ghost use Rattle.std.specs.Prelude.{◌≡◌, ◌≤◌, length};
-ghost use Rattle.text_words.specs.Characters.{front_from, is_gap as gap, is_other, is_plain as plain};
+ghost use Rattle.text_words.specs.Characters.{passed_from, is_gap as gap, is_other, is_plain as plain};
 
 use crate::characters::{is_gap, is_plain};
 
 /// How many spaces and tabs the bytes begin with.
 pub fn gaps(bytes: &[u8]) -> usize
-    ensures value { result ≡ front_from gap 0 bytes.now }
+    ensures value { result ≡ passed_from gap 0 bytes.now }
     ensures within { result ≤ length bytes.now }
 {
     for (i, b) in bytes.iter().enumerate() {
@@ -20,7 +20,7 @@ pub fn gaps(bytes: &[u8]) -> usize
 
 /// How many characters of a word the bytes begin with.
 pub fn plain(bytes: &[u8]) -> usize
-    ensures value { result ≡ front_from plain 0 bytes.now }
+    ensures value { result ≡ passed_from plain 0 bytes.now }
     ensures within { result ≤ length bytes.now }
 {
     for (i, b) in bytes.iter().enumerate() {
@@ -33,7 +33,7 @@ pub fn plain(bytes: &[u8]) -> usize
 
 /// How many characters stand before the first that is this sign; all, where none is.
 pub fn place_of(sign: u8, bytes: &[u8]) -> usize
-    ensures value { result ≡ front_from (is_other sign) 0 bytes.now }
+    ensures value { result ≡ passed_from (is_other sign) 0 bytes.now }
     ensures within { result ≤ length bytes.now }
 {
     for (i, b) in bytes.iter().enumerate() {

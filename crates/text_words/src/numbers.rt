@@ -2,7 +2,7 @@
 
 ghost use Rattle.std.specs.Option.{option_map};
 ghost use Rattle.std.specs.Prelude.{◌≡◌, ◌+◌, ◌*◌, ◌<◌, ◌≤◌, ◌^◌, IfSome, min, length};
-ghost use Rattle.text_words.specs.Numbers.{capped_64, digits_from, digits_said as said_by_digits, front_of, has_prefix as begins_hexadecimal, limited, number_said, prefixed_said, under};
+ghost use Rattle.text_words.specs.Numbers.{capped_64, digits_from, digits_said as said_by_digits, without_last, has_prefix as begins_hexadecimal, limited, number_said, prefixed_said, under};
 
 use crate::characters::{digit_in, unit_of};
 use crate::faults::NumberFault;
@@ -70,7 +70,7 @@ fn has_prefix(word: &[u8]) -> bool
 /// The word without its last character.
 fn front(word: &[u8]) -> &[u8]
     requires { 0 < length word.now }
-    ensures { result.now ≡ front_of word.now }
+    ensures { result.now ≡ without_last word.now }
 {
     let (front, _) = word.split_at(word.len() - 1);
     front
@@ -94,7 +94,7 @@ fn with_unit(word: &[u8], unit: u64) -> Option<u128>
     requires some { 0 < length word.now }
     requires unit { unit ≤ 1125899906842624 }
     requires positive { 0 < unit }
-    ensures value { result ≡ option_map capped_64 (option_map (λ n. n * unit) (prefixed_said (front_of word.now))) }
+    ensures value { result ≡ option_map capped_64 (option_map (λ n. n * unit) (prefixed_said (without_last word.now))) }
     ensures small { IfSome result (λ value. value ≤ 2 ^ 64) }
 {
     match prefixed(front(word)) {

@@ -1,7 +1,7 @@
 //! The words of a line, one after another.
 
 ghost use Rattle.std.specs.Prelude.{◌≡◌, ◌+◌, ◌<◌, ◌≤◌, ◌^◌, [], length};
-ghost use Rattle.text_words.specs.Unread.{behind, is_done, first_unread};
+ghost use Rattle.text_words.specs.Unread.{behind_next, is_done, first_unread};
 ghost use Rattle.text_words.specs.Words.{ahead, words_in};
 
 use crate::fronts::{gaps, plain};
@@ -86,7 +86,7 @@ impl<'a> Words<'a> {
 
     /// Goes on to the word behind the next one.
     pub fn advance(&mut self)
-        ensures { self.new ≡ behind self.old }
+        ensures { self.new ≡ behind_next self.old }
     {
         if !self.next.is_empty() {
             let (next, rest) = cut_word(self.rest);
