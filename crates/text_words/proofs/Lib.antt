@@ -1,5 +1,8 @@
 pub mod AheadLaws
+pub mod ByteTables
 pub mod ExtentLaws
+pub mod FrontLaws
+pub mod LimitLaws
 pub mod NumberLaws
 pub mod PairLaws
 pub mod PrintedNumbers

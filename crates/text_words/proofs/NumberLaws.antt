@@ -1,7 +1,7 @@
 -- The value of digits that is kept below a bound while they are read.
 use Rattle.std.proofs.Common.{◌≡◌, ℕ, ◌+◌, ◌*◌, ◌^◌, ◌<◌, ◌≤◌, List, [], ◌∷◌, length, drop, get_or, Option, Some, None, refl, sym, ap, ◌∙◌, inl, inr, arith}
 use Rattle.std.specs.Option.{option_map}
-use Rattle.std.proofs.Math.Nat.{le-mul_of_pos_right}
+use Rattle.std.proofs.Math.Nat.{le-mul_of_pos_right, mul-le-mul_left}
 use Rattle.std.proofs.lemmas.Bool.{cases_lt}
 use Rattle.std.proofs.lemmas.List.{drop_all, drop_more}
 use Rattle.text_words.specs.Characters.{digit_in}
@@ -55,3 +55,22 @@ unfolding digits_from
 ends base n i digits whole small over is =
     let e : n ≡ capped_64 n = omega (arith, small) in
     ap Some e ∙ sym (ap (λ cs. option_map capped_64 (digits_from base n cs)) (drop_all i digits over)) ∙ is
+
+-- ---- the steps of the loop over a few digits
+pub short_ends_badly : (base n i : ℕ) (digits : List ℕ) (whole : Option ℕ) → i < length digits → digit_in base (get_or digits i 0) ≡ None → digits_from base n (drop i digits) ≡ whole → None ≡ whole
+short_ends_badly base n i digits whole under bad is =
+    sym (ap (digits_from base n) (drop_more digits i 0 under) ∙ no_digit base n (get_or digits i 0) (drop (i + 1) digits) bad) ∙ is
+
+pub short_goes_on : (base n next i d : ℕ) (digits : List ℕ) (whole : Option ℕ) → i < length digits → digit_in base (get_or digits i 0) ≡ Some d → next ≡ n * base + d → digits_from base n (drop i digits) ≡ whole → digits_from base next (drop (i + 1) digits) ≡ whole
+short_goes_on base n next i d digits whole under good grown is =
+    ap (λ m. digits_from base m (drop (i + 1) digits)) grown
+    ∙ sym (ap (digits_from base n) (drop_more digits i 0 under) ∙ one_digit base n (get_or digits i 0) d (drop (i + 1) digits) good)
+    ∙ is
+
+pub short_ends : (base n i : ℕ) (digits : List ℕ) (whole : Option ℕ) → length digits ≤ i → digits_from base n (drop i digits) ≡ whole → Some n ≡ whole
+unfolding digits_from
+short_ends base n i digits whole over is = sym (ap (digits_from base n) (drop_all i digits over)) ∙ is
+
+-- a digit more is at most a hexadecimal digit more
+pub short_grows : (base n d p : ℕ) → base ≤ 16 → d < base → n < p → n * base + d < p * 16
+short_grows base n d p high digit less = let most : n * base ≤ n * 16 = mul-le-mul_left n high in omega (arith, most, high, digit, less)

@@ -21,6 +21,14 @@ digit_value c =
     else if nat_le 97 c && nat_le c 102 then Some (c - 87)
     else None
 
+abbrev pub or_255 : Option ℕ → ℕ
+or_255 None = 255
+or_255 (Some digit) = digit
+
+-- the value of a digit, and 255 for what is none
+abbrev pub digit_or_255 : ℕ → ℕ
+digit_or_255 c = or_255 (digit_value c)
+
 abbrev pub below : ℕ → Option ℕ → Option ℕ
 below base None = None
 below base (Some digit) = if nat_lt digit base then Some digit else None

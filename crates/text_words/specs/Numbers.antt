@@ -51,10 +51,29 @@ abbrev pub limited : ℕ → Option ℕ → Result ℕ NumberFault
 limited most None = Err NumberFault.NoNumber
 limited most (Some n) = if nat_le n most then Ok n else Err NumberFault.TooLarge
 
+-- the most that 64 bits have room for
+abbrev pub limited_64 : Option ℕ → Result ℕ NumberFault
+limited_64 = limited (2 ^ 64 - 1)
+
+-- what was read times the unit of a suffix, in 64 bits
+abbrev pub in_unit : ℕ → Result ℕ NumberFault → Result ℕ NumberFault
+in_unit unit (Ok n) = limited_64 (Some (n * unit))
+in_unit unit (Err fault) = Err fault
+
+-- what was read, where it is at most that
+abbrev pub at_most : ℕ → Result ℕ NumberFault → Result ℕ NumberFault
+at_most most (Ok n) = limited most (Some n)
+at_most most (Err fault) = Err fault
+
 -- the number, where it is below that
 abbrev pub under : ℕ → Option ℕ → Result ℕ NumberFault
 under limit None = Err NumberFault.NoNumber
 under limit (Some n) = if nat_lt n limit then Ok n else Err NumberFault.TooLarge
+
+-- what was read, where it is below that
+abbrev pub at_less : ℕ → Result ℕ NumberFault → Result ℕ NumberFault
+at_less limit (Ok n) = under limit (Some n)
+at_less limit (Err fault) = Err fault
 
 -- ---- printed numbers
 

@@ -4,8 +4,10 @@ ghost use Rattle.std.specs.Prelude.{◌≡◌, ◌≤◌, length};
 ghost use Rattle.text_words.specs.Characters.{passed_from, is_gap as gap, is_other, is_plain as plain};
 
 use crate::characters::{is_gap, is_plain};
+use memchr::memchr;
 
 /// How many spaces and tabs the bytes begin with.
+#[inline(always)]
 pub fn gaps(bytes: &[u8]) -> usize
     ensures value { result ≡ passed_from gap 0 bytes.now }
     ensures within { result ≤ length bytes.now }
@@ -19,6 +21,7 @@ pub fn gaps(bytes: &[u8]) -> usize
 }
 
 /// How many characters of a word the bytes begin with.
+#[inline(always)]
 pub fn plain(bytes: &[u8]) -> usize
     ensures value { result ≡ passed_from plain 0 bytes.now }
     ensures within { result ≤ length bytes.now }
@@ -32,6 +35,7 @@ pub fn plain(bytes: &[u8]) -> usize
 }
 
 /// How many characters stand before the first that is this sign; all, where none is.
+#[inline(always)]
 pub fn place_of(sign: u8, bytes: &[u8]) -> usize
     ensures value { result ≡ passed_from (is_other sign) 0 bytes.now }
     ensures within { result ≤ length bytes.now }
@@ -42,4 +46,15 @@ pub fn place_of(sign: u8, bytes: &[u8]) -> usize
         }
     }
     bytes.len()
+}
+
+/// The same, where many characters may stand before it.
+pub fn far_place_of(sign: u8, bytes: &[u8]) -> usize
+    ensures value { result ≡ passed_from (is_other sign) 0 bytes.now }
+    ensures within { result ≤ length bytes.now }
+{
+    match memchr(sign, bytes) {
+        Some(place) => place,
+        None => bytes.len(),
+    }
 }

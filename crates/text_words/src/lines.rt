@@ -4,7 +4,7 @@ ghost use Rattle.std.specs.Prelude.{◌≡◌, ◌+◌, ◌<◌, ◌≤◌, ◌�
 ghost use Rattle.text_words.specs.Unread.{IsNextLine, ahead_from, ahead_with, all_of, is_done, next_line};
 ghost use Rattle.text_words.specs.Words.{without_return as cut_return, lines_in};
 
-use crate::fronts::place_of;
+use crate::fronts::far_place_of;
 use crate::words::Words;
 use std::marker::Model;
 
@@ -30,6 +30,7 @@ impl<'a> Model for TextLines<'a> {
 }
 
 /// A line without the carriage return at its end.
+#[inline(always)]
 fn without_return(line: &[u8]) -> &[u8]
     ensures value { result.now ≡ cut_return line.now }
     ensures within { length result.now ≤ length line.now }
@@ -45,13 +46,14 @@ fn without_return(line: &[u8]) -> &[u8]
 }
 
 /// The first line of a text that has one, and what stands behind its line feed.
+#[inline(always)]
 fn cut_line(text: &[u8]) -> (&[u8], &[u8])
     requires { 0 < length text.now }
     ensures lines { lines_in text.now ≡ result.0.now ∷ lines_in result.1.now }
     ensures within { length result.0.now + length result.1.now ≤ length text.now }
     ensures shorter { length result.1.now < length text.now }
 {
-    let (line, rest) = text.split_at(place_of(b'\n', text));
+    let (line, rest) = text.split_at(far_place_of(b'\n', text));
     if rest.is_empty() {
         return (line, rest);
     }
@@ -60,6 +62,7 @@ fn cut_line(text: &[u8]) -> (&[u8], &[u8])
 }
 
 /// The words of the first line that has any, or none, the number of the line behind it, and what stands there.
+#[inline(always)]
 fn first_line(line: u64, text: &[u8]) -> (Words<'_>, u64, &[u8])
     requires { line + length text.now < 2 ^ 64 }
     ensures ahead { ahead_with result.0 (ahead_from result.1 result.2.now) ≡ ahead_from line text.now }
@@ -105,6 +108,7 @@ impl<'a> TextLines<'a> {
     }
 
     /// The next line that has words, or `None` behind the last one.
+    #[inline(always)]
     pub fn next(&mut self) -> Option<Words<'a>>
         ensures { IsNextLine self.old self.new result }
     {

@@ -1,8 +1,9 @@
 //! Which number a word says.
 
 ghost use Rattle.std.specs.Option.{option_map};
-ghost use Rattle.std.specs.Prelude.{◌≡◌, ◌+◌, ◌*◌, ◌<◌, ◌≤◌, ◌^◌, IfSome, min, length};
-ghost use Rattle.text_words.specs.Numbers.{capped_64, digits_from, digits_said as said_by_digits, without_last, has_prefix as begins_hexadecimal, limited, number_said, prefixed_said, under};
+ghost use Rattle.std.specs.Prelude.{◌≡◌, ◌+◌, ◌*◌, ◌==◌, ◌<◌, ◌≤◌, ◌^◌, IfSome, IsTrue, None, false, length};
+ghost use Rattle.text_words.specs.Characters.{unit_of as unit_of_suffix};
+ghost use Rattle.text_words.specs.Numbers.{at_less, at_most, capped_64, digits_from, digits_said as said_by_digits, has_prefix as begins_hexadecimal, in_unit, last_character, limited, limited_64, number_said, prefixed_said, under, without_last};
 
 use crate::characters::{digit_in, unit_of};
 use crate::faults::NumberFault;
@@ -18,16 +19,6 @@ fn grown(base: u8, number: u128, digit: u8) -> u128
     ensures small { result ≤ 2 ^ 64 }
 {
     (number * base as u128 + digit as u128).min(ABOVE)
-}
-
-/// A number times the unit of a suffix, up to 2^64.
-fn scaled(number: u128, unit: u64) -> u128
-    requires number { number ≤ 2 ^ 64 }
-    requires unit { unit ≤ 1125899906842624 }
-    ensures value { result ≡ capped_64 (number * unit) }
-    ensures small { result ≤ 2 ^ 64 }
-{
-    (number * unit as u128).min(ABOVE)
 }
 
 /// The value of digits, up to 2^64.
@@ -47,17 +38,77 @@ fn value_of(base: u8, digits: &[u8]) -> Option<u128>
     Some(value)
 }
 
-/// The value of digits, at least one, up to 2^64.
-fn digits_said(base: u8, digits: &[u8]) -> Option<u128>
+/// One more digit behind a number of at most 15.
+#[inline(always)]
+fn with_digit(base: u8, number: u64, digit: u8) -> u64
+    requires number { number < 2 ^ 60 }
+    requires base { base ≤ 16 }
+    requires digit { digit < base }
+    ensures { result ≡ number * base + digit }
+{
+    number * u64::from(base) + u64::from(digit)
+}
+
+/// The value of at most 16 digits, for which 64 bits have room.
+#[inline(always)]
+fn short_value_of(base: u8, digits: &[u8]) -> Option<u64>
     requires low { 0 < base }
     requires high { base ≤ 16 }
-    ensures value { result ≡ option_map capped_64 (said_by_digits base digits.now) }
-    ensures small { IfSome result (λ value. value ≤ 2 ^ 64) }
+    requires few { length digits.now ≤ 16 }
+    ensures { result ≡ digits_from base 0 digits.now }
+{
+    let mut value = 0u64;
+    for c in digits {
+        let Some(digit) = digit_in(base, *c) else {
+            return None;
+        };
+        value = with_digit(base, value, digit);
+    }
+    Some(value)
+}
+
+/// The value of a few digits.
+#[inline(always)]
+fn few_digits_said(base: u8, digits: &[u8]) -> Result<u64, NumberFault>
+    requires low { 0 < base }
+    requires high { base ≤ 16 }
+    requires few { length digits.now ≤ 16 }
+    ensures { result ≡ limited_64 (digits_from base 0 digits.now) }
+{
+    match short_value_of(base, digits) {
+        Some(number) => Ok(number),
+        None => Err(NumberFault::NoNumber),
+    }
+}
+
+/// The value of any digits.
+fn many_digits_said(base: u8, digits: &[u8]) -> Result<u64, NumberFault>
+    requires low { 0 < base }
+    requires high { base ≤ 16 }
+    ensures { result ≡ limited_64 (digits_from base 0 digits.now) }
+{
+    match value_of(base, digits) {
+        Some(number) if number < ABOVE => Ok(number as u64),
+        Some(_) => Err(NumberFault::TooLarge),
+        None => Err(NumberFault::NoNumber),
+    }
+}
+
+/// The value of digits, at least one.
+#[inline(always)]
+fn digits_said(base: u8, digits: &[u8]) -> Result<u64, NumberFault>
+    requires low { 0 < base }
+    requires high { base ≤ 16 }
+    ensures { result ≡ limited_64 (said_by_digits base digits.now) }
 {
     if digits.is_empty() {
-        return None;
+        return Err(NumberFault::NoNumber);
     }
-    value_of(base, digits)
+    if digits.len() <= 16 {
+        few_digits_said(base, digits)
+    } else {
+        many_digits_said(base, digits)
+    }
 }
 
 /// Whether the word begins as hexadecimal numbers do.
@@ -76,10 +127,10 @@ fn front(word: &[u8]) -> &[u8]
     front
 }
 
-/// The number of decimal digits, or of 0x and hexadecimal ones, up to 2^64.
-fn prefixed(word: &[u8]) -> Option<u128>
-    ensures value { result ≡ option_map capped_64 (prefixed_said word.now) }
-    ensures small { IfSome result (λ value. value ≤ 2 ^ 64) }
+/// The number of decimal digits, or of 0x and hexadecimal ones.
+#[inline(always)]
+fn prefixed(word: &[u8]) -> Result<u64, NumberFault>
+    ensures { result ≡ limited_64 (prefixed_said word.now) }
 {
     if has_prefix(word) {
         let (_, digits) = word.split_at(2);
@@ -89,36 +140,91 @@ fn prefixed(word: &[u8]) -> Option<u128>
     }
 }
 
-/// The same with a suffix of this unit, behind the number.
-fn with_unit(word: &[u8], unit: u64) -> Option<u128>
-    requires some { 0 < length word.now }
-    requires unit { unit ≤ 1125899906842624 }
-    requires positive { 0 < unit }
-    ensures value { result ≡ option_map capped_64 (option_map (λ n. n * unit) (prefixed_said (without_last word.now))) }
-    ensures small { IfSome result (λ value. value ≤ 2 ^ 64) }
+/// What was read times the unit of a suffix.
+#[inline(always)]
+fn scaled(read: Result<u64, NumberFault>, unit: u64) -> Result<u64, NumberFault>
+    ensures { result ≡ in_unit unit read }
 {
-    match prefixed(front(word)) {
-        Some(number) => Some(scaled(number, unit)),
-        None => None,
+    match read {
+        Ok(number) => match number.checked_mul(unit) {
+            Some(number) => Ok(number),
+            None => Err(NumberFault::TooLarge),
+        },
+        Err(fault) => Err(fault),
     }
 }
 
-/// The number that a word says, up to 2^64.
-#[tactic(auto, unfolding(crate::specs::Numbers::number_said))]
-fn said(word: &[u8]) -> Option<u128>
-    ensures value { result ≡ option_map capped_64 (number_said word.now) }
-    ensures small { IfSome result (λ value. value ≤ 2 ^ 64) }
+/// The number before a suffix of this unit, and times it.
+#[inline(always)]
+fn with_unit(word: &[u8], unit: u64) -> Result<u64, NumberFault>
+    requires some { 0 < length word.now }
+    requires positive { 0 < unit }
+    ensures { result ≡ limited_64 (option_map (λ n. n * unit) (prefixed_said (without_last word.now))) }
 {
-    if word.is_empty() {
-        return None;
-    }
-    let last = word[word.len() - 1];
+    scaled(prefixed(front(word)), unit)
+}
+
+/// The number of a word that may end with h or a suffix.
+#[tactic(auto, unfolding(crate::specs::Numbers::number_said))]
+#[inline(always)]
+fn suffixed(word: &[u8], last: u8) -> Result<u64, NumberFault>
+    requires some { 0 < length word.now }
+    requires last { last ≡ last_character word.now }
+    ensures { result ≡ limited_64 (number_said word.now) }
+{
     if last == b'h' {
         return digits_said(16, front(word));
     }
     match unit_of(last) {
         Some(unit) => with_unit(word, unit),
         None => prefixed(word),
+    }
+}
+
+/// Whether the character is a digit, which no suffix is. No branch depends on which.
+#[inline(always)]
+fn is_digit(c: u8) -> bool
+    ensures { IsTrue result → (unit_of_suffix c ≡ None) × ((c == 104) ≡ false) }
+{
+    (c <= b'9') | (c.wrapping_sub(b'a') < 6)
+}
+
+/// The number that a word says.
+#[tactic(auto, unfolding(crate::specs::Numbers::number_said))]
+#[inline(always)]
+fn said(word: &[u8]) -> Result<u64, NumberFault>
+    ensures { result ≡ limited_64 (number_said word.now) }
+{
+    if word.is_empty() {
+        return Err(NumberFault::NoNumber);
+    }
+    let last = word[word.len() - 1];
+    if is_digit(last) {
+        prefixed(word)
+    } else {
+        suffixed(word, last)
+    }
+}
+
+/// What was read, where it is at most `most`.
+#[inline(always)]
+fn limited_to(read: Result<u64, NumberFault>, most: u64) -> Result<u64, NumberFault>
+    ensures { result ≡ at_most most read }
+{
+    match read {
+        Ok(number) if number > most => Err(NumberFault::TooLarge),
+        read => read,
+    }
+}
+
+/// What was read, where it is below the limit.
+#[inline(always)]
+fn below_limit(read: Result<u64, NumberFault>, limit: u64) -> Result<u64, NumberFault>
+    ensures { result ≡ at_less limit read }
+{
+    match read {
+        Ok(number) if number >= limit => Err(NumberFault::TooLarge),
+        read => read,
     }
 }
 
@@ -129,22 +235,15 @@ fn said(word: &[u8]) -> Option<u128>
 pub fn number_of(word: &[u8], most: u64) -> Result<u64, NumberFault>
     ensures { result ≡ limited most (number_said word.now) }
 {
-    match said(word) {
-        Some(number) if number <= most as u128 => Ok(number as u64),
-        Some(_) => Err(NumberFault::TooLarge),
-        None => Err(NumberFault::NoNumber),
-    }
+    limited_to(said(word), most)
 }
 
 /// The number of decimal digits, at least one and nothing else, which is below the limit.
 ///
 /// `NoNumber` where the word is out of form, else `TooLarge` where the number is not below the limit.
+#[inline(always)]
 pub fn decimal_of(digits: &[u8], limit: u64) -> Result<u64, NumberFault>
     ensures { result ≡ under limit (said_by_digits 10 digits.now) }
 {
-    match digits_said(10, digits) {
-        Some(number) if number < limit as u128 => Ok(number as u64),
-        Some(_) => Err(NumberFault::TooLarge),
-        None => Err(NumberFault::NoNumber),
-    }
+    below_limit(digits_said(10, digits), limit)
 }

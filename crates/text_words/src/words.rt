@@ -33,6 +33,7 @@ impl<'a> Model for Words<'a> {
 }
 
 /// The first word of the bytes, or nothing where they have none, and what stands behind it.
+#[inline(always)]
 fn cut_word(bytes: &[u8]) -> (&[u8], &[u8])
     ensures words { ahead result.0.now (words_in result.1.now) ≡ words_in bytes.now }
     ensures last { result.0.now ≡ [] → words_in result.1.now ≡ [] }
@@ -44,6 +45,7 @@ fn cut_word(bytes: &[u8]) -> (&[u8], &[u8])
 
 impl<'a> Words<'a> {
     /// The words of a line of this number.
+    #[inline(always)]
     pub fn of(line: u64, bytes: &'a [u8]) -> Words<'a>
         ensures { result ≡ record { line = line; word = 1; words = words_in bytes.now } }
     {
@@ -57,6 +59,7 @@ impl<'a> Words<'a> {
     }
 
     /// The number of the line, from 1.
+    #[inline(always)]
     pub fn line(&self) -> u64
         ensures { result ≡ self.now.line }
     {
@@ -64,6 +67,7 @@ impl<'a> Words<'a> {
     }
 
     /// The number of the next word, from 1; where none comes any more, that of the word that would.
+    #[inline(always)]
     pub fn word(&self) -> u64
         ensures { result ≡ self.now.word }
     {
@@ -71,6 +75,7 @@ impl<'a> Words<'a> {
     }
 
     /// The next word; empty where none comes any more.
+    #[inline(always)]
     pub fn next(&self) -> &'a [u8]
         ensures { result.now ≡ first_unread self.now }
     {
@@ -78,6 +83,7 @@ impl<'a> Words<'a> {
     }
 
     /// Whether no word comes any more.
+    #[inline(always)]
     pub fn is_done(&self) -> bool
         ensures { result ≡ is_done self.now }
     {
@@ -85,6 +91,7 @@ impl<'a> Words<'a> {
     }
 
     /// Goes on to the word behind the next one.
+    #[inline(always)]
     pub fn advance(&mut self)
         ensures { self.new ≡ behind_next self.old }
     {
