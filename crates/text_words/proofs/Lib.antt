@@ -1,7 +1,7 @@
 pub mod AheadLaws
-pub mod ByteTables
 pub mod ExtentLaws
 pub mod FrontLaws
+pub mod LaneLaws
 pub mod LimitLaws
 pub mod NumberLaws
 pub mod PairLaws

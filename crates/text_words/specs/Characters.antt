@@ -1,4 +1,5 @@
 -- What a character of a text is.
+use Rattle.std.specs.Int.{w64, trailing_zeros}
 use Rattle.std.specs.List.{list_all}
 use Rattle.std.specs.Prelude.{◌≡◌, ◌<◌, length, true, ℕ, ◌+◌, ◌-◌, ◌^◌, Bool, not, ◌&&◌, ◌||◌, ◌==◌, nat_le, nat_lt, List, [], ◌∷◌, Option, Some, None, if◌then◌else◌}
 
@@ -51,6 +52,10 @@ unit_of c =
 abbrev pub passed_from : (ℕ → Bool) → ℕ → List ℕ → ℕ
 passed_from test k [] = k
 passed_from test k (c ∷ cs) = if test c then passed_from test (k + 1) cs else k
+
+-- the place of the lowest bit that is set, or n where none is
+abbrev pub first_set_of : ℕ → ℕ → ℕ
+first_set_of mask n = if mask == 0 then n else trailing_zeros w64 mask
 
 -- whether it is another character than this
 abbrev pub is_other : ℕ → ℕ → Bool

@@ -9,6 +9,7 @@ mod characters;
 mod extents;
 mod faults;
 mod fronts;
+mod lanes;
 mod laws;
 mod lines;
 mod numbers;
