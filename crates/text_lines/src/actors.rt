@@ -30,6 +30,7 @@ pub enum Speaker {
 
 /// The number behind the h of a host, below the limit.
 #[tactic(auto, unfolding(crate::specs::Actors::host_said))]
+#[inline(always)]
 fn host_number(word: &[u8], limit: u64) -> Result<u64, NumberFault>
     ensures value { result ≡ under limit (host_said word.now) }
     ensures small { IfOk result (λ host. host < limit) }
@@ -42,6 +43,7 @@ fn host_number(word: &[u8], limit: u64) -> Result<u64, NumberFault>
 }
 
 /// The number of a host of the script.
+#[inline(always)]
 fn host_below(word: &[u8], hosts: u8) -> Result<u8, NumberFault>
     ensures { result ≡ under hosts (host_said word.now) }
 {
@@ -52,6 +54,7 @@ fn host_below(word: &[u8], hosts: u8) -> Result<u8, NumberFault>
 }
 
 /// The number of a lane of the script.
+#[inline(always)]
 fn lane_below(digits: &[u8], lanes: u8) -> Result<u8, NumberFault>
     ensures { result ≡ under lanes (digits_said 10 digits.now) }
 {
@@ -62,6 +65,7 @@ fn lane_below(digits: &[u8], lanes: u8) -> Result<u8, NumberFault>
 }
 
 /// Lane 0, where there are lanes.
+#[inline(always)]
 fn first_lane(lanes: u8) -> Result<u8, NumberFault>
     ensures { result ≡ under lanes (Some 0) }
 {
@@ -73,6 +77,7 @@ fn first_lane(lanes: u8) -> Result<u8, NumberFault>
 }
 
 /// A host and a lane. What is out of form comes before what the script does not have.
+#[inline(always)]
 fn seat_of(
     host: Result<u8, NumberFault>,
     lane: Result<u8, NumberFault>,
@@ -103,19 +108,22 @@ fn seat_at(frame: Frame, place: usize, word: &[u8]) -> Result<(u8, u8), NumberFa
 
 /// A host of the script and its lane.
 #[tactic(auto, unfolding(crate::specs::Actors::seat_said))]
+#[inline(always)]
 fn seat(frame: Frame, word: &[u8]) -> Result<(u8, u8), NumberFault>
     ensures { result ≡ seat_said frame word.now }
 {
-    let place = place_of(b'.', word);
-    if frame.version == 2 && place < word.len() {
-        seat_at(frame, place, word)
-    } else {
-        seat_of(host_below(word, frame.hosts), first_lane(frame.lanes))
+    if frame.version == 2 {
+        let place = place_of(b'.', word);
+        if place < word.len() {
+            return seat_at(frame, place, word);
+        }
     }
+    seat_of(host_below(word, frame.hosts), first_lane(frame.lanes))
 }
 
 /// The actor that a word says; what is wanted where it says none.
 #[tactic(auto, unfolding(crate::specs::Actors::actor_of_word))]
+#[inline(always)]
 pub fn actor_of_word(frame: Frame, wanted: Wanted, word: &[u8]) -> Result<Speaker, Cause>
     ensures { result ≡ actor_said frame wanted word.now }
 {
@@ -139,6 +147,7 @@ pub fn actor(words: &mut Words<'_>, frame: Frame) -> Result<Speaker, TextFault>
 }
 
 /// The host that a word names, whether the script has it or not.
+#[inline(always)]
 fn host_of_word(word: &[u8]) -> Result<u16, Cause>
     ensures { result ≡ host_or (under 65536 (host_said word.now)) }
 {
@@ -151,6 +160,7 @@ fn host_of_word(word: &[u8]) -> Result<u16, Cause>
 
 /// A host that the manager speaks of.
 #[tactic(auto, unfolding(crate::specs::Actors::host_ahead))]
+#[inline(always)]
 pub fn host(words: &mut Words<'_>) -> Result<u16, TextFault>
     ensures { GivesWords (λ host. host) result words.new (host_ahead words.old) }
 {

@@ -11,6 +11,8 @@ use std::alloc::Global;
 use text_words::{NumberFault, Words, extent_of, number_of, tag_of};
 
 /// What is wrong with the next word.
+#[cold]
+#[inline(never)]
 pub fn refused(words: &Words<'_>, cause: Cause) -> TextFault
     ensures { result ≡ refused_at words.now cause }
 {
@@ -22,6 +24,7 @@ pub fn refused(words: &Words<'_>, cause: Cause) -> TextFault
 }
 
 /// Whether the next word is this one.
+#[inline(always)]
 pub fn is_next(words: &Words<'_>, word: &[u8]) -> bool
     ensures { result ≡ next_is word.now words.now }
 {
@@ -29,6 +32,7 @@ pub fn is_next(words: &Words<'_>, word: &[u8]) -> bool
 }
 
 /// Whether the next word is that of the grammar.
+#[inline(always)]
 pub fn begins(words: &Words<'_>, keyword: Keyword) -> bool
     ensures { result ≡ begins_with keyword words.now }
 {
@@ -36,6 +40,7 @@ pub fn begins(words: &Words<'_>, keyword: Keyword) -> bool
 }
 
 /// What the next word says, which has to be there.
+#[inline(always)]
 pub fn one_word<T: Drop>(
     words: &mut Words<'_>,
     wanted: Wanted,
@@ -57,6 +62,7 @@ pub fn one_word<T: Drop>(
 
 /// A word of the grammar.
 #[tactic(auto, unfolding(crate::specs::Fields::keyword_ahead))]
+#[inline(always)]
 pub fn keyword(words: &mut Words<'_>, keyword: Keyword) -> Result<(), TextFault>
     ensures { GivesWords (λ x. x) result words.new (keyword_ahead keyword words.old) }
 {
@@ -69,6 +75,7 @@ pub fn keyword(words: &mut Words<'_>, keyword: Keyword) -> Result<(), TextFault>
 
 /// Whether that word of the grammar comes next; then it is passed.
 #[tactic(auto, unfolding(crate::specs::Fields::flag_ahead))]
+#[inline(always)]
 pub fn flag(words: &mut Words<'_>, keyword: Keyword) -> bool
     ensures { flag_ahead keyword words.old ≡ (result, words.new) }
 {
@@ -81,6 +88,7 @@ pub fn flag(words: &mut Words<'_>, keyword: Keyword) -> bool
 
 /// That nothing more stands on the line.
 #[tactic(auto, unfolding(crate::specs::Fields::end_ahead))]
+#[inline(always)]
 pub fn end(words: &mut Words<'_>) -> Result<(), TextFault>
     ensures { GivesWords (λ x. x) result words.new (end_ahead words.old) }
 {
@@ -92,6 +100,7 @@ pub fn end(words: &mut Words<'_>) -> Result<(), TextFault>
 }
 
 /// The number of a word, at most `most`.
+#[inline(always)]
 pub fn number_of_word(most: u64, word: &[u8]) -> Result<u64, Cause>
     ensures value { result ≡ number_said most word.now }
     ensures small { IfOk result (λ n. n ≤ most) }
@@ -105,6 +114,7 @@ pub fn number_of_word(most: u64, word: &[u8]) -> Result<u64, Cause>
 
 /// A number that is at most `most`.
 #[tactic(auto, unfolding(crate::specs::Fields::number_ahead))]
+#[inline(always)]
 pub fn number(words: &mut Words<'_>, most: u64) -> Result<u64, TextFault>
     ensures value { GivesWords (λ n. n) result words.new (number_ahead most words.old) }
     ensures small { IfOk result (λ n. n ≤ most) }
@@ -115,6 +125,7 @@ pub fn number(words: &mut Words<'_>, most: u64) -> Result<u64, TextFault>
 
 /// A number behind its keyword, at most `most`; 0 where both are left out.
 #[tactic(auto, unfolding(crate::specs::Fields::may_ahead))]
+#[inline(always)]
 pub fn may(words: &mut Words<'_>, keyword: Keyword, most: u64) -> Result<u64, TextFault>
     ensures value { GivesWords (λ n. n) result words.new (may_ahead keyword most words.old) }
     ensures small { IfOk result (λ n. n ≤ most) }
@@ -128,6 +139,7 @@ pub fn may(words: &mut Words<'_>, keyword: Keyword, most: u64) -> Result<u64, Te
 
 /// A number behind its keyword, at most `most`.
 #[tactic(auto, unfolding(crate::specs::Fields::named_ahead))]
+#[inline(always)]
 pub fn named(words: &mut Words<'_>, name: Keyword, most: u64) -> Result<u64, TextFault>
     ensures value { GivesWords (λ n. n) result words.new (named_ahead name most words.old) }
     ensures small { IfOk result (λ n. n ≤ most) }
@@ -137,6 +149,7 @@ pub fn named(words: &mut Words<'_>, name: Keyword, most: u64) -> Result<u64, Tex
 }
 
 /// The tag that was read.
+#[inline(always)]
 fn told_tag(tag: Option<Tag>) -> Result<Tag, Cause>
     ensures { result ≡ tag_or tag }
 {
@@ -168,6 +181,7 @@ pub fn may_tag(alloc: Global, words: &mut Words<'_>) -> Result<Tag, TextFault>
 }
 
 /// The extent of a word.
+#[inline(always)]
 pub fn extent_of_word(word: &[u8]) -> Result<Extent, Cause>
     ensures value { result ≡ extent_said word.now }
     ensures untagged { IfOk result (λ extent. IsTrue (is_untagged extent)) }

@@ -16,6 +16,7 @@ mod lists;
 mod manager_reading;
 mod messages;
 mod openings;
+mod payloads;
 mod policies;
 
 pub use actors::Frame;

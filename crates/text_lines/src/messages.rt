@@ -13,7 +13,8 @@ use crate::fields::{may, refused};
 use crate::host_reading::host_request;
 use crate::keywords::Keyword;
 use crate::manager_reading::manager_request;
-use cci_codec::{MessageFault, Payload, Request, decode};
+use crate::payloads::{host_payload, manager_payload};
+use cci_codec::{MessageFault, Request, decode};
 use dcd_base::{Actor, Bytes, HostId, NoMemory};
 use fm_payloads::FmRequest;
 use host_payloads::HostRequest;
@@ -69,6 +70,7 @@ fn request_of(alloc: Global, line: u64, word: u64, bytes: &[u8]) -> Result<Reque
 }
 
 /// The line of an act of an actor.
+#[inline(always)]
 pub fn line_by(speaker: Speaker, act: Act) -> Line
     ensures { result ≡ line_of_speaker speaker act }
 {
@@ -119,12 +121,10 @@ pub fn host_message(alloc: Global, tag: u8, request: &HostRequest) -> Result<Req
     requires untagged { IsTrue (lists_untagged request.now) }
     ensures { IfOk result (λ message. message ≡ message_of_host tag request.now) }
 {
-    let mut payload = Bytes::new(alloc);
-    host_payloads::encode(request, &mut payload)?;
     Ok(Request {
         tag,
         opcode: host_opcode_of(request),
-        payload: Payload::from_slice(alloc, payload.as_slice())?,
+        payload: host_payload(alloc, request)?,
     })
 }
 
@@ -152,12 +152,10 @@ pub fn manager_message(alloc: Global, tag: u8, request: &FmRequest) -> Result<Re
     requires { ManagerCountsFit request.now }
     ensures { IfOk result (λ message. message ≡ message_of_manager tag request.now) }
 {
-    let mut payload = Bytes::new(alloc);
-    fm_payloads::encode(request, &mut payload)?;
     Ok(Request {
         tag,
         opcode: manager_opcode_of(request),
-        payload: Payload::from_slice(alloc, payload.as_slice())?,
+        payload: manager_payload(alloc, request)?,
     })
 }
 
