@@ -1,11 +1,10 @@
 -- How many bytes a script has.
-use Rattle.std.proofs.Common.{◌≡◌, ℕ, ◌+◌, ◌*◌, ◌-◌, ◌^◌, ◌<◌, ◌≤◌, Bool, true, false, ◌==◌, nat_le, nat_lt, List, [], ◌∷◌, ◌++◌, length, map, take, drop, get_or, Ok, Err, refl, sym, ap, ◌∙◌, inl, inr, arith, length-append, take-append-drop}
+use Rattle.std.proofs.Common.{◌≡◌, ℕ, ◌+◌, ◌*◌, ◌-◌, ◌^◌, ◌<◌, ◌≤◌, Bool, true, false, ◌==◌, nat_le, nat_lt, List, [], ◌∷◌, ◌++◌, length, map, min, Ok, Err, refl, sym, ap, ◌∙◌, inl, inr, arith, length-append}
 use Rattle.std.specs.Prelude.{flat_map}
 use Rattle.std.specs.Int.{w8, w64}
 use Rattle.std.proofs.lemmas.Bool.{cases_Bool, cond-false, cond-true, le-leb, le-ltb, leb-false, leb-true, lt-leb, lt-ltb}
 use Rattle.std.proofs.lemmas.Grind.{flat_map-append}
 use Rattle.std.proofs.Math.Nat.{mul_assoc}
-use Rattle.std.proofs.lemmas.List.{take_all, take_more}
 use Rattle.field_bytes.specs.Layouts.{Field, Number, spell, spelling}
 use Rattle.region_config.specs.declared.region_spec.RegionSpec.{RegionSpec}
 use Rattle.script_codec.specs.Scripts.{lanes_fields, line_fields, region_fields, script_head, start_fields}
@@ -52,39 +51,14 @@ head_told s regions hosts r h all =
     (λ i. 16 + 40 * r i + 8 * h i * r i) ∙ omega (arith, times, size)
 
 -- ---- the lines
-pub lines_more : (lines : List Line) (i : ℕ) (line : Line) → i < length lines → length (spelling (flat_map line_fields (take (i + 1) lines))) ≡ length (spelling (flat_map line_fields (take i lines))) + length (spelling (line_fields (get_or lines i line)))
-lines_more lines i line under =
-    let one = get_or lines i line in
-    ap (λ ls. length (spelling (flat_map line_fields ls))) (take_more lines i line under)
-    ∙ ap (λ fs. length (spelling fs)) (flat_map-append line_fields (take i lines) (one ∷ []))
-    ∙ joined_size (flat_map line_fields (take i lines)) (line_fields one ++ [])
-    ∙ ap (λ n. length (spelling (flat_map line_fields (take i lines))) + n) (joined_size (line_fields one) [] ∙ (let e : length (spelling (line_fields one)) + 0 ≡ length (spelling (line_fields one)) = omega arith in e))
 
-front_size : (lines : List Line) (i : ℕ) → length (spelling (flat_map line_fields (take i lines))) ≤ length (spelling (flat_map line_fields lines))
-front_size lines i =
-    let whole = ap (λ ls. length (spelling (flat_map line_fields ls))) (take-append-drop i lines) in
-    let parts = ap (λ fs. length (spelling fs)) (flat_map-append line_fields (take i lines) (drop i lines)) in
-    let sizes = joined_size (flat_map line_fields (take i lines)) (flat_map line_fields (drop i lines)) in
-    omega (arith, whole, parts, sizes)
-
--- with one line more, so many bytes are left
-pub lines_left : (lines : List Line) (i : ℕ) (line : Line) (left most size : ℕ) → i < length lines → left + length (spelling (flat_map line_fields (take i lines))) ≡ most → size ≡ length (spelling (line_fields (get_or lines i line))) → size ≤ left
-    → (left - size) + length (spelling (flat_map line_fields (take (i + 1) lines))) ≡ most
-lines_left lines i line left most size under is one room = let more = lines_more lines i line under in omega (arith, is, one, room, more)
-
--- a line that has no room
-pub lines_over : (lines : List Line) (i : ℕ) (line : Line) (left most size : ℕ) → i < length lines → left + length (spelling (flat_map line_fields (take i lines))) ≡ most → size ≡ length (spelling (line_fields (get_or lines i line))) → left < size
-    → nat_le (length (spelling (flat_map line_fields lines))) most ≡ false
-lines_over lines i line left most size under is one over =
-    let more = lines_more lines i line under in
-    let front = front_size lines (i + 1) in
-    lt-leb (length (spelling (flat_map line_fields lines))) most (omega (arith, is, one, over, more, front))
-
--- all lines have room
-pub lines_fit : (lines : List Line) (i left most : ℕ) → length lines ≤ i → left + length (spelling (flat_map line_fields (take i lines))) ≡ most → nat_le (length (spelling (flat_map line_fields lines))) most ≡ true
-lines_fit lines i left most whole is =
-    let all : length (spelling (flat_map line_fields (take i lines))) ≡ length (spelling (flat_map line_fields lines)) = ap (λ ls. length (spelling (flat_map line_fields ls))) (take_all i lines whole) in
-    le-leb (length (spelling (flat_map line_fields lines))) most (omega (arith, is, all))
+-- one line more
+pub size_more : (lines : List Line) (line : Line) (size next : ℕ) → size ≡ min (length (spelling (flat_map line_fields lines))) 18446744073709551615
+    → next ≡ min (size + length (spelling (line_fields line))) 18446744073709551615 → next ≡ min (length (spelling (flat_map line_fields (lines ++ line ∷ [])))) 18446744073709551615
+size_more lines line size next is more =
+    let both = ap (λ fs. length (spelling fs)) (flat_map-append line_fields lines (line ∷ [])) ∙ joined_size (flat_map line_fields lines) (line_fields line ++ []) in
+    let one = joined_size (line_fields line) [] in
+    omega (arith, is, more, both, one)
 
 -- ---- the whole
 whole_size : (s : Script) → length (script_bytes s) ≡ length (spelling (script_head s)) + length (spelling (flat_map line_fields s.lines)) + 1
@@ -105,10 +79,10 @@ same_test a b c d to from = elim (cases_Bool (nat_le a b)) [
     other false f over = f
 
 -- the bytes of a script fit where those of its lines fit behind those of its head
-pub script_fits : (s : Script) (head most : ℕ) → length (spelling (script_head s)) ≡ head → head < 2 ^ 16 → most ≡ 16777215 - head → nat_le (length (spelling (flat_map line_fields s.lines))) most ≡ nat_le (length (script_bytes s)) 16777216
-script_fits s head most size small left =
+pub script_fits : (s : Script) (head size : ℕ) → length (spelling (script_head s)) ≡ head → head < 2 ^ 16 → size ≡ min (length (spelling (flat_map line_fields s.lines))) 18446744073709551615 → nat_le size (16777215 - head) ≡ nat_le (length (script_bytes s)) 16777216
+script_fits s head size first small is =
     let whole = whole_size s in
-    same_test (length (spelling (flat_map line_fields s.lines))) most (length (script_bytes s)) 16777216 (λ h. omega (arith, h, whole, size, small, left)) (λ h. omega (arith, h, whole, size, small, left))
+    same_test size (16777215 - head) (length (script_bytes s)) 16777216 (λ h. omega (arith, h, whole, first, small, is)) (λ h. omega (arith, h, whole, first, small, is))
 
 pub script_over : (end : ℕ) (s : Script) → nat_le (length (script_bytes s)) 16777216 ≡ false → short_script end s ≡ Err (TextFault.Refused end 1 Cause.TooLong)
 script_over end s over = cond-true (nat_lt most_bytes (length (script_bytes s))) (Err (TextFault.Refused end 1 Cause.TooLong)) (Ok s) (lt-ltb most_bytes (length (script_bytes s)) (leb-false (length (script_bytes s)) 16777216 over))

@@ -4,11 +4,14 @@ ghost use Rattle.script_codec.specs.Writing.{IsWritable};
 ghost use Rattle.script_codec.specs.declared.scripts.Script.{Script};
 ghost use Rattle.script_text.specs.Layouts.{Says};
 ghost use Rattle.script_text.specs.Texts.{IsParsed, IsParsedAs, frame_of_head, lines_at, script_of_lines, script_said, short_script};
-ghost use Rattle.std.specs.Prelude.{◌≡◌, ◌*◌, [], IfOk, length};
+ghost use Rattle.field_bytes.specs.Layouts.{spelling};
+ghost use Rattle.script_codec.specs.Scripts.{line_fields};
+ghost use Rattle.std.specs.List.{flat_map};
+ghost use Rattle.std.specs.Prelude.{◌≡◌, ◌*◌, [], IfOk, length, min};
 ghost use Rattle.text_lines.specs.Fields.{GivesLast};
 
 use crate::configs::head;
-use crate::sizes::is_short;
+use crate::sizes::{is_short, size_with};
 use script_codec::{Head, Line, Script};
 use std::alloc::Global;
 use text_lines::{Cause, Frame, TextFault, opening, rest};
@@ -28,19 +31,21 @@ fn frame_of(head: &Head) -> Frame
     }
 }
 
-/// Puts the lines of a script into the empty list, at most so many.
+/// Puts the lines of a script into the empty list, at most so many, and answers how many bytes they have, up to 2^64 - 1.
 fn fill_lines(
     alloc: Global,
     most: u32,
     frame: Frame,
     lines: &mut TextLines<'_>,
     out: &mut script_codec::Lines,
-) -> Result<(), TextFault>
+) -> Result<u64, TextFault>
     requires { out.old ≡ [] }
     ensures value { GivesLast (λ _. out.new) result (lines_at most frame lines.old.lines) }
+    ensures size { IfOk result (λ size. size ≡ min (length (spelling (flat_map line_fields out.new))) 18446744073709551615) }
     ensures end { lines.new.end ≡ lines.old.end }
 {
     let mut left = most;
+    let mut size = 0u64;
     while let Some(mut words) = lines.next() {
         let line = words.line();
         let opening = opening(&mut words, frame)?;
@@ -52,18 +57,20 @@ fn fill_lines(
             });
         }
         let line = rest(alloc, frame, opening, &mut words)?;
+        size = size_with(size, &line);
         out.push(line)?;
         left -= 1;
     }
-    Ok(())
+    Ok(size)
 }
 
 /// The script, where its bytes are few enough.
-fn short(end: u64, script: Script) -> Result<Script, TextFault>
-    requires { length script.config.bases ≡ script.config.hosts * length script.config.regions }
+fn short(end: u64, size: u64, script: Script) -> Result<Script, TextFault>
+    requires based { length script.config.bases ≡ script.config.hosts * length script.config.regions }
+    requires size { size ≡ min (length (spelling (flat_map line_fields script.lines))) 18446744073709551615 }
     ensures { GivesLast (λ script. script) result (short_script end script) }
 {
-    if !is_short(&script) {
+    if !is_short(&script, size) {
         return Err(TextFault::Refused {
             line: end,
             word: 1,
@@ -81,14 +88,14 @@ fn script_of(alloc: Global, lines: &mut TextLines<'_>) -> Result<Script, TextFau
     let head = head(alloc, lines)?;
     let frame = frame_of(&head);
     let mut body = script_codec::Lines::new(alloc);
-    fill_lines(alloc, MOST_LINES, frame, lines, &mut body)?;
+    let size = fill_lines(alloc, MOST_LINES, frame, lines, &mut body)?;
     let script = Script {
         version: head.version,
         lanes: head.lanes,
         config: head.config,
         lines: body,
     };
-    short(lines.end(), script)
+    short(lines.end(), size, script)
 }
 
 /// The script that a text says, or its first fault.

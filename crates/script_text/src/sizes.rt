@@ -4,7 +4,7 @@ ghost use Rattle.field_bytes.specs.Layouts.{spelling};
 ghost use Rattle.script_codec.specs.Scripts.{script_head, line_fields};
 ghost use Rattle.script_codec.specs.Writing.{script_bytes};
 ghost use Rattle.std.specs.List.{flat_map};
-ghost use Rattle.std.specs.Prelude.{◌≡◌, ◌+◌, ◌*◌, ◌<◌, ◌^◌, length, nat_le};
+ghost use Rattle.std.specs.Prelude.{◌≡◌, ◌+◌, ◌*◌, ◌<◌, ◌^◌, length, min, nat_le};
 
 use journal_core::Act;
 use region_config::Config;
@@ -40,29 +40,18 @@ fn size_of_head(script: &Script) -> u64
     16 + 40 * regions + 8 * hosts * regions
 }
 
-/// Whether lines have so many bytes at most.
-fn fit(lines: &[Line], most: u64) -> bool
-    requires { most < 2 ^ 32 }
-    ensures { result ≡ nat_le (length (spelling (flat_map line_fields lines.now))) most }
+/// The bytes of lines and of one more, up to 2^64 - 1.
+pub fn size_with(size: u64, line: &Line) -> u64
+    ensures { result ≡ min (size + length (spelling (line_fields line.now))) 18446744073709551615 }
 {
-    let mut left = most;
-    for line in lines {
-        let size = size_of_line(line);
-        if size > left {
-            return false;
-        }
-        left -= size;
-    }
-    true
+    size.saturating_add(size_of_line(line))
 }
 
-/// Whether a script has so few bytes that it can be written.
-pub fn is_short(script: &Script) -> bool
-    requires { length script.now.config.bases ≡ script.now.config.hosts * length script.now.config.regions }
+/// Whether a script whose lines have so many bytes is short enough to be written.
+pub fn is_short(script: &Script, size: u64) -> bool
+    requires based { length script.now.config.bases ≡ script.now.config.hosts * length script.now.config.regions }
+    requires size { size ≡ min (length (spelling (flat_map line_fields script.now.lines))) 18446744073709551615 }
     ensures { result ≡ nat_le (length (script_bytes script.now)) 16777216 }
 {
-    fit(
-        script.lines.as_slice(),
-        MOST_BYTES - 1 - size_of_head(script),
-    )
+    size <= MOST_BYTES - 1 - size_of_head(script)
 }

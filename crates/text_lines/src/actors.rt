@@ -94,6 +94,7 @@ fn seat_of(
 }
 
 /// A host of the script and its lane, with a dot between them where one is at that place.
+#[inline(always)]
 fn seat_at(frame: Frame, place: usize, word: &[u8]) -> Result<(u8, u8), NumberFault>
     requires { place < length word.now }
     ensures { result ≡ seat_of_parts (under frame.hosts (host_said (take place word.now))) (under frame.lanes (digits_said 10 (drop (place + 1) word.now))) }

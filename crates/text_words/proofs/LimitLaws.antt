@@ -1,5 +1,5 @@
 -- A number that was read in 64 bits, and then limited further.
-use Rattle.std.proofs.Common.{◌≡◌, ℕ, ◌-◌, ◌*◌, ◌^◌, ◌<◌, ◌≤◌, nat_le, nat_lt, Option, Some, None, refl, sym, ap, ◌∙◌, false, arith, inl, inr}
+use Rattle.std.proofs.Common.{◌≡◌, ℕ, ◌-◌, ◌*◌, ◌^◌, ◌<◌, ◌≤◌, nat_le, nat_lt, Option, Some, None, refl, false, arith, inl, inr}
 use Rattle.std.specs.Option.{option_map}
 use Rattle.std.proofs.Math.Nat.{le-mul_of_pos_right}
 use Rattle.std.proofs.lemmas.Bool.{cases_Bool, leb-false, le-ltb, lt-leb}

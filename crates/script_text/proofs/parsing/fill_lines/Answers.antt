@@ -2,6 +2,7 @@ use Rattle.std.proofs.Common.{Err, sym, ap, ◌∙◌}
 use Rattle.std.proofs.lemmas.Result.{err_from_is_err_and}
 use Rattle.text_lines.specs.declared.faults.Cause.{Cause}
 use Rattle.text_lines.specs.declared.faults.TextFault.{TextFault}
+use Rattle.script_text.proofs.ScriptSizes.{size_more}
 use Rattle.script_text.proofs.LineLoops.{lines_end, lines_go_on, opening_fails, rest_fails, room_fails}
 use Rattle.script_text.proofs.parsing.fill_lines.Goals as goal
 
@@ -25,6 +26,7 @@ returns-in_err-line-clause-value c =
 pub loop-words-preserved : goal.loop-words-preserved
 loop-words-preserved c = record {
   end = c.in-Some.ensures.1 ∙ c.loop-words.invariant.end;
+  size = rw c.in_ok-push.ensures.pushed (size_more c.loop-words.out c.in_ok-line.line c.loop-words.size _ c.loop-words.invariant.size c.size_with-size.ensures);
   read = lines_go_on c.args.frame c.loop-words.left c.loop-words.out c.in-Some.words c.loop-words.lines.lines c.next.new.self.lines _ c.in-Some.ensures.0 c.loop-words.invariant.read _ _ c.in_ok-line.line _ c.in_ok-opening.ensures c.if-left-eq0.false c.in_ok-line.ensures c.in_ok-push.ensures.pushed;
 }
 

@@ -1,6 +1,6 @@
 use Rattle.std.proofs.Common.{sym, ap, ◌∙◌, ◌+◌, arith}
 use Rattle.text_words.specs.Characters.{is_plain, passed_from}
-use Rattle.text_words.proofs.FrontLaws.{part_ends, part_passes}
+use Rattle.text_words.proofs.FrontLaws.{part_passes}
 use Rattle.text_words.proofs.fronts.some_plain.Goals as goal
 
 pub returns-clause-value : goal.returns-clause-value

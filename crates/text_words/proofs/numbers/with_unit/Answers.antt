@@ -1,4 +1,4 @@
-use Rattle.std.proofs.Common.{ap, sym, ◌∙◌}
+use Rattle.std.proofs.Common.{ap, ◌∙◌}
 use Rattle.text_words.specs.Numbers.{in_unit, limited_64, prefixed_said, without_last}
 use Rattle.text_words.proofs.LimitLaws.{unit_limited}
 use Rattle.text_words.proofs.numbers.with_unit.Goals as goal
