@@ -8,6 +8,7 @@ ghost use Rattle.workers.specs.Serving.{EachReady, EachServed, EachServedSome};
 
 use crate::alone::lone_pass;
 use crate::handler::Handler;
+use crate::pace::Pace;
 use crate::serving::serve_lines;
 use crate::workers::serve_all;
 use crate::worklists::{Worklist, parted};
@@ -19,7 +20,7 @@ use std::thread::Threads;
 
 /// How many hosts there are, by how many passes there are.
 #[tactic(auto, using(crate::proofs::Rows::hosts_by))]
-fn hosts_of(passes: usize, lanes: u8) -> u8
+pub(crate) fn hosts_of(passes: usize, lanes: u8) -> u8
     requires { (hosts : ℕ) × (hosts ≤ 16) × (0 < lanes) × (passes ≡ hosts * lanes + 2) }
     ensures { (hosts : ℕ) → passes ≡ hosts * lanes + 2 → result ≡ hosts }
 {
@@ -123,6 +124,10 @@ fn serve_parted<R: Threads + Wait + Sync + AllocGlobal, P: Send, H: Handler<Pass
         lanes,
         first,
         next,
+        pace: Pace::free(rt.alloc()),
     };
-    serve_all(rt, handler, gate, &work, lines, 0, heads.as_slice(), passes)
+    match serve_all(rt, handler, gate, &work, lines, 0, heads.as_slice(), passes) {
+        Ok(()) => Ok(()),
+        Err(_) => Err(NoMemory),
+    }
 }

@@ -1,15 +1,18 @@
 //! The phases of a script.
 
 ghost use Rattle.std.specs.List.{list_all};
-ghost use Rattle.std.specs.Prelude.{◌≡◌, ◌<◌, ◌≤◌, ◌+◌, ◌*◌, ◌^◌, IsTrue, OnOk, length};
+ghost use Rattle.std.specs.Prelude.{◌≡◌, ◌<◌, ◌≤◌, ◌+◌, ◌*◌, ◌^◌, IfOk, IsTrue, OnOk, length, take};
 ghost use Rattle.script_codec.specs.Scripts.{is_sound_line};
 ghost use Rattle.workers.specs.Phases.{phase, phase_length};
 ghost use Rattle.workers.specs.Serving.{EachReady, EachServed, EachServedSome};
 
+use crate::alone::are_no_others;
 use crate::handler::Handler;
-use crate::phase::run_phase;
+use crate::phase::{hosts_of, run_phase};
+use crate::stop::Stop;
+use crate::stretch::serve_stretch;
 use dcd_base::{Gate, NoMemory};
-use script_codec::Line;
+use script_codec::{Line, pass_of};
 use std::alloc::AllocGlobal;
 use std::sync::Wait;
 use std::thread::Threads;
@@ -26,6 +29,156 @@ fn first_phase(lines: &[Line]) -> usize
         }
     }
     count
+}
+
+/// Whether several passes have lines among these.
+fn have_several(hosts: u8, lanes: u8, lines: &[Line]) -> bool {
+    let pass = match lines.first() {
+        Some(Line::Do { actor, lane, .. }) => pass_of(hosts, lanes, actor, *lane),
+        _ => 0,
+    };
+    !are_no_others(hosts, lanes, pass, lines)
+}
+
+/// How many phases of one pass alone may stand one after another within a stretch. To pass so many turns on costs less than to make
+/// the threads anew.
+const ALONE: u32 = 32;
+
+/// How many of the lines behind a phase of several passes are of its stretch: those up to the last such phase that comes before
+/// too many others.
+#[tactic(auto, using(crate::proofs::Phasing::some_lines, crate::proofs::Phasing::no_more_lines))]
+fn more_of_stretch(hosts: u8, lanes: u8, lines: &[Line]) -> usize
+    ensures { result ≤ length lines.now }
+{
+    let mut length = 0;
+    let mut end = 0;
+    let mut alone = 0;
+    while end < lines.len() && alone < ALONE {
+        let (_, rest) = lines.split_at(end);
+        let (phase, _) = rest.split_at(first_phase(rest));
+        end += phase.len();
+        if have_several(hosts, lanes, phase) {
+            length = end;
+            alone = 0;
+        } else {
+            alone += 1;
+        }
+    }
+    length
+}
+
+/// How many lines the first stretch has: from a phase of several passes to the last one. A phase that one pass has alone is no
+/// stretch with others.
+#[tactic(auto, using(crate::proofs::Phasing::some_lines, crate::proofs::Phasing::no_more_lines))]
+fn first_stretch(hosts: u8, lanes: u8, lines: &[Line]) -> usize
+    requires { 0 < length lines.now }
+    ensures some { 0 < result }
+    ensures within { result ≤ length lines.now }
+{
+    let length = first_phase(lines);
+    let (phase, rest) = lines.split_at(length);
+    if have_several(hosts, lanes, phase) {
+        length + more_of_stretch(hosts, lanes, rest)
+    } else {
+        length
+    }
+}
+
+/// Does the lines of the first phase, the first of which has this number, and answers how many they are.
+#[tactic(auto, using(crate::proofs::Phasing::some_lines, crate::proofs::Phasing::no_more_lines))]
+fn run_first<R: Threads + Wait + Sync + AllocGlobal, H: Handler, G: Gate>(
+    rt: &R,
+    handler: &H,
+    passes: &mut [H::Pass],
+    lanes: u8,
+    number: u32,
+    lines: &[Line],
+    gate: &G,
+) -> Result<usize, NoMemory>
+    requires hosts { H.reads.hosts handler.now ≤ 16 }
+    requires lanes { 0 < lanes }
+    requires count { length passes.old ≡ H.reads.hosts handler.now * lanes + 2 }
+    requires some { 0 < length lines.now }
+    requires sound { IsTrue (list_all (is_sound_line (H.reads.hosts handler.now) lanes) lines.now) }
+    requires in_range { number + length lines.now ≤ 2 ^ 32 }
+    requires ready { EachReady H.reads handler.now (phase (H.reads.hosts handler.now) lanes number lines.now) 0 passes.old }
+    ensures some { IfOk result (λ n. (0 < n) × (n ≤ length lines.now)) }
+    ensures served { IfOk result (λ n. EachServed H.reads handler.now (phase (H.reads.hosts handler.now) lanes number (take n lines.now)) 0 passes.old passes.new) }
+    ensures begun { EachServedSome H.reads handler.now (phase (H.reads.hosts handler.now) lanes number lines.now) 0 passes.old passes.new }
+{
+    let (now, _) = lines.split_at(first_phase(lines));
+    run_phase(rt, handler, passes, lanes, number, now, gate)?;
+    Ok(now.len())
+}
+
+/// Does the lines of a stretch, which are the first ones of these, or those of its first phase where the workers of the stretch do
+/// not come together. Answers how many it did.
+fn run_stretch<R: Threads + Wait + Sync + AllocGlobal, H: Handler, G: Gate>(
+    rt: &R,
+    handler: &H,
+    passes: &mut [H::Pass],
+    lanes: u8,
+    number: u32,
+    lines: &[Line],
+    gate: &G,
+    stretch: usize,
+    together: &mut bool,
+) -> Result<usize, NoMemory>
+    requires hosts { H.reads.hosts handler.now ≤ 16 }
+    requires lanes { 0 < lanes }
+    requires count { length passes.old ≡ H.reads.hosts handler.now * lanes + 2 }
+    requires some { 0 < length lines.now }
+    requires sound { IsTrue (list_all (is_sound_line (H.reads.hosts handler.now) lanes) lines.now) }
+    requires in_range { number + length lines.now ≤ 2 ^ 32 }
+    requires ready { EachReady H.reads handler.now (phase (H.reads.hosts handler.now) lanes number lines.now) 0 passes.old }
+    requires stretch { (0 < stretch) × (stretch ≤ length lines.now) }
+    ensures some { IfOk result (λ n. (0 < n) × (n ≤ length lines.now)) }
+    ensures served { IfOk result (λ n. EachServed H.reads handler.now (phase (H.reads.hosts handler.now) lanes number (take n lines.now)) 0 passes.old passes.new) }
+    ensures begun { EachServedSome H.reads handler.now (phase (H.reads.hosts handler.now) lanes number lines.now) 0 passes.old passes.new }
+{
+    let (now, _) = lines.split_at(stretch);
+    match serve_stretch(rt, handler, passes, lanes, number, now, gate) {
+        Ok(()) => Ok(stretch),
+        Err(Stop::NoMemory) => Err(NoMemory),
+        Err(Stop::CalledOff) => {
+            *together = false;
+            run_first(rt, handler, passes, lanes, number, lines, gate)
+        }
+    }
+}
+
+/// Does the lines of the first stretch, or of the first phase where workers do not come together. Answers how many it did.
+fn run_some<R: Threads + Wait + Sync + AllocGlobal, H: Handler, G: Gate>(
+    rt: &R,
+    handler: &H,
+    passes: &mut [H::Pass],
+    lanes: u8,
+    number: u32,
+    lines: &[Line],
+    gate: &G,
+    together: &mut bool,
+) -> Result<usize, NoMemory>
+    requires hosts { H.reads.hosts handler.now ≤ 16 }
+    requires lanes { 0 < lanes }
+    requires count { length passes.old ≡ H.reads.hosts handler.now * lanes + 2 }
+    requires some { 0 < length lines.now }
+    requires sound { IsTrue (list_all (is_sound_line (H.reads.hosts handler.now) lanes) lines.now) }
+    requires in_range { number + length lines.now ≤ 2 ^ 32 }
+    requires ready { EachReady H.reads handler.now (phase (H.reads.hosts handler.now) lanes number lines.now) 0 passes.old }
+    ensures some { IfOk result (λ n. (0 < n) × (n ≤ length lines.now)) }
+    ensures served { IfOk result (λ n. EachServed H.reads handler.now (phase (H.reads.hosts handler.now) lanes number (take n lines.now)) 0 passes.old passes.new) }
+    ensures begun { EachServedSome H.reads handler.now (phase (H.reads.hosts handler.now) lanes number lines.now) 0 passes.old passes.new }
+{
+    if !*together {
+        return run_first(rt, handler, passes, lanes, number, lines, gate);
+    }
+    let stretch = first_stretch(hosts_of(passes.len(), lanes), lanes, lines);
+    if stretch == first_phase(lines) {
+        return run_first(rt, handler, passes, lanes, number, lines, gate);
+    }
+    run_stretch(
+        rt, handler, passes, lanes, number, lines, gate, stretch, together,
+    )
 }
 
 /// Does all lines of a script, phase by phase: a phase ends at a mark, and the next one begins once all workers are done.
@@ -53,10 +206,20 @@ pub fn run_phases<R: Threads + Wait + Sync + AllocGlobal, H: Handler, G: Gate>(
 {
     let mut number = u64::from(first_line);
     let mut rest = lines;
+    let mut together = true;
     while !rest.is_empty() {
-        let (now, later) = rest.split_at(first_phase(rest));
-        run_phase(rt, handler, passes, lanes, number as u32, now, gate)?;
-        number += now.len() as u64;
+        let done = run_some(
+            rt,
+            handler,
+            passes,
+            lanes,
+            number as u32,
+            rest,
+            gate,
+            &mut together,
+        )?;
+        let (_, later) = rest.split_at(done);
+        number += done as u64;
         rest = later;
     }
     Ok(())

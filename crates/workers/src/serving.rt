@@ -6,9 +6,11 @@ ghost use Rattle.std.specs.Prelude.{◌≡◌, ◌<◌, ◌≤◌, ◌+◌, ◌^
 ghost use Rattle.script_codec.specs.Scripts.{is_sound_line};
 ghost use Rattle.workers.specs.Phases.{Grown, is_no_others, phase, tasks};
 ghost use Rattle.workers.specs.Serving.{HasServed, HasServedSome, IsReady, KeepsPass};
+ghost use Rattle.workers.specs.Stops.{OnCalledOff};
 ghost use Rattle.workers.specs.Worklists.{IsNextOf, IsWork, phase_of};
 
 use crate::handler::Handler;
+use crate::stop::Stop;
 use crate::worklists::Worklist;
 use dcd_base::{Actor, Gate, NoMemory};
 use journal_core::Act;
@@ -63,7 +65,8 @@ fn serve_line<R: Wait, P: Send, H: Handler<Pass = P>, G: Gate>(
     }
 }
 
-/// Does the lines of the pass, in order, from its head on.
+/// Does the lines of the pass, in order, from its head on, once all workers have come. It begins no phase before the one before
+/// it is over.
 #[tactic(auto, using(crate::proofs::Standing::begins, crate::proofs::Standing::line_ready, crate::proofs::Standing::line_own, crate::proofs::Standing::all_at, crate::proofs::Standing::ends, crate::proofs::Standing::ended, crate::proofs::Standing::stops))]
 pub(crate) fn serve<R: Wait, P: Send, H: Handler<Pass = P>, G: Gate>(
     rt: &R,
@@ -74,15 +77,23 @@ pub(crate) fn serve<R: Wait, P: Send, H: Handler<Pass = P>, G: Gate>(
     k: u32,
     head: usize,
     pass: &mut P,
-) -> Result<(), NoMemory>
+) -> Result<(), Stop>
     requires work { IsWork H.reads handler.now work.now lines.now }
     requires head { IsNextOf work.now.hosts work.now.lanes lines.now k 0 head }
     requires ready { IsReady H.reads handler.now (phase_of work.now lines.now) k pass.old }
     ensures served { OnOk result (HasServed H.reads handler.now (phase_of work.now lines.now) k pass.old pass.new) }
     ensures begun { HasServedSome H.reads handler.now (phase_of work.now lines.now) k pass.old pass.new }
+    ensures off { OnCalledOff result (pass.new ≡ pass.old) }
 {
+    if !work.pace.meet(rt) {
+        return Err(Stop::CalledOff);
+    }
     let mut place = head;
+    let mut round = 0;
     while place < lines.len() {
+        if !work.pace.enter(rt, &mut round, place) {
+            return Err(Stop::NoMemory);
+        }
         serve_line(
             rt,
             handler,
@@ -95,6 +106,7 @@ pub(crate) fn serve<R: Wait, P: Send, H: Handler<Pass = P>, G: Gate>(
             pass,
         )?;
         place = work.next_after(place);
+        work.pace.leave(round, place);
     }
     Ok(())
 }

@@ -3,12 +3,14 @@
 ghost use Rattle.std.specs.Prelude.{◌≡◌, ◌<◌, ◌+◌, OnOk, length};
 ghost use Rattle.std.specs.Thread.{IsSend, IsSync};
 ghost use Rattle.workers.specs.Serving.{EachServed, EachServedSome};
+ghost use Rattle.workers.specs.Stops.{OnCalledOff};
 ghost use Rattle.workers.specs.Worklists.{IsRow, IsWork, phase_of};
 
 use crate::handler::Handler;
 use crate::serving::serve;
+use crate::stop::Stop;
 use crate::worklists::{Worklist, are_idle};
-use dcd_base::{Gate, NoMemory};
+use dcd_base::Gate;
 use script_codec::Line;
 use std::sync::Wait;
 use std::thread::{Threads, join_mut};
@@ -24,15 +26,20 @@ fn serve_one<R: Wait, P: Send, H: Handler<Pass = P>, G: Gate>(
     k: u32,
     heads: &[usize],
     passes: &mut [P],
-) -> Result<(), NoMemory>
+) -> Result<(), Stop>
     requires one { length passes.old < 2 }
     requires work { IsWork H.reads handler.now work.now lines.now }
     requires row { IsRow H.reads handler.now (phase_of work.now lines.now) k heads.now passes.old }
     ensures served { OnOk result (EachServed H.reads handler.now (phase_of work.now lines.now) k passes.old passes.new) }
     ensures begun { EachServedSome H.reads handler.now (phase_of work.now lines.now) k passes.old passes.new }
+    ensures off { OnCalledOff result (passes.new ≡ passes.old) }
 {
     match passes.first_mut() {
-        Some(pass) => serve(rt, handler, gate, work, lines, k, heads[0], pass),
+        Some(pass) => {
+            let served = serve(rt, handler, gate, work, lines, k, heads[0], pass);
+            work.pace.note(&served);
+            served
+        }
         None => Ok(()),
     }
 }
@@ -48,11 +55,12 @@ pub(crate) fn serve_all<R: Threads + Wait + Sync, P: Send, H: Handler<Pass = P>,
     k: u32,
     heads: &[usize],
     passes: &mut [P],
-) -> Result<(), NoMemory>
+) -> Result<(), Stop>
     requires work { IsWork H.reads handler.now work.now lines.now }
     requires row { IsRow H.reads handler.now (phase_of work.now lines.now) k heads.now passes.old }
     ensures served { OnOk result (EachServed H.reads handler.now (phase_of work.now lines.now) k passes.old passes.new) }
     ensures begun { EachServedSome H.reads handler.now (phase_of work.now lines.now) k passes.old passes.new }
+    ensures off { OnCalledOff result (passes.new ≡ passes.old) }
 {
     if passes.len() < 2 {
         return serve_one(rt, handler, gate, work, lines, k, heads, passes);
@@ -90,7 +98,7 @@ fn serve_halves<R: Threads + Wait + Sync, P: Send, H: Handler<Pass = P>, G: Gate
     j: u32,
     back_heads: &[usize],
     back: &mut [P],
-) -> Result<(), NoMemory>
+) -> Result<(), Stop>
     requires some { (0 < length front.old) × (0 < length back.old) }
     requires work { IsWork H.reads handler.now work.now lines.now }
     requires front { IsRow H.reads handler.now (phase_of work.now lines.now) k front_heads.now front.old }
@@ -99,6 +107,7 @@ fn serve_halves<R: Threads + Wait + Sync, P: Send, H: Handler<Pass = P>, G: Gate
     ensures served_back { OnOk result (EachServed H.reads handler.now (phase_of work.now lines.now) j back.old back.new) }
     ensures begun_front { EachServedSome H.reads handler.now (phase_of work.now lines.now) k front.old front.new }
     ensures begun_back { EachServedSome H.reads handler.now (phase_of work.now lines.now) j back.old back.new }
+    ensures off { OnCalledOff result ((front.new ≡ front.old) × (back.new ≡ back.old)) }
 {
     if are_idle(lines, front_heads) {
         return serve_all(rt, handler, gate, work, lines, j, back_heads, back);
@@ -135,7 +144,7 @@ fn serve_both<R: Threads + Wait + Sync, P: Send, H: Handler<Pass = P>, G: Gate>(
     j: u32,
     back_heads: &[usize],
     back: &mut [P],
-) -> Result<(), NoMemory>
+) -> Result<(), Stop>
     requires some { (0 < length front.old) × (0 < length back.old) }
     requires work { IsWork H.reads handler.now work.now lines.now }
     requires front { IsRow H.reads handler.now (phase_of work.now lines.now) k front_heads.now front.old }
@@ -144,22 +153,28 @@ fn serve_both<R: Threads + Wait + Sync, P: Send, H: Handler<Pass = P>, G: Gate>(
     ensures served_back { OnOk result (EachServed H.reads handler.now (phase_of work.now lines.now) j back.old back.new) }
     ensures begun_front { EachServedSome H.reads handler.now (phase_of work.now lines.now) k front.old front.new }
     ensures begun_back { EachServedSome H.reads handler.now (phase_of work.now lines.now) j back.old back.new }
+    ensures off { OnCalledOff result ((front.new ≡ front.old) × (back.new ≡ back.old)) }
 {
-    let mut low = || -> Result<(), NoMemory>
+    let mut low = || -> Result<(), Stop>
         requires shared { IsSync R.row × IsSync H.row × IsSync G.row × IsSend P.row }
         requires work { IsWork H.reads handler.now work.now lines.now }
         requires row { IsRow H.reads handler.now (phase_of work.now lines.now) k front_heads.now front.now }
         ensures served { OnOk result (EachServed H.reads handler.entry.now (phase_of work.entry.now lines.entry.now) k front.entry.now front.exit.now) }
         ensures begun { EachServedSome H.reads handler.entry.now (phase_of work.entry.now lines.entry.now) k front.entry.now front.exit.now }
+        ensures off { OnCalledOff result (front.exit.now ≡ front.entry.now) }
     { serve_all(rt, handler, gate, work, lines, k, front_heads, front) };
-    let mut high = || -> Result<(), NoMemory>
+    let mut high = || -> Result<(), Stop>
         requires shared { IsSync R.row × IsSync H.row × IsSync G.row × IsSend P.row }
         requires work { IsWork H.reads handler.now work.now lines.now }
         requires row { IsRow H.reads handler.now (phase_of work.now lines.now) j back_heads.now back.now }
         ensures served { OnOk result (EachServed H.reads handler.entry.now (phase_of work.entry.now lines.entry.now) j back.entry.now back.exit.now) }
         ensures begun { EachServedSome H.reads handler.entry.now (phase_of work.entry.now lines.entry.now) j back.entry.now back.exit.now }
+        ensures off { OnCalledOff result (back.exit.now ≡ back.entry.now) }
     { serve_all(rt, handler, gate, work, lines, j, back_heads, back) };
     let (a, b) = join_mut(rt, &mut low, &mut high);
-    a?;
-    b
+    match (a, b) {
+        (Ok(()), Ok(())) => Ok(()),
+        (Err(Stop::CalledOff), Err(Stop::CalledOff)) => Err(Stop::CalledOff),
+        _ => Err(Stop::NoMemory),
+    }
 }

@@ -5,6 +5,7 @@ ghost use Rattle.std.specs.Prelude.{◌≡◌, ◌==◌, ◌<◌, ◌+◌, ◌*�
 ghost use Rattle.script_codec.specs.Scripts.{is_sound_line};
 ghost use Rattle.workers.specs.Worklists.{ArePartedFrom};
 
+use crate::pace::Pace;
 use dcd_base::NoMemory;
 use script_codec::{Line, pass_of};
 use std::alloc::Global;
@@ -18,6 +19,8 @@ pub(crate) struct Worklist {
     pub(crate) first: u32,
     /// For each line the place of the next one of its pass, or the number of lines where there is none.
     pub(crate) next: Vec<usize>,
+    /// How the workers keep pace.
+    pub(crate) pace: Pace,
 }
 
 impl Worklist {
