@@ -8,8 +8,9 @@ ghost use Rattle.workers.specs.Serving.{EachReady, EachServed, EachServedSome};
 ghost use Rattle.workers.specs.Stops.{OnCalledOff};
 
 use crate::handler::Handler;
-use crate::pace::{Pace, rounds_of};
+use crate::pace::Pace;
 use crate::phase::hosts_of;
+use crate::rounds::rounds_of;
 use crate::stop::Stop;
 use crate::workers::serve_all;
 use crate::worklists::{Worklist, parted};
