@@ -44,8 +44,11 @@ fn have_several(hosts: u8, lanes: u8, lines: &[Line]) -> bool {
 /// the threads anew.
 const ALONE: u32 = 32;
 
+/// How many lines a phase of a stretch has at most. Beside more of them threads cost little.
+const LONG: usize = 4096;
+
 /// How many of the lines behind a phase of several passes are of its stretch: those up to the last such phase that comes before
-/// too many others.
+/// a long one or too many others.
 #[tactic(auto, using(crate::proofs::Phasing::some_lines, crate::proofs::Phasing::no_more_lines))]
 fn more_of_stretch(hosts: u8, lanes: u8, lines: &[Line]) -> usize
     ensures { result ≤ length lines.now }
@@ -56,6 +59,9 @@ fn more_of_stretch(hosts: u8, lanes: u8, lines: &[Line]) -> usize
     while end < lines.len() && alone < ALONE {
         let (_, rest) = lines.split_at(end);
         let (phase, _) = rest.split_at(first_phase(rest));
+        if LONG < phase.len() {
+            return length;
+        }
         end += phase.len();
         if have_several(hosts, lanes, phase) {
             length = end;
@@ -67,8 +73,8 @@ fn more_of_stretch(hosts: u8, lanes: u8, lines: &[Line]) -> usize
     length
 }
 
-/// How many lines the first stretch has: from a phase of several passes to the last one. A phase that one pass has alone is no
-/// stretch with others.
+/// How many lines the first stretch has: from a phase of several passes to the last one. A long phase, or one that a pass has alone, is
+/// no stretch with others.
 #[tactic(auto, using(crate::proofs::Phasing::some_lines, crate::proofs::Phasing::no_more_lines))]
 fn first_stretch(hosts: u8, lanes: u8, lines: &[Line]) -> usize
     requires { 0 < length lines.now }
@@ -77,7 +83,7 @@ fn first_stretch(hosts: u8, lanes: u8, lines: &[Line]) -> usize
 {
     let length = first_phase(lines);
     let (phase, rest) = lines.split_at(length);
-    if have_several(hosts, lanes, phase) {
+    if length <= LONG && have_several(hosts, lanes, phase) {
         length + more_of_stretch(hosts, lanes, rest)
     } else {
         length
