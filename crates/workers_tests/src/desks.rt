@@ -1,6 +1,6 @@
 //! The passes of a device, and the lines that they do.
 ghost use Rattle.std.specs.List.{list_all};
-ghost use Rattle.std.specs.Prelude.{◌≡◌, ◌<◌, ◌+◌, ◌*◌, [], IfOk, IsTrue, length};
+ghost use Rattle.std.specs.Prelude.{◌≡◌, ◌<◌, ◌≤◌, ◌+◌, ◌*◌, [], IfOk, IsTrue, length};
 ghost use Rattle.script_codec.specs.Scripts.{is_sound_line};
 ghost use Rattle.workers_tests.specs.Desks.{AreDesks, actor_at};
 
@@ -79,6 +79,22 @@ pub fn lines_of(alloc: Global, count: u16) -> Result<Vec<Line>, NoMemory>
     let mut lines = Vec::new(alloc);
     for index in 0..count {
         lines.push(line(index))?;
+    }
+    Ok(lines)
+}
+
+/// So many lines, with a mark behind every ten.
+#[tactic(auto, using(crate::proofs::DeskSteps::sound_pushed))]
+pub fn marked_lines(alloc: Global, count: u16) -> Result<Vec<Line>, NoMemory>
+    ensures sound { IfOk result (λ lines. IsTrue (list_all (is_sound_line 2 2) lines.items)) }
+    ensures count { IfOk result (λ lines. length lines.items ≤ 2 * count) }
+{
+    let mut lines = Vec::new(alloc);
+    for index in 0..count {
+        lines.push(line(index))?;
+        if index % 10 == 9 {
+            lines.push(Line::Mark)?;
+        }
     }
     Ok(lines)
 }

@@ -10,4 +10,6 @@ mod marked;
 #[cfg(test)]
 mod phases;
 #[cfg(test)]
+mod stretches;
+#[cfg(test)]
 mod threads;

@@ -1,4 +1,4 @@
-//! A script with a mark after every line: each phase has one line.
+//! Scripts with marks: with one after every line, and as they come.
 ghost use Rattle.std.specs.List.{list_all};
 ghost use Rattle.std.specs.Prelude.{◌≡◌, ◌<◌, ◌≤◌, ◌+◌, ◌^◌, IsTrue, OnOk, length};
 ghost use Rattle.script_codec.specs.Scripts.{is_sound_line};
@@ -10,7 +10,7 @@ use script_codec::Line;
 use std::alloc::AllocGlobal;
 use std::sync::Wait;
 use std::thread::Threads;
-use workers::run_phase;
+use workers::{run_phase, run_phases};
 
 /// Runs the lines in one phase.
 pub fn run_together<R: Threads + Wait + Sync + AllocGlobal, G: Gate>(
@@ -56,4 +56,21 @@ pub fn run_apart<R: Threads + Wait + Sync + AllocGlobal, G: Gate>(
         rest = tail;
     }
     Ok(())
+}
+
+/// Runs a script, phase by phase, the first line of which has the number 1.
+pub fn run_script<R: Threads + Wait + Sync + AllocGlobal, G: Gate>(
+    rt: &R,
+    keeper: &Keeper,
+    desks: &mut [Desk],
+    lines: &[Line],
+    gate: &G,
+) -> Result<(), NoMemory>
+    requires hosts { keeper.now.hosts ≡ 2 }
+    requires desks { AreDesks 2 2 0 0 desks.old }
+    requires count { length desks.old ≡ 6 }
+    requires sound { IsTrue (list_all (is_sound_line 2 2) lines.now) }
+    requires few { length lines.now ≤ 131072 }
+{
+    run_phases(rt, keeper, desks, 2, 1, lines, gate)
 }
