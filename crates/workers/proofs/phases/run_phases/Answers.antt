@@ -1,4 +1,4 @@
-use Rattle.std.proofs.Common.{rules, ◌+◌, ◌∙◌, ap, arith, length, take, refl, sym}
+use Rattle.std.proofs.Common.{rules, ◌+◌, ◌∙◌, ap, arith, length, take, sym}
 use Rattle.std.proofs.lemmas.List.{append-nil}
 use Rattle.std.specs.Prelude.{[], ◌++◌}
 use Rattle.script_codec.specs.Scripts.{is_sound_line}

@@ -1,4 +1,4 @@
-use Rattle.std.proofs.Common.{◌+◌, ◌<◌, ◌^◌, arith, length}
+use Rattle.std.proofs.Common.{arith}
 use Rattle.workers_tests.proofs.DeskSteps.{desks_ready}
 use Rattle.workers_tests.specs.declared.keeper.Keeper.{Keeper}
 use Rattle.workers_tests.proofs.marked.run_script.Goals as goal
