@@ -9,6 +9,7 @@ use crate::turns::protocol::{Board, Marking, Outcome, Protocol, Token};
 use crate::turns::sleepers::Sleepers;
 use std::hint::spin_loop;
 use std::sync::Wait;
+use std::thread::yield_now;
 
 /// One try, by one step.
 fn attempt<X, V, K, P: Protocol<X, V, K>, M: Outcome<X, V>>(
@@ -69,19 +70,36 @@ pub fn try_take<X, V, K, P: Protocol<X, V, K>, M: Outcome<X, V>>(
     }
 }
 
-/// How often a turn that is another's is looked at again before a sleep.
+/// How often a turn that is another's is looked at again before other threads are let run.
 const LOOKS: u32 = 200;
 
+/// How often they are let run before a sleep: to be woken costs more than most turns take.
+const YIELDS: u32 = 100;
+
 /// Looks at a turn again until it is given back, or so many times.
-fn look_again<X, V, K, P: Protocol<X, V, K>>(board: &Board<X, V, K, P>, cell: usize)
+fn look_again<X, V, K, P: Protocol<X, V, K>>(board: &Board<X, V, K, P>, cell: usize) -> bool
     requires { (cell < board.now.table_id.slots) × (board.now.table_id.words ≡ board.now.table_id.slots + 1) }
 {
     for _ in 0..LOOKS {
         if board.peek(cell) == 0 {
-            return;
+            return true;
         }
         spin_loop();
     }
+    false
+}
+
+/// Lets other threads run until a turn is given back, or so many times.
+fn yield_for<X, V, K, P: Protocol<X, V, K>>(board: &Board<X, V, K, P>, cell: usize) -> bool
+    requires { (cell < board.now.table_id.slots) × (board.now.table_id.words ≡ board.now.table_id.slots + 1) }
+{
+    for _ in 0..YIELDS {
+        yield_now();
+        if board.peek(cell) == 0 {
+            return true;
+        }
+    }
+    false
 }
 
 /// Sleeps while the turn is this seat's, which its word tells by the seat's number plus 1.
@@ -99,7 +117,22 @@ fn sleep<X, V, K, P: Protocol<X, V, K>, R: Wait>(
     sleepers.leave(cell);
 }
 
-/// Takes a turn. While it is another's, it looks again some times, and then sleeps.
+/// Waits a while for a turn that is another's: it looks again some times, lets others run some times, and then sleeps.
+fn rest<X, V, K, P: Protocol<X, V, K>, R: Wait>(
+    rt: &R,
+    board: &Board<X, V, K, P>,
+    sleepers: &Sleepers,
+    cell: usize,
+    word: u32,
+)
+    requires { (cell < board.now.table_id.slots) × (board.now.table_id.words ≡ board.now.table_id.slots + 1) }
+{
+    if !look_again(board, cell) && !yield_for(board, cell) {
+        sleep(rt, board, sleepers, cell, word);
+    }
+}
+
+/// Takes a turn. While it is another's, it waits, and tries again.
 pub fn take<X, V, K, P: Protocol<X, V, K>, M: Outcome<X, V>, R: Wait>(
     rt: &R,
     board: &Board<X, V, K, P>,
@@ -119,8 +152,7 @@ pub fn take<X, V, K, P: Protocol<X, V, K>, M: Outcome<X, V>, R: Wait>(
         match try_take::<X, V, K, P, M>(board, seat, number, cell) {
             Ok(value) => return value,
             Err(other) => {
-                look_again(board, cell);
-                sleep(rt, board, sleepers, cell, other + 1);
+                rest(rt, board, sleepers, cell, other + 1);
             }
         }
     }
