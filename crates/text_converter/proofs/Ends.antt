@@ -2,7 +2,7 @@
 use Rattle.std.proofs.Common.{ℕ, List, Option, refl}
 use Rattle.std.specs.Prelude.{◌≢◌}
 use Rattle.text_converter.specs.Converting.{IsRefused}
-use Rattle.text_converter.specs.Runs.{EndsLine, EndsOf, IsTold, refusal_text}
+use Rattle.text_converter.specs.Runs.{EndsLine, EndsOf, IsSaid, refusal_text}
 use Rattle.text_converter.specs.declared.converting.Task.{Task}
 use Rattle.text_converter.specs.declared.converting.Refusal.{Refusal}
 use Rattle.text_converter.specs.declared.status.Status.{Status}
@@ -18,7 +18,7 @@ refused_ends name task input refusal old faults new count Status.WriteFault real
     (record { status = Status.Refused; output = refusal_text name refusal; rest = ends.0.0; planned = (refusal, real, is, refl); took = ends.0.1 }, ends.1)
 
 -- a refusal that comes of an input is told, unless memory was wanted
-pub told : (task : Task) (input : List ℕ) (refusal : Refusal) → (refusal ≢ Refusal.NoMemory) → IsRefused task input refusal → IsTold refusal
+pub told : (task : Task) (input : List ℕ) (refusal : Refusal) → (refusal ≢ Refusal.NoMemory) → IsRefused task input refusal → IsSaid refusal
 told Task.ToScript input (Refusal.Text place cause) real is = tt
 told Task.ToScript input (Refusal.Script fault) real is = absurd is
 told Task.ToScript input (Refusal.Cut need have) real is = tt

@@ -37,12 +37,12 @@ refusal_text name (Refusal.Stopped line) = stopped_line line
 refusal_text name Refusal.NoMemory = []
 
 -- It is a refusal that a line tells.
-abbrev pub IsTold : Refusal → Type 0
-IsTold (Refusal.Text place cause) = Unit {0}
-IsTold (Refusal.Script fault) = fault ≢ ScriptFault.NoMemory
-IsTold (Refusal.Cut need have) = Unit {0}
-IsTold (Refusal.Stopped line) = Unit {0}
-IsTold Refusal.NoMemory = ⊥
+abbrev pub IsSaid : Refusal → Type 0
+IsSaid (Refusal.Text place cause) = Unit {0}
+IsSaid (Refusal.Script fault) = fault ≢ ScriptFault.NoMemory
+IsSaid (Refusal.Cut need have) = Unit {0}
+IsSaid (Refusal.Stopped line) = Unit {0}
+IsSaid Refusal.NoMemory = ⊥
 
 -- the line on an input that is too long
 abbrev pub long_line : Task → List ℕ

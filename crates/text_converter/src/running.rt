@@ -2,7 +2,7 @@
 
 ghost use Rattle.edge_io.specs.Words.{words_of};
 ghost use Rattle.std.specs.Prelude.{◌≡◌};
-ghost use Rattle.text_converter.specs.Runs.{EndsLine, EndsOf, EndsRun, EndsTurned, EndsUsage, IsTold, most_of as most, over, refusal_text};
+ghost use Rattle.text_converter.specs.Runs.{EndsLine, EndsOf, EndsRun, EndsTurned, EndsUsage, IsSaid, most_of as most, over, refusal_text};
 
 use crate::asking::{name_of, task_of};
 use crate::converting::{Refusal, Task, convert};
@@ -25,7 +25,7 @@ fn most_of(task: Task) -> usize
 
 /// Writes the line on a refusal.
 fn refuse<K: Sink>(alloc: Global, name: &[u8], refusal: Refusal, sink: &mut K) -> Status
-    requires { IsTold refusal }
+    requires { IsSaid refusal }
     ensures { EndsLine (refusal_text name.now refusal) (K.taken sink.old) (K.faults sink.old) (K.taken sink.new) (K.faults sink.new) result }
 {
     match refusal {
