@@ -529,3 +529,49 @@ def chassis(count, each):
         alone.append(script(start, lines))
         whole.append([there(number, line) for line in lines])
     return tunnelling.fabric([start] * count, [lines[n] for n in range(each) for lines in whole]), alone
+
+
+# What a planner makes a list for
+
+
+def taken_and_given(lines, turns):
+    """Each host in turn gets a block of the empty region 0 and gives it back; it is zeroed, and the host clears its log."""
+    for turn in range(turns):
+        host = turn % HOSTS
+        lines.told(host, offer(host, FREE, 0, MIB), 1)
+        lines.host(host, respond(blocks(0, 1)))
+        lines.host(host, give_back(blocks(0, 1)))
+        lines.append(scrub(1))
+        lines.clear(host)
+
+
+def granted(lines, host, regions):
+    """The host accepts 16 extents of four blocks in each of these regions, every other one of them first, and clears its log."""
+    for number in regions:
+        first = 512 * number + 8 * (host // 2)
+        for start in (first, first + 4):
+            extents = blocks(start, 8, 64, 4)
+            lines.told(host, offer(host, PRESCRIPTIVE, number, extents=extents), 8)
+            lines.host(host, respond(extents))
+    lines.clear(host)
+
+
+def exchanged(count, kept):
+    """A script and demands. Behind the script all 4,096 granules of eight regions are held: hosts with even numbers have 64 blocks in each of the regions with
+    even numbers, the others in the others. Each is to keep so many of the 64, and to have the others of them in each of the regions where it has none.
+    """
+    import planning
+
+    lines = Lines()
+    taken_and_given(lines, (count - 17 * HOSTS) // 5)
+    for host in range(HOSTS):
+        granted(lines, host, range(host % 2, 8, 2))
+    demands = [(host, number, kept if number % 2 == host % 2 else 64 - kept) for host in range(HOSTS) for number in range(8)]
+    return device([(512, 1)] * 8), lines, planning.asked(*demands)
+
+
+# What a planner is timed on: how many of its 64 blocks a host keeps in a region.
+PLANS = [
+    ("all holdings exchanged, one extent each", 0),
+    ("half of each holding, eight extents each", 32),
+]

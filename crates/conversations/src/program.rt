@@ -3,6 +3,7 @@
 use dcd_base::{MemSink, MemSource, NoGate};
 use host_driver::run_driver;
 use journal_check::run_check;
+use pool_planner::run_plan;
 use script_runner::{chosen, run};
 use std::alloc::{AllocGlobal, Global};
 use std::io::{self, ErrorKind};
@@ -22,6 +23,8 @@ pub(crate) enum Program {
     HostDriver,
     /// Checks a printed text against a script.
     JournalCheck,
+    /// Lists the commands that lead from what hosts hold to what is demanded.
+    PoolPlanner,
     /// Runs several devices behind a tunnel.
     TunnelFabric,
 }
@@ -34,6 +37,7 @@ impl Program {
             "dcdtext" => Ok(Program::Dcdtext),
             "host_driver" => Ok(Program::HostDriver),
             "journal_check" => Ok(Program::JournalCheck),
+            "pool_planner" => Ok(Program::PoolPlanner),
             "tunnel_fabric" => Ok(Program::TunnelFabric),
             _ => Err(io::Error::from(ErrorKind::InvalidData)),
         }
@@ -53,6 +57,7 @@ impl Program {
             Program::Dcdtext => run_text(alloc, words, source, sink).number(),
             Program::HostDriver => run_driver(alloc, words, source, sink).number(),
             Program::JournalCheck => run_check(alloc, words, source, sink).number(),
+            Program::PoolPlanner => run_plan(alloc, words, source, sink).number(),
             Program::TunnelFabric => run_fabric(alloc, words, source, sink).number(),
         }
     }
@@ -67,6 +72,7 @@ impl Program {
             Program::Dcdtext
             | Program::HostDriver
             | Program::JournalCheck
+            | Program::PoolPlanner
             | Program::TunnelFabric => status != USAGE,
         }
     }
@@ -74,8 +80,11 @@ impl Program {
     /// How few bytes a write takes at least that may take so many, but for the last one.
     pub(crate) fn least_written(self, most: usize) -> usize {
         match self {
-            Program::Dcdsim | Program::Dcdtext | Program::HostDriver | Program::JournalCheck =>
-                most,
+            Program::Dcdsim
+            | Program::Dcdtext
+            | Program::HostDriver
+            | Program::JournalCheck
+            | Program::PoolPlanner => most,
             Program::TunnelFabric => 1,
         }
     }

@@ -1,0 +1,2 @@
+pub mod LastBytes
+pub mod Untagged

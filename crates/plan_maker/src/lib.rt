@@ -1,0 +1,15 @@
+//! The list of a plan, made from what a control tells and tried on a fresh one, or the first fault.
+#![tactic(auto)]
+
+mod gaining;
+mod held;
+mod letting_go;
+mod losing;
+mod naming;
+mod opening;
+mod planning;
+mod replaying;
+mod shortness;
+mod trial;
+
+pub use planning::{Planned, plan};

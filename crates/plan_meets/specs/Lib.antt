@@ -1,0 +1,2 @@
+pub mod ActsLeft
+pub mod WholePlans

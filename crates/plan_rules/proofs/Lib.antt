@@ -1,0 +1,3 @@
+pub mod AlikePlans
+pub mod AlikeSteps
+pub mod Succeeding

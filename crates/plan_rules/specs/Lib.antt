@@ -1,0 +1,5 @@
+pub mod PlanAlike
+pub mod Holding
+pub mod Listing
+pub mod Meeting
+pub mod Planning

@@ -1,0 +1,4 @@
+pub mod PlanEnds
+pub mod PlanPrinting
+pub mod PlanRuns
+pub mod PlanStatuses

@@ -1,0 +1,167 @@
+-- How a run of the planner ends: what is to be written, by its status.
+use Rattle.std.specs.Prelude.{◌≡◌, ◌≢◌, ◌⊎◌, ℕ, ◌+◌, ◌<◌, ◌≤◌, List, [], ◌∷◌, length, take, drop, Option, Some, None, Ok, Err, nat_lt, if◌then◌else◌}
+use Rattle.std.specs.Int.{w32}
+use Rattle.std.specs.Option.{IfSome}
+use Rattle.field_bytes.specs.Layouts.{number_at}
+use Rattle.dcd_base.specs.Streams.{HasRisen, Passes}
+use Rattle.region_config.specs.Configurations.{Configuration}
+use Rattle.journal_core.specs.Entries.{effects}
+use Rattle.journal_core.specs.declared.entries.Entry.{Entry}
+use Rattle.device_rules.specs.Legal.{Legal}
+use Rattle.script_codec.specs.Covering.{Runs}
+use Rattle.script_codec.specs.Reading.{first_fault}
+use Rattle.script_codec.specs.Scripts.{ReadsScript}
+use Rattle.script_codec.specs.declared.faults.ScriptFault.{ScriptFault}
+use Rattle.script_codec.specs.declared.scripts.Script.{Script}
+use Rattle.report.specs.Refusals.{refusal_line}
+use Rattle.demand_codec.specs.DemandTexts.{IsReadAsDemands}
+use Rattle.demand_codec.specs.declared.demands.Demands.{Demands}
+use Rattle.demand_codec.specs.declared.faults.DemandFault.{DemandFault}
+use Rattle.plan_rules.specs.Holding.{stepped}
+use Rattle.plan_rules.specs.Listing.{planned}
+use Rattle.plan_rules.specs.Meeting.{MeetsDemands}
+use Rattle.plan_rules.specs.Planning.{AllSucceed, plan_fault}
+use Rattle.pool_planner.specs.PlanPrinting.{demands_refused, plan_fault_line, plan_text, planner_usage_line}
+use Rattle.pool_planner.specs.declared.status.PlanStatus.{PlanStatus}
+
+-- ---- the frame: a number of 32 bits, so many bytes of a script, and demands
+
+abbrev pub most_of_frame : ℕ
+most_of_frame = 33554432
+
+-- how many bytes an input has to have
+abbrev pub frame_need : List ℕ → ℕ
+frame_need input = if nat_lt (length input) 4 then 4 else 4 + number_at w32 input 0
+
+abbrev pub frame_script : List ℕ → List ℕ
+frame_script input = take (number_at w32 input 0) (drop 4 input)
+
+abbrev pub frame_rest : List ℕ → List ℕ
+frame_rest input = drop (number_at w32 input 0) (drop 4 input)
+
+pub record IsPlanFrame (input : List ℕ) : Type 0 where
+  pub few : length input ≤ most_of_frame
+  pub whole : frame_need input ≤ length input
+
+-- ---- what an input comes to
+
+-- The journal is that of the lines of the script, done in their order.
+pub record IsScriptJournal (s : Script) (journal : List Entry) : Type 0 where
+  pub legal : Legal s.config journal
+  pub runs : Runs s.config.hosts s.lanes 1 s.lines journal
+
+-- There is a list for these demands behind this journal: each of its acts succeeds, it leaves what was demanded, and it is
+-- printed, with the state behind it.
+pub record IsPlanDone (c : Configuration) (journal : List Entry) (q : Demands) (printed : List ℕ) : Type 0 where
+  pub faultless : plan_fault c journal q ≡ None
+  pub succeeds : AllSucceed c journal (planned c journal q)
+  pub meets : MeetsDemands c (effects journal) (effects (stepped c journal (planned c journal q))) q
+  pub is : printed ≡ plan_text c journal (planned c journal q)
+
+-- The plan behind this journal ends so: there is a list, or a first fault.
+abbrev pub IsPlannedEnd : Configuration → List Entry → Demands → PlanStatus → List ℕ → Type 0
+IsPlannedEnd c journal q PlanStatus.Done printed = IsPlanDone c journal q printed
+IsPlannedEnd c journal q (PlanStatus.Plan fault) printed = (plan_fault c journal q ≡ Some fault) × (printed ≡ plan_fault_line fault)
+IsPlannedEnd c journal q status printed = ⊥
+
+-- The plan for these demands behind the script ends so.
+pub record IsDemandsEnd (s : Script) (q : Demands) (status : PlanStatus) (printed : List ℕ) : Type 0 where
+  pub journal : List Entry
+  pub runs : IsScriptJournal s journal
+  pub ends : IsPlannedEnd s.config journal q status printed
+
+-- These bytes state demands, and this is how it ends for them.
+abbrev pub IsDemandedEnd : Script → List ℕ → PlanStatus → List ℕ → Type 0
+IsDemandedEnd s rest status printed = (q : Demands) × IsReadAsDemands rest (Ok q) × IsDemandsEnd s q status printed
+
+-- These bytes state no demands, for this fault.
+pub record HasNoDemands (rest : List ℕ) (fault : DemandFault) (printed : List ℕ) : Type 0 where
+  pub known : fault ≢ DemandFault.NoMemory
+  pub states : IsReadAsDemands rest (Err fault)
+  pub is : printed ≡ demands_refused fault
+
+abbrev pub IsScriptEnd : Script → List ℕ → PlanStatus → List ℕ → Type 0
+IsScriptEnd s rest PlanStatus.Done printed = IsDemandedEnd s rest PlanStatus.Done printed
+IsScriptEnd s rest (PlanStatus.Plan fault) printed = IsDemandedEnd s rest (PlanStatus.Plan fault) printed
+IsScriptEnd s rest (PlanStatus.Demands fault) printed = HasNoDemands rest fault printed
+IsScriptEnd s rest status printed = ⊥
+
+-- The input is a frame whose script is read, whatever its reserved bits, and this is how it ends behind it.
+pub record IsFrameEnd (input : List ℕ) (status : PlanStatus) (printed : List ℕ) : Type 0 where
+  pub frame : IsPlanFrame input
+  pub script : Script
+  pub reads : ReadsScript (frame_script input) script
+  pub ends : IsScriptEnd script (frame_rest input) status printed
+
+-- The input is a frame whose script has this fault first.
+pub record HasNoScript (input : List ℕ) (fault : ScriptFault) (printed : List ℕ) : Type 0 where
+  pub frame : IsPlanFrame input
+  pub faulty : first_fault (frame_script input) ≡ Some fault
+  pub is : printed ≡ refusal_line fault
+
+-- It has fewer bytes than it needs.
+pub record IsShortPlanFrame (input : List ℕ) (need have : ℕ) (printed : List ℕ) : Type 0 where
+  pub few : length input ≤ most_of_frame
+  pub need_is : need ≡ frame_need input
+  pub have_is : have ≡ length input
+  pub fewer : have < need
+  pub is : printed ≡ []
+
+-- A run over this input is to end so, and to write this.
+abbrev pub IsPlanEnd : List ℕ → PlanStatus → List ℕ → Type 0
+IsPlanEnd input PlanStatus.Done printed = IsFrameEnd input PlanStatus.Done printed
+IsPlanEnd input (PlanStatus.Plan fault) printed = IsFrameEnd input (PlanStatus.Plan fault) printed
+IsPlanEnd input (PlanStatus.Demands fault) printed = IsFrameEnd input (PlanStatus.Demands fault) printed
+IsPlanEnd input (PlanStatus.ScriptRefused fault) printed = HasNoScript input fault printed
+IsPlanEnd input (PlanStatus.InputShort need have) printed = IsShortPlanFrame input need have printed
+IsPlanEnd input PlanStatus.InputLong printed = (most_of_frame < length input) × (printed ≡ [])
+IsPlanEnd input status printed = ⊥
+
+-- ---- what a run comes to
+
+-- By these words a run over what the source has left is to end so, and to write this. No word is taken.
+abbrev pub IsPlanOutcome : List (List ℕ) → Option (List ℕ) → PlanStatus → List ℕ → Type 0
+IsPlanOutcome [] left status printed = IfSome left (λ input. IsPlanEnd input status printed)
+IsPlanOutcome (word ∷ words) left status printed = (status ≡ PlanStatus.Usage) × (printed ≡ planner_usage_line)
+
+-- All of it is written.
+pub record IsPlanWritten (words : List (List ℕ)) (left old new : Option (List ℕ)) (status : PlanStatus) : Type 0 where
+  pub printed : List ℕ
+  pub outcome : IsPlanOutcome words left status printed
+  pub took : Passes old new [] printed
+
+-- A front of it is written.
+pub record IsPlanBegun (words : List (List ℕ)) (left old new : Option (List ℕ)) : Type 0 where
+  pub status : PlanStatus
+  pub printed : List ℕ
+  pub rest : List ℕ
+  pub outcome : IsPlanOutcome words left status printed
+  pub took : Passes old new rest printed
+
+-- Nothing stood in the way: there are no words, the input is told and is a frame of a script and of demands for which there is
+-- a list, and no read and no write failed. The pairs are counts of faults before and after.
+pub record IsSoundPlan (words : List (List ℕ)) (left : Option (List ℕ)) (reads writes : ℕ × ℕ) : Type 0 where
+  pub no_words : words ≡ []
+  pub input : List ℕ
+  pub told : left ≡ Some input
+  pub frame : IsPlanFrame input
+  pub script : Script
+  pub reads_as : ReadsScript (frame_script input) script
+  pub q : Demands
+  pub states : IsReadAsDemands (frame_rest input) (Ok q)
+  pub planned : (journal : List Entry) → IsScriptJournal script journal → plan_fault script.config journal q ≡ None
+  pub no_read_fault : HasRisen reads.0 reads.1 → ⊥
+  pub no_write_fault : HasRisen writes.0 writes.1 → ⊥
+
+-- The same of a source and a sink, before and after: what the source has left, and their counts of faults.
+abbrev pub IsPlannedSoundly : {S K : Type 0} → List (List ℕ) → (S → Option (List ℕ)) → (S → ℕ) → (K → ℕ) → S → S → K → K → Type 0
+IsPlannedSoundly words left reads writes source source' sink sink' =
+    IsSoundPlan words (left source) (reads source, reads source') (writes sink, writes sink')
+
+-- ---- one part of it
+
+-- This text was to be written at this end: it was, or a write failed.
+abbrev pub PutsEnding : PlanStatus → List ℕ → Option (List ℕ) → ℕ → Option (List ℕ) → ℕ → PlanStatus → Type 0
+PutsEnding status printed old faults new count result =
+    ((result ≡ status) × Passes old new [] printed)
+    ⊎ ((result ≡ PlanStatus.WriteFault) × ((rest : List ℕ) × Passes old new rest printed) × HasRisen faults count)

@@ -1,0 +1,144 @@
+//! What a run over an input comes to.
+
+ghost use Rattle.pool_planner.specs.PlanEnds.{IsDemandsEnd, IsPlanEnd, IsPlanFrame, IsPlannedEnd, IsScriptEnd, frame_need, frame_rest, frame_script};
+ghost use Rattle.pool_planner.specs.PlanPrinting.{plan_text};
+ghost use Rattle.pool_planner.specs.declared.status.PlanStatus.{PlanStatus};
+ghost use Rattle.script_codec.specs.Scripts.{IsScript};
+ghost use Rattle.std.specs.Prelude.{◌≡◌, ◌≤◌, IfOk, length};
+
+use crate::ending::Ending;
+use crate::printing::act_lines;
+use crate::refusals::{demands_refusal, plan_refusal, script_refusal};
+use crate::running::{are_sound, put_state, run_lines, take_steps};
+use crate::status::PlanStatus;
+use dcd_base::{Actor, Bytes, NoMemory};
+use demand_codec::{DemandFault, Demands, read_demands};
+use device_plain::Device;
+use field_bytes::u32_at;
+use journal_core::Act;
+use plan_maker::plan;
+use plan_rules::PlanFault;
+use script_codec::{Script, ScriptFault, read};
+use std::alloc::Global;
+
+/// How many bytes an input has to have.
+fn need_of(input: &[u8]) -> u64
+    ensures { result ≡ frame_need input.now }
+{
+    if input.len() < 4 {
+        4
+    } else {
+        4 + u64::from(u32_at(input, 0))
+    }
+}
+
+/// The script of a frame, and what is behind it.
+fn parts_of(input: &[u8]) -> (&[u8], &[u8])
+    requires { frame_need input.now ≤ length input.now }
+    ensures script { result.0.now ≡ frame_script input.now }
+    ensures rest { result.1.now ≡ frame_rest input.now }
+{
+    let count = u32_at(input, 0) as usize;
+    let (_, rest) = input.split_at(4);
+    rest.split_at(count)
+}
+
+/// How a run over an input ends, and what it writes.
+pub(crate) fn decide(alloc: Global, input: &[u8]) -> Result<Ending, NoMemory>
+    requires { length input.now ≤ 33554432 }
+    ensures { IfOk result (λ e. IsPlanEnd input.now e.status e.text) }
+{
+    let need = need_of(input);
+    let have = input.len() as u64;
+    if have < need {
+        Ok(Ending {
+            status: PlanStatus::InputShort { need, have },
+            text: Bytes::new(alloc),
+        })
+    } else {
+        decide_frame(alloc, input)
+    }
+}
+
+/// How it ends over a frame.
+fn decide_frame(alloc: Global, input: &[u8]) -> Result<Ending, NoMemory>
+    requires { IsPlanFrame input.now }
+    ensures { IfOk result (λ e. IsPlanEnd input.now e.status e.text) }
+{
+    let (script, rest) = parts_of(input);
+    match read(alloc, script) {
+        Ok(script) => decide_script(alloc, script, rest),
+        Err(ScriptFault::NoMemory) => Err(NoMemory),
+        Err(fault) => Ok(Ending {
+            status: PlanStatus::ScriptRefused(fault),
+            text: script_refusal(alloc, &fault)?,
+        }),
+    }
+}
+
+/// How it ends where the frame has this script, and this behind it.
+fn decide_script(alloc: Global, script: Script, rest: &[u8]) -> Result<Ending, NoMemory>
+    requires { IsScript script }
+    ensures { IfOk result (λ e. IsScriptEnd script rest.now e.status e.text) }
+{
+    match read_demands(alloc, rest) {
+        Ok(demands) => decide_demands(alloc, script, &demands),
+        Err(DemandFault::NoMemory) => Err(NoMemory),
+        Err(fault) => Ok(Ending {
+            status: PlanStatus::Demands(fault),
+            text: demands_refusal(alloc, &fault)?,
+        }),
+    }
+}
+
+/// How it ends for these demands behind a script.
+fn decide_demands(alloc: Global, script: Script, demands: &Demands) -> Result<Ending, NoMemory>
+    requires { IsScript script }
+    ensures { IfOk result (λ e. IsDemandsEnd script demands.now e.status e.text) }
+{
+    let Script {
+        version: _,
+        lanes,
+        config,
+        lines,
+    } = script;
+    let mut device = Device::new(alloc, config)?;
+    run_lines(&mut device, lanes, lines.as_slice())?;
+    decide_plan(alloc, &mut device, demands)
+}
+
+/// How it ends for these demands on a device.
+fn decide_plan(alloc: Global, device: &mut Device, demands: &Demands) -> Result<Ending, NoMemory>
+    ensures { IfOk result (λ e. IsPlannedEnd device.old.config device.old.journal demands.now e.status e.text) }
+{
+    // The journal is legal.
+    let _journal = device.journal();
+    let control = device.control();
+    match plan(alloc, control.config(), control, demands) {
+        Ok(acts) => take_list(alloc, device, acts.as_slice()),
+        Err(PlanFault::NoMemory) => Err(NoMemory),
+        Err(fault) => Ok(Ending {
+            status: PlanStatus::Plan(fault),
+            text: plan_refusal(alloc, &fault)?,
+        }),
+    }
+}
+
+/// Takes a list, and answers its lines and those of the state behind it. Each act of a plan fits its actor, and its message
+/// can be written; since no clause says so, it is tried, and a list that is not so ends as where memory is wanted.
+fn take_list(alloc: Global, device: &mut Device, acts: &[(Actor, Act)]) -> Result<Ending, NoMemory>
+    ensures status { IfOk result (λ e. e.status ≡ PlanStatus.Done) }
+    ensures text { IfOk result (λ e. e.text ≡ plan_text device.old.config device.old.journal acts.now) }
+{
+    let hosts = device.control().config().hosts();
+    if !are_sound(hosts, acts) {
+        return Err(NoMemory);
+    }
+    let mut text = act_lines(alloc, hosts, acts)?;
+    take_steps(device, acts)?;
+    put_state(&mut text, device)?;
+    Ok(Ending {
+        status: PlanStatus::Done,
+        text,
+    })
+}
