@@ -219,6 +219,17 @@ def at(host, number):
 # What the pool's script leaves: 17 entries; the manager's log has seven records. Host 0 has two records, host 1 one, with the handle 2, and host 2 five.
 # Free are 7M+1M of region 0, two blocks of region 1, three of region 2 and one of region 3: 1 + 4 + 3 + 1 granules.
 
+# Host 2, dead, clears its five records, refuses its two offers, and loses an extent in each of the regions 0, 2 and 3.
+HOST_2_LETS_GO = [
+    by_host(2, clear_events([1, 2, 3, 4, 5])),
+    by_host(2, respond([])),
+    by_host(2, respond([])),
+    forced_out(2, 0, (at(2, 0) + 5 * M, M)),
+    forced_out(2, 2, (at(2, 2), M, T, 1)),
+    forced_out(2, 3, (at(2, 3), M)),
+]
+
+
 def pool_rearranged():
     """Host 2 is dead; host 0 gives back a block of region 0 and gains one of region 1; host 1 gains two of region 0 and one of region 3.
 
@@ -226,12 +237,7 @@ def pool_rearranged():
     granule 5 and granule 2 of region 0. Free are then 2M, 5M, 6M and 7M of region 0, of which host 1 gets the lowest two.
     """
     acts = [
-        by_host(2, clear_events([1, 2, 3, 4, 5])),
-        by_host(2, respond([])),
-        by_host(2, respond([])),
-        forced_out(2, 0, (at(2, 0) + 5 * M, M)),
-        forced_out(2, 2, (at(2, 2), M, T, 1)),
-        forced_out(2, 3, (at(2, 3), M)),
+        *HOST_2_LETS_GO,
         given(0, (at(0, 0) + 2 * M, M)),
         "sz 2",
         offered(0, 1, 2 * M),
@@ -248,12 +254,7 @@ def pool_rearranged():
 def pool_of_two_dead():
     """Hosts 2 and 0 are dead, in this order. The regions of a dead host come in rising order, those that it has nothing in are left out."""
     acts = [
-        by_host(2, clear_events([1, 2, 3, 4, 5])),
-        by_host(2, respond([])),
-        by_host(2, respond([])),
-        forced_out(2, 0, (at(2, 0) + 5 * M, M)),
-        forced_out(2, 2, (at(2, 2), M, T, 1)),
-        forced_out(2, 3, (at(2, 3), M)),
+        *HOST_2_LETS_GO,
         by_host(0, clear_events([1, 2])),
         forced_out(0, 0, (at(0, 0), 3 * M)),
         forced_out(0, 1, (at(0, 1), 4 * M)),
@@ -271,12 +272,7 @@ def pool_of_all_dead():
         by_host(1, clear_events([2])),
         forced_out(1, 0, (at(1, 0) + 3 * M, 2 * M)),
         forced_out(1, 2, (at(1, 2), M, T, 1)),
-        by_host(2, clear_events([1, 2, 3, 4, 5])),
-        by_host(2, respond([])),
-        by_host(2, respond([])),
-        forced_out(2, 0, (at(2, 0) + 5 * M, M)),
-        forced_out(2, 2, (at(2, 2), M, T, 1)),
-        forced_out(2, 3, (at(2, 3), M)),
+        *HOST_2_LETS_GO,
         "sz 11",
     ]
     return planned(pool(), asked(dead=[0, 1, 2]), acts, [(0, 0, 2), (0, 0, 2), (0, 0, 3)], 9, 24, 0, 30)
