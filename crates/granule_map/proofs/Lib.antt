@@ -1,4 +1,7 @@
+pub mod AreaBlocks
 pub mod Changes
 pub mod Joining
+pub mod Marked
 pub mod Ranges
 pub mod RunSteps
+pub mod Stretches

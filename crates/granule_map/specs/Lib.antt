@@ -1,3 +1,4 @@
 pub mod Blocks
 pub mod Choices
 pub mod StateLists
+pub mod Stretches

@@ -1,5 +1,5 @@
 -- The states of a device's granules, as a list by number.
-use Rattle.std.specs.Prelude.{ℕ, ◌+◌, Bool, true, false, ◌==◌, List, ◌++◌, take, drop, replicate, count_by, slice_index_or, find, Option, length, ◌-◌}
+use Rattle.std.specs.Prelude.{◌≡◌, ◌^◌, ◌<◌, map, ℕ, ◌+◌, Bool, true, false, ◌==◌, List, ◌++◌, take, drop, replicate, count_by, slice_index_or, find, Option, length, ◌-◌}
 use Rattle.std.specs.List.{range_with_len}
 use Rattle.dcd_base.specs.Words.{same_tag}
 use Rattle.dcd_base.specs.declared.media.Run.{Run}
@@ -33,6 +33,17 @@ is_free_at states g = is_free_state (slice_index_or states g GranuleState.Dirty)
 
 abbrev pub is_dirty_at : List GranuleState → ℕ → Bool
 is_dirty_at states g = is_dirty_state (slice_index_or states g GranuleState.Free)
+
+-- a mark for each state: 0 says free, 1 dirty, 2 that somebody has the granule
+abbrev pub mark_of : GranuleState → ℕ
+mark_of GranuleState.Free = 0
+mark_of GranuleState.Dirty = 1
+mark_of state = 2
+
+-- fewer than 2 ^ 32 states, and the mark of each
+pub record AreMarked (states : List GranuleState) (marks : List ℕ) : Type 0 where
+  pub few : length states < 2 ^ 32
+  pub marked : marks ≡ map mark_of states
 
 -- the states with this one at each granule of the run
 abbrev pub with_run : List GranuleState → Run → GranuleState → List GranuleState

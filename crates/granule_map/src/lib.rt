@@ -6,6 +6,7 @@
 
 mod blocks;
 mod map;
+mod marks;
 mod states;
 
 pub use map::GranuleMap;

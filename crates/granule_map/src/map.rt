@@ -1,11 +1,14 @@
 //! The map from granules to states.
 
-ghost use Rattle.granule_map.specs.Blocks.{IsArea, free_block_count, longest_free_run, lowest_run_in};
-ghost use Rattle.granule_map.specs.StateLists.{count_of, dirty_from, is_dirty_at, with_run};
-ghost use Rattle.std.specs.Prelude.{◌≡◌, ◌↔◌, ◌+◌, ◌^◌, ◌<◌, ◌≤◌, IfOk, IsNone, OnErr, OnOk, Some, length, replicate, slice_get};
+ghost use Rattle.granule_map.specs.Blocks.{IsArea, block_count, free_block_count, is_block_free, longest_free_run, lowest_run_in};
+ghost use Rattle.granule_map.specs.StateLists.{count_of, dirty_from, is_dirty_at, is_free_at, with_run};
+ghost use Rattle.granule_map.specs.Stretches.{IsNext, fails};
+ghost use Rattle.std.specs.List.{find, list_all, prefix_len, range_with_len};
+ghost use Rattle.std.specs.Prelude.{◌≡◌, ◌↔◌, ◌+◌, ◌-◌, ◌<◌, ◌≤◌, IfOk, IsNone, OnErr, OnOk, Some, length, replicate, slice_get, ◌++◌, take, drop};
 
-use crate::blocks::{count_free_blocks, longest_run_of, lowest_block};
-use crate::states::{GranuleState, is_same_state};
+use crate::blocks::{count_free_blocks, free_from, longest_run_of, lowest_block, next_free};
+use crate::marks::{next_with, next_with_either};
+use crate::states::{DIRTY, FREE, GranuleState, IN_USE, is_same_state};
 use dcd_base::{Granule, NoMemory, Run};
 use std::alloc::Global;
 use std::marker::Model;
@@ -14,22 +17,26 @@ use std::marker::Model;
 ///
 /// Contracts see the list of states and its spare: where there is some, `set_run` takes no memory. A state is kept for
 /// each granule, so there is always spare; `reserve` and the spare are there for callers that rest on no such thing.
+///
+/// Beside its state each granule has a mark, a byte that says free, dirty or in use. Searches read the marks alone,
+/// many at a time, so what a question costs goes by the runs that it passes and not by the granules in them.
 #[derive(Debug, Drop)]
 pub struct GranuleMap {
     alloc: Global,
     granules: Vec<GranuleState>,
+    marks: Vec<u8>,
 }
 
 impl Model for GranuleMap {
-    ghost use Rattle.granule_map.specs.StateLists.{States};
-    ghost use Rattle.std.specs.Prelude.{◌^◌, ◌-◌, ◌<◌, length};
+    ghost use Rattle.granule_map.specs.StateLists.{AreMarked, States};
+    ghost use Rattle.std.specs.Prelude.{◌^◌, ◌-◌};
 
     ghost Value = { States };
 
     // One state is kept for each granule, so a change takes no memory and there is spare for any number of them.
     ghost view = { λ map. record { states = map.granules.items; spare = 2 ^ 64 - 1 } };
 
-    ghost invariant = { λ map. length map.granules.items < 2 ^ 32 };
+    ghost invariant = { λ map. AreMarked map.granules.items map.marks.items };
 }
 
 impl GranuleMap {
@@ -41,6 +48,7 @@ impl GranuleMap {
         Ok(GranuleMap {
             alloc,
             granules: vec![in alloc; GranuleState::Free; count as usize]?,
+            marks: vec![in alloc; FREE; count as usize]?,
         })
     }
 
@@ -51,6 +59,7 @@ impl GranuleMap {
         Ok(GranuleMap {
             alloc: self.alloc,
             granules: Vec::from_slice(self.alloc, self.granules.as_slice())?,
+            marks: Vec::from_slice(self.alloc, self.marks.as_slice())?,
         })
     }
 
@@ -90,8 +99,9 @@ impl GranuleMap {
         ensures granules { length self.new.states ≡ length self.old.states }
         ensures spare { self.old.spare ≤ self.new.spare }
     {
-        let first = run.first.0 as usize;
-        self.granules[first..first + run.count as usize].fill(state);
+        let mark = state.mark();
+        fill_states(self.granules.as_mut_slice(), &run, &state);
+        fill_marks(self.marks.as_mut_slice(), &run, mark);
     }
 
     /// How many blocks of the area are free: blocks of `per_block` granules, from its first granule on.
@@ -99,7 +109,7 @@ impl GranuleMap {
         requires { IsArea self.now.states area per_block }
         ensures { result ≡ free_block_count self.now.states area per_block }
     {
-        count_free_blocks(self.granules.as_slice(), &area, per_block)
+        count_free_blocks(self, &area, per_block)
     }
 
     /// The most free blocks of the area that lie together.
@@ -107,7 +117,7 @@ impl GranuleMap {
         requires { IsArea self.now.states area per_block }
         ensures { result ≡ longest_free_run self.now.states area per_block }
     {
-        longest_run_of(self.granules.as_slice(), &area, per_block)
+        longest_run_of(self, &area, per_block)
     }
 
     /// The lowest place in the area where so many free blocks lie together, as a run of their granules.
@@ -117,13 +127,42 @@ impl GranuleMap {
         ensures lowest { result ≡ lowest_run_in self.now.states area per_block blocks }
         ensures none { IsNone result ↔ (longest_free_run self.now.states area per_block < blocks) }
     {
-        match lowest_block(self.granules.as_slice(), &area, per_block, blocks) {
+        // There are fewer than 2^32 granules, so that their numbers do not wrap.
+        let _granules = self.len();
+        match lowest_block(self, &area, per_block, blocks) {
             Some(k) => Some(Run {
                 first: Granule(area.first.0 + k * per_block),
                 count: blocks * per_block,
             }),
             None => None,
         }
+    }
+
+    /// The lowest free block of the area from one on; None exactly where none is free from there on.
+    pub fn next_free_block(&self, area: Run, per_block: u32, from: u32) -> Option<u32>
+        requires { IsArea self.now.states area per_block }
+        ensures { result ≡ find (is_block_free self.now.states area per_block) (range_with_len from (block_count area per_block - from)) }
+    {
+        next_free(self, &area, per_block, from)
+    }
+
+    /// How many blocks of the area are free from one on up to the first that is not, at most so many.
+    pub fn free_blocks_from(&self, area: Run, per_block: u32, from: u32, most: u32) -> u32
+        requires area { IsArea self.now.states area per_block }
+        requires within { from + most ≤ block_count area per_block }
+        ensures count { result ≡ prefix_len (is_block_free self.now.states area per_block) (range_with_len from most) }
+        ensures few { result ≤ most }
+    {
+        free_from(self, &area, per_block, from, most)
+    }
+
+    /// Whether so many granules from the first on are free.
+    pub fn are_free(&self, first: u32, count: u32) -> bool
+        requires { first + count ≤ length self.now.states }
+        ensures { result ≡ list_all (is_free_at self.now.states) (range_with_len first count) }
+    {
+        let _granules = self.len();
+        self.next_taken(first, first + count) == first + count
     }
 
     /// How many granules are in the state: of the same host or tag, where it names one.
@@ -140,27 +179,95 @@ impl GranuleMap {
     pub fn next_dirty(&self, from: u32) -> Option<Granule>
         ensures { result ≡ dirty_from self.now.states from }
     {
-        lowest_dirty(self.granules.as_slice(), from)
-    }
-}
-
-/// Whether a granule is dirty.
-fn is_dirty_granule(states: &[GranuleState], granule: usize) -> bool
-    requires { granule < length states.now }
-    ensures { result ≡ is_dirty_at states.now granule }
-{
-    states[granule].is_dirty()
-}
-
-/// The lowest dirty granule from a number on.
-fn lowest_dirty(states: &[GranuleState], from: u32) -> Option<Granule>
-    requires { length states.now < 2 ^ 32 }
-    ensures { result ≡ dirty_from states.now from }
-{
-    for granule in from..states.len() as u32 {
-        if is_dirty_granule(states, granule as usize) {
-            return Some(Granule(granule));
+        let end = self.len();
+        if from >= end {
+            return None;
+        }
+        let dirty = self.next_dirty_below(from, end);
+        if dirty < end {
+            Some(Granule(dirty))
+        } else {
+            None
         }
     }
-    None
+
+    /// How many granules are dirty from one on up to the first that is not, at most so many.
+    pub fn dirty_run(&self, first: u32, most: u32) -> u32
+        requires { first + most ≤ length self.now.states }
+        ensures count { result ≡ prefix_len (is_dirty_at self.now.states) (range_with_len first most) }
+        ensures few { result ≤ most }
+    {
+        let _granules = self.len();
+        self.next_clean(first, first + most) - first
+    }
+
+    /// The lowest free granule from one on, or the end where none below it is free.
+    pub(crate) fn next_free(&self, from: u32, end: u32) -> u32
+        requires ordered { from ≤ end }
+        requires within { end ≤ length self.now.states }
+        ensures { IsNext (is_free_at self.now.states) from end result }
+    {
+        let _granules = self.len();
+        next_with(self.marks.as_slice(), FREE, from as usize, end as usize) as u32
+    }
+
+    /// The lowest granule from one on that is not free, or the end where each below it is.
+    pub(crate) fn next_taken(&self, from: u32, end: u32) -> u32
+        requires ordered { from ≤ end }
+        requires within { end ≤ length self.now.states }
+        ensures { IsNext (fails (is_free_at self.now.states)) from end result }
+    {
+        let _granules = self.len();
+        next_with_either(
+            self.marks.as_slice(),
+            DIRTY,
+            IN_USE,
+            from as usize,
+            end as usize,
+        ) as u32
+    }
+
+    /// The lowest dirty granule from one on, or the end where none below it is dirty.
+    fn next_dirty_below(&self, from: u32, end: u32) -> u32
+        requires ordered { from ≤ end }
+        requires within { end ≤ length self.now.states }
+        ensures { IsNext (is_dirty_at self.now.states) from end result }
+    {
+        let _granules = self.len();
+        next_with(self.marks.as_slice(), DIRTY, from as usize, end as usize) as u32
+    }
+
+    /// The lowest granule from one on that is not dirty, or the end where each below it is.
+    fn next_clean(&self, from: u32, end: u32) -> u32
+        requires ordered { from ≤ end }
+        requires within { end ≤ length self.now.states }
+        ensures { IsNext (fails (is_dirty_at self.now.states)) from end result }
+    {
+        let _granules = self.len();
+        next_with_either(
+            self.marks.as_slice(),
+            FREE,
+            IN_USE,
+            from as usize,
+            end as usize,
+        ) as u32
+    }
+}
+
+/// Makes each state of the run this one.
+fn fill_states(states: &mut [GranuleState], run: &Run, state: &GranuleState)
+    requires { run.now.first + run.now.count ≤ length states.old }
+    ensures { states.new ≡ with_run states.old run.now state.now }
+{
+    let first = run.first.0 as usize;
+    states[first..first + run.count as usize].fill(*state);
+}
+
+/// Makes each mark of the run this one.
+fn fill_marks(marks: &mut [u8], run: &Run, mark: u8)
+    requires { run.now.first + run.now.count ≤ length marks.old }
+    ensures { marks.new ≡ take run.now.first marks.old ++ replicate run.now.count mark ++ drop (run.now.first + run.now.count) marks.old }
+{
+    let first = run.first.0 as usize;
+    marks[first..first + run.count as usize].fill(mark);
 }

@@ -1,9 +1,16 @@
 //! What a granule is at a time.
 
-ghost use Rattle.granule_map.specs.StateLists.{is_dirty_state, is_free_state, same_state};
+ghost use Rattle.granule_map.specs.StateLists.{is_dirty_state, is_free_state, mark_of, same_state};
 ghost use Rattle.std.specs.Prelude.{◌≡◌};
 
 use dcd_base::{HostId, Tag};
+
+/// The mark of a granule that may be offered.
+pub(crate) const FREE: u8 = 0;
+/// The mark of one that has to be zeroed before it is free.
+pub(crate) const DIRTY: u8 = 1;
+/// The mark of one that somebody has.
+pub(crate) const IN_USE: u8 = 2;
 
 /// The state of a granule.
 #[derive(Clone, Copy, Debug, PartialEq, Eq)]
@@ -33,6 +40,17 @@ impl GranuleState {
         ensures { result ≡ is_dirty_state self.now }
     {
         matches!(self, GranuleState::Dirty)
+    }
+
+    /// The mark by which granules of such a state are found.
+    pub(crate) fn mark(&self) -> u8
+        ensures { result ≡ mark_of self.now }
+    {
+        match self {
+            GranuleState::Free => FREE,
+            GranuleState::Dirty => DIRTY,
+            _ => IN_USE,
+        }
     }
 }
 

@@ -1,17 +1,28 @@
-use Rattle.std.proofs.Common.{◌≡◌, ◌<◌, arith, rules, false, true}
-use Rattle.granule_map.proofs.Ranges.{count_no, count_yes}
+use Rattle.std.proofs.Common.{arith}
+use Rattle.std.proofs.Math.Nat.{div-le_self}
 use Rattle.granule_map.specs.Blocks.{block_count, is_block_free}
+use Rattle.granule_map.proofs.Stretches.{count_none, count_stretch}
 use Rattle.granule_map.proofs.blocks.count_free_blocks.Goals as goal
-use Rattle.granule_map.proofs.blocks.count_free_blocks.Goals.{then-block_is_free, else-block_is_free}
 
-pub loop-block-preserved : goal.loop-block-preserved
-loop-block-preserved c =
-    let p = is_block_free c.args.states.now c.args.area.now c.args.per_block in
+pub overflow_add-free : goal.overflow_add-free
+overflow_add-free c =
+    omega (arith, c.loop-blocks.invariant.few, c.in-Some.ensures.from_below, c.in-Some.ensures.within, div-le_self c.args.area.now.count c.args.per_block)
+
+pub overflow_add-at : goal.overflow_add-at
+overflow_add-at c = omega (arith, c.in-Some.ensures.within, div-le_self c.args.area.now.count c.args.per_block)
+
+pub loop-blocks-preserved : goal.loop-blocks-preserved
+loop-blocks-preserved c =
+    let p = is_block_free c.args.map.now.states c.args.area.now c.args.per_block in
     let n = block_count c.args.area.now c.args.per_block in
-    let below : c.loop-block.block < n = c.loop-block-test.true in
-    elim c.if-block_is_free.branch [
-      | then-block_is_free w ↦ (let free : is_block_free c.args.states.now c.args.area.now c.args.per_block c.loop-block.block ≡ true = search rules in
-          record { end = search rules; within = omega arith; rest = omega (arith, count_yes p c.loop-block.block n below free, c.loop-block.invariant.rest) })
-      | else-block_is_free w ↦ (let taken : is_block_free c.args.states.now c.args.area.now c.args.per_block c.loop-block.block ≡ false = search rules in
-          record { end = search rules; within = omega arith; rest = omega (arith, count_no p c.loop-block.block n below taken, c.loop-block.invariant.rest) })
-    ]
+    record {
+      within = c.in-Some.ensures.within;
+      few = omega (arith, c.loop-blocks.invariant.few, c.in-Some.ensures.from_below);
+      rest = omega (arith, count_stretch p n c.loop-blocks.at c.in-Some.blocks.first c.in-Some.blocks.count c.in-Some.ensures, c.loop-blocks.invariant.rest);
+    }
+
+pub returns : goal.returns
+returns c =
+    let p = is_block_free c.args.map.now.states c.args.area.now c.args.per_block in
+    let n = block_count c.args.area.now c.args.per_block in
+    omega (arith, count_none p n c.loop-blocks.at c.in_default.ensures, c.loop-blocks.invariant.rest)

@@ -1,22 +1,23 @@
-use Rattle.std.proofs.Common.{◌≡◌, ◌<◌, ◌+◌, ◌-◌, max, arith, rules}
-use Rattle.granule_map.proofs.RunSteps.{longest_down, run_down, run_within}
-use Rattle.granule_map.specs.Blocks.{block_count, is_block_free}
+use Rattle.std.proofs.Common.{arith}
 use Rattle.std.proofs.Math.Nat.{div-le_self}
+use Rattle.granule_map.specs.Blocks.{block_count, is_block_free}
+use Rattle.granule_map.proofs.Stretches.{longest_none, longest_stretch}
 use Rattle.granule_map.proofs.blocks.longest_run_of.Goals as goal
 
-pub longer-run-requires : goal.longer-run-requires
-longer-run-requires c =
-    let p = is_block_free c.args.states.now c.args.area.now c.args.per_block in
-    let n = block_count c.args.area.now c.args.per_block in
-    omega (arith, run_within p n c.loop-block.block, c.loop-block.invariant.run, div-le_self c.args.area.now.count c.args.per_block)
+pub overflow_add-at : goal.overflow_add-at
+overflow_add-at c = omega (arith, c.in-Some.ensures.within, div-le_self c.args.area.now.count c.args.per_block)
 
-pub loop-block-preserved : goal.loop-block-preserved
-loop-block-preserved c =
-    let p = is_block_free c.args.states.now c.args.area.now c.args.per_block in
+pub loop-blocks-preserved : goal.loop-blocks-preserved
+loop-blocks-preserved c =
+    let p = is_block_free c.args.map.now.states c.args.area.now c.args.per_block in
     let n = block_count c.args.area.now c.args.per_block in
-    let k = c.loop-block.block - 1 in
-    let step : c.loop-block.block ≡ c.loop-block.block - 1 + 1 = omega arith in
-    let below : c.loop-block.block - 1 < block_count c.args.area.now c.args.per_block = search rules in
-    let run = run_down p n k c.loop-block.block _ _ c.longer-run.result step below c.block_is_free.ensures c.loop-block.invariant.run c.longer-run.ensures in
-    let longer : c.max-longest.result ≡ max c.loop-block.longest c.longer-run.result = search rules in
-    record { run = run; longest = longest_down p n k c.loop-block.block _ _ c.max-longest.result step below run c.loop-block.invariant.longest longer }
+    record {
+      within = c.in-Some.ensures.within;
+      rest = omega (arith, longest_stretch p n c.loop-blocks.at c.in-Some.blocks.first c.in-Some.blocks.count c.in-Some.ensures, c.max-longest.ensures, c.loop-blocks.invariant.rest);
+    }
+
+pub returns : goal.returns
+returns c =
+    let p = is_block_free c.args.map.now.states c.args.area.now c.args.per_block in
+    let n = block_count c.args.area.now c.args.per_block in
+    omega (arith, longest_none p n c.loop-blocks.at c.loop-blocks.invariant.within c.in_default.ensures, c.loop-blocks.invariant.rest)

@@ -1,11 +1,13 @@
-use Rattle.std.proofs.Common.{◌≡◌}
-use Rattle.granule_map.specs.Blocks.{block_count, is_block_free}
-use Rattle.granule_map.specs.Choices.{run_from}
+use Rattle.std.proofs.Common.{◌≡◌, ◌-◌, ◌≤◌, max}
+use Rattle.granule_map.specs.Blocks.{block_count, is_block_free, longest_free_run}
 use Rattle.granule_map.proofs.RunSteps.{longest_from}
 use Rattle.granule_map.proofs.blocks.longest_run_of.Given as goal
 
-abbrev pub invariant-loop-block : goal.invariant-loop-block
-invariant-loop-block l = record {
-  run : l.run ≡ run_from (is_block_free l.states l.area l.per_block) (block_count l.area l.per_block) l.block;
-  longest : l.longest ≡ longest_from (is_block_free l.states l.area l.per_block) (block_count l.area l.per_block) l.block;
+abbrev pub invariant-loop-blocks : goal.invariant-loop-blocks
+invariant-loop-blocks l = record {
+  within : l.at ≤ block_count l.area l.per_block;
+  rest : max l.longest (longest_from (is_block_free l.map.states l.area l.per_block) (block_count l.area l.per_block) l.at) ≡ longest_free_run l.map.states l.area l.per_block;
 }
+
+abbrev pub decreases-loop-blocks : goal.decreases-loop-blocks
+decreases-loop-blocks l = block_count l.area l.per_block - l.at

@@ -1,26 +1,29 @@
-use Rattle.std.proofs.Common.{◌≡◌, ◌<◌, ◌≤◌, ◌+◌, ◌-◌, arith, rules}
-use Rattle.granule_map.proofs.RunSteps.{lowest_down, lowest_within, run_down, run_within}
-use Rattle.granule_map.specs.Blocks.{block_count, is_block_free}
+use Rattle.std.proofs.Common.{◌∙◌, sym, arith}
 use Rattle.std.proofs.Math.Nat.{div-le_self}
+use Rattle.granule_map.specs.Blocks.{block_count, is_block_free}
+use Rattle.granule_map.proofs.Stretches.{lowest_here, lowest_later, lowest_none}
 use Rattle.granule_map.proofs.blocks.lowest_block.Goals as goal
 
-pub longer-run-requires : goal.longer-run-requires
-longer-run-requires c =
-    let p = is_block_free c.args.states.now c.args.area.now c.args.per_block in
-    let n = block_count c.args.area.now c.args.per_block in
-    omega (arith, run_within p n c.loop-block.block, c.loop-block.invariant.run, div-le_self c.args.area.now.count c.args.per_block)
+pub overflow_add-at : goal.overflow_add-at
+overflow_add-at c = omega (arith, c.in-Some.ensures.within, div-le_self c.args.area.now.count c.args.per_block)
 
-pub loop-block-preserved : goal.loop-block-preserved
-loop-block-preserved c =
-    let p = is_block_free c.args.states.now c.args.area.now c.args.per_block in
+pub returns-then-count-blocks-clause-lowest : goal.returns-then-count-blocks-clause-lowest
+returns-then-count-blocks-clause-lowest c =
+    let p = is_block_free c.args.map.now.states c.args.area.now c.args.per_block in
     let n = block_count c.args.area.now c.args.per_block in
-    let k = c.loop-block.block - 1 in
-    let step : c.loop-block.block ≡ c.loop-block.block - 1 + 1 = omega arith in
-    let below : c.loop-block.block - 1 < block_count c.args.area.now c.args.per_block = search rules in
-    let run = run_down p n k c.loop-block.block _ _ c.longer-run.result step below c.block_is_free.ensures c.loop-block.invariant.run c.longer-run.ensures in
-    let within : c.longer-run.result ≤ n - k = omega (arith, run, run_within p n k) in
+    sym (lowest_here p n c.args.count c.loop-blocks.at c.in-Some.blocks.first c.in-Some.blocks.count c.requires.some c.in-Some.ensures c.if-count-blocks.true) ∙ c.loop-blocks.invariant.rest
+
+pub loop-blocks-preserved : goal.loop-blocks-preserved
+loop-blocks-preserved c =
+    let p = is_block_free c.args.map.now.states c.args.area.now c.args.per_block in
+    let n = block_count c.args.area.now c.args.per_block in
     record {
-      run = run;
-      lowest = lowest_down p n c.args.blocks k c.loop-block.block _ _ c.lower-lowest.result step below run c.loop-block.invariant.lowest c.lower-lowest.ensures;
-      within = lowest_within n c.args.blocks k c.longer-run.result _ c.lower-lowest.result below within c.loop-block.invariant.within c.lower-lowest.ensures;
+      within = c.in-Some.ensures.within;
+      rest = sym (lowest_later p n c.args.count c.loop-blocks.at c.in-Some.blocks.first c.in-Some.blocks.count c.requires.some c.in-Some.ensures c.if-count-blocks.false) ∙ c.loop-blocks.invariant.rest;
     }
+
+pub returns-clause-lowest : goal.returns-clause-lowest
+returns-clause-lowest c =
+    let p = is_block_free c.args.map.now.states c.args.area.now c.args.per_block in
+    let n = block_count c.args.area.now c.args.per_block in
+    sym (lowest_none p n c.args.count c.loop-blocks.at c.requires.some c.loop-blocks.invariant.within c.in_default.ensures) ∙ c.loop-blocks.invariant.rest

@@ -1,12 +1,13 @@
-use Rattle.std.proofs.Common.{◌≡◌, ◌+◌, ◌≤◌, IfSome}
-use Rattle.granule_map.specs.Blocks.{block_count, is_block_free}
-use Rattle.granule_map.specs.Choices.{run_from}
+use Rattle.std.proofs.Common.{◌≡◌, ◌-◌, ◌≤◌}
+use Rattle.granule_map.specs.Blocks.{block_count, is_block_free, lowest_free_run}
 use Rattle.granule_map.proofs.RunSteps.{lowest_start}
 use Rattle.granule_map.proofs.blocks.lowest_block.Given as goal
 
-abbrev pub invariant-loop-block : goal.invariant-loop-block
-invariant-loop-block l = record {
-  run : l.run ≡ run_from (is_block_free l.states l.area l.per_block) (block_count l.area l.per_block) l.block;
-  lowest : l.lowest ≡ lowest_start (is_block_free l.states l.area l.per_block) (block_count l.area l.per_block) l.blocks l.block;
-  within : IfSome l.lowest (λ k. k + l.blocks ≤ block_count l.area l.per_block);
+abbrev pub invariant-loop-blocks : goal.invariant-loop-blocks
+invariant-loop-blocks l = record {
+  within : l.at ≤ block_count l.area l.per_block;
+  rest : lowest_start (is_block_free l.map.states l.area l.per_block) (block_count l.area l.per_block) l.count l.at ≡ lowest_free_run l.map.states l.area l.per_block l.count;
 }
+
+abbrev pub decreases-loop-blocks : goal.decreases-loop-blocks
+decreases-loop-blocks l = block_count l.area l.per_block - l.at

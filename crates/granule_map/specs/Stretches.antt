@@ -1,0 +1,33 @@
+-- Numbers that pass a test, from one on up to a limit: the next of them, and how many lie together.
+use Rattle.std.specs.Prelude.{◌≡◌, ℕ, ◌+◌, ◌<◌, ◌≤◌, Bool, true, false, not, Option, Some, None}
+use Rattle.granule_map.specs.declared.blocks.FreeBlocks.{FreeBlocks}
+
+-- a number passes where it does not pass the test
+abbrev pub fails : (ℕ → Bool) → ℕ → Bool
+fails p k = not (p k)
+
+-- The lowest number from one on that passes, or the limit where none below it does.
+pub record IsNext (p : ℕ → Bool) (from limit k : ℕ) : Type 0 where
+  pub from_below : from ≤ k
+  pub within : k ≤ limit
+  pub none_before : (j : ℕ) → from ≤ j → j < k → p j ≡ false
+  pub passes : k < limit → p k ≡ true
+
+-- A higher number, and none from this one up to it passes.
+pub record Skips (p : ℕ → Bool) (from next : ℕ) : Type 0 where
+  pub later : from < next
+  pub none : (k : ℕ) → from ≤ k → k < next → p k ≡ false
+
+-- The next numbers from one on that pass, so many from the first on, and no more lie together with them.
+pub record IsStretch (p : ℕ → Bool) (limit from first count : ℕ) : Type 0 where
+  pub from_below : from ≤ first
+  pub some : 0 < count
+  pub within : first + count ≤ limit
+  pub none_before : (k : ℕ) → from ≤ k → k < first → p k ≡ false
+  pub each : (k : ℕ) → first ≤ k → k < first + count → p k ≡ true
+  pub ends : first + count < limit → p (first + count) ≡ false
+
+-- none where no number passes
+abbrev pub NextStretch : (ℕ → Bool) → ℕ → ℕ → Option FreeBlocks → Type 0
+NextStretch p limit from None = (k : ℕ) → from ≤ k → k < limit → p k ≡ false
+NextStretch p limit from (Some blocks) = IsStretch p limit from blocks.first blocks.count
