@@ -58,19 +58,5 @@ fn dirty_from(map: &GranuleMap, first: u32, most: u32) -> u32
     ensures count { result ≡ prefix_len (is_dirty_at map.now.states) (range_with_len first most) }
     ensures few { result ≤ most }
 {
-    let _granules = map.len();
-    for count in 0..most {
-        if !is_dirty(map, first + count) {
-            return count;
-        }
-    }
-    most
-}
-
-/// Whether a granule is dirty.
-fn is_dirty(map: &GranuleMap, granule: u32) -> bool
-    requires { granule < length map.now.states }
-    ensures { result ≡ is_dirty_at map.now.states granule }
-{
-    map.at(Granule(granule)).is_dirty()
+    map.dirty_run(first, most)
 }
