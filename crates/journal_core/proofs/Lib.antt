@@ -1,6 +1,10 @@
+pub mod CoderChanges
+pub mod CoderSteps
 pub mod EachPlaces
 pub mod EachSteps
+pub mod EventSlots
 pub mod Filters
+pub mod Gathered
 pub mod HoldingSteps
 pub mod Inserting
 pub mod JournalSteps
@@ -10,5 +14,6 @@ pub mod Merges
 pub mod Pairs
 pub mod Parts
 pub mod Pushing
+pub mod Slotting
 pub mod Sorting
 pub mod Splits

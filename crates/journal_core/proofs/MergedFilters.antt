@@ -1,11 +1,11 @@
 -- A filter of a merge, and what all its entries are.
-use Rattle.std.proofs.Common.{◌≡◌, Bool, List, [], ◌∷◌, ◌++◌, ap, ◌∙◌, append-nil}
+use Rattle.std.proofs.Common.{◌≡◌, Bool, List, [], ◌∷◌, ◌++◌, ap, ◌∙◌}
 use Rattle.std.specs.Prelude.{flat_map, All, IsFalse}
 use Rattle.std.specs.List.{filter}
-use Rattle.std.proofs.lemmas.List.Elements.{All-append, All-nil}
+use Rattle.std.proofs.lemmas.List.Elements.{All-append}
 use Rattle.std.proofs.lemmas.List.Kept.{AllPairs-filter}
 use Rattle.journal_core.specs.declared.entries.Entry.{Entry}
-use Rattle.journal_core.specs.Merging.{Rising, has_stamp, in_order, is_later, merged}
+use Rattle.journal_core.specs.Merging.{Rising, has_stamp, is_later, merged}
 use Rattle.journal_core.proofs.Filters.{filter_swapped}
 use Rattle.journal_core.proofs.Merges.{merged-once, merged-rising, merged-ties}
 use Rattle.journal_core.proofs.Pairs.{in_order_before_none}

@@ -1,6 +1,9 @@
 pub mod Accesses
-pub mod Changed
+pub mod Coding
 pub mod Entries
+pub mod Gathering
 pub mod Holders
 pub mod Lending
 pub mod Merging
+pub mod Slots
+pub mod Tokens

@@ -6,9 +6,11 @@
 
 mod acts;
 mod both;
+mod coding;
 mod copying;
 mod entries;
 mod entry_effects;
+mod gathering;
 mod holding;
 mod lending;
 mod lent_journal;
@@ -17,12 +19,15 @@ mod lent_shards;
 mod loads_and_stores;
 mod merging;
 mod outcome;
+mod reading;
+mod slots;
+mod tokens;
 
 pub use acts::{Act, Reply, fits};
 pub use both::Both;
 pub use copying::copies;
 pub use entries::{Effects, Entry, Journal};
-pub use entry_effects::EntryEffects;
+pub use entry_effects::{EntryEffects, WithoutExtents};
 pub use holding::holds;
 pub use lending::{Lender, Lent};
 pub use lent_journal::{Whole, whole};

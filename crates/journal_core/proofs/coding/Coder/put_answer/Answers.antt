@@ -1,0 +1,10 @@
+use Rattle.journal_core.specs.declared.slots.TheConstants.{ANSWER}
+use Rattle.journal_core.specs.Tokens.{token_of}
+use Rattle.journal_core.specs.declared.tokens.Token.{Token}
+use Rattle.journal_core.proofs.CoderSteps.{codes_ended}
+use Rattle.journal_core.proofs.coding.Coder.put_answer.Goals as goal
+
+pub returns : goal.returns
+unfolding token_of
+returns c =
+    codes_ended ANSWER _ c.put_host.ensures.slots (λ i. Token.Answer (c.put_host.ensures.back i)) c.put_host.ensures.coded c.end.ensures.coded

@@ -1,0 +1,415 @@
+//! Effects to bytes.
+
+ghost use Rattle.event_records.specs.Records.{kind_number};
+ghost use Rattle.journal_core.specs.Coding.{AddsBytes, Codes};
+ghost use Rattle.journal_core.specs.Slots.{FitsWhat, no_slots, number_of_held, number_of_log, slots_in, slotted_event, slotted_extent, slotted_held, slotted_log, slotted_run, slotted_tag, telling_event, telling_extent, telling_flag, telling_held, telling_host, telling_log, telling_run, telling_tag, telling_what, with_slot};
+ghost use Rattle.journal_core.specs.Tokens.{token_of, tokens_of};
+ghost use Rattle.journal_core.specs.declared.tokens.Token.{Token};
+ghost use Rattle.std.specs.Prelude.{◌≡◌, ℕ, ◌+◌, ◌*◌, ◌%◌, ◌<◌, ◌≤◌, ◌^◌, [], ◌∷◌, IfSome, IsFalse, flat_map, map, true};
+
+use crate::outcome::{Effect, HeldKind};
+use crate::slots::{
+    ANSWER, BLOCK, CLEARED, COUNT, EVENT_HOST, EVENT_KIND, EXTENTS_LEFT, FIRST, FLAG, HANDLE, HOLD,
+    HOST, LEAVE, LENGTH, LOG, LOGGED, MISSED, MORE, OFFER, REF, REGION, RESET, SEQUENCE, SLOTS,
+    SOIL, START, Slots, TAG_END, TAG_HIGH, TAG_LOW, TAGS_LEFT, TAKE, UNHOLD, ZERO,
+};
+use dcd_base::{Bytes, Extent, HostId, LogId, RegionId, Run, Tag};
+use event_records::{Event, EventKind};
+use field_bytes::{are_bytes, u64_at};
+use std::alloc::Global;
+
+/// Writes effects as bytes. Without memory it has failed from then on.
+#[derive(Debug, Drop)]
+pub(crate) struct Coder {
+    slots: Slots,
+    bytes: Bytes,
+    failed: bool,
+}
+
+impl Coder {
+    /// Nothing is written, and all slots are 0.
+    pub(crate) fn new(alloc: Global) -> Coder
+        ensures slots { slots_in result.slots ≡ no_slots }
+        ensures bytes { result.bytes ≡ [] }
+    {
+        Coder {
+            slots: [0; SLOTS],
+            bytes: Bytes::new(alloc),
+            failed: false,
+        }
+    }
+
+    /// The bytes that were written; None where there was no memory for them.
+    pub(crate) fn written(&self) -> Option<&[u8]>
+        ensures { IfSome result (λ bytes. IsFalse self.now.failed × (bytes.now ≡ self.now.bytes)) }
+    {
+        if self.failed {
+            None
+        } else {
+            Some(self.bytes.as_slice())
+        }
+    }
+
+    /// Writes a byte.
+    fn push(&mut self, byte: u8)
+        ensures { AddsBytes self.old self.new (byte ∷ []) }
+    {
+        if self.bytes.push(byte).is_err() {
+            self.failed = true;
+        }
+    }
+
+    /// Writes the place of a byte in a slot, and the byte.
+    fn push_change(&mut self, slot: usize, place: usize, byte: u8)
+        requires slot { slot < 16 }
+        requires place { place < 8 }
+        ensures { AddsBytes self.old self.new ((8 * slot + place) ∷ byte ∷ []) }
+    {
+        self.push((8 * slot + place) as u8);
+        self.push(byte);
+    }
+
+    /// Writes the bytes by which a number differs from that in the slot, and puts it there.
+    fn change(&mut self, slot: usize, number: u64)
+        requires { slot < 16 }
+        ensures slots { slots_in self.new.slots ≡ with_slot (slots_in self.old.slots) slot number }
+        ensures coded { Codes self.old self.new [] }
+    {
+        let mut bytes = self.slots[slot].to_le_bytes();
+        let wanted = number.to_le_bytes();
+        for i in 0..8 {
+            if bytes[i] != wanted[i] {
+                self.push_change(slot, i, wanted[i]);
+                bytes[i] = wanted[i];
+            }
+        }
+        self.slots[slot] = number;
+    }
+
+    /// Puts a number into a slot, and writes what that changes.
+    #[inline(always)]
+    fn put(&mut self, slot: usize, number: u64)
+        requires { slot < 16 }
+        ensures slots { slots_in self.new.slots ≡ with_slot (slots_in self.old.slots) slot number }
+        ensures coded { Codes self.old self.new [] }
+    {
+        if self.slots[slot] != number {
+            self.change(slot, number);
+        }
+    }
+
+    /// Writes the kind of the token that the slots hold.
+    fn end(&mut self, kind: u8)
+        requires { 128 ≤ kind }
+        ensures slots { slots_in self.new.slots ≡ slots_in self.old.slots }
+        ensures coded { Codes self.old self.new (token_of kind (slots_in self.old.slots) ∷ []) }
+    {
+        self.push(kind);
+    }
+
+    fn put_host(&mut self, host: &HostId)
+        ensures slots { slots_in self.new.slots ≡ telling_host (slots_in self.old.slots) host.now }
+        ensures coded { Codes self.old self.new [] }
+        ensures back { host.now % 256 ≡ host.now }
+    {
+        self.put(HOST, u64::from(host.0));
+    }
+
+    fn put_run(&mut self, run: &Run)
+        ensures slots { slots_in self.new.slots ≡ telling_run (slots_in self.old.slots) run.now }
+        ensures coded { Codes self.old self.new [] }
+        ensures back { (slots : ℕ → ℕ) → slotted_run (telling_run slots run.now) ≡ run.now }
+    {
+        self.put(FIRST, u64::from(run.first.0));
+        self.put(COUNT, u64::from(run.count));
+    }
+
+    fn put_log(&mut self, log: &LogId)
+        ensures slots { slots_in self.new.slots ≡ telling_log (slots_in self.old.slots) log.now }
+        ensures coded { Codes self.old self.new [] }
+        ensures back { (slots : ℕ → ℕ) → slotted_log (telling_log slots log.now) ≡ log.now }
+    {
+        self.put(LOG, number_of_log(log));
+    }
+
+    fn put_held(&mut self, kind: &HeldKind)
+        ensures slots { slots_in self.new.slots ≡ telling_held (slots_in self.old.slots) kind.now }
+        ensures coded { Codes self.old self.new [] }
+    {
+        self.put(FLAG, number_of_held(kind));
+    }
+
+    fn put_flag(&mut self, flag: bool)
+        ensures slots { slots_in self.new.slots ≡ telling_flag (slots_in self.old.slots) flag }
+        ensures coded { Codes self.old self.new [] }
+    {
+        self.put(FLAG, u64::from(flag));
+    }
+
+    fn put_tag(&mut self, tag: &Tag)
+        ensures slots { slots_in self.new.slots ≡ telling_tag (slots_in self.old.slots) tag.now }
+        ensures coded { Codes self.old self.new [] }
+        ensures back { (slots : ℕ → ℕ) → slotted_tag (telling_tag slots tag.now) ≡ tag.now }
+    {
+        are_bytes(&tag.0);
+        self.put(TAG_LOW, u64_at(&tag.0, 0));
+        self.put(TAG_HIGH, u64_at(&tag.0, 8));
+    }
+
+    fn put_extent(&mut self, extent: &Extent)
+        ensures slots { slots_in self.new.slots ≡ telling_extent (slots_in self.old.slots) extent.now }
+        ensures coded { Codes self.old self.new [] }
+        ensures back { (slots : ℕ → ℕ) → slotted_extent (telling_extent slots extent.now) ≡ extent.now }
+    {
+        self.put(START, extent.start);
+        self.put(LENGTH, extent.length);
+        self.put_tag(&extent.tag);
+        self.put(SEQUENCE, u64::from(extent.sequence));
+    }
+
+    /// An event without its extent and its counts.
+    fn put_what(&mut self, event: &Event)
+        ensures slots { slots_in self.new.slots ≡ telling_what (slots_in self.old.slots) event.now }
+        ensures coded { Codes self.old self.new [] }
+        ensures back { FitsWhat event.now }
+    {
+        self.put(HANDLE, u64::from(event.handle));
+        self.put(EVENT_KIND, number_of_kind(&event.kind));
+        self.put(EVENT_HOST, u64::from(event.host));
+        self.put(REGION, u64::from(event.region));
+        self.put_flag(event.more);
+    }
+
+    fn put_event(&mut self, event: &Event)
+        ensures slots { slots_in self.new.slots ≡ telling_event (slots_in self.old.slots) event.now }
+        ensures coded { Codes self.old self.new [] }
+        ensures back { (slots : ℕ → ℕ) → slotted_event (telling_event slots event.now) ≡ event.now }
+    {
+        self.put_what(event);
+        self.put_extent(&event.extent);
+        self.put(EXTENTS_LEFT, u64::from(event.extents_available));
+        self.put(TAGS_LEFT, u64::from(event.tags_available));
+    }
+
+    fn put_extents(&mut self, extents: &[Extent])
+        ensures { Codes self.old self.new (map Token.More extents.now) }
+    {
+        for extent in extents {
+            self.put_more(extent);
+        }
+    }
+
+    /// Writes an extent of the effect that follows.
+    fn put_more(&mut self, extent: &Extent)
+        ensures { Codes self.old self.new (Token.More extent.now ∷ []) }
+    {
+        self.put_extent(extent);
+        self.end(MORE);
+    }
+
+    /// Writes what is about a run of a host.
+    fn put_held_run(&mut self, host: &HostId, run: &Run)
+        ensures slots { slots_in self.new.slots ≡ telling_run (telling_host (slots_in self.old.slots) host.now) run.now }
+        ensures coded { Codes self.old self.new [] }
+        ensures host { host.now % 256 ≡ host.now }
+        ensures run { (slots : ℕ → ℕ) → slotted_run (telling_run slots run.now) ≡ run.now }
+    {
+        self.put_host(host);
+        self.put_run(run);
+    }
+
+    fn put_take(&mut self, host: &HostId, run: &Run)
+        ensures { Codes self.old self.new (Token.Take host.now run.now ∷ []) }
+    {
+        self.put_held_run(host, run);
+        self.end(TAKE);
+    }
+
+    fn put_leave(&mut self, host: &HostId, run: &Run)
+        ensures { Codes self.old self.new (Token.Leave host.now run.now ∷ []) }
+    {
+        self.put_held_run(host, run);
+        self.end(LEAVE);
+    }
+
+    fn put_zero(&mut self, run: &Run)
+        ensures { Codes self.old self.new (Token.Zero run.now ∷ []) }
+    {
+        self.put_run(run);
+        self.end(ZERO);
+    }
+
+    fn put_soil(&mut self, run: &Run)
+        ensures { Codes self.old self.new (Token.Soil run.now ∷ []) }
+    {
+        self.put_run(run);
+        self.end(SOIL);
+    }
+
+    fn put_offer(&mut self, host: &HostId)
+        ensures { Codes self.old self.new (Token.Offer host.now ∷ []) }
+    {
+        self.put_host(host);
+        self.end(OFFER);
+    }
+
+    fn put_answer(&mut self, host: &HostId)
+        ensures { Codes self.old self.new (Token.Answer host.now ∷ []) }
+    {
+        self.put_host(host);
+        self.end(ANSWER);
+    }
+
+    fn put_hold(&mut self, host: &HostId, kind: &HeldKind)
+        ensures { Codes self.old self.new (Token.Hold host.now kind.now ∷ []) }
+    {
+        self.put_host(host);
+        self.put_held(kind);
+        self.end(HOLD);
+    }
+
+    fn put_unhold(&mut self, host: &HostId, kind: &HeldKind)
+        ensures { Codes self.old self.new (Token.Unhold host.now kind.now ∷ []) }
+    {
+        self.put_host(host);
+        self.put_held(kind);
+        self.end(UNHOLD);
+    }
+
+    fn put_logged(&mut self, log: &LogId, event: &Event)
+        ensures { Codes self.old self.new (Token.Logged log.now event.now ∷ []) }
+    {
+        self.put_log(log);
+        self.put_event(event);
+        self.end(LOGGED);
+    }
+
+    fn put_missed(&mut self, log: &LogId)
+        ensures { Codes self.old self.new (Token.Missed log.now ∷ []) }
+    {
+        self.put_log(log);
+        self.end(MISSED);
+    }
+
+    fn put_cleared(&mut self, log: &LogId, count: u16)
+        ensures { Codes self.old self.new (Token.Cleared log.now count ∷ []) }
+    {
+        self.put_log(log);
+        self.put(COUNT, u64::from(count));
+        self.end(CLEARED);
+    }
+
+    fn put_reset(&mut self, log: &LogId)
+        ensures { Codes self.old self.new (Token.Reset log.now ∷ []) }
+    {
+        self.put_log(log);
+        self.end(RESET);
+    }
+
+    fn put_ref(&mut self, tag: &Tag, is_on: bool)
+        ensures { Codes self.old self.new (Token.Ref tag.now is_on ∷ []) }
+    {
+        self.put_tag(tag);
+        self.put_flag(is_on);
+        self.end(REF);
+    }
+
+    fn put_tag_end(&mut self, tag: &Tag)
+        ensures { Codes self.old self.new (Token.TagEnd tag.now ∷ []) }
+    {
+        self.put_tag(tag);
+        self.end(TAG_END);
+    }
+
+    fn put_region(&mut self, region: &RegionId)
+        ensures slots { slots_in self.new.slots ≡ with_slot (slots_in self.old.slots) REGION region.now }
+        ensures coded { Codes self.old self.new [] }
+        ensures back { region.now % 256 ≡ region.now }
+    {
+        self.put(REGION, u64::from(region.0));
+    }
+
+    fn put_block(&mut self, region: &RegionId, size: u64)
+        ensures { Codes self.old self.new (Token.Block region.now size ∷ []) }
+    {
+        self.put_region(region);
+        self.put(LENGTH, size);
+        self.end(BLOCK);
+    }
+
+    /// Writes an effect.
+    fn put_effect(&mut self, effect: &Effect)
+        ensures { Codes self.old self.new (tokens_of effect.now) }
+    {
+        match effect {
+            Effect::Offer(host, extents) => {
+                self.put_extents(extents.as_slice());
+                self.put_offer(host);
+            }
+            Effect::Answer(host, extents) => {
+                self.put_extents(extents.as_slice());
+                self.put_answer(host);
+            }
+            Effect::Take(host, run) => self.put_take(host, run),
+            Effect::Leave(host, run) => self.put_leave(host, run),
+            Effect::Zero(run) => self.put_zero(run),
+            Effect::Soil(run) => self.put_soil(run),
+            Effect::Hold(host, kind, extents) => {
+                self.put_extents(extents.as_slice());
+                self.put_hold(host, kind);
+            }
+            Effect::Unhold(host, kind) => self.put_unhold(host, kind),
+            Effect::Logged(log, event) => self.put_logged(log, event),
+            Effect::Missed(log) => self.put_missed(log),
+            Effect::Cleared(log, count) => self.put_cleared(log, *count),
+            Effect::Reset(log) => self.put_reset(log),
+            Effect::Ref(tag, is_on) => self.put_ref(tag, *is_on),
+            Effect::TagEnd(tag) => self.put_tag_end(tag),
+            Effect::Block(region, size) => self.put_block(region, *size),
+        }
+    }
+
+    /// Writes effects, in order.
+    pub(crate) fn put_effects(&mut self, effects: &[Effect])
+        ensures { Codes self.old self.new (flat_map tokens_of effects.now) }
+    {
+        for effect in effects {
+            self.put_effect(effect);
+        }
+    }
+}
+
+/// The number of a log in its slot.
+fn number_of_log(log: &LogId) -> u64
+    ensures number { result ≡ number_of_log log.now }
+    ensures back { (slots : ℕ → ℕ) → slotted_log (telling_log slots log.now) ≡ log.now }
+{
+    match log {
+        LogId::Host(host) => u64::from(host.0),
+        LogId::Manager => 256,
+    }
+}
+
+/// The number of a held list in its slot.
+fn number_of_held(kind: &HeldKind) -> u64
+    ensures { result ≡ number_of_held kind.now }
+{
+    match kind {
+        HeldKind::Responses => 0,
+        HeldKind::Releases => 1,
+    }
+}
+
+/// The number of a kind of event in its slot.
+fn number_of_kind(kind: &EventKind) -> u64
+    ensures { result ≡ kind_number kind.now }
+{
+    match kind {
+        EventKind::Add => 0,
+        EventKind::Release => 1,
+        EventKind::Forced => 2,
+        EventKind::RegionUpdated => 3,
+        EventKind::AddResponse => 4,
+        EventKind::Released => 5,
+    }
+}
