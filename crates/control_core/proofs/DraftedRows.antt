@@ -1,14 +1,12 @@
 -- What a draft says of the first broken rule.
-use Rattle.std.proofs.Common.{◌≡◌, ℕ, ◌+◌, ◌*◌, ◌/◌, ◌<◌, ◌≤◌, Bool, List, length, sym, ap, subst, ◌∙◌, arith, Option, Some, None}
+use Rattle.std.proofs.Common.{◌≡◌, List, ap, ◌∙◌}
 use Rattle.std.specs.Result.{result_err}
-use Rattle.std.specs.List.{list_all, range_with_len}
 use Rattle.std.specs.declared.result.Result.{Result}
 use Rattle.std.specs.declared.result.Result.TheVariants.{Ok, Err}
 use Rattle.cci_codec.specs.declared.messages.Request.{Request}
 use Rattle.dcd_base.specs.declared.ids.HostId.{HostId}
 use Rattle.dcd_codes.specs.Rules.{ByRow}
 use Rattle.dcd_codes.specs.declared.refusals.Refusal.{Refusal}
-use Rattle.dcd_codes.specs.declared.rules.Rule.{Rule}
 use Rattle.fm_payloads.specs.ManagerPayloads.{manager_request}
 use Rattle.fm_payloads.specs.declared.requests.FmRequest.{FmRequest}
 use Rattle.journal_core.specs.Entries.{effects}

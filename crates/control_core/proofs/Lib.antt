@@ -1,4 +1,5 @@
 pub mod DraftedRows
+pub mod Entering
 pub mod Changed
 pub mod ChangedHolders
 pub mod Decisions

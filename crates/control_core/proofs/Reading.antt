@@ -13,7 +13,7 @@ use Rattle.table_laws.specs.GranuleCells.{status_of}
 use Rattle.granule_map.specs.StateLists.{count_of, same_state}
 use Rattle.granule_map.specs.declared.states.GranuleState.{GranuleState}
 use Rattle.granule_table.specs.Tables.{cell_at}
-use Rattle.device_state.specs.StateAfter.{IsLogOf, IsStateAfter, part_of}
+use Rattle.device_state.specs.StateAfter.{IsLogOf, IsReached, IsStateAfter, part_of}
 use Rattle.host_lists.specs.Lists.{Lists}
 use Rattle.journal_core.specs.Entries.{effects}
 use Rattle.journal_core.specs.declared.entries.Entry.{Entry}
@@ -41,7 +41,6 @@ use Rattle.device_rules.specs.Counts.{dirty_count, extent_count, free_count, gra
 use Rattle.device_rules.specs.Hosts.{accepted_of, held_of, offers_of}
 use Rattle.device_rules.specs.Logs.{log_of}
 use Rattle.device_rules.specs.Tags.{Status, all_granules, is_dirty, is_free, status}
-use Rattle.control_core.specs.Deciding.{Holds}
 use Rattle.control_core.specs.HeldExtents.{AreHeld, IsHeld}
 use Rattle.device_state.specs.Updates.{IsOfLog, log_in}
 use Rattle.device_state.specs.declared.state.State.{State}
@@ -180,10 +179,10 @@ module _ (c : Configuration) (sound : IsSound c) (past : List Effect) (stands : 
         (each_at (IsHome c (picture_of c past) h) (accepted_of c h past) (front_of (IsHome c (picture_of c past) h) (accepted_of c h past) (flat_map (λ xs. xs) (offers_of h past)) (stands.home h)) k d below);
   }
 
-pub held_in_kept : (c : Configuration) (before : List Entry) (s : State) → Holds c before s → (h : HostId) → h < c.hosts → AreHeld c h (part_of s h).lists.accepted
-held_in_kept c before s holds h host =
-    subst (AreHeld c h) (sym (accepted_told c before s holds.kept h host))
-    (all_held c holds.sound (effects before) (legal_is_sound c holds.sound before holds.legal).stands h host)
+pub held_in_kept : (c : Configuration) (s : State) → IsReached c s → (h : HostId) → h < c.hosts → AreHeld c h (part_of s h).lists.accepted
+held_in_kept c s r h host =
+    subst (AreHeld c h) (sym (accepted_told c r.journal s r.kept h host))
+    (all_held c r.sound (effects r.journal) (legal_is_sound c r.sound r.journal r.legal).stands h host)
 
 -- the free blocks of a region
 pub free_blocks_told : (c : Configuration) (before : List Entry) (s : State) (kept : IsStateAfter c before s) (r : ℕ) → r < length s.present.regions →

@@ -5,6 +5,7 @@ pub mod Fitting
 pub mod HeldExtents
 pub mod Managing
 pub mod Offers
+pub mod Pasts
 pub mod PutChanges
 pub mod Recording
 pub mod Steps

@@ -10,15 +10,12 @@ ghost use Rattle.journal_core.specs.Entries.{effects};
 ghost use Rattle.region_config.specs.Granules.{granule_total};
 ghost use Rattle.std.specs.Prelude.{◌≡◌, ◌+◌, ◌++◌, ◌∷◌, ◌<◌, ◌≤◌, [], All, IfOk, OnErr, OnOk};
 
-use crate::changing::changes_of;
 use crate::decided::Decided;
-use crate::host_steps::host_recorded;
-use crate::manager_steps::{manager_command, manager_recorded};
+use crate::live::LiveControl;
 use crate::plan::Plan;
-use crate::scrub_steps::scrub_step;
+use crate::planned::PlannedEntry;
 use dcd_base::{Actor, Changes, NoMemory, Stamp};
-use device_commands::host_draft;
-use device_state::{State, Update};
+use device_state::Update;
 use journal_core::{Act, Effects, Entry, EntryEffects, Reply};
 use region_config::Config;
 use std::alloc::Global;
@@ -29,9 +26,7 @@ use std::marker::Model;
 /// Contracts see the configuration that it was made with, its entries, and how many more entries it has room for.
 #[derive(Drop)]
 pub struct Control {
-    pub(crate) alloc: Global,
-    pub(crate) config: Config,
-    pub(crate) state: State,
+    pub(crate) live: LiveControl,
     entries: Vec<Entry>,
 }
 
@@ -44,12 +39,12 @@ impl Model for Control {
     ghost Value = { Controlled };
 
     ghost view = { λ c. record {
-      config = c.config;
+      config = c.live.config;
       entries = c.entries.items;
-      spare = min c.state.tags.spare (vec_capacity c.entries - vec_len c.entries);
+      spare = min c.live.state.tags.spare (vec_capacity c.entries - vec_len c.entries);
     } };
 
-    ghost invariant = { λ c. Holds c.config c.entries.items c.state };
+    ghost invariant = { λ c. Holds c.live.config c.entries.items c.live.state };
 }
 
 impl Control {
@@ -58,13 +53,8 @@ impl Control {
         ensures config { IfOk result (λ control. control.config ≡ config) }
         ensures fresh { IfOk result (λ control. control.entries ≡ []) }
     {
-        // A configuration is sound.
-        let _hosts = config.hosts();
-        let state = State::new(alloc, &config)?;
         Ok(Control {
-            alloc,
-            config,
-            state,
+            live: LiveControl::new(alloc, config)?,
             entries: Vec::new(alloc),
         })
     }
@@ -73,7 +63,7 @@ impl Control {
     pub fn config(&self) -> &Config
         ensures { result.now ≡ self.now.config }
     {
-        &self.config
+        self.live.config()
     }
 
     /// Its commands and scrubs, in order. The payload of each response has at most 2,048 bytes.
@@ -157,8 +147,7 @@ impl Control {
             update,
         } = self.decide(&actor, &act)?;
         let changes = self.changes_by(&actor, &act, &effects)?;
-        let effects = EntryEffects::of(effects)?;
-        let entry = self.next_entry(pass, line, actor, act, reply, effects);
+        let entry = self.next_entry(pass, line, actor, act, reply, effects)?;
         self.take(entry, update);
         Ok(changes)
     }
@@ -172,29 +161,33 @@ impl Control {
         actor: Actor,
         act: Act,
         reply: Reply,
-        effects: EntryEffects,
-    ) -> Entry
+        effects: Effects,
+    ) -> Result<PlannedEntry, NoMemory>
         requires reply { reply ≡ (answer_to self.now.config self.now.entries actor act).0 }
         requires effects { effects ≡ (answer_to self.now.config self.now.entries actor act).1 }
-        ensures { result ≡ journal_entry self.now.config self.now.entries pass line actor act }
+        ensures { IfOk result (λ entry. entry ≡ journal_entry self.now.config self.now.entries pass line actor act) }
     {
-        Entry {
-            pass,
-            line,
-            actor,
-            act,
-            reply,
-            effects,
-            stamp: Stamp {
-                number: self.entries.as_slice().len() as u64 + 1,
-                count: 0,
+        let kept = EntryEffects::of(effects.copy()?)?;
+        Ok(PlannedEntry {
+            entry: Entry {
+                pass,
+                line,
+                actor,
+                act,
+                reply,
+                effects: kept,
+                stamp: Stamp {
+                    number: self.entries.as_slice().len() as u64 + 1,
+                    count: 0,
+                },
             },
-        }
+            effects,
+        })
     }
 
     /// Enters the next entry, and puts its update in place.
     #[inline(always)]
-    fn take(&mut self, entry: Entry, update: Update)
+    fn take(&mut self, entry: PlannedEntry, update: Update)
         requires room { 0 < self.old.spare }
         requires next { IsNextEntry self.old entry }
         requires short { IsShort entry.reply }
@@ -203,8 +196,8 @@ impl Control {
         ensures entered { self.new.entries ≡ self.old.entries ++ entry ∷ [] }
         ensures room_left { self.old.spare ≤ self.new.spare + 1 }
     {
-        self.state
-            .enter(&self.config, entry.effects.as_slice(), update);
+        let PlannedEntry { entry, effects } = entry;
+        self.live.enter(effects.as_slice(), update);
         self.entries.push_reserved(entry);
     }
 
@@ -215,7 +208,7 @@ impl Control {
         ensures room { OnOk result (0 < self.new.spare) }
     {
         self.entries.reserve(1)?;
-        reserve_tag(&mut self.state)
+        self.live.make_room()
     }
 
     /// The step, decided.
@@ -237,37 +230,7 @@ impl Control {
         requires { MayStep self.now.config actor.now act.now }
         ensures { IfOk result (λ d. IsDecidedBy self.now.config self.now.entries actor.now act.now d) }
     {
-        match actor {
-            Actor::Host(host) => match act {
-                Act::Command(request) => {
-                    let (config, state) = (&self.config, &self.state);
-                    let part = state.part(*host);
-                    let drafted = host_draft(
-                        self.alloc,
-                        config,
-                        &state.present,
-                        *host,
-                        &part.lists,
-                        &part.log,
-                        request,
-                    );
-                    host_recorded(self.alloc, config, state, *host, request, drafted)
-                }
-                _ => unreachable!(),
-            },
-            Actor::Manager => match act {
-                Act::Command(request) => {
-                    let (config, state) = (&self.config, &self.state);
-                    let managed = manager_command(self.alloc, config, state, request);
-                    manager_recorded(self.alloc, config, state, request, managed)
-                }
-                _ => unreachable!(),
-            },
-            Actor::Sanitizer => match act {
-                Act::Scrub(most) => scrub_step(self.alloc, &self.config, &self.state, *most),
-                _ => unreachable!(),
-            },
-        }
+        self.live.decide(actor, act)
     }
 
     /// The runs whose holders these effects change or whose words they zero, which are the effects of the step.
@@ -278,8 +241,7 @@ impl Control {
         ensures changes { IfOk result (λ changes. AreChanges self.now.config (effects self.now.entries) new.now changes) }
         ensures inside { IfOk result (λ changes. All (LiesIn (granule_total self.now.config)) changes) }
     {
-        let changes = changes_of(self.alloc, &self.config, &self.state, new.as_slice())?;
-        Ok(changes)
+        self.live.changes_by(new)
     }
 
     /// The plan of a step behind the entries so far.
@@ -305,21 +267,11 @@ impl Control {
             update,
         } = decided;
         let changes = self.changes_by(&actor, &act, &effects)?;
-        let effects = EntryEffects::of(effects)?;
-        let entry = self.next_entry(pass, line, actor, act, reply, effects);
+        let entry = self.next_entry(pass, line, actor, act, reply, effects)?;
         Ok(Plan {
             entry,
             changes,
             update,
         })
     }
-}
-
-/// Makes room for one more tag.
-fn reserve_tag(state: &mut State) -> Result<(), NoMemory>
-    ensures room { OnOk result (0 < state.new.tags.spare) }
-    ensures entries { state.new.tags.entries ≡ state.old.tags.entries }
-    ensures kept { state.new ≡ record state.old { tags = state.new.tags } }
-{
-    state.tags.reserve(1)
 }

@@ -15,10 +15,13 @@ use std::alloc::Global;
 
 /// The reply to a step, its effects, and what is put in place beside them.
 #[derive(Drop)]
-pub(crate) struct Decided {
-    pub(crate) reply: Reply,
-    pub(crate) effects: Effects,
-    pub(crate) update: Update,
+pub struct Decided {
+    /// What is replied.
+    pub reply: Reply,
+    /// What changes.
+    pub effects: Effects,
+    /// What is put in place beside the effects.
+    pub update: Update,
 }
 
 /// A command that succeeds with this payload and changes nothing. It takes no memory.

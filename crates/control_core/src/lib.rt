@@ -1,5 +1,6 @@
 //! The control of the device: one command or scrub at a time, from its bytes to its reply and effects.
 //!
+//! `LiveControl` decides and enters steps and keeps nothing of the past. `Control` has its entries beside it:
 //! `Control::prepare` takes all the memory that a step needs and decides it, `Control::apply` enters it and cannot
 //! fail. What the device keeps is `device_state::State`, and each command has a room in `device_commands`.
 #![tactic(auto)]
@@ -11,11 +12,16 @@ mod decided;
 mod ending;
 mod fitting;
 mod host_steps;
+mod live;
+mod live_readers;
 mod manager_steps;
 mod plan;
+mod planned;
 mod readers;
 mod recording;
 mod scrub_steps;
 
 pub use control::Control;
+pub use decided::Decided;
+pub use live::LiveControl;
 pub use plan::Plan;

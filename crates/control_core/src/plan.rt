@@ -2,6 +2,7 @@
 
 ghost use Rattle.std.specs.Prelude.{◌≡◌};
 
+use crate::planned::PlannedEntry;
 use dcd_base::Changes;
 use device_state::Update;
 use journal_core::Entry;
@@ -9,7 +10,7 @@ use journal_core::Entry;
 /// A step of the control with all the memory that it needs: `Control::apply` takes it.
 #[derive(Drop)]
 pub struct Plan {
-    pub(crate) entry: Entry,
+    pub(crate) entry: PlannedEntry,
     pub(crate) changes: Changes,
     pub(crate) update: Update,
 }
@@ -19,14 +20,14 @@ impl Plan {
     pub fn number(&self) -> u64
         ensures { result ≡ self.now.entry.stamp.number }
     {
-        self.entry.stamp.number
+        self.entry().stamp.number
     }
 
     /// The entry that it will make, with the act and the reply.
     pub fn entry(&self) -> &Entry
         ensures { result.now ≡ self.now.entry }
     {
-        &self.entry
+        self.entry.entry()
     }
 
     /// The runs whose holders it changes or whose words it zeroes, with the holders after it.

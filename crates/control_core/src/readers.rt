@@ -1,6 +1,5 @@
 //! What a control tells of its device: blocks, extents, granules and logs.
 
-ghost use Rattle.control_core.specs.HeldExtents.{AreHeld};
 ghost use Rattle.device_rules.specs.Adding.{is_free_now, present as present_in, region_free_blocks};
 ghost use Rattle.device_rules.specs.Counts.{dirty_count, extent_count, free_count, granules_held, missed_of, records_of};
 ghost use Rattle.device_rules.specs.Hosts.{accepted_of, held_of, offers_of};
@@ -11,12 +10,10 @@ ghost use Rattle.event_log.specs.Logs.{places_in, state_of};
 ghost use Rattle.table_laws.specs.GranuleCells.{status_of};
 ghost use Rattle.journal_core.specs.Entries.{effects};
 ghost use Rattle.journal_core.specs.declared.outcome.HeldKind.{HeldKind};
-ghost use Rattle.media_map.specs.Places.{run_of as run_with};
-ghost use Rattle.std.specs.Prelude.{◌≡◌, ◌<◌, Some, length, map, slice_get, sum_by};
+ghost use Rattle.std.specs.Prelude.{◌≡◌, ◌<◌, Some, length, map, slice_get};
 
 use crate::control::Control;
 use dcd_base::{Extent, HostId, LogId, RegionId};
-use device_commands::run_of;
 use event_log::EventLog;
 use event_records::Event;
 use granule_map::GranuleMap;
@@ -27,7 +24,7 @@ impl Control {
     pub fn present(&self) -> &Config
         ensures { result.now ≡ present_in self.now.config (effects self.now.entries) }
     {
-        &self.state.present
+        self.live.present()
     }
 
     /// The extents that the host has accepted, in the order of its list.
@@ -35,7 +32,7 @@ impl Control {
         requires { host < self.now.config.hosts }
         ensures { result.now ≡ accepted_of self.now.config host (effects self.now.entries) }
     {
-        self.state.part(host).lists.accepted().as_slice()
+        self.live.accepted(host)
     }
 
     /// How many offers the host has not answered.
@@ -43,7 +40,7 @@ impl Control {
         requires { host < self.now.config.hosts }
         ensures { result ≡ length (offers_of host (effects self.now.entries)) }
     {
-        self.state.part(host).lists.offer_count()
+        self.live.offers(host)
     }
 
     /// The extents of an offer that the host has not answered, the oldest at 0.
@@ -52,7 +49,7 @@ impl Control {
         requires index { index < length (offers_of host (effects self.now.entries)) }
         ensures { slice_get (offers_of host (effects self.now.entries)) index ≡ Some result.now }
     {
-        self.state.part(host).lists.offer_at(index)
+        self.live.offer(host, index)
     }
 
     /// The extents that the host's responses with More hold so far.
@@ -60,7 +57,7 @@ impl Control {
         requires { host < self.now.config.hosts }
         ensures { result.now ≡ held_of host HeldKind.Responses (effects self.now.entries) }
     {
-        self.state.part(host).lists.responses().as_slice()
+        self.live.held_responses(host)
     }
 
     /// The extents that the host's releases with More hold so far.
@@ -68,7 +65,7 @@ impl Control {
         requires { host < self.now.config.hosts }
         ensures { result.now ≡ held_of host HeldKind.Releases (effects self.now.entries) }
     {
-        self.state.part(host).lists.releases().as_slice()
+        self.live.held_releases(host)
     }
 
     /// How many extents the host has accepted.
@@ -76,7 +73,7 @@ impl Control {
         requires { host < self.now.config.hosts }
         ensures { result ≡ extent_count self.now.config host (effects self.now.entries) }
     {
-        self.state.part(host).lists.accepted().len() as u32
+        self.live.extents(host)
     }
 
     /// How many granules the host's accepted extents have.
@@ -84,11 +81,7 @@ impl Control {
         requires { host < self.now.config.hosts }
         ensures { result ≡ granules_held self.now.config host (effects self.now.entries) }
     {
-        granules_in(
-            &self.config,
-            host,
-            self.state.part(host).lists.accepted().as_slice(),
-        )
+        self.live.granules_held(host)
     }
 
     /// The state of each granule, in the order of the granules.
@@ -98,14 +91,14 @@ impl Control {
     pub fn states(&self) -> &GranuleMap
         ensures { map status_of result.now.states ≡ map (λ g. status self.now.config g (effects self.now.entries)) (all_granules self.now.config) }
     {
-        self.state.granules.states()
+        self.live.states()
     }
 
     /// How many granules are free.
     pub fn free(&self) -> u32
         ensures { result ≡ free_count self.now.config (effects self.now.entries) }
     {
-        self.state.granules.free()
+        self.live.free()
     }
 
     /// How many blocks of the region are free: blocks of its present size.
@@ -113,17 +106,14 @@ impl Control {
         requires { region < length self.now.config.regions }
         ensures { result ≡ region_free_blocks (present_in self.now.config (effects self.now.entries)) (is_free_now self.now.config (effects self.now.entries)) region }
     {
-        let present = &self.state.present;
-        let area = present.granules_of(region);
-        let per_block = present.per_block(region);
-        self.state.granules.states().free_blocks(area, per_block)
+        self.live.free_blocks(region)
     }
 
     /// How many granules are dirty.
     pub fn dirty(&self) -> u32
         ensures { result ≡ dirty_count self.now.config (effects self.now.entries) }
     {
-        self.state.granules.dirty()
+        self.live.dirty()
     }
 
     /// The log: its records, the handle of the next one and how many found it full.
@@ -131,7 +121,7 @@ impl Control {
         requires { IsOfLog self.now.config.hosts log }
         ensures { result.now ≡ state_of (places_in log) (log_of log (effects self.now.entries)) }
     {
-        self.state.log(log)
+        self.live.log(log)
     }
 
     /// How many records are in the log.
@@ -139,7 +129,7 @@ impl Control {
         requires { IsOfLog self.now.config.hosts log }
         ensures { result ≡ length (records_of log (effects self.now.entries)) }
     {
-        self.state.log(log).len()
+        self.live.records(log)
     }
 
     /// A record of the log, the oldest at 0.
@@ -148,7 +138,7 @@ impl Control {
         requires index { index < length (records_of log (effects self.now.entries)) }
         ensures { slice_get (records_of log (effects self.now.entries)) index ≡ Some result }
     {
-        self.state.log(log).at(index)
+        self.live.record(log, index)
     }
 
     /// How many records found the log full since that count was last reset, up to 65,535.
@@ -156,19 +146,6 @@ impl Control {
         requires { IsOfLog self.now.config.hosts log }
         ensures { result ≡ missed_of log (effects self.now.entries) }
     {
-        self.state.log(log).missed()
+        self.live.missed(log)
     }
-}
-
-/// How many granules the extents have.
-fn granules_in(config: &Config, host: HostId, extents: &[Extent]) -> u32
-    requires host { host < config.now.hosts }
-    requires held { AreHeld config.now host extents.now }
-    ensures { result ≡ sum_by (λ x. (run_with config.now host x).count) extents.now }
-{
-    let mut granules = 0;
-    for i in 0..extents.len() {
-        granules += run_of(config, host, &extents[i]).count;
-    }
-    granules
 }

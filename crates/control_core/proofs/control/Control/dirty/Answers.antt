@@ -1,10 +1,10 @@
-use Rattle.std.proofs.Common.{◌≡◌, subst, ◌∙◌}
+use Rattle.std.proofs.Common.{◌≡◌, subst}
 use Rattle.journal_core.specs.Entries.{effects}
 use Rattle.device_rules.specs.Counts.{dirty_count}
 use Rattle.control_core.specs.Steps.{Controlled}
-use Rattle.control_core.proofs.Reading.{dirty_told}
+use Rattle.control_core.proofs.Entering.{past_held}
 use Rattle.control_core.proofs.control.Control.dirty.Goals as goal
 
 pub returns : goal.returns
 returns c = subst (λ (d : Controlled). c.dirty.result ≡ dirty_count d.config (effects d.entries)) c.self.view_is
-    (c.dirty.ensures ∙ dirty_told c.self.inside.config c.self.inside.entries.items c.self.inside.state c.self.invariant.kept)
+    (c.dirty.ensures c.self.inside.entries.items (past_held c.self.inside.live.config c.self.inside.entries.items c.self.inside.live.state c.self.invariant))

@@ -1,27 +1,10 @@
-use Rattle.std.proofs.Common.{◌≡◌, ◌<◌, List, ap, sym, subst, ◌∙◌}
-use Rattle.std.specs.Prelude.{sum_by}
-use Rattle.dcd_base.specs.declared.capacity.Extent.{Extent}
+use Rattle.std.proofs.Common.{◌≡◌, subst}
 use Rattle.journal_core.specs.Entries.{effects}
-use Rattle.media_map.specs.Places.{run_of}
 use Rattle.device_rules.specs.Counts.{granules_held}
-use Rattle.control_core.specs.HeldExtents.{AreHeld}
 use Rattle.control_core.specs.Steps.{Controlled}
-use Rattle.device_state.specs.declared.parts.HostPart.{HostPart}
-use Rattle.control_core.proofs.Reading.{accepted_told, granules_told, held_in_kept}
+use Rattle.control_core.proofs.Entering.{past_held}
 use Rattle.control_core.proofs.control.Control.granules_held.Goals as goal
 
-pub granules_in-requires-clause-held : goal.granules_in-requires-clause-held
-granules_in-requires-clause-held c =
-    let host = subst (λ (d : Controlled). c.args.host < d.config.hosts) (sym c.self.view_is) c.requires in
-    let are = c.as_slice.ensures ∙ c.accepted.ensures ∙ ap (λ (part : HostPart). part.lists.accepted) c.part.ensures in
-    subst (λ (xs : List Extent). AreHeld c.self.inside.config c.args.host xs) (sym are)
-    (held_in_kept c.self.inside.config c.self.inside.entries.items c.self.inside.state c.self.invariant c.args.host host)
-
 pub returns : goal.returns
-returns c =
-    let host = subst (λ (d : Controlled). c.args.host < d.config.hosts) (sym c.self.view_is) c.requires in
-    let are = c.as_slice.ensures ∙ c.accepted.ensures ∙ ap (λ (part : HostPart). part.lists.accepted) c.part.ensures
-    ∙ accepted_told c.self.inside.config c.self.inside.entries.items c.self.inside.state c.self.invariant.kept c.args.host host in
-    subst (λ (d : Controlled). c.granules_in.result ≡ granules_held d.config c.args.host (effects d.entries)) c.self.view_is
-    (c.granules_in.ensures ∙ ap (λ (xs : List Extent). sum_by (λ x. (run_of c.self.inside.config c.args.host x).count) xs) are
-    ∙ granules_told c.self.inside.config c.self.inside.entries.items c.args.host)
+returns c = subst (λ (d : Controlled). c.granules_held.result ≡ granules_held d.config c.args.host (effects d.entries)) c.self.view_is
+    (c.granules_held.ensures c.self.inside.entries.items (past_held c.self.inside.live.config c.self.inside.entries.items c.self.inside.live.state c.self.invariant))

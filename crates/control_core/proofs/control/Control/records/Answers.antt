@@ -1,15 +1,10 @@
-use Rattle.std.proofs.Common.{◌≡◌, length, ap, sym, subst, ◌∙◌}
-use Rattle.event_log.specs.LogStates.{LogState}
+use Rattle.std.proofs.Common.{◌≡◌, length, subst}
 use Rattle.journal_core.specs.Entries.{effects}
 use Rattle.device_rules.specs.Counts.{records_of}
 use Rattle.control_core.specs.Steps.{Controlled}
-use Rattle.device_state.specs.Updates.{IsOfLog}
-use Rattle.control_core.proofs.Reading.{records_told}
+use Rattle.control_core.proofs.Entering.{past_held}
 use Rattle.control_core.proofs.control.Control.records.Goals as goal
 
 pub returns : goal.returns
-returns c =
-    let known = subst (λ (d : Controlled). IsOfLog d.config.hosts c.args.log) (sym c.self.view_is) c.requires in
-    subst (λ (d : Controlled). c.len.result ≡ length (records_of c.args.log (effects d.entries))) c.self.view_is
-    (c.len.ensures.len ∙ ap (λ (log : LogState). length log.records) c.log.ensures
-    ∙ ap length (records_told c.self.inside.config c.self.inside.entries.items c.self.inside.state c.self.invariant.kept c.args.log known))
+returns c = subst (λ (d : Controlled). c.records.result ≡ length (records_of c.args.log (effects d.entries))) c.self.view_is
+    (c.records.ensures c.self.inside.entries.items (past_held c.self.inside.live.config c.self.inside.entries.items c.self.inside.live.state c.self.invariant))

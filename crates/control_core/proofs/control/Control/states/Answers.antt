@@ -1,12 +1,12 @@
-use Rattle.std.proofs.Common.{◌≡◌, ap, subst, ◌∙◌}
+use Rattle.std.proofs.Common.{◌≡◌, subst}
 use Rattle.std.specs.Prelude.{map}
+use Rattle.journal_core.specs.Entries.{effects}
 use Rattle.device_rules.specs.Tags.{all_granules, status}
 use Rattle.table_laws.specs.GranuleCells.{status_of}
-use Rattle.journal_core.specs.Entries.{effects}
 use Rattle.control_core.specs.Steps.{Controlled}
-use Rattle.control_core.proofs.Reading.{states_told}
+use Rattle.control_core.proofs.Entering.{past_held}
 use Rattle.control_core.proofs.control.Control.states.Goals as goal
 
 pub returns : goal.returns
 returns c = subst (λ (d : Controlled). map status_of c.states.result.now.states ≡ map (λ g. status d.config g (effects d.entries)) (all_granules d.config)) c.self.view_is
-    (ap (map status_of) c.states.ensures ∙ states_told c.self.inside.config c.self.inside.entries.items c.self.inside.state c.self.invariant.kept)
+    (c.states.ensures c.self.inside.entries.items (past_held c.self.inside.live.config c.self.inside.entries.items c.self.inside.live.state c.self.invariant))

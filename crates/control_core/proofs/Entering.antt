@@ -1,0 +1,74 @@
+-- A step is entered in a control that keeps no entries, by every journal that leads to it.
+use Rattle.std.proofs.Common.{◌≡◌, List, [], ◌∷◌, ◌++◌, sym, subst}
+use Rattle.std.specs.Prelude.{All, IfOk}
+use Rattle.std.specs.declared.result.Result.{Result}
+use Rattle.std.specs.declared.result.Result.TheVariants.{Ok, Err}
+use Rattle.std.proofs.lemmas.List.Elements.{All-push}
+use Rattle.journal_core.specs.declared.entries.Entry.{Entry}
+use Rattle.journal_core.specs.declared.outcome.Effect.{Effect}
+use Rattle.journal_core.proofs.EachSteps.{Each-push}
+use Rattle.region_config.specs.Configurations.{Configuration}
+use Rattle.device_rules.specs.Legal.{Meets}
+use Rattle.device_state.specs.Entered.{IsEntered}
+use Rattle.device_state.specs.StateAfter.{IsReached}
+use Rattle.device_state.specs.Updates.{IsOfDevice, IsUpdate}
+use Rattle.device_state.specs.declared.state.State.{State}
+use Rattle.device_state.specs.declared.updates.NewParts.{NewParts}
+use Rattle.device_state.proofs.EnteredSteps.{kept-entered, of_device}
+use Rattle.control_core.specs.Deciding.{Holds, IsShort}
+use Rattle.control_core.specs.Pasts.{CanEnter, EntersStep, IsOfStep, IsPast, LiveControlled}
+use Rattle.control_core.specs.PutChanges.{AreOfOneHost}
+use Rattle.control_core.proofs.OneHost.{of_one_host}
+
+-- what is so by each past is so by every past
+pub by_every : {T E : Type 0} (r : Result T E) (P : List Entry → Type 0) (Q : List Entry → T → Type 0) → ((past : List Entry) → P past → IfOk r (Q past)) → IfOk r (λ x. (past : List Entry) → P past → Q past x)
+by_every (Ok x) P Q each = each
+by_every (Err e) P Q each = tt
+
+pub of_every : {T E : Type 0} (r : Result T E) (Q : List Entry → T → Type 0) (c : Configuration) (s : State) (past : List Entry) → IsPast c past s →
+    IfOk r (λ x. (before : List Entry) → IsPast c before s → Q before x) → IfOk r (Q past)
+of_every (Ok x) Q c s past leads each = each past leads
+of_every (Err e) Q c s past leads each = tt
+
+-- the journal of what is reached leads to it, and so do the entries of a control
+pub past_reached : (c : Configuration) (s : State) → (r : IsReached c s) → IsPast c r.journal s
+past_reached c s r = record { sound = r.sound; legal = r.legal; kept = r.kept }
+
+pub reached_past : (c : Configuration) (past : List Entry) (s : State) → IsPast c past s → IsReached c s
+reached_past c past s leads = record { journal = past; sound = leads.sound; legal = leads.legal; kept = leads.kept }
+
+pub past_held : (c : Configuration) (journal : List Entry) (s : State) → Holds c journal s → IsPast c journal s
+past_held c journal s holds = record { sound = holds.sound; legal = holds.legal; kept = holds.kept }
+
+-- the effects of a step give and take granules of one host, and are of the device
+pub step_of_one : (d : LiveControlled) (new : List Effect) → IsOfStep d new → AreOfOneHost new
+step_of_one d new step = subst AreOfOneHost step.effects_are (of_one_host d.config step.past step.entry step.meets)
+
+pub step_of_device : (d : LiveControlled) (new : List Effect) → IsOfStep d new → All (IsOfDevice d.config) new
+step_of_device d new step = subst (All (IsOfDevice d.config)) step.effects_are (of_device d.config step.leads.sound step.past step.leads.legal step.entry step.meets)
+
+-- the entry behind a past leads to what is kept once it is entered
+pub past_entered : (c : Configuration) (past : List Entry) (old now : State) → IsPast c past old → (e : Entry) → Meets c past e → (new : List Effect) → e.effects ≡ new →
+    (u : NewParts) → IsUpdate c past new u → IsEntered c new u old now → IsPast c (past ++ e ∷ []) now
+past_entered c past old now leads e meets new are u update entered = record {
+  sound = leads.sound;
+  legal = Each-push (Meets c) past e leads.legal meets;
+  kept = kept-entered c leads.sound past leads.legal e meets u old now leads.kept
+      (subst (λ es. IsUpdate c past es u) (sym are) update) (subst (λ es. IsEntered c es u old now) (sym are) entered);
+}
+
+pub reached_entered : (d : LiveControlled) (now : State) (new : List Effect) (u : NewParts) → CanEnter d new u → IsEntered d.config new u d.state now → IsReached d.config now
+reached_entered d now new u can entered =
+    reached_past d.config (can.step.past ++ can.step.entry ∷ []) now
+    (past_entered d.config can.step.past d.state now can.step.leads can.step.entry can.step.meets new can.step.effects_are u can.update entered)
+
+-- so what every control keeps is kept
+pub holds_next : (old now : LiveControlled) (before : List Entry) → Holds old.config before old.state → (e : Entry) → Meets old.config before e → IsShort e.reply →
+    (new : List Effect) → e.effects ≡ new → (u : NewParts) → IsUpdate old.config before new u → EntersStep old now new u → Holds now.config (before ++ e ∷ []) now.state
+holds_next old now before holds e meets short new are u update enters =
+    let leads = enters before (past_held old.config before old.state holds) update e meets are in record {
+      sound = leads.sound;
+      legal = leads.legal;
+      kept = leads.kept;
+      short = All-push (λ (x : Entry). IsShort x.reply) before e holds.short short;
+    }

@@ -1,0 +1,33 @@
+use Rattle.std.proofs.Common.{◌≡◌, ◌<◌, ◌≤◌, IfOk, ap, subst, sym, ◌∙◌}
+use Rattle.std.specs.Result.{result_err}
+use Rattle.dcd_base.specs.declared.steps.LogId.{LogId}
+use Rattle.host_lists.specs.Lists.{extent_total}
+use Rattle.device_commands.proofs.FewExtents.{few_extents}
+use Rattle.device_rules.specs.Answers.{host_result_in}
+use Rattle.device_rules.specs.Views.{view_of}
+use Rattle.device_state.specs.StateAfter.{IsLogOf}
+use Rattle.device_state.specs.declared.parts.HostPart.{HostPart}
+use Rattle.control_core.specs.Pasts.{ByEveryPast, IsPast, LiveControlled}
+use Rattle.control_core.proofs.DraftedRows.{host_row}
+use Rattle.control_core.proofs.Entering.{by_every}
+use Rattle.control_core.proofs.live.LiveControl.broken_by_host.Goals as goal
+
+pub host_draft-requires-clause-few : goal.host_draft-requires-clause-few
+host_draft-requires-clause-few c =
+    let host : c.args.host < c.self.inside.config.hosts = subst (λ (d : LiveControlled). c.args.host < d.config.hosts) (sym c.self.view_is) c.requires in
+    subst (λ (p : HostPart). extent_total p.lists ≤ 64) (sym c.part-part.ensures) (few_extents c.self.inside.config c.self.inside.state c.self.invariant c.args.host host)
+
+pub returns : goal.returns
+returns c =
+    let cfg = c.self.inside.config in
+    let h = c.args.host in
+    let q = c.args.request.now in
+    let host : h < cfg.hosts = subst (λ (d : LiveControlled). h < d.config.hosts) (sym c.self.view_is) c.requires in
+    subst (λ (d : LiveControlled). IfOk c.rule_of.result (λ rule. ByEveryPast d (λ past. rule ≡ result_err (host_result_in d.config h (view_of d.config h past) q)))) c.self.view_is
+    (by_every c.rule_of.result (λ past. IsPast cfg past c.self.inside.state) (λ past rule. rule ≡ result_err (host_result_in cfg h (view_of cfg h past) q))
+    (λ past leads.
+    c.rule_of.ensures (result_err (host_result_in cfg h (view_of cfg h past) q))
+    (host_row cfg h (view_of cfg h past) q c.host_draft.result
+    (c.host_draft.ensures.drafted (view_of cfg h past) leads.kept.present_is
+    (ap (λ (p : HostPart). p.lists) c.part-part.ensures ∙ (leads.kept.parts h host).lists_are)
+    (subst (λ (p : HostPart). IsLogOf (LogId.Host h) (view_of cfg h past).log p.log) (sym c.part-part.ensures) (leads.kept.parts h host).log_is)))))

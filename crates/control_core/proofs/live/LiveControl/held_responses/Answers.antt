@@ -1,0 +1,14 @@
+use Rattle.std.proofs.Common.{◌≡◌, ◌<◌, ap, sym, subst, ◌∙◌}
+use Rattle.journal_core.specs.Entries.{effects}
+use Rattle.journal_core.specs.declared.outcome.HeldKind.{HeldKind}
+use Rattle.device_rules.specs.Hosts.{held_of}
+use Rattle.control_core.specs.Pasts.{ByEveryPast, LiveControlled}
+use Rattle.device_state.specs.declared.parts.HostPart.{HostPart}
+use Rattle.control_core.proofs.Reading.{responses_told}
+use Rattle.control_core.proofs.live.LiveControl.held_responses.Goals as goal
+
+pub returns : goal.returns
+returns c =
+    let host = subst (λ (d : LiveControlled). c.args.host < d.config.hosts) (sym c.self.view_is) c.requires in
+    subst (λ (d : LiveControlled). ByEveryPast d (λ past. c.as_slice.result.now ≡ held_of c.args.host HeldKind.Responses (effects past))) c.self.view_is
+    (λ past leads. c.as_slice.ensures ∙ c.responses.ensures ∙ ap (λ (part : HostPart). part.lists.responses) c.part.ensures ∙ responses_told c.self.inside.config past c.self.inside.state leads.kept c.args.host host)

@@ -1,0 +1,15 @@
+use Rattle.std.proofs.Common.{◌≡◌, length, ap, sym, subst, ◌∙◌}
+use Rattle.event_log.specs.LogStates.{LogState}
+use Rattle.journal_core.specs.Entries.{effects}
+use Rattle.device_rules.specs.Counts.{records_of}
+use Rattle.control_core.specs.Pasts.{ByEveryPast, LiveControlled}
+use Rattle.device_state.specs.Updates.{IsOfLog}
+use Rattle.control_core.proofs.Reading.{records_told}
+use Rattle.control_core.proofs.live.LiveControl.records.Goals as goal
+
+pub returns : goal.returns
+returns c =
+    let known = subst (λ (d : LiveControlled). IsOfLog d.config.hosts c.args.log) (sym c.self.view_is) c.requires in
+    subst (λ (d : LiveControlled). ByEveryPast d (λ past. c.len.result ≡ length (records_of c.args.log (effects past)))) c.self.view_is
+    (λ past leads. c.len.ensures.len ∙ ap (λ (log : LogState). length log.records) c.log.ensures
+    ∙ ap length (records_told c.self.inside.config past c.self.inside.state leads.kept c.args.log known))

@@ -1,0 +1,48 @@
+-- A control that keeps no entries, as contracts see it, and the journals that lead to what it keeps.
+use Rattle.std.specs.Prelude.{◌≡◌, ℕ, List, [], ◌∷◌, ◌++◌}
+use Rattle.region_config.specs.Configurations.{Configuration}
+use Rattle.region_config.specs.Soundness.{IsSound}
+use Rattle.journal_core.specs.declared.entries.Entry.{Entry}
+use Rattle.journal_core.specs.declared.outcome.Effect.{Effect}
+use Rattle.device_rules.specs.Legal.{Legal, Meets}
+use Rattle.device_state.specs.StateAfter.{IsStateAfter}
+use Rattle.device_state.specs.Updates.{IsUpdate}
+use Rattle.device_state.specs.declared.state.State.{State}
+use Rattle.device_state.specs.declared.updates.NewParts.{NewParts}
+
+-- The configuration that the control was made with, and what it keeps.
+pub record LiveControlled : Type 0 where
+  pub config : Configuration
+  pub state : State
+
+-- The journal leads to what is kept: it is legal, and all of that is what its entries say.
+pub record IsPast (c : Configuration) (journal : List Entry) (s : State) : Type 0 where
+  pub sound : IsSound c
+  pub legal : Legal c journal
+  pub kept : IsStateAfter c journal s
+
+-- So it is by every journal that leads to what the control keeps.
+abbrev pub ByEveryPast : LiveControlled → (List Entry → Type 0) → Type 0
+ByEveryPast d P = (past : List Entry) → IsPast d.config past d.state → P past
+
+-- what is kept, with room for so many more tags
+abbrev pub with_spare : ℕ → State → State
+with_spare spare s = record s { tags = record s.tags { spare = spare } }
+
+-- The effects are those of a step that some journal that leads here asks for.
+pub record IsOfStep (d : LiveControlled) (new : List Effect) : Type 0 where
+  pub past : List Entry
+  pub entry : Entry
+  pub leads : IsPast d.config past d.state
+  pub meets : Meets d.config past entry
+  pub effects_are : entry.effects ≡ new
+
+-- So are they, and this has to be put in place for them.
+pub record CanEnter (d : LiveControlled) (new : List Effect) (u : NewParts) : Type 0 where
+  pub step : IsOfStep d new
+  pub update : IsUpdate d.config step.past new u
+
+-- The entry behind this past leads to what is kept now, where the past asks for it and for what was put in place.
+abbrev pub EntersStep : LiveControlled → LiveControlled → List Effect → NewParts → Type 0
+EntersStep old now new u = (past : List Entry) → IsPast old.config past old.state → IsUpdate old.config past new u →
+    (e : Entry) → Meets old.config past e → e.effects ≡ new → IsPast now.config (past ++ e ∷ []) now.state

@@ -1,0 +1,151 @@
+//! The control without entries: a configuration, and what the device keeps.
+
+ghost use Rattle.control_core.specs.Deciding.{IsDecidedBy};
+ghost use Rattle.control_core.specs.Pasts.{ByEveryPast, CanEnter, EntersStep, IsOfStep, IsPast};
+ghost use Rattle.control_core.specs.Steps.{MayStep};
+ghost use Rattle.device_rules.specs.ChangedRuns.{AreChanges, LiesIn};
+ghost use Rattle.journal_core.specs.Entries.{effects};
+ghost use Rattle.region_config.specs.Granules.{granule_total};
+ghost use Rattle.std.specs.Prelude.{◌≡◌, ◌+◌, ◌<◌, ◌≤◌, [], All, IfOk, OnOk};
+
+use crate::changing::changes_of;
+use crate::decided::Decided;
+use crate::host_steps::host_recorded;
+use crate::manager_steps::{manager_command, manager_recorded};
+use crate::scrub_steps::scrub_step;
+use dcd_base::{Actor, Changes, NoMemory};
+use device_commands::host_draft;
+use device_state::{State, Update};
+use journal_core::{Act, Effect, Effects};
+use region_config::Config;
+use std::alloc::Global;
+use std::marker::Model;
+
+/// What a device keeps, and no entry of what led to it: it can decide and enter steps for ever.
+///
+/// Contracts see the configuration that it was made with and what is kept. What they say of the past they say by every
+/// legal journal that leads to what is kept, of which there is one at all times.
+#[derive(Drop)]
+pub struct LiveControl {
+    pub(crate) alloc: Global,
+    pub(crate) config: Config,
+    pub(crate) state: State,
+}
+
+impl Model for LiveControl {
+    ghost use Rattle.control_core.specs.Pasts.{LiveControlled};
+    ghost use Rattle.device_state.specs.StateAfter.{IsReached};
+
+    ghost Value = { LiveControlled };
+
+    ghost view = { λ c. record { config = c.config; state = c.state } };
+
+    ghost invariant = { λ c. IsReached c.config c.state };
+}
+
+impl LiveControl {
+    /// A fresh control of this configuration: nothing is offered, accepted or logged.
+    pub fn new(alloc: Global, config: Config) -> Result<LiveControl, NoMemory>
+        ensures config { IfOk result (λ live. live.config ≡ config) }
+        ensures fresh { IfOk result (λ live. IsPast config [] live.state) }
+    {
+        // A configuration is sound.
+        let _hosts = config.hosts();
+        let state = State::new(alloc, &config)?;
+        Ok(LiveControl {
+            alloc,
+            config,
+            state,
+        })
+    }
+
+    /// The configuration.
+    pub fn config(&self) -> &Config
+        ensures { result.now ≡ self.now.config }
+    {
+        &self.config
+    }
+
+    /// What a command or a scrub that fits its actor comes to.
+    #[inline(always)]
+    pub fn decide(&self, actor: &Actor, act: &Act) -> Result<Decided, NoMemory>
+        requires { MayStep self.now.config actor.now act.now }
+        ensures { IfOk result (λ d. ByEveryPast self.now (λ past. IsDecidedBy self.now.config past actor.now act.now d)) }
+    {
+        match actor {
+            Actor::Host(host) => match act {
+                Act::Command(request) => {
+                    let (config, state) = (&self.config, &self.state);
+                    let part = state.part(*host);
+                    let drafted = host_draft(
+                        self.alloc,
+                        config,
+                        &state.present,
+                        *host,
+                        &part.lists,
+                        &part.log,
+                        request,
+                    );
+                    host_recorded(self.alloc, config, state, *host, request, drafted)
+                }
+                _ => unreachable!(),
+            },
+            Actor::Manager => match act {
+                Act::Command(request) => {
+                    let (config, state) = (&self.config, &self.state);
+                    let managed = manager_command(self.alloc, config, state, request);
+                    manager_recorded(self.alloc, config, state, request, managed)
+                }
+                _ => unreachable!(),
+            },
+            Actor::Sanitizer => match act {
+                Act::Scrub(most) => scrub_step(self.alloc, &self.config, &self.state, *most),
+                _ => unreachable!(),
+            },
+        }
+    }
+
+    /// The runs whose holders the effects of a step change or whose words they zero, with the holders after it.
+    #[inline(always)]
+    pub fn changes_by(&self, new: &Effects) -> Result<Changes, NoMemory>
+        requires { IsOfStep self.now new.now }
+        ensures changes { IfOk result (λ changes. ByEveryPast self.now (λ past. AreChanges self.now.config (effects past) new.now changes)) }
+        ensures inside { IfOk result (λ changes. All (LiesIn (granule_total self.now.config)) changes) }
+    {
+        let changes = changes_of(self.alloc, &self.config, &self.state, new.as_slice())?;
+        Ok(changes)
+    }
+
+    /// Makes room for a tag that a step opens.
+    pub fn make_room(&mut self) -> Result<(), NoMemory>
+        ensures room { OnOk result (0 < self.new.state.tags.spare) }
+        ensures config { self.new.config ≡ self.old.config }
+        ensures tags { self.new.state.tags.entries ≡ self.old.state.tags.entries }
+        ensures kept { self.new.state ≡ record self.old.state { tags = self.new.state.tags } }
+    {
+        reserve_tag(&mut self.state)
+    }
+
+    /// Enters the effects of a step and what has to be put in place beside them. It takes no memory.
+    ///
+    /// There is room for a tag, which it may use.
+    #[inline(always)]
+    pub fn enter(&mut self, new: &[Effect], update: Update)
+        requires room { 0 < self.old.state.tags.spare }
+        requires step { CanEnter self.old new.now update }
+        ensures config { self.new.config ≡ self.old.config }
+        ensures entered { EntersStep self.old self.new new.now update }
+        ensures room_left { self.old.state.tags.spare ≤ self.new.state.tags.spare + 1 }
+    {
+        self.state.enter(&self.config, new, update);
+    }
+}
+
+/// Makes room for one more tag.
+fn reserve_tag(state: &mut State) -> Result<(), NoMemory>
+    ensures room { OnOk result (0 < state.new.tags.spare) }
+    ensures entries { state.new.tags.entries ≡ state.old.tags.entries }
+    ensures kept { state.new ≡ record state.old { tags = state.new.tags } }
+{
+    state.tags.reserve(1)
+}
