@@ -167,7 +167,7 @@ impl Control {
         requires effects { effects ≡ (answer_to self.now.config self.now.entries actor act).1 }
         ensures { IfOk result (λ entry. entry ≡ journal_entry self.now.config self.now.entries pass line actor act) }
     {
-        let kept = EntryEffects::of(effects.copy()?)?;
+        let kept = EntryEffects::of(&effects)?;
         Ok(PlannedEntry {
             entry: Entry {
                 pass,
