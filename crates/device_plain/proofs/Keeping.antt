@@ -1,11 +1,10 @@
 -- What every device keeps is kept by one more entry.
-use Rattle.std.proofs.Common.{◌≡◌, ℕ, ◌+◌, ◌<◌, Bool, true, false, get_or, leb, ◌&&◌, ◌==◌, List, [], ◌∷◌, ◌++◌, length, refl, sym, ap, subst, ◌∙◌, append-nil, add-zero, arith}
+use Rattle.std.proofs.Common.{◌≡◌, ℕ, ◌+◌, ◌<◌, true, false, leb, ◌&&◌, ◌==◌, List, [], ◌∷◌, ◌++◌, length, refl, sym, ap, subst, ◌∙◌, append-nil, add-zero, arith}
 use Rattle.std.specs.Prelude.{All, IfOk, IsFalse, IsTrue, fold, if◌then◌else◌, not}
 use Rattle.std.specs.List.{filter, list_any}
 use Rattle.std.specs.declared.result.Result.{Result}
 use Rattle.std.specs.declared.result.Result.TheVariants.{Ok, Err}
 use Rattle.std.proofs.lemmas.Bool.{and_from, eq-eqb, le-leb, lt-ltb}
-use Rattle.std.proofs.lemmas.Nat.Bits.{bit_at-zero}
 use Rattle.std.proofs.lemmas.List.{length-append}
 use Rattle.std.proofs.lemmas.List.Elements.{All-nil, All-push, All-weaker}
 use Rattle.std.proofs.lemmas.List.Sums.{fold_push}
@@ -15,12 +14,10 @@ use Rattle.dcd_base.specs.declared.media.Change.{Change}
 use Rattle.dcd_base.specs.declared.media.Place.{Place}
 use Rattle.dcd_base.specs.declared.steps.Actor.{Actor}
 use Rattle.dcd_base.specs.declared.steps.Stamp.{Stamp}
-use Rattle.granule_mem.specs.Contents.{IsFresh, Media, holders_in, word_in}
+use Rattle.granule_mem.specs.Contents.{IsFresh, Media, word_in}
 use Rattle.journal_core.specs.declared.acts.Act.{Act}
-use Rattle.journal_core.specs.declared.acts.Reply.{Reply}
 use Rattle.journal_core.specs.declared.entries.Entry.{Entry}
 use Rattle.journal_core.specs.Entries.{effects, is_control}
-use Rattle.journal_core.specs.Holders.{holds}
 use Rattle.journal_core.specs.Merging.{commands_in, is_later}
 use Rattle.journal_core.proofs.EachSteps.{Each-push}
 use Rattle.journal_core.proofs.JournalSteps.{Numbered-push, commands_in-push, effects-push}
@@ -28,15 +25,15 @@ use Rattle.media_map.specs.Places.{locate}
 use Rattle.region_config.specs.Configurations.{Configuration}
 use Rattle.region_config.specs.Granules.{granule_total}
 use Rattle.region_config.specs.Soundness.{IsSound}
-use Rattle.dcd_base.specs.Hosts.{has_host}
 use Rattle.device_rules.specs.Hosts.{changes_of, moves}
-use Rattle.device_rules.specs.Legal.{Meets, access_at, granted_reply, is_zeroing, stored_at, word_after, word_by, word_of, written_by}
-use Rattle.device_rules.specs.ChangedRuns.{AreChanges, AreHolders, holders_after}
+use Rattle.device_rules.specs.Legal.{Meets, word_by}
+use Rattle.device_rules.specs.ChangedRuns.{AreChanges}
 use Rattle.control_core.specs.Deciding.{IsShort}
 use Rattle.control_core.specs.Steps.{MayStep, journal_entry}
 use Rattle.journal_core.specs.Accesses.{access_entry, load_said}
-use Rattle.device_plain.specs.Accesses.{AreMade, StoresAt, granted_place, held_at, store_said, word_from}
+use Rattle.live_device.specs.Accesses.{AreMade, StoresAt, granted_place, store_said, word_from}
 use Rattle.device_plain.specs.Keeping.{Keeps}
+use Rattle.live_device.proofs.MemorySteps.{effects_stay, fresh_holders, holders_made, holders_stay, load_right, store_right, words_made, words_stored, written}
 use Rattle.device_plain.specs.Numbering.{IsCounted, IsReachedBy, accesses_of}
 use Rattle.device_rules.proofs.Answered.{answer_same}
 use Rattle.device_plain.proofs.Numbered.{accesses-push, before_access, before_command, commands-push, reached_access, reached_command, since-push}
@@ -60,12 +57,9 @@ keeps_first c m sound granules fresh = record {
   few = omega arith;
   reached = All-nil (λ (x : Entry). IsReachedBy 0 0 x.stamp);
   granules = granules;
-  holders = λ g below h host. ap (λ bits. has_host bits h) (fresh.unheld g) ∙ nobody h;
+  holders = fresh_holders c m fresh;
   words = λ g w below. fresh.zeroed g w;
 }
-  where
-    nobody : (h : HostId) → has_host 0 h ≡ false
-    nobody h = ap (λ n. n == 1) (bit_at-zero h)
 
 module _ (c : Configuration) (control : List Entry) (m : Media) (journal : List Entry) (since : ℕ) (k : Keeps c control m journal since) where
   -- ---- a command or a scrub
@@ -90,15 +84,6 @@ module _ (c : Configuration) (control : List Entry) (m : Media) (journal : List 
     reply = ap (λ r. r.0) (answer_same c control journal k.effects_are k.changes Actor.Sanitizer act);
     effects = ap (λ r. r.1) (answer_same c control journal k.effects_are k.changes Actor.Sanitizer act);
   }
-
-  -- it stores no word
-  stores_nothing : (g w value : ℕ) (actor : Actor) (act : Act) (reply : Reply) → IsTrue (is_control act) → word_by c g w value actor act reply ≡ value
-  stores_nothing g w value (Actor.Host h) (Act.Command q) reply is = refl
-  stores_nothing g w value (Actor.Host h) (Act.Load d) reply is = refl
-  stores_nothing g w value (Actor.Host h) (Act.Store d new) reply is = absurd (never is)
-  stores_nothing g w value (Actor.Host h) (Act.Scrub n) reply is = refl
-  stores_nothing g w value Actor.Manager act reply is = refl
-  stores_nothing g w value Actor.Sanitizer act reply is = refl
 
   module _ (pass line : ℕ) (actor : Actor) (act : Act) (may : MayStep c actor act) where
     abbrev next : Entry
@@ -132,15 +117,8 @@ module _ (c : Configuration) (control : List Entry) (m : Media) (journal : List 
           (All-weaker (λ (x : Entry). IsReachedBy (length control) since x.stamp) (λ (x : Entry). IsReachedBy (length control + 1) 0 x.stamp) (λ x r. reached_command (length control) since x.stamp r) journal k.reached)
           (record { below = omega arith; count = λ e. omega arith }));
       granules = is.granules ∙ k.granules;
-      holders = λ g below.
-          subst (λ bits. AreHolders c g (effects (journal ++ next ∷ [])) bits) (sym (is.holders g)) (
-          subst (λ es. AreHolders c g es (fold (holders_after g) (holders_in m g) changes)) past (
-          are.holders g below (holders_in m g) (subst (λ es. AreHolders c g es (holders_in m g)) (sym k.effects_are) (k.holders g below))));
-      words = λ g w below.
-          is.words g w
-          ∙ (λ i. if are.zeroed g below i then 0 else k.words g w below i)
-          ∙ ap (λ value. if list_any (is_zeroing g) next.effects then 0 else value) (sym (stores_nothing g w (word_of c journal g w) actor act next.reply may.control))
-          ∙ sym (fold_push (word_after c g w) 0 journal next);
+      holders = holders_made c journal m made next changes changed is k.holders;
+      words = words_made c journal m made next changes changed is may.control k.words;
     }
       where
         counted_is : length control ≡ commands_in journal
@@ -166,6 +144,9 @@ module _ (c : Configuration) (control : List Entry) (m : Media) (journal : List 
 
         moved : HostId → ℕ → Entry → ℕ
         moved h n x = if list_any (moves h) x.effects then n + 1 else n
+
+        changed : AreChanges c (effects journal) next.effects changes
+        changed = subst (λ es. AreChanges c es next.effects changes) k.effects_are are
 
   -- ---- a load or a store
   module _ (e : Entry) (meets : Meets c journal e) (access : is_control e.act ≡ false) (none : e.effects ≡ []) (short : IsShort e.reply)
@@ -195,14 +176,8 @@ module _ (c : Configuration) (control : List Entry) (m : Media) (journal : List 
           (All-weaker (λ (x : Entry). IsReachedBy (length control) since x.stamp) (λ (x : Entry). IsReachedBy (length control) (since + 1) x.stamp) (λ x r. reached_access (length control) since x.stamp r) journal k.reached)
           (subst (IsReachedBy (length control) (since + 1)) (sym stamp) (record { below = omega arith; count = λ same. omega arith }));
       granules = ap length holders ∙ k.granules;
-      holders = λ g below.
-          subst (λ es. AreHolders c g es (holders_in new g)) (sym past) (
-          subst (AreHolders c g (effects journal)) (sym (ap (λ held. get_or held g 0) holders)) (k.holders g below));
-      words = λ g w below.
-          words g w below
-          ∙ ap (λ value. word_by c g w value e.actor e.act e.reply) (k.words g w below)
-          ∙ ap (λ es. if list_any (is_zeroing g) es then 0 else word_by c g w (word_of c journal g w) e.actor e.act e.reply) (sym none)
-          ∙ sym (fold_push (word_after c g w) 0 journal e);
+      holders = holders_stay c journal m new e none holders k.holders;
+      words = words_stored c journal m new e none words k.words;
     }
       where
         counted_is : length control ≡ commands_in journal
@@ -224,55 +199,16 @@ module _ (c : Configuration) (control : List Entry) (m : Media) (journal : List 
         one_more = accesses-push journal e ∙ ap (λ b. accesses_of journal ++ (if not b then e ∷ [] else [])) access
 
         past : effects (journal ++ e ∷ []) ≡ effects journal
-        past = effects-push journal e ∙ ap (λ es. effects journal ++ es) none ∙ append-nil (effects journal)
+        past = effects_stay journal e none
 
         moved : HostId → ℕ → Entry → ℕ
         moved h n x = if list_any (moves h) x.effects then n + 1 else n
-
-  -- whether the host holds the granule stands in the memory
-  held_is : (h : HostId) (g : ℕ) → h < c.hosts → g < granule_total c → has_host (holders_in m g) h ≡ holds h g (effects journal)
-  held_is h g host below = k.holders g below h host
-
-  load_at : (h : HostId) (d : ℕ) → h < c.hosts → (r : Result Place AccessFault) → IfOk r (λ (p : Place). p.granule < granule_total c) →
-      load_said (word_from m (held_at h m r)) ≡ access_at c journal h (Act.Load d) r
-  load_at h d host (Err fault) inside = refl
-  load_at h d host (Ok p) inside =
-      ap (λ b. load_said (word_from m (if b then Ok p else Err AccessFault.NotGranted))) (held_is h p.granule host inside)
-      ∙ by (holds h p.granule (effects journal))
-    where
-      by : (b : Bool) → load_said (word_from m (if b then Ok p else Err AccessFault.NotGranted))
-          ≡ (if b then granted_reply c journal p (Act.Load d) else Reply.Refused AccessFault.NotGranted)
-      by true = ap Reply.Word (k.words p.granule p.word inside)
-      by false = refl
-
-  store_at : (h : HostId) (d value : ℕ) → h < c.hosts → (r : Result Place AccessFault) → IfOk r (λ (p : Place). p.granule < granule_total c) →
-      store_said (held_at h m r) ≡ access_at c journal h (Act.Store d value) r
-  store_at h d value host (Err fault) inside = refl
-  store_at h d value host (Ok p) inside =
-      ap (λ b. store_said (if b then Ok p else Err AccessFault.NotGranted)) (held_is h p.granule host inside)
-      ∙ by (holds h p.granule (effects journal))
-    where
-      by : (b : Bool) → store_said (if b then Ok p else Err AccessFault.NotGranted)
-          ≡ (if b then Reply.Stored else Reply.Refused AccessFault.NotGranted)
-      by true = refl
-      by false = refl
-
-  -- a store writes where it was told Stored
-  written : (h : HostId) (d new g w old : ℕ) (r : Result Place AccessFault) → r ≡ locate c h d →
-      stored_at g w old (held_at h m r) new ≡ written_by c h g w old (Act.Store d new) (store_said (held_at h m r))
-  written h d new g w old (Err fault) is = refl
-  written h d new g w old (Ok p) is = by (has_host (holders_in m p.granule) h)
-    where
-      by : (b : Bool) → stored_at g w old (if b then Ok p else Err AccessFault.NotGranted) new
-          ≡ written_by c h g w old (Act.Store d new) (store_said (if b then Ok p else Err AccessFault.NotGranted))
-      by true = ap (λ r. stored_at g w old r new) is
-      by false = refl
 
   module _ (pass line : ℕ) (h : HostId) (d : ℕ) (host : h < c.hosts) (inside : IfOk (locate c h d) (λ (p : Place). p.granule < granule_total c)) where
     pub keeps_load : (e : Entry) → e ≡ access_entry pass line h (Act.Load d) (load_said (word_from m (granted_place c m h d))) (record { number = length control; count = since + 1 }) →
         Keeps c control m (journal ++ e ∷ []) (since + 1)
     keeps_load e is = subst (λ x. Keeps c control m (journal ++ x ∷ []) (since + 1)) (sym is) (
-        keeps_access loaded (record { allowed = lt-ltb h c.hosts host; reply = load_at h d host (locate c h d) inside; effects = refl })
+        keeps_access loaded (record { allowed = lt-ltb h c.hosts host; reply = load_right c journal m h host k.holders k.words d (locate c h d) inside; effects = refl })
         refl refl (told (word_from m (granted_place c m h d))) refl m refl (λ g w below. refl))
       where
         loaded : Entry
@@ -286,8 +222,8 @@ module _ (c : Configuration) (control : List Entry) (m : Media) (journal : List 
         (e : Entry) → e ≡ access_entry pass line h (Act.Store d value) (store_said (granted_place c m h d)) (record { number = length control; count = since + 1 }) →
         Keeps c control new (journal ++ e ∷ []) (since + 1)
     keeps_store value new stores holders e is = subst (λ x. Keeps c control new (journal ++ x ∷ []) (since + 1)) (sym is) (
-        keeps_access stored (record { allowed = lt-ltb h c.hosts host; reply = store_at h d value host (locate c h d) inside; effects = refl })
-        refl refl (told (granted_place c m h d)) refl new holders (λ g w below. stores g w ∙ written h d value g w (word_in m g w) (locate c h d) refl))
+        keeps_access stored (record { allowed = lt-ltb h c.hosts host; reply = store_right c journal m h host k.holders d value (locate c h d) inside; effects = refl })
+        refl refl (told (granted_place c m h d)) refl new holders (λ g w below. stores g w ∙ written c m h d value g w (word_in m g w) (locate c h d) refl))
       where
         stored : Entry
         stored = access_entry pass line h (Act.Store d value) (store_said (granted_place c m h d)) (record { number = length control; count = since + 1 })

@@ -1,4 +1,3 @@
 pub mod Keeping
-pub mod MadeChanges
 pub mod Merged
 pub mod Numbered

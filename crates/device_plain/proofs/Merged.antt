@@ -22,7 +22,7 @@ use Rattle.region_config.specs.Soundness.{IsSound}
 use Rattle.device_rules.specs.ChangedRuns.{AreChanges}
 use Rattle.control_core.specs.Deciding.{IsShort}
 use Rattle.control_core.specs.Steps.{MayStep, journal_entry}
-use Rattle.device_plain.specs.Accesses.{AreMade, StoresAt, granted_place, store_said, word_from}
+use Rattle.live_device.specs.Accesses.{AreMade, StoresAt, granted_place, store_said, word_from}
 use Rattle.device_plain.specs.Keeping.{Keeps, KeepsBoth}
 use Rattle.device_plain.specs.Numbering.{IsReachedBy, accesses_of}
 use Rattle.device_plain.proofs.Keeping.{keeps_command, keeps_first, keeps_load, keeps_store}

@@ -1,4 +1,3 @@
-pub mod Accesses
 pub mod Devices
 pub mod Keeping
 pub mod Numbering

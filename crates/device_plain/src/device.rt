@@ -11,13 +11,13 @@ ghost use Rattle.journal_core.specs.Entries.{Each, effects, fits};
 ghost use Rattle.journal_core.specs.Merging.{Numbered};
 ghost use Rattle.std.specs.Prelude.{◌≡◌, ◌<◌, ◌^◌, [], IfOk, IsTrue, OnErr, OnOk, length};
 
-use crate::accesses::{granted, refused_by, reserve, stamp_of, store_at, word_at};
-use crate::making::make_all;
+use crate::accesses::{reserve, stamp_of};
 use control_core::Control;
 use dcd_base::{Actor, HostId, NoMemory};
 use granule_mem::Memory;
 use holding_laws::law_exclusive;
 use journal_core::{Access, Act, Reply, Whole, whole};
+use live_device::{granted, make_all, refused_by, store_at, word_at};
 use region_config::Config;
 use std::alloc::Global;
 use std::marker::Model;

@@ -3,6 +3,5 @@
 
 mod accesses;
 mod device;
-mod making;
 
 pub use device::Device;

@@ -11,7 +11,7 @@ use Rattle.journal_core.specs.Merging.{merged}
 use Rattle.media_map.specs.Places.{locate}
 use Rattle.region_config.specs.Configurations.{Configuration}
 use Rattle.region_config.specs.Granules.{granule_total}
-use Rattle.device_plain.specs.Accesses.{StoresAt, granted_place, store_said}
+use Rattle.live_device.specs.Accesses.{StoresAt, granted_place, store_said}
 use Rattle.device_plain.specs.Devices.{Plain}
 use Rattle.device_plain.specs.Keeping.{KeepsBoth}
 use Rattle.device_plain.proofs.Merged.{both_store, few_since, grown_access}

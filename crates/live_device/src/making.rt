@@ -1,14 +1,14 @@
 //! What a command changes of holders and words.
 
 ghost use Rattle.device_rules.specs.ChangedRuns.{LiesIn};
-ghost use Rattle.device_plain.specs.Accesses.{AreMade};
+ghost use Rattle.live_device.specs.Accesses.{AreMade};
 ghost use Rattle.std.specs.Prelude.{◌∷◌, [], All, length};
 
 use dcd_base::Change;
 use granule_mem::Memory;
 
 /// Changes holders and words by each change in turn.
-pub(crate) fn make_all(memory: &mut Memory, changes: &[Change])
+pub fn make_all(memory: &mut Memory, changes: &[Change])
     requires { All (LiesIn (length memory.old.holders)) changes.now }
     ensures { AreMade memory.old memory.new changes.now }
 {

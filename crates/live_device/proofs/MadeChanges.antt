@@ -14,7 +14,7 @@ use Rattle.region_config.specs.Configurations.{Configuration}
 use Rattle.region_config.specs.Granules.{granule_total}
 use Rattle.region_config.proofs.Faultless.{granules_rise}
 use Rattle.device_rules.specs.ChangedRuns.{holders_after}
-use Rattle.device_plain.specs.Accesses.{AreMade}
+use Rattle.live_device.specs.Accesses.{AreMade}
 
 -- a word's granule is one of the device
 pub word_inside : (c : Configuration) (p : Place) → IsWord c p → p.granule < granule_total c

@@ -1,0 +1,32 @@
+use Rattle.std.proofs.Common.{subst, sym}
+use Rattle.std.specs.Prelude.{IsTrue}
+use Rattle.journal_core.specs.Entries.{is_control}
+use Rattle.journal_core.specs.declared.acts.Act.{Act}
+use Rattle.control_core.specs.Deciding.{IsDecidedBy}
+use Rattle.control_core.specs.Steps.{MayStep}
+use Rattle.live_device.specs.Lives.{CanTake, IsLife, Living, without_spare}
+use Rattle.live_device.proofs.LifeSteps.{can_take, effects_decided, life_inside, life_seen, past_of}
+use Rattle.live_device.proofs.device.LiveDevice.answered.Goals as goal
+
+pub take-requires : goal.take-requires
+take-requires c =
+    let control = c.self.inside.control in
+    let inside : Living = record { config = control.config; state = control.state; memory = c.self.inside.memory } in
+    let may = subst (λ (d : Living). MayStep d.config c.args.actor c.args.act.now) (sym c.self.view_is) (record { fits = c.requires.fits; control = c.requires.control }) in
+    let life = c.self.invariant.life in
+    let leads = c.self.invariant.leads in
+    subst (λ (d : Living). CanTake d c.in_ok-reply.field-0.effects c.in_ok-reply.field-0.update) c.self.view_is
+    (can_take (record { config = control.config; state = without_spare control.state; memory = c.self.inside.memory }) life (life_seen control.config control.state c.self.inside.memory life leads)
+    c.args.actor c.args.act.now may c.in_ok-reply.field-0 (c.in_ok-reply.ensures life (past_of life inside leads)))
+
+pub returns-clause-led : goal.returns-clause-led
+returns-clause-led c life leads e by does meets =
+    let control = c.self.inside.control in
+    let m = c.self.inside.memory in
+    let inside : Living = record { config = control.config; state = control.state; memory = m } in
+    let seen = subst (IsLife life) (sym c.self.view_is) leads in
+    let real = life_inside control.config control.state m life seen in
+    let decided = subst (λ (d : Living). IsDecidedBy d.config life c.args.actor c.args.act.now c.in_ok-reply.field-0) c.self.view_is (c.in_ok-reply.ensures life (past_of life inside real)) in
+    c.in_ok-take.ensures.taken life leads decided.update e
+    (subst (λ (a : Act). IsTrue (is_control a)) (sym does) c.requires.control) meets
+    (effects_decided c.args.self.now.config life c.args.actor c.args.act.now (record { fits = c.requires.fits; control = c.requires.control }) c.in_ok-reply.field-0 decided e by does meets)

@@ -1,0 +1,15 @@
+//! The device that keeps nothing of its past: one step at a time, each reply as every journal that leads to the device
+//! asks for, and no journal.
+#![tactic(auto)]
+
+mod accesses;
+mod device;
+mod faults;
+mod laws;
+mod making;
+
+pub use accesses::{granted, loaded, refused_by, store_at, stored, word_at};
+pub use device::LiveDevice;
+pub use faults::StepFault;
+pub use laws::law_lives;
+pub use making::make_all;
