@@ -1,8 +1,8 @@
 -- What the marks of granules say of their states.
-use Rattle.std.proofs.Common.{◌≡◌, ℕ, zero, suc, ◌∷◌, ◌+◌, ◌-◌, ◌<◌, ◌≤◌, Bool, false, not, List, ◌++◌, length, length-drop, map, get_or, take, drop, replicate, refl, ap, sym, subst, ◌∙◌, arith}
+use Rattle.std.proofs.Common.{◌≡◌, ℕ, zero, suc, ◌∷◌, ◌+◌, ◌-◌, ◌<◌, ◌≤◌, Bool, false, not, List, ◌++◌, length, length-drop, length-set, set, map, get_or, take, drop, replicate, refl, ap, sym, subst, ◌∙◌, arith}
 use Rattle.dcd_base.specs.declared.media.Run.{Run}
 use Rattle.std.proofs.lemmas.Bool.{false_from_ne_true}
-use Rattle.std.proofs.lemmas.List.{drop-map, get_or-drop, get_or-map, get_or-take, length-take-le, map-append, take-map}
+use Rattle.std.proofs.lemmas.List.{drop-map, get_or-drop, get_or-map, get_or-take, length-take-le, map-append, map-set, take-map}
 use Rattle.memchr.specs.Find.{Nowhere, Passes, is_byte, is_byte2}
 use Rattle.granule_map.specs.StateLists.{AreMarked, is_dirty_at, is_dirty_state, is_free_at, is_free_state, mark_of, with_run}
 use Rattle.granule_map.specs.Stretches.{IsNext, fails}
@@ -122,4 +122,12 @@ still_marked states new marks new_marks run s kept new_is long marks_are = recor
   few = omega (arith, long, kept.few);
   marked = marks_are ∙ ap (λ (ms : List ℕ). take run.first ms ++ replicate run.count (mark_of s) ++ drop (run.first + run.count) ms) kept.marked
       ∙ marks_with_run states run s ∙ ap (map mark_of) (sym new_is);
+}
+
+-- what a change of one granule leaves of both
+pub marked_one : (states new : List GranuleState) (marks new_marks : List ℕ) (g : ℕ) (s : GranuleState) → AreMarked states marks → new ≡ set states g s
+    → new_marks ≡ set marks g (mark_of s) → AreMarked new new_marks
+marked_one states new marks new_marks g s kept new_is marks_are = record {
+  few = omega (arith, ap (λ (ss : List GranuleState). length ss) new_is, length-set states g s, kept.few);
+  marked = marks_are ∙ ap (λ (ms : List ℕ). set ms g (mark_of s)) kept.marked ∙ sym (map-set mark_of states g s) ∙ ap (map mark_of) (sym new_is);
 }

@@ -2,13 +2,12 @@
 use Rattle.std.proofs.Common.{◌≡◌, ℕ, zero, suc, ◌+◌, ◌-◌, ◌<◌, ◌≤◌, max, Bool, true, false, cond, List, ◌++◌, length, length-append, Some, None, refl, ap, sym, subst, ◌∙◌, eqb, leb, arith, inl, inr}
 use Rattle.std.specs.Prelude.{◌&&◌}
 use Rattle.std.specs.List.{filter, find, list_all, prefix_len, range_with_len}
-use Rattle.std.proofs.lemmas.Bool.{and_right, cases_Bool, cases_lt, eq-eqb, le-leb, lt-leb, ne_eqb, not-false, not-true}
+use Rattle.std.proofs.lemmas.Bool.{and_right, cases_lt, eq-eqb, le-leb, lt-leb, ne_eqb, not-false, not-true}
 use Rattle.std.proofs.lemmas.List.Elements.{filter-append}
 use Rattle.std.proofs.lemmas.List.FromFn.{length-range_with_len}
-use Rattle.std.proofs.lemmas.List.Sums.{prefix_len-le-length}
 use Rattle.granule_map.specs.Choices.{run_from}
 use Rattle.granule_map.specs.Stretches.{IsNext, IsStretch, fails}
-use Rattle.granule_map.proofs.Joining.{filter_each, filter_none, lowest_found, prefix_ends, prefix_goes_on, prefix_passes, prefix_stops, range_split}
+use Rattle.granule_map.proofs.Joining.{filter_each, filter_none, prefix_ends, range_split}
 use Rattle.granule_map.proofs.Ranges.{find_range_done, find_range_more}
 use Rattle.granule_map.proofs.RunSteps.{longest_done, longest_from, longest_more, lowest_done, lowest_more, lowest_start, run_more}
 
@@ -66,35 +65,17 @@ next_found p from n k next below =
 pub none_next : (p : ℕ → Bool) (from n k : ℕ) → IsNext p from n k → n ≤ k → find p (range_with_len from (n - from)) ≡ None
 none_next p from n k next past = find_skip p from k n next.from_below next.none_before ∙ find_range_done p k n past
 
-none_of : (p : ℕ → Bool) (from many : ℕ) → find p (range_with_len from many) ≡ None → (k : ℕ) → from ≤ k → k < from + many → p k ≡ false
-none_of p from zero none k low high = absurd (omega (arith, low, high))
-none_of p from (suc many) none k low high = elim (cases_Bool (p from)) [
-  | inl here ↦ (let found : Some from ≡ None = rw here at none in absurd (cc found))
-  | inr not ↦ elim (cases_lt from k) [
-    | inl later ↦ none_of p (from + 1) many (rw not at none) k (omega (arith, later)) (omega (arith, high))
-    | inr first ↦ (let same : k ≡ from = omega (arith, low, first) in subst (λ m. p m ≡ false) (sym same) not)
-  ]
+-- a search finds the first of the next stretch, and nothing where there is none
+pub first_found : (p : ℕ → Bool) (n from first c : ℕ) → IsStretch p n from first c → find p (range_with_len from (n - from)) ≡ Some first
+first_found p n from first c run =
+    find_skip p from first n run.from_below run.none_before ∙ find_range_more p first n (omega (arith, run.some, run.within))
+    ∙ ap (λ b. cond b (Some first) (find p (range_with_len (first + 1) (n - (first + 1))))) (run.each first (omega arith) (omega (arith, run.some)))
+
+pub no_stretch : (p : ℕ → Bool) (n from : ℕ) → ((k : ℕ) → from ≤ k → k < n → p k ≡ false) → find p (range_with_len from (n - from)) ≡ None
+no_stretch p n from none = elim (cases_lt n from) [
+  | inl past ↦ find_range_done p from n (omega (arith, past))
+  | inr low ↦ find_skip p from n n low none ∙ find_range_done p n n (omega arith)
 ]
-
-pub none_found : (p : ℕ → Bool) (from n : ℕ) → find p (range_with_len from (n - from)) ≡ None → (k : ℕ) → from ≤ k → k < n → p k ≡ false
-none_found p from n none k low high = none_of p from (n - from) none k low (omega (arith, low, high))
-
-pub found_below : (p : ℕ → Bool) (from n first : ℕ) → find p (range_with_len from (n - from)) ≡ Some first → first < n
-found_below p from n first found = let low = lowest_found p from (n - from) first found in omega (arith, low.from_below, low.below)
-
-pub stretch_found : (p : ℕ → Bool) (n from first c : ℕ) → find p (range_with_len from (n - from)) ≡ Some first
-    → c ≡ prefix_len p (range_with_len first (n - first)) → IsStretch p n from first c
-stretch_found p n from first c found count =
-    let low = lowest_found p from (n - from) first found in
-    let below : first < n = omega (arith, low.from_below, low.below) in
-    record {
-      from_below = low.from_below;
-      some = omega (arith, count, prefix_goes_on p first (n - first) (omega (arith, below)) low.passes);
-      within = omega (arith, count, prefix_len-le-length p (range_with_len first (n - first)), length-range_with_len first (n - first), below);
-      none_before = low.none_before;
-      each = λ k at_least high. prefix_passes p first (n - first) k at_least (omega (arith, high, count));
-      ends = λ short. ap (λ m. p (first + m)) count ∙ prefix_stops p first (n - first) (omega (arith, short, count));
-    }
 
 -- how many pass: none where none does, and those of the next stretch before those behind it
 pub count_none : (p : ℕ → Bool) (n from : ℕ) → ((k : ℕ) → from ≤ k → k < n → p k ≡ false) → length (filter p (range_with_len from (n - from))) ≡ 0

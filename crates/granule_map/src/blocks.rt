@@ -1,9 +1,9 @@
 //! The free blocks of an area.
 
 ghost use Rattle.granule_map.specs.Blocks.{IsArea, block_count, free_block_count, is_block_free, longest_free_run, lowest_free_run};
-ghost use Rattle.granule_map.specs.Stretches.{NextStretch, Skips};
+ghost use Rattle.granule_map.specs.Stretches.{BlocksBetween, NextStretch};
 ghost use Rattle.std.specs.List.{find, prefix_len, range_with_len};
-ghost use Rattle.std.specs.Prelude.{◌≡◌, ◌+◌, ◌-◌, ◌<◌, ◌≤◌, IfSome, MatchOption, length, true};
+ghost use Rattle.std.specs.Prelude.{◌≡◌, ◌+◌, ◌-◌, ◌*◌, ◌<◌, ◌≤◌, ℕ, IfSome};
 
 use crate::map::GranuleMap;
 use dcd_base::Run;
@@ -15,38 +15,15 @@ pub(crate) struct FreeBlocks {
     pub(crate) count: u32,
 }
 
-/// None where the block is free; else a higher block, and none from this one up to it is free.
-fn behind_taken(map: &GranuleMap, area: &Run, per_block: u32, block: u32) -> Option<u32>
-    requires area { IsArea map.now.states area.now per_block }
-    requires within { block < block_count area.now per_block }
-    ensures { MatchOption result (is_block_free map.now.states area.now per_block block ≡ true)
-        (λ next. Skips (is_block_free map.now.states area.now per_block) block next) }
-{
-    // There are fewer than 2^32 granules, so that their numbers do not wrap.
-    let _granules = map.len();
-    let first = area.first.0 + block * per_block;
-    let end = first + per_block;
-    let taken = map.next_taken(first, end);
-    if taken == end {
-        return None;
-    }
-    let free = map.next_free(taken, area.first.0 + area.count);
-    Some((block + 1).max((free - area.first.0) / per_block))
-}
-
 /// The lowest free block from one on; None exactly where none is free from there on.
 pub(crate) fn next_free(map: &GranuleMap, area: &Run, per_block: u32, from: u32) -> Option<u32>
     requires area { IsArea map.now.states area.now per_block }
     ensures { result ≡ find (is_block_free map.now.states area.now per_block) (range_with_len from (block_count area.now per_block - from)) }
 {
-    let mut block = from;
-    while block < area.count / per_block {
-        match behind_taken(map, area, per_block, block) {
-            Some(next) => block = next,
-            None => return Some(block),
-        }
+    match next_blocks(map, area, per_block, from) {
+        Some(blocks) => Some(blocks.first),
+        None => None,
     }
-    None
 }
 
 /// How many blocks are free from one on up to the first that is not, at most so many.
@@ -62,21 +39,82 @@ pub(crate) fn free_from(map: &GranuleMap, area: &Run, per_block: u32, from: u32,
     (taken - first) / per_block
 }
 
+/// The number of the first granule of an area.
+fn start_of(area: &Run) -> u32
+    ensures { result ≡ area.now.first }
+{
+    area.first.0
+}
+
+/// The lowest block that begins at a granule or behind it, where both count from the start of the area.
+fn first_whole(granule: u32, per_block: u32) -> u32
+    requires { 0 < per_block }
+    ensures reaches { granule ≤ result * per_block }
+    ensures lowest { (k : ℕ) → k < result → k * per_block < granule }
+{
+    if per_block == 1 {
+        return granule;
+    }
+    let block = granule / per_block;
+    if block * per_block < granule {
+        block + 1
+    } else {
+        block
+    }
+}
+
+/// The block that has a granule, or the one behind the last, where both count from the start of the area.
+fn block_of(granule: u32, per_block: u32) -> u32
+    requires { 0 < per_block }
+    ensures from { result * per_block ≤ granule }
+    ensures below { granule < result * per_block + per_block }
+{
+    if per_block == 1 {
+        granule
+    } else {
+        granule / per_block
+    }
+}
+
+/// The whole blocks in adjacent granules, which count from the start of the area.
+fn blocks_between(first: u32, end: u32, per_block: u32) -> Option<FreeBlocks>
+    requires { 0 < per_block }
+    ensures { BlocksBetween per_block first end result }
+{
+    let low = first_whole(first, per_block);
+    let high = block_of(end, per_block);
+    if low < high {
+        Some(FreeBlocks {
+            first: low,
+            count: high - low,
+        })
+    } else {
+        None
+    }
+}
+
 /// The next free blocks from one on, as many as lie together; None exactly where none is free from there on.
 fn next_blocks(map: &GranuleMap, area: &Run, per_block: u32, from: u32) -> Option<FreeBlocks>
     requires area { IsArea map.now.states area.now per_block }
     ensures { NextStretch (is_block_free map.now.states area.now per_block) (block_count area.now per_block) from result }
 {
-    match next_free(map, area, per_block, from) {
-        None => None,
-        Some(first) => {
-            let behind = area.count / per_block - first;
-            Some(FreeBlocks {
-                first,
-                count: free_from(map, area, per_block, first, behind),
-            })
-        }
+    // There are fewer than 2^32 granules, so that their numbers do not wrap.
+    let _granules = map.len();
+    if from >= area.count / per_block {
+        return None;
     }
+    let start = start_of(area);
+    let end = start + area.count;
+    let mut at = start + from * per_block;
+    while at < end {
+        let free = map.next_free(at, end);
+        let taken = map.next_taken(free, end);
+        if let Some(blocks) = blocks_between(free - start, taken - start, per_block) {
+            return Some(blocks);
+        }
+        at = taken;
+    }
+    None
 }
 
 /// How many blocks are free.

@@ -4,7 +4,7 @@ ghost use Rattle.granule_map.specs.Blocks.{IsArea, block_count, free_block_count
 ghost use Rattle.granule_map.specs.StateLists.{count_of, dirty_from, is_dirty_at, is_free_at, with_run};
 ghost use Rattle.granule_map.specs.Stretches.{IsNext, fails};
 ghost use Rattle.std.specs.List.{find, list_all, prefix_len, range_with_len};
-ghost use Rattle.std.specs.Prelude.{◌≡◌, ◌↔◌, ◌+◌, ◌-◌, ◌<◌, ◌≤◌, IfOk, IsNone, OnErr, OnOk, Some, length, replicate, slice_get, ◌++◌, take, drop};
+ghost use Rattle.std.specs.Prelude.{◌≡◌, ◌↔◌, ◌+◌, ◌-◌, ◌<◌, ◌≤◌, IfOk, IsNone, OnErr, OnOk, Some, length, replicate, slice_get, slice_set, ◌++◌, take, drop};
 
 use crate::blocks::{count_free_blocks, free_from, longest_run_of, lowest_block, next_free};
 use crate::marks::{next_with, next_with_either};
@@ -102,6 +102,18 @@ impl GranuleMap {
         let mark = state.mark();
         fill_states(self.granules.as_mut_slice(), &run, &state);
         fill_marks(self.marks.as_mut_slice(), &run, mark);
+    }
+
+    /// Gives one granule of the map this state. Takes no memory where there is spare, and leaves the spare.
+    pub fn set(&mut self, granule: Granule, state: GranuleState)
+        requires spare { 0 < self.old.spare }
+        requires within { granule < length self.old.states }
+        ensures states { self.new.states ≡ slice_set self.old.states granule state }
+        ensures spare { self.old.spare ≤ self.new.spare }
+    {
+        let mark = state.mark();
+        set_state(self.granules.as_mut_slice(), &granule, &state);
+        set_mark(self.marks.as_mut_slice(), &granule, mark);
     }
 
     /// How many blocks of the area are free: blocks of `per_block` granules, from its first granule on.
@@ -270,4 +282,20 @@ fn fill_marks(marks: &mut [u8], run: &Run, mark: u8)
 {
     let first = run.first.0 as usize;
     marks[first..first + run.count as usize].fill(mark);
+}
+
+/// Makes one state this one.
+fn set_state(states: &mut [GranuleState], granule: &Granule, state: &GranuleState)
+    requires { granule.now < length states.old }
+    ensures { states.new ≡ slice_set states.old granule.now state.now }
+{
+    states[granule.0 as usize] = *state;
+}
+
+/// Makes one mark this one.
+fn set_mark(marks: &mut [u8], granule: &Granule, mark: u8)
+    requires { granule.now < length marks.old }
+    ensures { marks.new ≡ slice_set marks.old granule.now mark }
+{
+    marks[granule.0 as usize] = mark;
 }

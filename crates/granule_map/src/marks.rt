@@ -2,9 +2,12 @@
 
 ghost use Rattle.granule_map.specs.Stretches.{IsNext};
 ghost use Rattle.memchr.specs.Find.{is_byte, is_byte2};
-ghost use Rattle.std.specs.Prelude.{◌≤◌, length, slice_index};
+ghost use Rattle.std.specs.Prelude.{◌≡◌, ◌≤◌, length, slice_index};
 
 use memchr::{memchr, memchr2};
+
+/// So many places are read one by one, before many are at a time: what is searched for is often near.
+const NEAR: usize = 8;
 
 /// The lowest place from one on that has the mark, or the end where none below it has.
 pub(crate) fn next_with(marks: &[u8], mark: u8, from: usize, end: usize) -> usize
@@ -12,25 +15,55 @@ pub(crate) fn next_with(marks: &[u8], mark: u8, from: usize, end: usize) -> usiz
     requires within { end ≤ length marks.now }
     ensures { IsNext (λ k. is_byte mark (slice_index marks.now k)) from end result }
 {
-    // Often it is the first.
-    if from < end && marks[from] == mark {
-        return from;
+    let near = end.min(from + NEAR);
+    for place in from..near {
+        if marks[place] == mark {
+            return place;
+        }
     }
+    far_with(marks, mark, near, end)
+}
+
+/// The same, many places at a time.
+fn far_with(marks: &[u8], mark: u8, from: usize, end: usize) -> usize
+    requires ordered { from ≤ end }
+    requires within { end ≤ length marks.now }
+    ensures { IsNext (λ k. is_byte mark (slice_index marks.now k)) from end result }
+{
     match memchr(mark, &marks[from..end]) {
         Some(place) => from + place,
         None => end,
     }
 }
 
-/// The same for either of two marks.
+/// The lowest place from one on that has either of two marks, or the end where none below it has.
 pub(crate) fn next_with_either(marks: &[u8], mark: u8, other: u8, from: usize, end: usize) -> usize
     requires ordered { from ≤ end }
     requires within { end ≤ length marks.now }
     ensures { IsNext (λ k. is_byte2 mark other (slice_index marks.now k)) from end result }
 {
-    if from < end && (marks[from] == mark || marks[from] == other) {
-        return from;
+    let near = end.min(from + NEAR);
+    for place in from..near {
+        if is_either(mark, other, marks[place]) {
+            return place;
+        }
     }
+    far_with_either(marks, mark, other, near, end)
+}
+
+/// Whether a mark is one of two.
+fn is_either(mark: u8, other: u8, found: u8) -> bool
+    ensures { result ≡ is_byte2 mark other found }
+{
+    found == mark || found == other
+}
+
+/// The lowest place from one on that has either of two marks, found many places at a time.
+fn far_with_either(marks: &[u8], mark: u8, other: u8, from: usize, end: usize) -> usize
+    requires ordered { from ≤ end }
+    requires within { end ≤ length marks.now }
+    ensures { IsNext (λ k. is_byte2 mark other (slice_index marks.now k)) from end result }
+{
     match memchr2(mark, other, &marks[from..end]) {
         Some(place) => from + place,
         None => end,

@@ -1,7 +1,7 @@
 use Rattle.std.proofs.Common.{arith, refl}
 use Rattle.memchr.specs.Find.{is_byte2}
 use Rattle.granule_map.proofs.Marked.{found_in, found_nowhere, part_length}
-use Rattle.granule_map.proofs.marks.next_with_either.Goals as goal
+use Rattle.granule_map.proofs.marks.far_with_either.Goals as goal
 
 pub returns-in-Some : goal.returns-in-Some
 returns-in-Some c =
