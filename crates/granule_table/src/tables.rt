@@ -132,13 +132,7 @@ impl GranuleTable {
         let was = self.map.at(Granule(granule));
         let unclean = self.unclean[granule as usize];
         let now = change.state(was, unclean);
-        self.map.set_run(
-            Run {
-                first: Granule(granule),
-                count: 1,
-            },
-            now,
-        );
+        self.map.set(Granule(granule), now);
         self.unclean[granule as usize] = change.unclean(was, unclean);
         self.free = recounted(self.free, was.is_free(), now.is_free());
         self.dirty = recounted(self.dirty, was.is_dirty(), now.is_dirty());
