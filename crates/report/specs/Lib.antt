@@ -1,4 +1,3 @@
-pub mod HexPairs
 pub mod Printing
 pub mod Refusals
 pub mod Texts

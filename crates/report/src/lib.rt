@@ -4,7 +4,7 @@
 #![tactic(auto)]
 
 mod entry_lines;
-mod hex_pairs;
+mod hex_digits;
 mod places;
 mod printing;
 mod refusals;

@@ -3,7 +3,7 @@
 ghost use Rattle.hex.specs.Hex.{encode_lower};
 ghost use Rattle.std.specs.Prelude.{◌≡◌, ◌+◌, ◌*◌, ◌++◌, ◌≤◌, length, take};
 
-use crate::hex_pairs::HexPairs;
+use crate::hex_digits::fill_digits;
 
 /// Writes the bytes at a place, behind what is done.
 #[inline(always)]
@@ -18,11 +18,11 @@ pub(crate) fn write_bytes(out: &mut [u8], at: usize, bytes: &[u8])
 
 /// Writes the digits of the bytes at a place, behind what is done.
 #[inline(always)]
-pub(crate) fn write_hex(pairs: &HexPairs, out: &mut [u8], at: usize, bytes: &[u8])
+pub(crate) fn write_hex(out: &mut [u8], at: usize, bytes: &[u8])
     requires { at + 2 * length bytes.now ≤ length out.old }
     ensures { take (at + 2 * length bytes.now) out.new ≡ take at out.old ++ encode_lower bytes.now }
 {
     let (_, rest) = out.split_at_mut(at);
     let (front, _) = rest.split_at_mut(2 * bytes.len());
-    pairs.fill(front, bytes);
+    fill_digits(front, bytes);
 }

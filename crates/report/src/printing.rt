@@ -4,7 +4,6 @@ ghost use Rattle.hex.specs.Hex.{encode_lower};
 ghost use Rattle.report.specs.Printing.{with_byte, with_bytes, Puts};
 ghost use Rattle.std.specs.Prelude.{◌≡◌, ◌+◌, ◌*◌, ◌<◌, ◌≤◌, [], ◌∷◌, ◌++◌, IfSome, None, OnErr, OnOk, Some, decimal, length};
 
-use crate::hex_pairs::HexPairs;
 use crate::places::{write_bytes, write_hex};
 use dcd_base::{Failed, Sink, write_all};
 use hex::encode_to_slice;
@@ -22,7 +21,6 @@ pub struct Printer {
     buffer: [u8; 4096],
     len: usize,
     failed: bool,
-    pairs: HexPairs,
 }
 
 impl Model for Printer {
@@ -44,7 +42,6 @@ impl Printer {
             buffer: [0; 4096],
             len: 0,
             failed: false,
-            pairs: HexPairs::new(),
         }
     }
 
@@ -104,7 +101,7 @@ impl Printer {
         ensures { self.new ≡ with_bytes (encode_lower bytes.now) self.old }
     {
         if !self.failed {
-            write_hex(&self.pairs, &mut self.buffer, self.len, bytes);
+            write_hex(&mut self.buffer, self.len, bytes);
             self.len += 2 * bytes.len();
         }
     }

@@ -1,6 +1,6 @@
 use Rattle.std.proofs.Common.{◌≡◌, ◌*◌, ◌++◌, drop, length, take}
 use Rattle.hex.specs.Hex.{encode_lower}
-use Rattle.report.proofs.hex_pairs.HexPairs.fill.Given as goal
+use Rattle.report.proofs.hex_digits.fill_digits.Given as goal
 
 -- The digits of the bytes so far are written.
 abbrev pub invariant-loop-i : goal.invariant-loop-i
