@@ -2,6 +2,7 @@ pub mod AheadLaws
 pub mod ExtentLaws
 pub mod FrontLaws
 pub mod LaneLaws
+pub mod LeadingLaws
 pub mod LimitLaws
 pub mod NumberLaws
 pub mod PairLaws

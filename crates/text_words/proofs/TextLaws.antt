@@ -1,11 +1,11 @@
 -- A printed text has the lines and the words that were printed.
-use Rattle.std.proofs.Common.{◌≡◌, ℕ, ◌+◌, Bool, true, false, nat_lt, List, [], ◌∷◌, ◌++◌, map, refl, ap, ◌∙◌, arith, append_assoc}
+use Rattle.std.proofs.Common.{◌≡◌, ℕ, ◌+◌, Bool, true, false, nat_lt, List, [], ◌∷◌, ◌++◌, length, map, refl, sym, ap, ◌∙◌, arith, append_assoc}
 use Rattle.std.specs.List.{AllByRecursion, flat_map, list_all}
 use Rattle.std.proofs.lemmas.Bool.{and_from, and_parts, lt-ltb, ltb-true, ne_eqb}
 use Rattle.std.proofs.lemmas.List.Folds.{list_all-append}
 use Rattle.text_words.specs.Characters.{IsTextWord, is_plain, is_printed}
 use Rattle.text_words.specs.Texts.{IsWordLine, words_of_lines}
-use Rattle.text_words.specs.Unread.{UnreadWords, is_done, line_at, unread_lines, with_line}
+use Rattle.text_words.specs.Unread.{UnreadWords, ahead_from, ahead_with, first_words, is_done, line_at, unread_lines, with_line}
 use Rattle.text_words.specs.Words.{without_return, goes_on, line_text, lines_in, put_front, put_in_line, spaced, words_in}
 use Rattle.text_words.proofs.WordLaws.{plain_step}
 
@@ -104,6 +104,28 @@ unread_printed n ([] ∷ lines) each = let some = each.0.some in absurd (omega (
 unread_printed n ((word ∷ words) ∷ lines) each =
     ap (λ (u : UnreadWords). map (λ (v : UnreadWords). v.words) (with_line u (is_done u) (unread_lines (n + 1) (map front lines)))) (line_words n (word ∷ words) each.0.each)
     ∙ ap (λ rest. (word ∷ words) ∷ rest) (unread_printed (n + 1) lines each.1)
+
+-- ---- the first line of a text
+front_lines : (words : List (List ℕ)) (rest : List ℕ) → AllByRecursion IsTextWord words → lines_in (line_text words ++ rest) ≡ front words ∷ lines_in rest
+front_lines words rest each =
+    ap (λ text. lines_in (text ++ rest)) (text_front words) ∙ ap lines_in (append_assoc (front words) (10 ∷ []) rest) ∙ line_then (front words) rest (front_inner words each)
+
+ahead_lines : (n : ℕ) (words : List (List ℕ)) (lines : List (List ℕ)) → IsWordLine words → unread_lines n (front words ∷ lines) ≡ first_words n words ∷ unread_lines (n + 1) lines
+ahead_lines n [] lines is = let some = is.some in absurd (omega (arith, some))
+ahead_lines n (word ∷ words) lines is = ap (λ (u : UnreadWords). with_line u (is_done u) (unread_lines (n + 1) lines)) (line_words n (word ∷ words) is.each)
+
+ahead_one : (n : ℕ) (words : List (List ℕ)) (a : List UnreadWords) (end : ℕ) → IsWordLine words → ahead_with (first_words n words) (record { lines = a; end = end }) ≡ record { lines = first_words n words ∷ a; end = end }
+ahead_one n [] a end is = let some = is.some in absurd (omega (arith, some))
+ahead_one n (word ∷ words) a end is = refl
+
+pub line_ahead_of : (n : ℕ) (words : List (List ℕ)) (rest : List ℕ) → IsWordLine words → ahead_from n (line_text words ++ rest) ≡ ahead_with (first_words n words) (ahead_from (n + 1) rest)
+line_ahead_of n words rest is =
+    let e = front_lines words rest is.each in
+    let count : n + length (front words ∷ lines_in rest) ≡ n + 1 + length (lines_in rest) = omega arith in
+    ap (λ ls. record { lines = unread_lines n ls; end = n + length ls }) e
+    ∙ ap (λ us. record { lines = us; end = n + length (front words ∷ lines_in rest) }) (ahead_lines n words (lines_in rest) is)
+    ∙ ap (λ k. record { lines = first_words n words ∷ unread_lines (n + 1) (lines_in rest); end = k }) count
+    ∙ sym (ahead_one n words (unread_lines (n + 1) (lines_in rest)) (n + 1 + length (lines_in rest)) is)
 
 pub text_parts : (lines : List (List (List ℕ))) → AllByRecursion IsWordLine lines → words_of_lines (flat_map line_text lines) ≡ lines
 text_parts lines each = ap (λ ls. map (λ (u : UnreadWords). u.words) (unread_lines 1 ls)) (printed_lines lines each) ∙ unread_printed 1 lines each

@@ -41,6 +41,10 @@ with_line u false lines = u ∷ lines
 abbrev pub line_at : ℕ → List ℕ → UnreadWords
 line_at n line = record { line = n; word = 1; words = words_in (without_return line) }
 
+-- all words of a line of this number
+abbrev pub first_words : ℕ → List (List ℕ) → UnreadWords
+first_words n words = record { line = n; word = 1; words = words }
+
 -- the lines that have words, numbered from n
 abbrev pub unread_lines : ℕ → List (List ℕ) → List UnreadWords
 unread_lines n [] = []

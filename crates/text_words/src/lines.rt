@@ -107,6 +107,24 @@ impl<'a> TextLines<'a> {
         }
     }
 
+    /// The number of the next line, and the text from there on.
+    #[inline(always)]
+    pub fn unread(&self) -> (u64, &'a [u8])
+        ensures ahead { self.now ≡ ahead_from result.0 result.1.now }
+        ensures few { result.0 + length result.1.now < 2 ^ 64 }
+    {
+        (self.line, self.rest)
+    }
+
+    /// The lines of a text, numbered from that on.
+    #[inline(always)]
+    pub fn from(line: u64, text: &'a [u8]) -> TextLines<'a>
+        requires { line + length text.now < 2 ^ 64 }
+        ensures { result ≡ ahead_from line text.now }
+    {
+        TextLines { line, rest: text }
+    }
+
     /// The next line that has words, or `None` behind the last one.
     #[inline(always)]
     pub fn next(&mut self) -> Option<Words<'a>>

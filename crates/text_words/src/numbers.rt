@@ -40,7 +40,7 @@ fn value_of(base: u8, digits: &[u8]) -> Option<u128>
 
 /// One more digit behind a number of at most 15.
 #[inline(always)]
-fn with_digit(base: u8, number: u64, digit: u8) -> u64
+pub fn with_digit(base: u8, number: u64, digit: u8) -> u64
     requires number { number < 2 ^ 60 }
     requires base { base ≤ 16 }
     requires digit { digit < base }
