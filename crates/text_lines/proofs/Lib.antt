@@ -7,6 +7,7 @@ pub mod MessageLaws
 pub mod NameLaws
 pub mod OpeningLaws
 pub mod PartLaws
+pub mod PlainLaws
 pub mod PolicyLaws
 pub mod RequestLaws
 pub mod SoundLaws

@@ -8,4 +8,5 @@ pub mod Layouts
 pub mod Lines
 pub mod ManagerRequests
 pub mod Parts
+pub mod PlainLines
 pub mod Policies

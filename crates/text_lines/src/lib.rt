@@ -17,6 +17,7 @@ mod manager_reading;
 mod messages;
 mod openings;
 mod payloads;
+mod plain_lines;
 mod policies;
 
 pub use actors::Frame;
@@ -25,3 +26,4 @@ pub use faults::{Cause, TextFault, Wanted};
 pub use keywords::Keyword;
 pub use lines::{opening, rest};
 pub use openings::Opening;
+pub use plain_lines::{access_line, page_line};

@@ -1,0 +1,186 @@
+//! Lines that hosts have most often, read at once: with one space before each further word, and a line feed behind the last.
+//!
+//! Each function answers `None` where the text begins otherwise, or too near its end: such a line is read word by word.
+
+ghost use Rattle.host_payloads.specs.HostPayloads.{HostCountsFit, lists_untagged};
+ghost use Rattle.std.specs.Prelude.{◌≡◌, IfSome, IsTrue};
+ghost use Rattle.text_lines.specs.Lines.{host_message as message_of_host};
+ghost use Rattle.text_lines.specs.PlainLines.{CutsAct, CutsHost, CutsLast, CutsLine, CutsPage, access_act, command_act, host_line};
+
+use crate::actors::Frame;
+use crate::messages::host_message;
+use dcd_base::{Actor, HostId};
+use host_payloads::HostRequest;
+use journal_core::Act;
+use script_codec::Line;
+use std::alloc::Global;
+use text_words::{cut_decimal, cut_number, cut_text};
+
+/// The host that a text begins with, in a script without lanes, and what stands behind the space behind it.
+#[inline(always)]
+fn cut_host(frame: Frame, text: &[u8]) -> Option<(u8, &[u8])>
+    ensures { IfSome result (λ r. CutsHost frame text.now r.0 r.1.now) }
+{
+    if frame.version == 2 || frame.lanes == 0 {
+        return None;
+    }
+    let digits = cut_text(*b"h", text)?;
+    let (host, rest) = cut_decimal(digits)?;
+    if host >= u64::from(frame.hosts) {
+        return None;
+    }
+    let rest = cut_text(*b" ", rest)?;
+    Some((host as u8, rest))
+}
+
+/// The number that ends a line, and what stands behind the line.
+#[inline(always)]
+fn cut_last(text: &[u8]) -> Option<(u64, &[u8])>
+    ensures { IfSome result (λ r. CutsLast text.now r.0 r.1.now) }
+{
+    let (number, rest) = cut_number(text)?;
+    let rest = cut_text(*b"\n", rest)?;
+    Some((number, rest))
+}
+
+/// A load or a store: the DPA, and the word that is stored.
+#[derive(Clone, Copy, Debug)]
+struct Access {
+    dpa: u64,
+    stored: Option<u64>,
+}
+
+/// A load, and what stands behind its line.
+#[inline(always)]
+fn cut_load(text: &[u8]) -> Option<(Access, &[u8])>
+    ensures { IfSome result (λ r. CutsAct text.now (access_act r.0) r.1.now) }
+{
+    let text = cut_text(*b"load ", text)?;
+    let (dpa, rest) = cut_last(text)?;
+    let access = Access { dpa, stored: None };
+    Some((access, rest))
+}
+
+/// A store, and what stands behind its line.
+#[inline(always)]
+fn cut_store(text: &[u8]) -> Option<(Access, &[u8])>
+    ensures { IfSome result (λ r. CutsAct text.now (access_act r.0) r.1.now) }
+{
+    let text = cut_text(*b"store ", text)?;
+    let (dpa, text) = cut_number(text)?;
+    let text = cut_text(*b" ", text)?;
+    let (word, rest) = cut_last(text)?;
+    let access = Access {
+        dpa,
+        stored: Some(word),
+    };
+    Some((access, rest))
+}
+
+/// A load or a store, and what stands behind its line.
+#[inline(always)]
+fn cut_access(text: &[u8]) -> Option<(Access, &[u8])>
+    ensures { IfSome result (λ r. CutsAct text.now (access_act r.0) r.1.now) }
+{
+    match cut_load(text) {
+        Some(found) => Some(found),
+        None => cut_store(text),
+    }
+}
+
+/// The act of an access.
+#[inline(always)]
+fn act_of(access: Access) -> Act
+    ensures { result ≡ access_act access }
+{
+    match access.stored {
+        Some(word) => Act::Store(access.dpa, word),
+        None => Act::Load(access.dpa),
+    }
+}
+
+/// The line of a host in lane 0.
+#[inline(always)]
+fn line_of(host: u8, act: Act) -> Line
+    ensures { result ≡ host_line host act }
+{
+    Line::Do {
+        actor: Actor::Host(HostId(host)),
+        lane: 0,
+        act,
+    }
+}
+
+/// A load or a store of a host, and what stands behind its line.
+#[inline(always)]
+pub fn access_line(frame: Frame, text: &[u8]) -> Option<(Line, &[u8])>
+    ensures { IfSome result (λ r. CutsLine frame text.now r.0 r.1.now) }
+{
+    let (host, text) = cut_host(frame, text)?;
+    let (access, rest) = cut_access(text)?;
+    Some((line_of(host, act_of(access)), rest))
+}
+
+/// A host's question for extents of its list, and what stands behind its line.
+#[inline(always)]
+fn cut_extents(text: &[u8]) -> Option<(HostRequest, &[u8])>
+    ensures { IfSome result (λ r. CutsPage text.now r.0 r.1.now) }
+{
+    let text = cut_text(*b"get-dc-extent-list count ", text)?;
+    let (count, rest) = cut_last(text)?;
+    if count > 0xFFFF_FFFF {
+        return None;
+    }
+    let count = count as u32;
+    let request = HostRequest::GetExtents { count, first: 0 };
+    Some((request, rest))
+}
+
+/// A host's question for regions, and what stands behind its line.
+#[inline(always)]
+fn cut_configuration(text: &[u8]) -> Option<(HostRequest, &[u8])>
+    ensures { IfSome result (λ r. CutsPage text.now r.0 r.1.now) }
+{
+    let text = cut_text(*b"get-dc-configuration count ", text)?;
+    let (count, rest) = cut_last(text)?;
+    if count > 255 {
+        return None;
+    }
+    let count = count as u8;
+    let request = HostRequest::GetConfiguration { count, first: 0 };
+    Some((request, rest))
+}
+
+/// A host's question for a page, and what stands behind its line.
+#[inline(always)]
+fn cut_page(text: &[u8]) -> Option<(HostRequest, &[u8])>
+    ensures { IfSome result (λ r. CutsPage text.now r.0 r.1.now) }
+{
+    match cut_extents(text) {
+        Some(found) => Some(found),
+        None => cut_configuration(text),
+    }
+}
+
+/// The act of a request, if there is memory.
+fn asked(alloc: Global, request: &HostRequest) -> Option<Act>
+    requires counts { HostCountsFit request.now }
+    requires untagged { IsTrue (lists_untagged request.now) }
+    ensures { IfSome result (λ act. act ≡ command_act (message_of_host 0 request.now)) }
+{
+    match host_message(alloc, 0, request) {
+        Ok(message) => Some(Act::Command(message)),
+        Err(_) => None,
+    }
+}
+
+/// A host's question for a page, and what stands behind its line.
+#[inline(always)]
+pub fn page_line(alloc: Global, frame: Frame, text: &[u8]) -> Option<(Line, &[u8])>
+    ensures { IfSome result (λ r. CutsLine frame text.now r.0 r.1.now) }
+{
+    let (host, text) = cut_host(frame, text)?;
+    let (request, rest) = cut_page(text)?;
+    let act = asked(alloc, &request)?;
+    Some((line_of(host, act), rest))
+}
