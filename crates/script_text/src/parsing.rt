@@ -3,18 +3,19 @@
 ghost use Rattle.script_codec.specs.Writing.{IsWritable};
 ghost use Rattle.script_codec.specs.declared.scripts.Script.{Script};
 ghost use Rattle.script_text.specs.Layouts.{Says};
-ghost use Rattle.script_text.specs.Texts.{IsParsed, IsParsedAs, frame_of_head, lines_at, script_of_lines, script_said, short_script};
+ghost use Rattle.script_text.specs.Texts.{IsParsed, IsParsedAs, TakesPlainLine, frame_of_head, lines_at, lines_behind, script_of_lines, script_said, short_script};
 ghost use Rattle.field_bytes.specs.Layouts.{spelling};
 ghost use Rattle.script_codec.specs.Scripts.{line_fields};
 ghost use Rattle.std.specs.List.{flat_map};
-ghost use Rattle.std.specs.Prelude.{◌≡◌, ◌*◌, [], IfOk, length, min};
+ghost use Rattle.std.specs.Prelude.{◌≡◌, ◌*◌, ◌≤◌, [], IfOk, length, min};
 ghost use Rattle.text_lines.specs.Fields.{GivesLast};
 
 use crate::configs::head;
 use crate::sizes::{is_short, size_with};
+use dcd_base::NoMemory;
 use script_codec::{Head, Line, Script};
 use std::alloc::Global;
-use text_lines::{Cause, Frame, TextFault, opening, rest};
+use text_lines::{Cause, Frame, TextFault, access_line, opening, page_line, rest};
 use text_words::TextLines;
 
 /// The most lines of a script.
@@ -29,6 +30,86 @@ fn frame_of(head: &Head) -> Frame
         hosts: head.config.hosts(),
         lanes: head.lanes,
     }
+}
+
+/// The next line, where it is a load or a store that can be read at once; else nothing is taken.
+#[inline(always)]
+fn next_access(frame: Frame, lines: &mut TextLines<'_>) -> Option<Line>
+    ensures { TakesPlainLine frame lines.old lines.new result }
+{
+    let (number, text) = lines.unread();
+    let (line, rest) = access_line(frame, text)?;
+    *lines = TextLines::from(number + 1, rest);
+    Some(line)
+}
+
+/// The next line, where it is a host's question for a page that can be read at once; else nothing is taken.
+#[inline(always)]
+fn next_page(alloc: Global, frame: Frame, lines: &mut TextLines<'_>) -> Option<Line>
+    ensures { TakesPlainLine frame lines.old lines.new result }
+{
+    let (number, text) = lines.unread();
+    let (line, rest) = page_line(alloc, frame, text)?;
+    *lines = TextLines::from(number + 1, rest);
+    Some(line)
+}
+
+/// How many lines may still come, and how many bytes those have that were read, up to 2^64 - 1.
+#[derive(Clone, Copy, Debug)]
+struct Filling {
+    left: u32,
+    size: u64,
+}
+
+/// Puts loads and stores behind the lines that are there, as long as they can be read at once.
+fn fill_accesses(
+    frame: Frame,
+    before: Filling,
+    lines: &mut TextLines<'_>,
+    out: &mut script_codec::Lines,
+) -> Result<Filling, NoMemory>
+    requires { before.size ≡ min (length (spelling (flat_map line_fields out.old))) 18446744073709551615 }
+    ensures value { IfOk result (λ after. lines_behind out.new (lines_at after.left frame lines.new.lines) ≡ lines_behind out.old (lines_at before.left frame lines.old.lines)) }
+    ensures size { IfOk result (λ after. after.size ≡ min (length (spelling (flat_map line_fields out.new))) 18446744073709551615) }
+    ensures end { lines.new.end ≡ lines.old.end }
+    ensures fewer { length lines.new.lines ≤ length lines.old.lines }
+{
+    let mut left = before.left;
+    let mut size = before.size;
+    while left > 0
+        && let Some(line) = next_access(frame, lines)
+    {
+        size = size_with(size, &line);
+        out.push(line)?;
+        left -= 1;
+    }
+    Ok(Filling { left, size })
+}
+
+/// Puts questions for pages behind the lines that are there, as long as they can be read at once.
+fn fill_pages(
+    alloc: Global,
+    frame: Frame,
+    before: Filling,
+    lines: &mut TextLines<'_>,
+    out: &mut script_codec::Lines,
+) -> Result<Filling, NoMemory>
+    requires { before.size ≡ min (length (spelling (flat_map line_fields out.old))) 18446744073709551615 }
+    ensures value { IfOk result (λ after. lines_behind out.new (lines_at after.left frame lines.new.lines) ≡ lines_behind out.old (lines_at before.left frame lines.old.lines)) }
+    ensures size { IfOk result (λ after. after.size ≡ min (length (spelling (flat_map line_fields out.new))) 18446744073709551615) }
+    ensures end { lines.new.end ≡ lines.old.end }
+    ensures fewer { length lines.new.lines ≤ length lines.old.lines }
+{
+    let mut left = before.left;
+    let mut size = before.size;
+    while left > 0
+        && let Some(line) = next_page(alloc, frame, lines)
+    {
+        size = size_with(size, &line);
+        out.push(line)?;
+        left -= 1;
+    }
+    Ok(Filling { left, size })
 }
 
 /// Puts the lines of a script into the empty list, at most so many, and answers how many bytes they have, up to 2^64 - 1.
@@ -46,7 +127,14 @@ fn fill_lines(
 {
     let mut left = most;
     let mut size = 0u64;
-    while let Some(mut words) = lines.next() {
+    loop {
+        let accesses = fill_accesses(frame, Filling { left, size }, lines, out)?;
+        let pages = fill_pages(alloc, frame, accesses, lines, out)?;
+        left = pages.left;
+        size = pages.size;
+        let Some(mut words) = lines.next() else {
+            return Ok(size);
+        };
         let line = words.line();
         let opening = opening(&mut words, frame)?;
         if left == 0 {
@@ -61,7 +149,6 @@ fn fill_lines(
         out.push(line)?;
         left -= 1;
     }
-    Ok(size)
 }
 
 /// The script, where its bytes are few enough.

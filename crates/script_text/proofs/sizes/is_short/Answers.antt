@@ -1,4 +1,4 @@
-use Rattle.std.proofs.Common.{sym, ◌∙◌}
+use Rattle.std.proofs.Common.{sym}
 use Rattle.script_text.proofs.ScriptSizes.{script_fits}
 use Rattle.script_text.proofs.sizes.is_short.Goals as goal
 
