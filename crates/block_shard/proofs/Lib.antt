@@ -1,3 +1,4 @@
 pub mod Entered
 pub mod MadeChanges
 pub mod Places
+pub mod TouchingAlone

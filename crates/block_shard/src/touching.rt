@@ -12,8 +12,9 @@ pub fn touches(entry: &Entry, index: u32) -> bool
     requires { index < 16 }
     ensures { result ≡ touches_shard index entry.now }
 {
-    for effect in entry.effects.as_slice() {
-        if touches_own(effect, index) {
+    let mut effects = entry.effects.without_extents();
+    while let Some(effect) = effects.next() {
+        if touches_own(&effect, index) {
             return true;
         }
     }
