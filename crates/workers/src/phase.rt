@@ -56,11 +56,36 @@ pub fn run_phase<R: Threads + Wait + Sync + AllocGlobal, H: Handler, G: Gate>(
     ensures begun { EachServedSome H.reads handler.now (phase (H.reads.hosts handler.now) lanes first_line lines.now) 0 passes.old passes.new }
 {
     let hosts = hosts_of(passes.len(), lanes);
+    serve_phase(rt, handler, gate, hosts, lanes, first_line, lines, passes)
+}
+
+/// Does the lines of a phase of so many hosts: those of one pass alone by the caller, else those of each pass by a worker.
+pub(crate) fn serve_phase<
+    R: Threads + Wait + Sync + AllocGlobal,
+    P: Send,
+    H: Handler<Pass = P>,
+    G: Gate,
+>(
+    rt: &R,
+    handler: &H,
+    gate: &G,
+    hosts: u8,
+    lanes: u8,
+    first: u32,
+    lines: &[Line],
+    passes: &mut [P],
+) -> Result<(), NoMemory>
+    requires hosts { (H.reads.hosts handler.now ≡ hosts) × (hosts ≤ 16) }
+    requires count { length passes.old ≡ hosts * lanes + 2 }
+    requires sound { IsTrue (list_all (is_sound_line hosts lanes) lines.now) }
+    requires in_range { first + length lines.now ≤ 2 ^ 32 }
+    requires ready { EachReady H.reads handler.now (phase hosts lanes first lines.now) 0 passes.old }
+    ensures served { OnOk result (EachServed H.reads handler.now (phase hosts lanes first lines.now) 0 passes.old passes.new) }
+    ensures begun { EachServedSome H.reads handler.now (phase hosts lanes first lines.now) 0 passes.old passes.new }
+{
     match lone_pass(hosts, lanes, lines) {
-        Some(k) => serve_alone(
-            rt, handler, gate, hosts, lanes, first_line, lines, k, passes,
-        ),
-        None => serve_parted(rt, handler, gate, hosts, lanes, first_line, lines, passes),
+        Some(k) => serve_alone(rt, handler, gate, hosts, lanes, first, lines, k, passes),
+        None => serve_parted(rt, handler, gate, hosts, lanes, first, lines, passes),
     }
 }
 

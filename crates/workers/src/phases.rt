@@ -8,7 +8,9 @@ ghost use Rattle.workers.specs.Serving.{EachReady, EachServed, EachServedSome};
 
 use crate::alone::are_no_others;
 use crate::handler::Handler;
+use crate::in_order::run_in_order;
 use crate::phase::{hosts_of, run_phase};
+use crate::sharing::Sharing;
 use crate::stop::Stop;
 use crate::stretch::serve_stretch;
 use dcd_base::{Gate, NoMemory};
@@ -90,6 +92,51 @@ fn first_stretch(hosts: u8, lanes: u8, lines: &[Line]) -> usize
     }
 }
 
+/// How many lines the first phases have, up to the first that workers are to do.
+#[tactic(auto, using(crate::proofs::Phasing::some_lines, crate::proofs::Phasing::no_more_lines))]
+fn light_lines(lines: &[Line], sharing: Sharing) -> usize
+    ensures { result ≤ length lines.now }
+{
+    let mut end = 0;
+    while end < lines.len() {
+        let (_, rest) = lines.split_at(end);
+        let (phase, _) = rest.split_at(first_phase(rest));
+        if !sharing.is_light(phase) {
+            return end;
+        }
+        end += phase.len();
+    }
+    end
+}
+
+/// Does so many of the lines one after another, the first of which has this number, and answers how many they are.
+fn run_light<R: Threads + Wait + Sync + AllocGlobal, H: Handler, G: Gate>(
+    rt: &R,
+    handler: &H,
+    passes: &mut [H::Pass],
+    lanes: u8,
+    number: u32,
+    lines: &[Line],
+    gate: &G,
+    light: usize,
+) -> Result<usize, NoMemory>
+    requires hosts { H.reads.hosts handler.now ≤ 16 }
+    requires lanes { 0 < lanes }
+    requires count { length passes.old ≡ H.reads.hosts handler.now * lanes + 2 }
+    requires some { (0 < light) × (light ≤ length lines.now) }
+    requires sound { IsTrue (list_all (is_sound_line (H.reads.hosts handler.now) lanes) lines.now) }
+    requires in_range { number + length lines.now ≤ 2 ^ 32 }
+    requires ready { EachReady H.reads handler.now (phase (H.reads.hosts handler.now) lanes number lines.now) 0 passes.old }
+    ensures some { IfOk result (λ n. (0 < n) × (n ≤ length lines.now)) }
+    ensures served { IfOk result (λ n. EachServed H.reads handler.now (phase (H.reads.hosts handler.now) lanes number (take n lines.now)) 0 passes.old passes.new) }
+    ensures begun { EachServedSome H.reads handler.now (phase (H.reads.hosts handler.now) lanes number lines.now) 0 passes.old passes.new }
+{
+    let hosts = hosts_of(passes.len(), lanes);
+    let (now, _) = lines.split_at(light);
+    run_in_order(rt, handler, gate, hosts, lanes, number, now, passes)?;
+    Ok(light)
+}
+
 /// Does the lines of the first phase, the first of which has this number, and answers how many they are.
 #[tactic(auto, using(crate::proofs::Phasing::some_lines, crate::proofs::Phasing::no_more_lines))]
 fn run_first<R: Threads + Wait + Sync + AllocGlobal, H: Handler, G: Gate>(
@@ -162,6 +209,7 @@ fn run_some<R: Threads + Wait + Sync + AllocGlobal, H: Handler, G: Gate>(
     number: u32,
     lines: &[Line],
     gate: &G,
+    sharing: Sharing,
     together: &mut bool,
 ) -> Result<usize, NoMemory>
     requires hosts { H.reads.hosts handler.now ≤ 16 }
@@ -175,6 +223,10 @@ fn run_some<R: Threads + Wait + Sync + AllocGlobal, H: Handler, G: Gate>(
     ensures served { IfOk result (λ n. EachServed H.reads handler.now (phase (H.reads.hosts handler.now) lanes number (take n lines.now)) 0 passes.old passes.new) }
     ensures begun { EachServedSome H.reads handler.now (phase (H.reads.hosts handler.now) lanes number lines.now) 0 passes.old passes.new }
 {
+    let light = light_lines(lines, sharing);
+    if light != 0 {
+        return run_light(rt, handler, passes, lanes, number, lines, gate, light);
+    }
     if !*together {
         return run_first(rt, handler, passes, lanes, number, lines, gate);
     }
@@ -199,6 +251,7 @@ pub fn run_phases<R: Threads + Wait + Sync + AllocGlobal, H: Handler, G: Gate>(
     lanes: u8,
     first_line: u32,
     lines: &[Line],
+    sharing: Sharing,
     gate: &G,
 ) -> Result<(), NoMemory>
     requires hosts { H.reads.hosts handler.now ≤ 16 }
@@ -222,6 +275,7 @@ pub fn run_phases<R: Threads + Wait + Sync + AllocGlobal, H: Handler, G: Gate>(
             number as u32,
             rest,
             gate,
+            sharing,
             &mut together,
         )?;
         let (_, later) = rest.split_at(done);

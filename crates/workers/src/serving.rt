@@ -40,7 +40,7 @@ fn serve_act<R: Wait, P: Send, H: Handler<Pass = P>, G: Gate>(
 }
 
 /// Does a line of the pass. A mark is passed over.
-fn serve_line<R: Wait, P: Send, H: Handler<Pass = P>, G: Gate>(
+pub(crate) fn serve_line<R: Wait, P: Send, H: Handler<Pass = P>, G: Gate>(
     rt: &R,
     handler: &H,
     gate: &G,

@@ -1,0 +1,65 @@
+//! Which lines are worth workers of their own.
+
+use journal_core::Act;
+use script_codec::Line;
+
+/// How the lines of a script are shared out. Whichever it is, each pass does its lines in order, and no phase begins before the
+/// one before it is over.
+#[derive(Clone, Copy, Debug, PartialEq, Eq)]
+pub enum Sharing {
+    /// The lines of a phase that several passes have go to workers, however few or many they are. So it has to be where a gate waits
+    /// for lines of another pass.
+    EachPhase,
+    /// The caller does light phases by itself, and a phase of very many lines is done part by part.
+    BySize,
+}
+
+/// How heavy a phase is at most that the caller does by itself: workers that wait for one another at its marks take longer.
+const LIGHT: usize = 256;
+
+/// How heavy a command is beside a load, a store, a scrub or a mark.
+const COMMAND: usize = 16;
+
+/// How many lines of a long phase are a part. Those behind it keep their memory meanwhile, as do those of the part.
+const PART: usize = 12_288;
+
+impl Sharing {
+    /// Whether the caller does a phase of these lines by itself, whosever they are.
+    pub(crate) fn is_light(self, lines: &[Line]) -> bool {
+        match self {
+            Sharing::EachPhase => false,
+            Sharing::BySize => are_light(lines),
+        }
+    }
+
+    /// How many lines are taken out of a script at a time at most.
+    pub(crate) fn part(self) -> usize {
+        match self {
+            Sharing::EachPhase => usize::MAX,
+            Sharing::BySize => PART,
+        }
+    }
+}
+
+/// Whether lines are light together. It stops at the first that is too much.
+fn are_light(lines: &[Line]) -> bool {
+    let mut weight = 0usize;
+    for line in lines {
+        weight = weight.saturating_add(weight_of(line));
+        if LIGHT < weight {
+            return false;
+        }
+    }
+    true
+}
+
+/// How heavy a line is.
+fn weight_of(line: &Line) -> usize {
+    match line {
+        Line::Do {
+            act: Act::Command(_),
+            ..
+        } => COMMAND,
+        _ => 1,
+    }
+}
