@@ -1,5 +1,5 @@
 -- The journal of a device whose passes have run the lines of a script.
-use Rattle.std.proofs.Common.{◌≡◌, ℕ, ◌+◌, ◌*◌, ◌<◌, List, length, map, sym, ap, ◌∙◌, subst, arith, IsTrue}
+use Rattle.std.proofs.Common.{◌≡◌, ℕ, ◌<◌, List, map, sym, ap, ◌∙◌, subst, arith, IsTrue}
 use mathlib.Core.Option.{some, some-injective}
 use lib.ListN.{get_elem?}
 use Rattle.dcd_base.specs.declared.steps.Actor.{Actor}
@@ -17,8 +17,7 @@ use Rattle.script_codec.specs.declared.script_line.Line.{Line}
 use Rattle.script_codec.specs.declared.scripts.Script.{Script}
 use Rattle.script_codec.specs.Covering.{Covers, pass_of}
 use Rattle.script_codec.specs.Scripts.{IsScript, is_sound_line}
-use Rattle.script_threads.specs.ScriptPasses.{HaveRun}
-use Rattle.script_threads.specs.ThreadRuns.{IsTakenApart, IsThreadRun}
+use Rattle.script_threads.specs.ThreadRuns.{HasDone, IsTakenApart, IsThreadRun}
 use Rattle.shared_device.specs.Closing.{AreAllPasses, IsClosed}
 use Rattle.shared_device.specs.Commanding.{actors_of}
 use Rattle.shared_device.specs.declared.pass.Pass.{Pass}
@@ -28,14 +27,7 @@ use Rattle.workers.specs.Phases.{task_of, tasks}
 use Rattle.workers.specs.Served.{AllServed, passes_of}
 use Rattle.script_threads.proofs.LineActors.{line_actor}
 
--- What is known of a device before it is taken apart.
-pub record IsDone (s : Shared) (script : Script) (passes : List Pass) : Type 0 where
-  pub config : s.config ≡ script.config
-  pub count : length passes ≡ script.config.hosts * script.lanes + 2
-  pub seats : seats_of s.cells ≡ length passes
-  pub ran : HaveRun s script.lanes script.lines passes
-
-module _ (s : Shared) (script : Script) (passes : List Pass) (done : IsDone s script passes) where
+module _ (s : Shared) (script : Script) (passes : List Pass) (done : HasDone s script passes) where
   pub are_all_passes : AreAllPasses s passes
   are_all_passes = record {
     some_pass = let count = done.count in omega (arith, count);

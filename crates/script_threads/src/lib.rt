@@ -7,3 +7,4 @@ mod lines;
 mod running;
 
 pub use running::run_in_threads;
+pub use workers::Sharing;

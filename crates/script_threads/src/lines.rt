@@ -9,12 +9,12 @@ ghost use Rattle.std.specs.Prelude.{◌≡◌, ◌<◌, ◌≤◌, ◌+◌, ◌*
 use crate::gated::Gated;
 use dcd_base::{Gate, NoMemory};
 use region_config::Config;
-use script_codec::Line;
+use script_codec::Lines;
 use shared_device::{Pass, Shared};
 use std::alloc::{AllocGlobal, Global};
 use std::sync::Wait;
 use std::thread::Threads;
-use workers::run_phases;
+use workers::{Sharing, run_script_lines};
 
 /// A fresh device of an equal configuration, and its passes.
 pub(crate) fn fresh_device(
@@ -37,17 +37,18 @@ pub(crate) fn run_lines<R: Threads + Wait + Sync + AllocGlobal, G: Gate>(
     device: &Shared,
     passes: &mut [Pass],
     lanes: u8,
-    lines: &[Line],
+    lines: Lines,
+    sharing: Sharing,
     gate: &G,
 ) -> Result<(), NoMemory>
     requires hosts { device.now.config.hosts ≤ 16 }
     requires lanes { 0 < lanes }
     requires count { length passes.old ≡ device.now.config.hosts * lanes + 2 }
-    requires sound { IsTrue (list_all (is_sound_line device.now.config.hosts lanes) lines.now) }
-    requires few { length lines.now ≤ 65536 }
+    requires sound { IsTrue (list_all (is_sound_line device.now.config.hosts lanes) lines) }
+    requires few { length lines ≤ 65536 }
     requires new { AreNewPasses device.now lanes passes.old }
-    ensures ran { OnOk result (HaveRun device.now lanes lines.now passes.new) }
+    ensures ran { OnOk result (HaveRun device.now lanes lines passes.new) }
 {
     let handler = Gated { device, gate };
-    run_phases(rt, &handler, passes, lanes, 1, lines, gate)
+    run_script_lines(rt, &handler, passes, lanes, 1, lines, sharing, gate)
 }

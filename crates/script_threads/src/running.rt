@@ -3,44 +3,78 @@
 ghost use Rattle.journal_core.specs.Lending.{AllRise};
 ghost use Rattle.journal_core.specs.Merging.{merged};
 ghost use Rattle.ruled_cells.specs.Calls.{seats_of};
-ghost use Rattle.script_codec.specs.Scripts.{IsScript};
+ghost use Rattle.script_codec.specs.Scripts.{IsScript, is_sound_line};
+ghost use Rattle.script_codec.specs.declared.scripts.Script.{Script};
+ghost use Rattle.shared_device.specs.Closing.{AreAllPasses};
 ghost use Rattle.script_threads.specs.ScriptPasses.{HaveRun};
-ghost use Rattle.script_threads.specs.ThreadRuns.{IsTakenApart, IsThreadRun};
-ghost use Rattle.std.specs.Prelude.{◌≡◌, ◌+◌, ◌*◌, IfOk, length};
+ghost use Rattle.script_threads.specs.ThreadRuns.{HasDone, IsTakenApart, IsThreadRun};
+ghost use Rattle.std.specs.List.{list_all};
+ghost use Rattle.std.specs.Prelude.{◌≡◌, ◌<◌, ◌≤◌, ◌+◌, ◌*◌, IfOk, IsTrue, length};
 
 use crate::lines::{fresh_device, run_lines};
 use control_core::Control;
 use dcd_base::{Gate, NoMemory};
 use isolation_laws::law_isolated;
 use journal_core::Accesses;
-use script_codec::Script;
+use region_config::Config;
+use script_codec::{Lines, Script};
 use shared_device::{Pass, Shared};
 use std::alloc::AllocGlobal;
 use std::sync::Wait;
 use std::thread::Threads;
-use workers::law_served_cover;
+use workers::{Sharing, law_served_cover};
 
-/// Takes apart a device whose passes have done the lines of the script.
+/// Does the lines on a fresh device, and answers it with its passes.
+fn run_afresh<R: Threads + Wait + Sync + AllocGlobal, G: Gate>(
+    rt: &R,
+    config: &Config,
+    lanes: u8,
+    lines: Lines,
+    sharing: Sharing,
+    gate: &G,
+) -> Result<(Shared, Vec<Pass>), NoMemory>
+    requires lanes { (0 < lanes) × (lanes ≤ 4) }
+    requires sound { IsTrue (list_all (is_sound_line config.now.hosts lanes) lines) }
+    requires few { length lines ≤ 65536 }
+    ensures config { IfOk result (λ left. left.0.config ≡ config.now) }
+    ensures count { IfOk result (λ left. length left.1.items ≡ config.now.hosts * lanes + 2) }
+    ensures seats { IfOk result (λ left. seats_of left.0.cells ≡ length left.1.items) }
+    ensures ran { IfOk result (λ left. HaveRun left.0 lanes lines left.1.items) }
+{
+    // A configuration is sound.
+    let _hosts = config.hosts();
+    let (device, mut passes) = fresh_device(rt.alloc(), config, lanes)?;
+    run_lines(
+        rt,
+        &device,
+        passes.as_mut_slice(),
+        lanes,
+        lines,
+        sharing,
+        gate,
+    )?;
+    Ok((device, passes))
+}
+
+/// Takes apart a device whose passes have all come back. Of a script whose lines they did, its journal is a run.
 fn take_apart(
     device: Shared,
     passes: Vec<Pass>,
-    script: &Script,
+    config: &Config,
 ) -> Result<(Control, Vec<Accesses>), NoMemory>
-    requires script { IsScript script.now }
-    requires config { device.config ≡ script.now.config }
-    requires count { length passes.items ≡ script.now.config.hosts * script.now.lanes + 2 }
-    requires seats { seats_of device.cells ≡ length passes.items }
-    requires ran { HaveRun device script.now.lanes script.now.lines passes.items }
-    ensures config { IfOk result (λ left. left.0.config ≡ script.now.config) }
+    requires config { device.config ≡ config.now }
+    requires all { AreAllPasses device passes.items }
+    ensures config { IfOk result (λ left. left.0.config ≡ config.now) }
     ensures shards { IfOk result (λ left. length left.1.items ≡ 16) }
     ensures rise { IfOk result (λ left. AllRise left.1.items) }
     ensures closed { IfOk result (λ left. IsTakenApart left.0.config left.0.entries left.1.items) }
-    ensures journal { IfOk result (λ left. IsThreadRun script.now (merged left.0.entries left.1.items)) }
+    ensures journal { IfOk result
+        (λ left. (script : Script) → HasDone device script passes.items → IsScript script → IsThreadRun script (merged left.0.entries left.1.items)) }
 {
+    // A configuration is sound.
+    let _hosts = config.hosts();
     law_isolated();
     law_served_cover();
-    // A configuration is sound.
-    let _hosts = script.config.hosts();
     match device.close(passes) {
         Ok(left) => Ok(left),
         Err((failure, _, _)) => Err(failure),
@@ -51,30 +85,27 @@ fn take_apart(
 /// 16 shards by rising stamps. All of them in the order of their stamps are the journal of the run, which
 /// `shared_device::lend_journal` lends.
 ///
-/// The lines of each lane are done in order, by a worker of its own where two or more have lines. `NoMemory` may come in place
-/// of any answer.
+/// The lines of each lane are done in order, and are let go as they are done; by which workers, the sharing says. `NoMemory` may
+/// come in place of any answer.
 pub fn run_in_threads<R: Threads + Wait + Sync + AllocGlobal, G: Gate>(
     rt: &R,
-    script: &Script,
+    script: Script,
+    sharing: Sharing,
     gate: &G,
 ) -> Result<(Control, Vec<Accesses>), NoMemory>
-    requires script { IsScript script.now }
-    ensures config { IfOk result (λ left. left.0.config ≡ script.now.config) }
+    requires script { IsScript script }
+    ensures config { IfOk result (λ left. left.0.config ≡ script.config) }
     ensures shards { IfOk result (λ left. length left.1.items ≡ 16) }
     ensures rise { IfOk result (λ left. AllRise left.1.items) }
     ensures closed { IfOk result (λ left. IsTakenApart left.0.config left.0.entries left.1.items) }
-    ensures journal { IfOk result (λ left. IsThreadRun script.now (merged left.0.entries left.1.items)) }
+    ensures journal { IfOk result (λ left. IsThreadRun script (merged left.0.entries left.1.items)) }
 {
-    // A configuration is sound.
-    let _hosts = script.config.hosts();
-    let (device, mut passes) = fresh_device(rt.alloc(), &script.config, script.lanes)?;
-    run_lines(
-        rt,
-        &device,
-        passes.as_mut_slice(),
-        script.lanes,
-        script.lines.as_slice(),
-        gate,
-    )?;
-    take_apart(device, passes, script)
+    let Script {
+        version: _,
+        lanes,
+        config,
+        lines,
+    } = script;
+    let (device, passes) = run_afresh(rt, &config, lanes, lines, sharing, gate)?;
+    take_apart(device, passes, &config)
 }

@@ -4,16 +4,16 @@ use Rattle.script_threads.proofs.LinesRan.{all_ran}
 use Rattle.script_threads.proofs.NewPassesReady.{all_ready}
 use Rattle.script_threads.proofs.lines.run_lines.Goals as goal
 
-pub run_phases-requires-clause-ready : goal.run_phases-requires-clause-ready
-run_phases-requires-clause-ready g c κs within =
-    all_ready {H = Gated g.row.G.Denot} (λ handler. handler.device.now) (record { device = c.args.device; gate = c.args.gate }) c.args.lanes c.args.lines.now c.requires.few c.args.passes.now
+pub run_script_lines-requires-clause-ready : goal.run_script_lines-requires-clause-ready
+run_script_lines-requires-clause-ready g c κs within =
+    all_ready {H = Gated g.row.G.Denot} (λ handler. handler.device.now) (record { device = c.args.device; gate = c.args.gate }) c.args.lanes c.args.lines c.requires.few c.args.passes.now
     c.requires.new
 
 pub returns : goal.returns
 returns g c = record {
   ran =
-      on_ok_weaker c.run_phases.result
-      (all_ran {H = Gated g.row.G.Denot} (λ handler. handler.device.now) (record { device = c.args.device; gate = c.args.gate }) c.args.lanes c.args.lines.now c.args.passes.now c.run_phases.new.passes
+      on_ok_weaker c.run_script_lines.result
+      (all_ran {H = Gated g.row.G.Denot} (λ handler. handler.device.now) (record { device = c.args.device; gate = c.args.gate }) c.args.lanes c.args.lines c.args.passes.now c.run_script_lines.new.passes
       c.requires.new)
-      c.run_phases.ensures.served;
+      c.run_script_lines.ensures.served;
 }
