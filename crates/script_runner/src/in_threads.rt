@@ -11,24 +11,34 @@ use dcd_base::{Bytes, Gate, NoMemory};
 use journal_core::Accesses;
 use script_codec::{Script, ScriptFault, read};
 use script_gen::generate;
-use script_threads::run_in_threads;
+use script_threads::{Sharing, run_in_threads};
 use std::alloc::{AllocGlobal, Global};
 use std::sync::Wait;
 use std::thread::Threads;
 
+/// How the lines of a run are shared out. Where the run leaves its memory to the end of the program, no gate waits for another line.
+pub(crate) fn sharing_of(leaves: bool) -> Sharing {
+    if leaves {
+        Sharing::BySize
+    } else {
+        Sharing::EachPhase
+    }
+}
+
 /// Runs the script that the input is, or answers the first fault of the input. `NoMemory` may come in place of any answer.
-/// The bytes are let go once they are read, and the script once it was run.
+/// The bytes are let go once they are read, and the lines as they are done.
 pub(crate) fn run_input_in_threads<R: Threads + Wait + Sync + AllocGlobal, G: Gate>(
     rt: &R,
     alloc: Global,
     input: Bytes,
+    sharing: Sharing,
     gate: &G,
 ) -> Result<(Control, Vec<Accesses>), ScriptFault>
     ensures ran { IfOk result (λ left. RanInput input left.0.config left.0.entries left.1.items) }
     ensures fault { IfErr result (λ fault. fault ≢ ScriptFault.NoMemory → first_fault input ≡ Some fault) }
 {
     match script_of(alloc, input) {
-        Ok(script) => match run_owned(rt, script, gate) {
+        Ok(script) => match run_owned(rt, script, sharing, gate) {
             Ok(left) => Ok(left),
             Err(NoMemory) => Err(ScriptFault::NoMemory),
         },
@@ -36,17 +46,18 @@ pub(crate) fn run_input_in_threads<R: Threads + Wait + Sync + AllocGlobal, G: Ga
     }
 }
 
-/// Runs the generated script of the seed. The script is let go once it was run.
+/// Runs the generated script of the seed. The lines are let go as they are done.
 pub(crate) fn run_seed_in_threads<R: Threads + Wait + Sync + AllocGlobal, G: Gate>(
     rt: &R,
     alloc: Global,
     seed: u64,
+    sharing: Sharing,
     gate: &G,
 ) -> Result<(Control, Vec<Accesses>), NoMemory>
     ensures { IfOk result (λ left. RanInThreads (generated seed) left.0.config left.0.entries left.1.items) }
 {
     match generate(alloc, seed) {
-        Ok(script) => run_owned(rt, script, gate),
+        Ok(script) => run_owned(rt, script, sharing, gate),
         Err(NoMemory) => Err(NoMemory),
     }
 }
@@ -59,14 +70,15 @@ fn script_of(alloc: Global, input: Bytes) -> Result<Script, ScriptFault>
     read(alloc, input.as_slice())
 }
 
-/// Runs a script and lets it go.
+/// Runs a script, which is let go.
 fn run_owned<R: Threads + Wait + Sync + AllocGlobal, G: Gate>(
     rt: &R,
     script: Script,
+    sharing: Sharing,
     gate: &G,
 ) -> Result<(Control, Vec<Accesses>), NoMemory>
     requires { IsScript script }
     ensures { IfOk result (λ left. RanInThreads script left.0.config left.0.entries left.1.items) }
 {
-    run_in_threads(rt, &script, gate)
+    run_in_threads(rt, script, sharing, gate)
 }

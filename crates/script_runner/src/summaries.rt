@@ -4,7 +4,7 @@ ghost use Rattle.script_runner.specs.Endings.{EndsAs, IsSummaryPlan};
 ghost use Rattle.script_runner.specs.declared.words.Mode.{Mode};
 
 use crate::generated::run_rounds;
-use crate::in_threads::run_seed_in_threads;
+use crate::in_threads::{run_seed_in_threads, sharing_of};
 use crate::lines::part;
 use crate::printing::{print_merged_summary, print_summary};
 use crate::status::Status;
@@ -60,7 +60,7 @@ fn summary_in_threads<R: Threads + Wait + Sync + AllocGlobal, K: Sink, G: Gate>(
 ) -> Status
     ensures { EndsAs (IsSummaryPlan Mode.Threads seed) ⊥ K.taken K.faults sink.old sink.new result }
 {
-    match run_seed_in_threads(rt, alloc, seed, gate) {
+    match run_seed_in_threads(rt, alloc, seed, sharing_of(leaves), gate) {
         Ok(left) => match print_merged_summary(&left.0, left.1.as_slice(), sink) {
             Ok(()) => {
                 part(left, leaves);

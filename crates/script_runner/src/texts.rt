@@ -4,7 +4,7 @@ ghost use Rattle.script_runner.specs.Endings.{EndsAs, IsFaultPlan, IsPlannedFor}
 ghost use Rattle.script_runner.specs.declared.words.Mode.{Mode};
 ghost use Rattle.std.specs.Prelude.{◌≢◌};
 
-use crate::in_threads::run_input_in_threads;
+use crate::in_threads::{run_input_in_threads, sharing_of};
 use crate::lines::part;
 use crate::printing::{print_merged_text, print_text};
 use crate::script::run_script;
@@ -49,7 +49,7 @@ pub(crate) fn text_in_threads<R: Threads + Wait + Sync + AllocGlobal, K: Sink, G
 ) -> Status
     ensures { EndsAs (IsPlannedFor Mode.Threads input) ⊥ K.taken K.faults sink.old sink.new result }
 {
-    match run_input_in_threads(rt, alloc, input, gate) {
+    match run_input_in_threads(rt, alloc, input, sharing_of(leaves), gate) {
         Ok(left) => match print_merged_text(&left.0, left.1.as_slice(), sink) {
             Ok(()) => {
                 part(left, leaves);
