@@ -322,7 +322,7 @@ fn with_effect(alloc: Global, effect: Effect) -> Result<Entry, NoMemory> {
     let mut effects = Effects::new(alloc);
     effects.push(effect)?;
     Ok(Entry {
-        effects: EntryEffects::of(effects)?,
+        effects: EntryEffects::of(&effects)?,
         ..scrub(1)
     })
 }

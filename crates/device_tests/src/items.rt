@@ -69,7 +69,7 @@ fn put_offers(effects: &mut Effects) -> Result<(), NoMemory> {
 fn offers(alloc: Global) -> Result<EntryEffects, NoMemory> {
     let mut effects = Effects::new(alloc);
     put_offers(&mut effects)?;
-    EntryEffects::of(effects)
+    EntryEffects::of(&effects)
 }
 
 /// An access of the host.

@@ -2,7 +2,9 @@
 
 use crate::seeing::{see, see_list};
 use cci_codec::{Payload, Request, Response};
-use dcd_base::{AccessFault, Actor, Bytes, Extents, Granule, HostId, NoMemory, Run, Stamp};
+use dcd_base::{
+    AccessFault, Actor, Bytes, Extent, Extents, Granule, HostId, NoMemory, Run, Stamp, Tag,
+};
 use journal_core::{Act, Effect, Effects, Entry, EntryEffects, Journal, Reply, fits, holds, merge};
 use std::alloc::Global;
 use std::process::Abort;
@@ -168,7 +170,7 @@ fn response(alloc: Global) -> Result<Reply, NoMemory> {
 fn offered(alloc: Global) -> Result<EntryEffects, NoMemory> {
     let mut effects = Effects::new(alloc);
     effects.push(Effect::Offer(HostId(3), Extents::new(alloc)))?;
-    EntryEffects::of(effects)
+    EntryEffects::of(&effects)
 }
 
 /// An entry with a response and an effect.
@@ -196,7 +198,66 @@ fn payload_of(reply: &Reply) -> &[u8] {
 #[test]
 fn a_copied_entry_has_all_parts(rt: HostRuntime) -> Result<(), Fail> {
     let copy = copied(rt.alloc())?;
-    see(&rt, &(copy.pass, copy.effects.as_slice().len()), &(3, 1));
+    let effects = copy.effects.list(rt.alloc())?;
+    see(&rt, &(copy.pass, effects.len()), &(3, 1));
     see_list(&rt, payload_of(&copy.reply), &[1, 2]);
+    Ok(())
+}
+
+/// An offer of two extents with one tag, and then host 3 takes and loses two granules.
+fn several(alloc: Global) -> Result<EntryEffects, NoMemory> {
+    let tag = Tag([7; 16]);
+    let mut extents = Extents::new(alloc);
+    extents.push(Extent { start: 1 << 20, length: 1 << 20, tag, sequence: 1 })?;
+    extents.push(Extent { start: 3 << 20, length: 1 << 20, tag, sequence: 2 })?;
+    let mut effects = Effects::new(alloc);
+    effects.push(Effect::Offer(HostId(3), extents))?;
+    effects.push(Effect::Take(HostId(3), two_granules()))?;
+    effects.push(Effect::Leave(HostId(3), two_granules()))?;
+    EntryEffects::of(&effects)
+}
+
+/// The starts and the tags' first bytes of the extents that an effect offers.
+fn put_offered(effect: &Effect, starts: &mut Vec<(u64, u8)>) -> Result<(), NoMemory> {
+    if let Effect::Offer(_, extents) = effect {
+        for extent in extents.as_slice() {
+            starts.push((extent.start, extent.tag.0[0]))?;
+        }
+    }
+    Ok(())
+}
+
+/// How many effects there are, and what they offer.
+fn told(alloc: Global) -> Result<(usize, Vec<(u64, u8)>), NoMemory> {
+    let effects = several(alloc)?.list(alloc)?;
+    let mut starts = Vec::new(alloc);
+    for effect in effects.as_slice() {
+        put_offered(effect, &mut starts)?;
+    }
+    Ok((effects.len(), starts))
+}
+
+/// The host that an effect gives or takes granules.
+fn host_of(effect: Effect) -> u8 {
+    match effect {
+        Effect::Take(host, _) | Effect::Leave(host, _) => host.0,
+        _ => 255,
+    }
+}
+
+/// Those hosts, of the next two effects without extents, and whether there are more.
+fn alone(alloc: Global) -> Result<([Option<u8>; 2], bool), NoMemory> {
+    let effects = several(alloc)?;
+    let mut left = effects.without_extents();
+    let hosts = [left.next().map(host_of), left.next().map(host_of)];
+    Ok((hosts, left.next().is_some()))
+}
+
+#[test]
+fn kept_effects_are_those_handed_in(rt: HostRuntime) -> Result<(), Fail> {
+    let (count, starts) = told(rt.alloc())?;
+    see(&rt, &count, &3);
+    see_list(&rt, starts.as_slice(), &[(1 << 20, 7), (3 << 20, 7)]);
+    see(&rt, &alone(rt.alloc())?, &([Some(3), Some(3)], false));
     Ok(())
 }

@@ -8,6 +8,7 @@ use Rattle.std.proofs.lemmas.List.{take_more}
 use Rattle.std.proofs.lemmas.Option.{none-some, same_Some, slice_get-get_or}
 use Rattle.dcd_base.specs.declared.steps.Actor.{Actor}
 use Rattle.journal_core.specs.Entries.{effects, fits, is_control}
+use Rattle.journal_core.specs.Tokens.{without_extents}
 use Rattle.journal_core.specs.declared.acts.Act.{Act}
 use Rattle.journal_core.specs.declared.entries.Entry.{Entry}
 use Rattle.journal_core.specs.declared.outcome.Effect.{Effect}
@@ -26,11 +27,24 @@ use Rattle.host_driver.specs.Spelling.{AreSpelled, AreSpelledIn, IsSpelledIn}
 pub spelled-push : (journal : List Entry) (e : Entry) → AreSpelled journal → AreSpelledIn e.effects → AreSpelled (journal ++ e ∷ [])
 spelled-push journal e all new = subst (AllByRecursion IsSpelledIn) (sym (effects-push journal e)) (each-append IsSpelledIn (effects journal) e.effects all new)
 
--- one effect more of a list
-pub effect_more : (all : List Effect) (i : ℕ) (e : Effect) → i < length all → e ≡ get_or all i e → AreSpelledIn (take i all) → IsSpelledIn e → AreSpelledIn (take (i + 1) all)
-effect_more all i e within is front here =
-    subst AreSpelledIn (sym (take_more all i e within ∙ ap (λ (x : Effect). take i all ++ x ∷ []) (sym is)))
-    (each-append IsSpelledIn (take i all) (e ∷ []) front (here, tt))
+-- records stand in effects without extents
+pub spelled_alone : (all : List Effect) → AreSpelledIn (without_extents all) → AreSpelledIn all
+spelled_alone [] spelled = tt
+spelled_alone (Effect.Offer h xs ∷ all) spelled = (tt, spelled_alone all spelled)
+spelled_alone (Effect.Answer h xs ∷ all) spelled = (tt, spelled_alone all spelled)
+spelled_alone (Effect.Take h run ∷ all) spelled = (tt, spelled_alone all spelled.1)
+spelled_alone (Effect.Leave h run ∷ all) spelled = (tt, spelled_alone all spelled.1)
+spelled_alone (Effect.Zero run ∷ all) spelled = (tt, spelled_alone all spelled.1)
+spelled_alone (Effect.Soil run ∷ all) spelled = (tt, spelled_alone all spelled.1)
+spelled_alone (Effect.Hold h kind xs ∷ all) spelled = (tt, spelled_alone all spelled)
+spelled_alone (Effect.Unhold h kind ∷ all) spelled = (tt, spelled_alone all spelled.1)
+spelled_alone (Effect.Logged log e ∷ all) spelled = (spelled.0, spelled_alone all spelled.1)
+spelled_alone (Effect.Missed log ∷ all) spelled = (tt, spelled_alone all spelled.1)
+spelled_alone (Effect.Cleared log count ∷ all) spelled = (tt, spelled_alone all spelled.1)
+spelled_alone (Effect.Reset log ∷ all) spelled = (tt, spelled_alone all spelled.1)
+spelled_alone (Effect.Ref t is_on ∷ all) spelled = (tt, spelled_alone all spelled.1)
+spelled_alone (Effect.TagEnd t ∷ all) spelled = (tt, spelled_alone all spelled.1)
+spelled_alone (Effect.Block r size ∷ all) spelled = (tt, spelled_alone all spelled.1)
 
 -- one entry more of a journal
 pub entry_more : (journal : List Entry) (i : ℕ) (e : Entry) → i < length journal → e ≡ get_or journal i e → AreSpelled (take i journal) → AreSpelledIn e.effects → AreSpelled (take (i + 1) journal)

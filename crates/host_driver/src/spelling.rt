@@ -7,23 +7,24 @@ ghost use Rattle.std.specs.Prelude.{◌≡◌, ◌++◌, ◌∷◌, [], List};
 
 use device_plain::Device;
 use event_records::law_event_is_spelled;
-use journal_core::{Effect, Entry};
+use journal_core::{Effect, Entry, EntryEffects};
 
 /// The bytes of each record that went into a log are its one spelling.
 pub(crate) fn are_spelled(journal: &[Entry])
     ensures { AreSpelled journal.now }
 {
     for entry in journal {
-        effects_are_spelled(entry.effects.as_slice());
+        effects_are_spelled(&entry.effects);
     }
 }
 
 /// So are those of the effects of one entry.
-fn effects_are_spelled(effects: &[Effect])
+fn effects_are_spelled(effects: &EntryEffects)
     ensures { AreSpelledIn effects.now }
 {
-    for effect in effects {
-        is_spelled(effect);
+    let mut left = effects.without_extents();
+    while let Some(effect) = left.next() {
+        is_spelled(&effect);
     }
 }
 
@@ -42,7 +43,7 @@ fn last_is_spelled(entries: &[Entry])
     ensures { (before : List Entry) (e : Entry) → entries.now ≡ before ++ e ∷ [] → AreSpelledIn e.effects }
 {
     match entries.last() {
-        Some(entry) => effects_are_spelled(entry.effects.as_slice()),
+        Some(entry) => effects_are_spelled(&entry.effects),
         None => (),
     }
 }

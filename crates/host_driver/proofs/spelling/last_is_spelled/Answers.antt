@@ -7,7 +7,7 @@ use Rattle.host_driver.proofs.spelling.last_is_spelled.Goals as goal
 pub returns-in-Some : goal.returns-in-Some
 returns-in-Some c = λ before e is.
     subst (λ (x : Entry). AreSpelledIn x.effects) (last_is c.args.entries.now before c.in-Some.entry.now e c.in-Some.ensures.value is)
-    (subst AreSpelledIn c.as_slice.ensures c.effects_are_spelled.ensures)
+    c.effects_are_spelled.ensures
 
 pub returns-in-None : goal.returns-in-None
 returns-in-None c = λ before e is. absurd (last_none c.args.entries.now before e c.in-None.ensures.value is)
