@@ -208,8 +208,18 @@ fn a_copied_entry_has_all_parts(rt: HostRuntime) -> Result<(), Fail> {
 fn several(alloc: Global) -> Result<EntryEffects, NoMemory> {
     let tag = Tag([7; 16]);
     let mut extents = Extents::new(alloc);
-    extents.push(Extent { start: 1 << 20, length: 1 << 20, tag, sequence: 1 })?;
-    extents.push(Extent { start: 3 << 20, length: 1 << 20, tag, sequence: 2 })?;
+    extents.push(Extent {
+        start: 1 << 20,
+        length: 1 << 20,
+        tag,
+        sequence: 1,
+    })?;
+    extents.push(Extent {
+        start: 3 << 20,
+        length: 1 << 20,
+        tag,
+        sequence: 2,
+    })?;
     let mut effects = Effects::new(alloc);
     effects.push(Effect::Offer(HostId(3), extents))?;
     effects.push(Effect::Take(HostId(3), two_granules()))?;
