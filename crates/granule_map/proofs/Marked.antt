@@ -1,10 +1,12 @@
 -- What the marks of granules say of their states.
-use Rattle.std.proofs.Common.{◌≡◌, ℕ, zero, suc, ◌∷◌, ◌+◌, ◌-◌, ◌<◌, ◌≤◌, Bool, false, not, List, ◌++◌, length, length-drop, length-set, set, map, get_or, take, drop, replicate, refl, ap, sym, subst, ◌∙◌, arith}
+use Rattle.std.proofs.Common.{cond, [], ◌∷◌, ◌≡◌, ℕ, zero, suc, ◌∷◌, ◌+◌, ◌-◌, ◌<◌, ◌≤◌, Bool, false, not, List, ◌++◌, length, length-drop, length-set, set, map, get_or, take, drop, replicate, refl, ap, sym, subst, ◌∙◌, arith}
 use Rattle.dcd_base.specs.declared.media.Run.{Run}
 use Rattle.std.proofs.lemmas.Bool.{false_from_ne_true}
 use Rattle.std.proofs.lemmas.List.{drop-map, get_or-drop, get_or-map, get_or-take, length-take-le, map-append, map-set, take-map}
+use Rattle.std.proofs.lemmas.List.Sums.{sum_by-cons}
+use Rattle.std.specs.Prelude.{count_by}
 use Rattle.memchr.specs.Find.{Nowhere, Passes, is_byte, is_byte2}
-use Rattle.granule_map.specs.StateLists.{AreMarked, is_dirty_at, is_dirty_state, is_free_at, is_free_state, mark_of, with_run}
+use Rattle.granule_map.specs.StateLists.{AreMarked, is_dirty_at, is_dirty_state, is_free_at, is_free_state, mark_of, part_of, with_run}
 use Rattle.granule_map.specs.Stretches.{IsNext, fails}
 use Rattle.granule_map.specs.declared.states.GranuleState.{GranuleState}
 use Rattle.granule_map.specs.declared.states.GranuleState.TheVariants.{Free, Reserved, Held, Tagged, Dirty}
@@ -131,3 +133,28 @@ marked_one states new marks new_marks g s kept new_is marks_are = record {
   few = omega (arith, ap (λ (ss : List GranuleState). length ss) new_is, length-set states g s, kept.few);
   marked = marks_are ∙ ap (λ (ms : List ℕ). set ms g (mark_of s)) kept.marked ∙ sym (map-set mark_of states g s) ∙ ap (map mark_of) (sym new_is);
 }
+
+-- a count of marks is one of states
+module _ (t : ℕ → Bool) (q : GranuleState → Bool) (agree : (s : GranuleState) → t (mark_of s) ≡ q s) where
+  counts_agree : (states : List GranuleState) → count_by t (map mark_of states) ≡ count_by q states
+  counts_agree [] = refl
+  counts_agree (s ∷ states) =
+      sum_by-cons (λ m. cond (t m) 1 0) (mark_of s) (map mark_of states)
+      ∙ ap (λ b. cond b 1 0 + count_by t (map mark_of states)) (agree s) ∙ ap (λ n. cond (q s) 1 0 + n) (counts_agree states)
+      ∙ sym (sum_by-cons (λ x. cond (q x) 1 0) s states)
+
+  counted_in : (states : List GranuleState) (run : Run) → count_by t (take run.count (drop run.first (map mark_of states))) ≡ count_by q (part_of states run)
+  counted_in states run =
+      ap (λ (ms : List ℕ). count_by t (take run.count ms)) (drop-map mark_of run.first states)
+      ∙ ap (count_by t) (take-map mark_of run.count (drop run.first states)) ∙ counts_agree (part_of states run)
+
+module _ (states seen : List GranuleState) (marks read : List ℕ) (kept : AreMarked states marks) (same : states ≡ seen) (read_is : read ≡ marks) (run : Run) where
+  pub free_counted : count_by (is_byte 0) (take run.count (drop run.first read)) ≡ count_by is_free_state (part_of seen run)
+  free_counted =
+      ap (λ (ms : List ℕ). count_by (is_byte 0) (take run.count (drop run.first ms))) (read_is ∙ kept.marked) ∙ counted_in (is_byte 0) is_free_state free_mark states run
+      ∙ ap (λ (ss : List GranuleState). count_by is_free_state (part_of ss run)) same
+
+  pub dirty_counted : count_by (is_byte 1) (take run.count (drop run.first read)) ≡ count_by is_dirty_state (part_of seen run)
+  dirty_counted =
+      ap (λ (ms : List ℕ). count_by (is_byte 1) (take run.count (drop run.first ms))) (read_is ∙ kept.marked) ∙ counted_in (is_byte 1) is_dirty_state dirty_mark states run
+      ∙ ap (λ (ss : List GranuleState). count_by is_dirty_state (part_of ss run)) same

@@ -49,6 +49,10 @@ pub record AreMarked (states : List GranuleState) (marks : List ℕ) : Type 0 wh
 abbrev pub with_run : List GranuleState → Run → GranuleState → List GranuleState
 with_run states run state = take run.first states ++ replicate run.count state ++ drop (run.first + run.count) states
 
+-- the states of the granules of a run
+abbrev pub part_of : List GranuleState → Run → List GranuleState
+part_of states run = take run.count (drop run.first states)
+
 -- how many granules are in the state
 abbrev pub count_of : List GranuleState → GranuleState → ℕ
 count_of states state = count_by (same_state state) states

@@ -1,13 +1,13 @@
 //! The map from granules to states.
 
 ghost use Rattle.granule_map.specs.Blocks.{IsArea, block_count, free_block_count, is_block_free, longest_free_run, lowest_run_in};
-ghost use Rattle.granule_map.specs.StateLists.{count_of, dirty_from, is_dirty_at, is_free_at, with_run};
+ghost use Rattle.granule_map.specs.StateLists.{count_of, dirty_from, is_dirty_at, is_dirty_state, is_free_at, is_free_state, part_of, with_run};
 ghost use Rattle.granule_map.specs.Stretches.{IsNext, fails};
 ghost use Rattle.std.specs.List.{find, list_all, prefix_len, range_with_len};
-ghost use Rattle.std.specs.Prelude.{◌≡◌, ◌↔◌, ◌+◌, ◌-◌, ◌<◌, ◌≤◌, IfOk, IsNone, OnErr, OnOk, Some, length, replicate, slice_get, slice_set, ◌++◌, take, drop};
+ghost use Rattle.std.specs.Prelude.{◌≡◌, ◌↔◌, ◌+◌, ◌-◌, ◌<◌, ◌≤◌, IfOk, IsNone, OnErr, OnOk, Some, length, replicate, slice_get, slice_set, count_by, ◌++◌, take, drop};
 
 use crate::blocks::{count_free_blocks, free_from, longest_run_of, lowest_block, next_free};
-use crate::marks::{next_with, next_with_either};
+use crate::marks::{count_with, next_with, next_with_either};
 use crate::states::{DIRTY, FREE, GranuleState, IN_USE, is_same_state};
 use dcd_base::{Granule, NoMemory, Run};
 use std::alloc::Global;
@@ -185,6 +185,22 @@ impl GranuleMap {
             .iter()
             .filter(|granule| is_same_state(&state, granule))
             .count() as u32
+    }
+
+    /// How many granules of the run are free.
+    pub fn free_in(&self, run: Run) -> u32
+        requires { run.first + run.count ≤ length self.now.states }
+        ensures { result ≡ count_by is_free_state (part_of self.now.states run) }
+    {
+        count_with(self.marks.as_slice(), FREE, &run)
+    }
+
+    /// How many granules of the run are dirty.
+    pub fn dirty_in(&self, run: Run) -> u32
+        requires { run.first + run.count ≤ length self.now.states }
+        ensures { result ≡ count_by is_dirty_state (part_of self.now.states run) }
+    {
+        count_with(self.marks.as_slice(), DIRTY, &run)
     }
 
     /// The lowest dirty granule from the number `from` on; None exactly where none is dirty from there on.

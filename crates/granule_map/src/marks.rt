@@ -2,8 +2,9 @@
 
 ghost use Rattle.granule_map.specs.Stretches.{IsNext};
 ghost use Rattle.memchr.specs.Find.{is_byte, is_byte2};
-ghost use Rattle.std.specs.Prelude.{◌≡◌, ◌≤◌, length, slice_index};
+ghost use Rattle.std.specs.Prelude.{◌≡◌, ◌+◌, ◌≤◌, count_by, drop, length, slice_index, take};
 
+use dcd_base::Run;
 use memchr::{memchr, memchr2};
 
 /// So many places are read one by one, before many are at a time: what is searched for is often near.
@@ -68,4 +69,16 @@ fn far_with_either(marks: &[u8], mark: u8, other: u8, from: usize, end: usize) -
         Some(place) => from + place,
         None => end,
     }
+}
+
+/// How many places of the run have the mark.
+pub(crate) fn count_with(marks: &[u8], mark: u8, run: &Run) -> u32
+    requires { run.now.first + run.now.count ≤ length marks.now }
+    ensures { result ≡ count_by (is_byte mark) (take run.now.count (drop run.now.first marks.now)) }
+{
+    let first = run.first.0 as usize;
+    marks[first..first + run.count as usize]
+        .iter()
+        .filter(|found| **found == mark)
+        .count() as u32
 }

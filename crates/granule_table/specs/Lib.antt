@@ -1,3 +1,3 @@
-pub mod Changes
 pub mod Counts
+pub mod Parts
 pub mod Tables

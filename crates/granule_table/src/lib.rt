@@ -5,7 +5,6 @@
 //! past it. What takes memory is `new` alone.
 #![tactic(auto)]
 
-mod changes;
 mod tables;
 
 pub use tables::GranuleTable;

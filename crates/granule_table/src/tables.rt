@@ -1,11 +1,11 @@
 //! The table of the granules.
 
 ghost use Rattle.granule_map.specs.StateLists.{count_of};
-ghost use Rattle.granule_table.specs.Changes.{cell_changed, between, count_one};
-ghost use Rattle.granule_table.specs.Tables.{IsChanged, cell_at, given, settled, soiled, zeroed};
-ghost use Rattle.std.specs.Prelude.{◌≡◌, ◌+◌, ◌^◌, ◌<◌, ◌≤◌, IfOk, false, length, replicate, slice_set};
+ghost use Rattle.dcd_base.specs.Words.{has_granule};
+ghost use Rattle.granule_table.specs.Parts.{between, marked_unclean, with_part};
+ghost use Rattle.granule_table.specs.Tables.{IsChanged, given, settled, soiled, zeroed};
+ghost use Rattle.std.specs.Prelude.{◌≡◌, ◌+◌, ◌^◌, ◌<◌, ◌≤◌, ℕ, IfOk, false, true, length, replicate, slice_index_or, if◌then◌else◌};
 
-use crate::changes::Change;
 use dcd_base::{Granule, NoMemory, Run};
 use granule_map::{GranuleMap, GranuleState};
 use std::alloc::Global;
@@ -80,70 +80,165 @@ impl GranuleTable {
     pub fn give(&mut self, run: Run, state: GranuleState)
         ensures { IsChanged (given state) run self.old self.new }
     {
-        self.change(run, &Change::Give(state));
+        let within = self.within(&run);
+        self.set_states(&within, &state);
     }
 
     /// Makes each granule of the run dirty where it has to be zeroed, and free where it has not.
     pub fn settle(&mut self, run: Run)
         ensures { IsChanged settled run self.old self.new }
     {
-        self.change(run, &Change::Settle);
+        let within = self.within(&run);
+        self.settle_each(&within);
     }
 
     /// Each granule of the run has to be zeroed before it is free. Its state stays.
     pub fn soil(&mut self, run: Run)
         ensures { IsChanged soiled run self.old self.new }
     {
-        self.change(run, &Change::Soil);
+        let within = self.within(&run);
+        self.set_unclean(&within, true);
     }
 
     /// Each granule of the run was zeroed: it is free, and has not to be zeroed any more.
     pub fn zero(&mut self, run: Run)
         ensures { IsChanged zeroed run self.old self.new }
     {
-        self.change(run, &Change::Zero);
+        let within = self.within(&run);
+        self.set_unclean(&within, false);
+        self.set_states(&within, &GranuleState::Free);
     }
 
-    /// Changes each granule of the run that is in the table.
-    fn change(&mut self, run: Run, change: &Change)
-        ensures { IsChanged (cell_changed change.now) run self.old self.new }
+    /// The granules of the run that are in the table.
+    fn within(&self, run: &Run) -> Run
+        ensures within { result.first + result.count ≤ length self.now.states }
+        ensures same { (g : ℕ) → g < length self.now.states → has_granule result g ≡ has_granule run.now g }
     {
-        let end = run.first.0.saturating_add(run.count).min(self.len());
-        self.change_each(run.first.0, end, change);
+        let len = self.len();
+        let first = run.first.0.min(len);
+        let end = run.first.0.saturating_add(run.count).min(len);
+        run_between(first, end)
     }
 
-    /// Changes each granule from the first up to the one before the end, which the table has.
-    fn change_each(&mut self, first: u32, end: u32, change: &Change)
-        requires within { end ≤ length self.old.states }
-        requires each { length self.old.unclean ≡ length self.old.states }
-        ensures { IsChanged (cell_changed change.now) (between first end) self.old self.new }
+    /// Gives each granule of a run of the table this state.
+    fn set_states(&mut self, run: &Run, state: &GranuleState)
+        requires { run.now.first + run.now.count ≤ length self.old.states }
+        ensures changed { IsChanged (given state.now) run.now self.old self.new }
+        ensures unclean { self.new.unclean ≡ self.old.unclean }
     {
-        for granule in first..end {
-            self.change_at(granule, change);
+        let free = self.map.free_in(*run);
+        let dirty = self.map.dirty_in(*run);
+        self.map.set_run(*run, *state);
+        self.free = recounted(self.free, free, all_or_none(state.is_free(), run.count));
+        self.dirty = recounted(self.dirty, dirty, all_or_none(state.is_dirty(), run.count));
+    }
+
+    /// Each granule of a run of the table has to be zeroed from now on, or has not.
+    fn set_unclean(&mut self, run: &Run, unclean: bool)
+        requires { run.now.first + run.now.count ≤ length self.old.states }
+        ensures changed { IsChanged (marked_unclean unclean) run.now self.old self.new }
+        ensures states { self.new.states ≡ self.old.states }
+    {
+        fill_flags(self.unclean.as_mut_slice(), run, unclean);
+    }
+
+    /// Settles the granules of a run of the table, those that are alike at a time.
+    fn settle_each(&mut self, run: &Run)
+        requires { run.now.first + run.now.count ≤ length self.old.states }
+        ensures { IsChanged settled run.now self.old self.new }
+    {
+        let _granules = self.len();
+        let first = first_of(run);
+        let end = end_of(run);
+        let mut at = first;
+        while at < end {
+            let unclean = self.unclean[at as usize];
+            let alike = like_from(
+                self.unclean.as_slice(),
+                unclean,
+                at as usize,
+                end as usize,
+            ) as u32;
+            self.set_states(&run_between(at, alike), &settled_state(unclean));
+            at = alike;
         }
-    }
-
-    /// Changes one granule of the table.
-    fn change_at(&mut self, granule: u32, change: &Change)
-        requires { granule < length self.old.states }
-        ensures states { self.new.states ≡ slice_set self.old.states granule (cell_changed change.now (cell_at self.old granule)).state }
-        ensures unclean { self.new.unclean ≡ slice_set self.old.unclean granule (cell_changed change.now (cell_at self.old granule)).unclean }
-    {
-        let was = self.map.at(Granule(granule));
-        let unclean = self.unclean[granule as usize];
-        let now = change.state(was, unclean);
-        self.map.set(Granule(granule), now);
-        self.unclean[granule as usize] = change.unclean(was, unclean);
-        self.free = recounted(self.free, was.is_free(), now.is_free());
-        self.dirty = recounted(self.dirty, was.is_dirty(), now.is_dirty());
     }
 }
 
-/// A count once one of those that are counted was taken out, or one more is counted.
-fn recounted(count: u32, was: bool, is: bool) -> u32
-    requires counted { count_one was ≤ count }
-    requires fits { count + count_one is < 2 ^ 32 + count_one was }
-    ensures { result + count_one was ≡ count + count_one is }
+/// The first granule of a run.
+fn first_of(run: &Run) -> u32
+    ensures { result ≡ run.now.first }
 {
-    count - was as u32 + is as u32
+    run.first.0
+}
+
+/// The granule behind a run.
+fn end_of(run: &Run) -> u32
+    requires { run.now.first + run.now.count < 2 ^ 32 }
+    ensures { result ≡ run.now.first + run.now.count }
+{
+    run.first.0 + run.count
+}
+
+/// The run from a granule up to the one before another.
+fn run_between(first: u32, end: u32) -> Run
+    ensures { result ≡ between first end }
+{
+    Run {
+        first: Granule(first),
+        count: end.saturating_sub(first),
+    }
+}
+
+/// The state of a granule that nobody has: dirty where it has to be zeroed, and else free.
+fn settled_state(unclean: bool) -> GranuleState
+    ensures { result ≡ (if unclean then GranuleState.Dirty else GranuleState.Free) }
+{
+    if unclean {
+        GranuleState::Dirty
+    } else {
+        GranuleState::Free
+    }
+}
+
+/// All of so many, or none.
+fn all_or_none(all: bool, count: u32) -> u32
+    ensures { result ≡ (if all then count else 0) }
+{
+    if all { count } else { 0 }
+}
+
+/// A count once some of those that are counted were taken out, and others are counted.
+fn recounted(count: u32, was: u32, is: u32) -> u32
+    requires counted { was ≤ count }
+    requires fits { count + is < 2 ^ 32 + was }
+    ensures { result + was ≡ count + is }
+{
+    count - was + is
+}
+
+/// The first place from one on, but not that one itself, that has another flag, or the end where none below it has.
+fn like_from(flags: &[bool], flag: bool, from: usize, end: usize) -> usize
+    requires below { from < end }
+    requires within { end ≤ length flags.now }
+    requires here { slice_index_or flags.now from true ≡ flag }
+    ensures later { from < result }
+    ensures within { result ≤ end }
+    ensures alike { (k : ℕ) → from ≤ k → k < result → slice_index_or flags.now k true ≡ flag }
+{
+    for place in from + 1..end {
+        if flags[place] != flag {
+            return place;
+        }
+    }
+    end
+}
+
+/// Makes each flag of the run this one.
+fn fill_flags(flags: &mut [bool], run: &Run, flag: bool)
+    requires { run.now.first + run.now.count ≤ length flags.old }
+    ensures { flags.new ≡ with_part run.now flag flags.old }
+{
+    let first = run.first.0 as usize;
+    flags[first..first + run.count as usize].fill(flag);
 }
