@@ -69,7 +69,8 @@ fn fill_accesses(
     out: &mut script_codec::Lines,
 ) -> Result<Filling, NoMemory>
     requires { before.size ≡ min (length (spelling (flat_map line_fields out.old))) 18446744073709551615 }
-    ensures value { IfOk result (λ after. lines_behind out.new (lines_at after.left frame lines.new.lines) ≡ lines_behind out.old (lines_at before.left frame lines.old.lines)) }
+    ensures value { IfOk result (λ after. lines_behind out.new (lines_at after.left frame lines.new.lines)
+        ≡ lines_behind out.old (lines_at before.left frame lines.old.lines)) }
     ensures size { IfOk result (λ after. after.size ≡ min (length (spelling (flat_map line_fields out.new))) 18446744073709551615) }
     ensures end { lines.new.end ≡ lines.old.end }
     ensures fewer { length lines.new.lines ≤ length lines.old.lines }
@@ -95,7 +96,8 @@ fn fill_pages(
     out: &mut script_codec::Lines,
 ) -> Result<Filling, NoMemory>
     requires { before.size ≡ min (length (spelling (flat_map line_fields out.old))) 18446744073709551615 }
-    ensures value { IfOk result (λ after. lines_behind out.new (lines_at after.left frame lines.new.lines) ≡ lines_behind out.old (lines_at before.left frame lines.old.lines)) }
+    ensures value { IfOk result (λ after. lines_behind out.new (lines_at after.left frame lines.new.lines)
+        ≡ lines_behind out.old (lines_at before.left frame lines.old.lines)) }
     ensures size { IfOk result (λ after. after.size ≡ min (length (spelling (flat_map line_fields out.new))) 18446744073709551615) }
     ensures end { lines.new.end ≡ lines.old.end }
     ensures fewer { length lines.new.lines ≤ length lines.old.lines }
