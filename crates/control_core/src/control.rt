@@ -147,7 +147,8 @@ impl Control {
             update,
         } = self.decide(&actor, &act)?;
         let changes = self.changes_by(&actor, &act, &effects)?;
-        let entry = self.next_entry(pass, line, actor, act, reply, effects)?;
+        let kept = EntryEffects::of(&effects)?;
+        let entry = self.next_entry(pass, line, actor, act, reply, effects, kept);
         self.take(entry, update);
         Ok(changes)
     }
@@ -162,13 +163,14 @@ impl Control {
         act: Act,
         reply: Reply,
         effects: Effects,
-    ) -> Result<PlannedEntry, NoMemory>
+        kept: EntryEffects,
+    ) -> PlannedEntry
         requires reply { reply ≡ (answer_to self.now.config self.now.entries actor act).0 }
         requires effects { effects ≡ (answer_to self.now.config self.now.entries actor act).1 }
-        ensures { IfOk result (λ entry. entry ≡ journal_entry self.now.config self.now.entries pass line actor act) }
+        requires kept { kept ≡ effects }
+        ensures { result ≡ journal_entry self.now.config self.now.entries pass line actor act }
     {
-        let kept = EntryEffects::of(&effects)?;
-        Ok(PlannedEntry {
+        PlannedEntry {
             entry: Entry {
                 pass,
                 line,
@@ -182,7 +184,7 @@ impl Control {
                 },
             },
             effects,
-        })
+        }
     }
 
     /// Enters the next entry, and puts its update in place.
@@ -267,7 +269,8 @@ impl Control {
             update,
         } = decided;
         let changes = self.changes_by(&actor, &act, &effects)?;
-        let entry = self.next_entry(pass, line, actor, act, reply, effects)?;
+        let kept = EntryEffects::of(&effects)?;
+        let entry = self.next_entry(pass, line, actor, act, reply, effects, kept);
         Ok(Plan {
             entry,
             changes,
