@@ -14,12 +14,12 @@ use std::alloc::Global;
 use std::process::Abort;
 use std::test::Fail;
 
-const MIB: u64 = 0x10_0000;
+pub(crate) const MIB: u64 = 0x10_0000;
 
-const HOST: HostId = HostId(0);
+pub(crate) const HOST: HostId = HostId(0);
 
 /// One region of 16 MiB with blocks of 1 MiB that sanitizes.
-const REGION: RegionSpec = RegionSpec {
+pub(crate) const REGION: RegionSpec = RegionSpec {
     decode_units: 1,
     length: 16 * MIB,
     block: MIB,
@@ -30,7 +30,7 @@ const REGION: RegionSpec = RegionSpec {
 };
 
 /// Initiate Dynamic Capacity Add (5604h), Prescriptive: the block at 2 MiB is offered to host 0.
-const OFFER: [u8; 72] = [
+pub(crate) const OFFER: [u8; 72] = [
     0, 0, 2, 0, 0, 0, 0x10, 0, 0, 0, 0, 0, // host 0, policy 2, region 0, 1 MiB
     0, 0, 0, 0, 0, 0, 0, 0, 0, 0, 0, 0, 0, 0, 0, 0, // no tag
     1, 0, 0, 0, // one extent
@@ -39,7 +39,7 @@ const OFFER: [u8; 72] = [
 ];
 
 /// Add Dynamic Capacity Response (4802h): the host accepts it.
-const RESPONSE: [u8; 32] = [
+pub(crate) const RESPONSE: [u8; 32] = [
     1, 0, 0, 0, 0, 0, 0, 0, // one extent, and no more
     0, 0, 0x20, 0, 0, 0, 0, 0, 0, 0, 0x10, 0, 0, 0, 0, 0, // 1 MiB at 2 MiB
     0, 0, 0, 0, 0, 0, 0, 0,
@@ -54,14 +54,14 @@ fn device(alloc: Global) -> Result<Device, Fail>
 
 /// What a step replies: a response of success, the word 0, a refusal for want of a grant, or another reply.
 #[derive(Clone, Copy, Debug, PartialEq, Eq)]
-enum Told {
+pub(crate) enum Told {
     Success,
     Zero,
     NotGranted,
     Other,
 }
 
-fn kind_of(reply: &Reply) -> Told {
+pub(crate) fn kind_of(reply: &Reply) -> Told {
     match reply {
         Reply::Answer(response) => if response.code == 0 {
             Told::Success
@@ -86,7 +86,7 @@ fn step(device: &mut Device, line: u32, actor: Actor, act: Act) -> Result<Told, 
 }
 
 /// A command with this payload.
-fn command(alloc: Global, opcode: u16, payload: &[u8]) -> Result<Act, Fail> {
+pub(crate) fn command(alloc: Global, opcode: u16, payload: &[u8]) -> Result<Act, Fail> {
     Ok(Act::Command(Request {
         tag: 1,
         opcode,

@@ -1,0 +1,162 @@
+//! Steps of a device without a journal: a block that is offered, accepted, stored into and given back, and a reply that
+//! is longer than the caller's buffer.
+
+ghost use Rattle.std.specs.Prelude.{◌≡◌, IfOk};
+
+use crate::seeing::see;
+use crate::steps::{HOST, MIB, OFFER, REGION, RESPONSE, Told, command, kind_of};
+use control_core::LiveControl;
+use dcd_base::{Actor, LogId};
+use journal_core::{Act, Reply};
+use live_device::{LiveDevice, StepFault, law_lives};
+use region_config::Config;
+use std::alloc::Global;
+use std::process::Abort;
+use std::test::Fail;
+
+/// Get Dynamic Capacity Configuration (4800h): one region from the first on.
+const REGIONS: [u8; 2] = [1, 0];
+
+/// A device of one host.
+fn device(alloc: Global) -> Result<LiveDevice, Fail>
+    ensures { IfOk result (λ device. device.config.hosts ≡ 1) }
+{
+    Ok(LiveDevice::new(alloc, Config::new(alloc, 1, &[REGION], &[0])?)?)
+}
+
+/// The reply to a step.
+fn replied(device: &mut LiveDevice, actor: Actor, act: &Act) -> Result<Reply, Fail>
+    requires { device.old.config.hosts ≡ 1 }
+    ensures { device.new.config ≡ device.old.config }
+{
+    if !journal_core::fits(1, &actor, act) {
+        return Err("the actor may not do the act".into());
+    }
+    Ok(device.step(actor, act)?)
+}
+
+/// What a step is told.
+fn step(device: &mut LiveDevice, actor: Actor, act: &Act) -> Result<Told, Fail>
+    requires { device.old.config.hosts ≡ 1 }
+    ensures { device.new.config ≡ device.old.config }
+{
+    let reply = replied(device, actor, act)?;
+    Ok(kind_of(&reply))
+}
+
+/// The word that the host loads, if it is told one.
+fn loaded(device: &mut LiveDevice, dpa: u64) -> Result<Option<u64>, Fail>
+    requires { device.old.config.hosts ≡ 1 }
+    ensures { device.new.config ≡ device.old.config }
+{
+    match replied(device, Actor::Host(HOST), &Act::Load(dpa))? {
+        Reply::Word(word) => Ok(Some(word)),
+        _ => Ok(None),
+    }
+}
+
+/// The block is offered and accepted, and zero granules are scrubbed.
+fn accepted(alloc: Global, device: &mut LiveDevice) -> Result<[Told; 3], Fail>
+    requires { device.old.config.hosts ≡ 1 }
+    ensures { device.new.config ≡ device.old.config }
+{
+    let offered = step(device, Actor::Manager, &command(alloc, 0x5604, &OFFER)?)?;
+    let accepted = step(
+        device,
+        Actor::Host(HOST),
+        &command(alloc, 0x4802, &RESPONSE)?,
+    )?;
+    let scrubbed = step(device, Actor::Sanitizer, &Act::Scrub(2))?;
+    Ok([offered, accepted, scrubbed])
+}
+
+/// A word of the block is stored, and one beside the block is refused.
+fn stored(device: &mut LiveDevice) -> Result<[Told; 2], Fail>
+    requires { device.old.config.hosts ≡ 1 }
+    ensures { device.new.config ≡ device.old.config }
+{
+    let inside = step(device, Actor::Host(HOST), &Act::Store(2 * MIB + 8, 7))?;
+    let beside = step(device, Actor::Host(HOST), &Act::Store(8, 7))?;
+    Ok([inside, beside])
+}
+
+/// How long the reply is that has more bytes than the caller has room for.
+fn too_long(device: &mut LiveDevice, act: &Act, most: usize) -> Result<usize, Fail>
+    requires { device.old.config.hosts ≡ 1 }
+    ensures { device.new.config ≡ device.old.config }
+{
+    let host = Actor::Host(HOST);
+    if !journal_core::fits(1, &host, act) {
+        return Err("the host may not do the act".into());
+    }
+    match device.step_within(host, act, most) {
+        Ok(_) => Ok(0),
+        Err(StepFault::TooLong(length)) => Ok(length),
+        Err(StepFault::NoMemory) => Err("no memory".into()),
+    }
+}
+
+/// Free and dirty granules, the host's extents and their granules, its offers, and the records of both logs.
+fn counts(control: &LiveControl) -> [u32; 6]
+    requires { control.now.config.hosts ≡ 1 }
+{
+    [
+        control.free(),
+        control.dirty(),
+        control.extents(HOST),
+        control.granules_held(HOST),
+        control.records(LogId::Host(HOST)),
+        control.records(LogId::Manager),
+    ]
+}
+
+/// Its lists and its log.
+fn lengths(control: &LiveControl) -> [usize; 6]
+    requires { control.now.config.hosts ≡ 1 }
+{
+    [
+        control.accepted(HOST).len(),
+        control.offers(HOST),
+        control.held_responses(HOST).len(),
+        control.held_releases(HOST).len(),
+        control.log(LogId::Manager).len() as usize,
+        control.states().len() as usize,
+    ]
+}
+
+/// Sees what is counted and kept of the block.
+fn see_kept(rt: &impl Abort, device: &LiveDevice)
+    requires { device.now.config.hosts ≡ 1 }
+{
+    let control = device.control();
+    see(rt, &counts(control), &[15, 0, 1, 1, 1, 1]);
+    see(rt, &lengths(control), &[1, 0, 0, 0, 1, 16]);
+    let hosts = (control.present().hosts(), device.config().hosts());
+    see(rt, &hosts, &(1, 1));
+    see(rt, &control.missed(LogId::Manager), &0);
+}
+
+/// Sees the steps, and that a reply that is too long changes nothing and is answered where there is room.
+fn see_steps(rt: &impl Abort, alloc: Global, device: &mut LiveDevice) -> Result<(), Fail>
+    requires { device.old.config.hosts ≡ 1 }
+{
+    let told = accepted(alloc, device)?;
+    see(rt, &told, &[Told::Success, Told::Success, Told::Other]);
+    see(rt, &stored(device)?, &[Told::Other, Told::NotGranted]);
+    see(rt, &loaded(device, 2 * MIB + 8)?, &Some(7));
+    see_kept(rt, device);
+    let act = command(alloc, 0x4800, &REGIONS)?;
+    let length = too_long(device, &act, 8)?;
+    see(rt, &(length > 8), &true);
+    see(rt, &too_long(device, &act, length)?, &0);
+    Ok(())
+}
+
+#[test]
+fn a_device_without_a_journal_takes_steps_and_keeps_what_they_leave(
+    rt: HostRuntime,
+) -> Result<(), Fail> {
+    law_lives();
+    let mut device = device(rt.alloc())?;
+    see_steps(&rt, rt.alloc(), &mut device)
+}
