@@ -1,0 +1,21 @@
+-- What a place owns says the same to every thread.
+use mir.Raw.{raw}
+use base.Shift.{Keyless}
+use denote.Memory.{lone}
+use denote.Param.Send.{IsSend, owning_send, sendable}
+use denote.RawPtr.{Ptr}
+use Rattle.std.specs.Prelude.{Option, Some, None}
+use Rattle.std.proofs.Crossing.{frees}
+use Rattle.std_alloc.proofs.SendSync as any
+use Rattle.live_device.specs.Lives.{Living}
+use Rattle.live_device.specs.contracts.device.LiveDevice as device
+use Rattle.live_device.proofs.device.LiveDevice.TheSendSync.{the_send}
+use Rattle.dcd_c.specs.Places.{place_owns, the_heap}
+use Rattle.dcd_c.specs.contracts.places.Place.{the_row, the_type}
+
+owned_keyless : (at : Ptr) (o : Option Living) → Keyless (place_owns at o)
+owned_keyless at None = tt
+owned_keyless at (Some d) = (any.lies device.the_row the_send at d, frees.frees the_heap (raw (lone (device.the_row).mir)) at)
+
+pub send : IsSend the_row
+send = owning_send the_type (search sendable, tt) (λ d. owned_keyless d.at d.device) (λ k x w. tt)

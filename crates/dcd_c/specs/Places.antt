@@ -1,0 +1,22 @@
+-- What a place for a device owns: the device and the right to free its block, if there is one.
+use Rattle.std.specs.Prelude.{Bool, true, false, Option, Some, None}
+use base.Fml.{Fml, ftrue}
+use denote.RawPtr.{Ptr}
+use Rattle.std.specs.Box.Ownership.{box_owns}
+use Rattle.std.specs.contracts.impls.GlobalAllocator.TheImpl.{ghosts}
+use Rattle.std.specs.declared.alloc.Global.{Global}
+use Rattle.live_device.specs.Lives.{Living}
+use Rattle.live_device.specs.contracts.device.LiveDevice.{the_row}
+
+-- the C library's heap, of which there is one
+abbrev pub the_heap : Global
+the_heap = record { memory = record { seal = tt } }
+
+abbrev pub place_owns : Ptr → Option Living → Fml
+place_owns at None = ftrue
+place_owns at (Some device) = box_owns (ghosts.dealloc_token the_heap) the_row at device
+
+-- whether there is one
+abbrev pub has_device : Option Living → Bool
+has_device None = false
+has_device (Some device) = true

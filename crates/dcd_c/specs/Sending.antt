@@ -1,0 +1,37 @@
+-- The parts of sending a message.
+use Rattle.std.specs.Prelude.{◌≡◌, ◌≢◌, ℕ, ◌+◌, ◌<◌, ◌≤◌, List, length, Some, Result, Ok, Err}
+use Rattle.cci_codec.specs.Messages.{ReadsRequest, message_fault}
+use Rattle.cci_codec.specs.declared.faults.MessageFault.{MessageFault}
+use Rattle.cci_codec.specs.declared.messages.Request.{Request}
+use Rattle.cci_codec.specs.declared.messages.Response.{Response}
+use Rattle.dcd_base.specs.declared.steps.Actor.{Actor}
+use Rattle.journal_core.specs.declared.acts.Act.{Act}
+use Rattle.journal_core.specs.declared.acts.Reply.{Reply}
+use Rattle.device_rules.specs.Legal.{right_answer}
+use Rattle.live_device.specs.Lives.{ByEveryLife, Living, payload_length}
+use Rattle.dcd_c.specs.Calls.{Steps}
+use Rattle.dcd_c.specs.declared.faults.Fault.{Fault}
+
+-- What reading a message answers: the request that the bytes are, or why they are none.
+abbrev pub IsMessageRead : List ℕ → Result Request Fault → Type 0
+IsMessageRead message (Ok request) = ReadsRequest message request
+IsMessageRead message (Err Fault.NoMemory) = Unit {0}
+IsMessageRead message (Err (Fault.Message fault)) = (fault ≢ MessageFault.NoMemory) × (message_fault message ≡ Some fault)
+IsMessageRead message (Err fault) = ⊥
+
+-- The device answered the command, and the response has room.
+pub record CommandAnswered (actor : Actor) (request : Request) (room : ℕ) (old new : Living) (response : Response) : Type 0 where
+  pub steps : Steps old new actor (Act.Command request) (Reply.Answer response)
+  pub short : length response.payload ≤ 2048
+  pub within : 12 + length response.payload ≤ room
+
+-- The response would have more bytes than there is room for.
+pub record LacksRoom (actor : Actor) (request : Request) (room : ℕ) (old : Living) (n : ℕ) : Type 0 where
+  pub longer : room < n
+  pub right : 12 < n → ByEveryLife old (λ life. 12 + payload_length (right_answer old.config life actor (Act.Command request)).0 ≡ n)
+
+abbrev pub Commands : Actor → Request → ℕ → Living → Living → Result Response Fault → Type 0
+Commands actor request room old new (Ok response) = CommandAnswered actor request room old new response
+Commands actor request room old new (Err Fault.NoMemory) = new ≡ old
+Commands actor request room old new (Err (Fault.NoRoom n)) = (new ≡ old) × LacksRoom actor request room old n
+Commands actor request room old new (Err fault) = ⊥

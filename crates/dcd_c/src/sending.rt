@@ -1,0 +1,108 @@
+//! Messages of hosts and of the Fabric Manager.
+
+ghost use Rattle.dcd_c.specs.Calls.{SendsMessage, SendsTo};
+ghost use Rattle.dcd_c.specs.Sending.{Commands, IsMessageRead};
+ghost use Rattle.journal_core.specs.Entries.{fits};
+ghost use Rattle.journal_core.specs.declared.acts.Act.{Act};
+ghost use Rattle.std.specs.Prelude.{◌+◌, ◌<◌, ◌≤◌, IsTrue, ℕ};
+
+use crate::actors::actor_of;
+use crate::faults::Fault;
+use crate::handles::{Handle, put_in, take_out};
+use crate::responses::put_response;
+use cci_codec::{MessageFault, Request, Response, decode};
+use dcd_base::Actor;
+use journal_core::{Act, Reply};
+use live_device::{LiveDevice, StepFault};
+use std::alloc::Global;
+
+/// How many bytes the header of a message has.
+const HEADER: usize = 12;
+
+/// How many bytes the payload of a response has at most.
+const MOST_PAYLOAD: usize = 2_048;
+
+/// How many bytes the payload of a response may have in so much room.
+fn most_payload(room: usize) -> usize
+    requires { 12 ≤ room }
+    ensures within { 12 + result ≤ room }
+    ensures short { result ≤ 2048 }
+    ensures most { (n : ℕ) → result < n → n ≤ 2048 → room < 12 + n }
+{
+    if room < HEADER + MOST_PAYLOAD {
+        room - HEADER
+    } else {
+        MOST_PAYLOAD
+    }
+}
+
+/// The request that the bytes are.
+fn request_of(alloc: Global, message: &[u8]) -> Result<Request, Fault>
+    ensures { IsMessageRead message.now result }
+{
+    match decode(alloc, message) {
+        Ok(request) => Ok(request),
+        Err(MessageFault::NoMemory) => Err(Fault::NoMemory),
+        Err(fault) => Err(Fault::Message(fault)),
+    }
+}
+
+/// Lets the device take the command, where its response has at most so many bytes.
+fn command(
+    device: &mut LiveDevice,
+    actor: Actor,
+    request: Request,
+    room: usize,
+) -> Result<Response, Fault>
+    requires { IsTrue (fits device.old.config.hosts actor (Act.Command request)) }
+    ensures { Commands actor request room device.old device.new result }
+{
+    if room < HEADER {
+        return Err(Fault::NoRoom(HEADER as u64));
+    }
+    match device.step_within(actor, &Act::Command(request), most_payload(room)) {
+        Ok(Reply::Answer(response)) => Ok(response),
+        Ok(_) => unreachable!(),
+        Err(StepFault::NoMemory) => Err(Fault::NoMemory),
+        Err(StepFault::TooLong(length)) => Err(Fault::NoRoom((HEADER + length) as u64)),
+    }
+}
+
+/// Sends a message of the actor to the device, and puts the response into the room.
+fn answered(
+    device: &mut LiveDevice,
+    alloc: Global,
+    number: u8,
+    message: &[u8],
+    room: &mut [u8],
+) -> Result<u64, Fault>
+    ensures { SendsMessage number message.now room.old room.new device.old device.new result }
+{
+    match actor_of(device.config().hosts(), number) {
+        None => Err(Fault::NoActor),
+        Some(actor) => {
+            let request = request_of(alloc, message)?;
+            let response = command(device, actor, request, room.len())?;
+            Ok(put_response(&response, room))
+        }
+    }
+}
+
+/// The same with the device of the handle.
+pub(crate) fn sent(
+    handle: &mut Handle,
+    alloc: Global,
+    number: u8,
+    message: &[u8],
+    room: &mut [u8],
+) -> Result<u64, Fault>
+    ensures { SendsTo number message.now room.old room.new handle.old.place.device handle.new.place.device result }
+{
+    if !handle.is_open() {
+        return Err(Fault::Closed);
+    }
+    let mut device = take_out(handle, alloc);
+    let outcome = answered(&mut device, alloc, number, message, room);
+    put_in(handle, device);
+    outcome
+}
