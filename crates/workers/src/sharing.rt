@@ -18,10 +18,10 @@ pub enum Sharing {
 const LIGHT: usize = 256;
 
 /// How heavy a command is beside a load, a store, a scrub or a mark.
-const COMMAND: usize = 16;
+const COMMAND: usize = 8;
 
-/// How many lines of a long phase are a part. Those behind it keep their memory meanwhile, as do those of the part.
-const PART: usize = 12_288;
+/// How many lines of a long phase are a part: a fifth of the lines that a script has at most.
+const PART: usize = 13_108;
 
 impl Sharing {
     /// Whether the caller does a phase of these lines by itself, whosever they are.
