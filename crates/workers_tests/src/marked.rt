@@ -6,11 +6,11 @@ ghost use Rattle.workers_tests.specs.Desks.{AreDesks};
 
 use crate::keeper::{Desk, Keeper};
 use dcd_base::{Gate, NoMemory};
-use script_codec::Line;
+use script_codec::{Line, Lines};
 use std::alloc::AllocGlobal;
 use std::sync::Wait;
 use std::thread::Threads;
-use workers::{run_phase, run_phases};
+use workers::{Sharing, run_phase, run_script_lines};
 
 /// Runs the lines in one phase.
 pub fn run_together<R: Threads + Wait + Sync + AllocGlobal, G: Gate>(
@@ -63,14 +63,15 @@ pub fn run_script<R: Threads + Wait + Sync + AllocGlobal, G: Gate>(
     rt: &R,
     keeper: &Keeper,
     desks: &mut [Desk],
-    lines: &[Line],
+    lines: Lines,
+    sharing: Sharing,
     gate: &G,
 ) -> Result<(), NoMemory>
     requires hosts { keeper.now.hosts ≡ 2 }
     requires desks { AreDesks 2 2 0 0 desks.old }
     requires count { length desks.old ≡ 6 }
-    requires sound { IsTrue (list_all (is_sound_line 2 2) lines.now) }
-    requires few { length lines.now ≤ 131072 }
+    requires sound { IsTrue (list_all (is_sound_line 2 2) lines) }
+    requires few { length lines ≤ 131072 }
 {
-    run_phases(rt, keeper, desks, 2, 1, lines, gate)
+    run_script_lines(rt, keeper, desks, 2, 1, lines, sharing, gate)
 }

@@ -3,7 +3,7 @@ use Rattle.workers_tests.proofs.DeskSteps.{desks_ready}
 use Rattle.workers_tests.specs.declared.keeper.Keeper.{Keeper}
 use Rattle.workers_tests.proofs.marked.run_script.Goals as goal
 
-pub run_phases-requires-clause-ready : goal.run_phases-requires-clause-ready
-run_phases-requires-clause-ready g c κs within =
+pub run_script_lines-requires-clause-ready : goal.run_script_lines-requires-clause-ready
+run_script_lines-requires-clause-ready g c κs within =
     let few = c.requires.few in
-    desks_ready (λ (keeper : Keeper). keeper.hosts) c.args.keeper.now 0 1 c.args.lines.now c.args.desks.now c.requires.hosts (omega (arith, few)) c.requires.desks
+    desks_ready (λ (keeper : Keeper). keeper.hosts) c.args.keeper.now 0 1 c.args.lines c.args.desks.now c.requires.hosts (omega (arith, few)) c.requires.desks
