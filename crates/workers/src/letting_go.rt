@@ -1,7 +1,7 @@
 //! The lines of a script, which are let go as they are done.
 
 ghost use Rattle.std.specs.List.{list_all};
-ghost use Rattle.std.specs.Prelude.{◌≡◌, ◌<◌, ◌≤◌, ◌+◌, ◌*◌, ◌^◌, ◌++◌, [], IsTrue, OnOk, length, reverse};
+ghost use Rattle.std.specs.Prelude.{◌≡◌, ◌<◌, ◌≤◌, ◌+◌, ◌*◌, ◌^◌, ◌++◌, IsTrue, OnOk, drop, length, reverse, take};
 ghost use Rattle.script_codec.specs.Scripts.{is_sound_line};
 ghost use Rattle.workers.specs.Phases.{phase};
 ghost use Rattle.workers.specs.Serving.{EachReady, EachServed, EachServedSome};
@@ -15,23 +15,33 @@ use std::alloc::AllocGlobal;
 use std::sync::Wait;
 use std::thread::Threads;
 
-/// How many lines are taken out at a time at least.
+/// How many lines are done at a time at least.
 const AT_ONCE: usize = 4096;
 
-/// Takes the first lines out of those that are left, the last of which stands in front: up to a mark, and at most so many.
-fn take_out(rest: &mut Vec<Line>, now: &mut Vec<Line>, most: usize) -> Result<(), NoMemory>
-    requires { now.old.items ≡ [] }
-    ensures parts { OnOk result (reverse rest.old.items ≡ now.new.items ++ reverse rest.new.items) }
-    ensures some { OnOk result (0 < length rest.old.items → 0 < length now.new.items) }
+/// How many of the lines that are left, the last of which stands in front, come next: up to a mark, and at most so many.
+fn next_lines(rest: &[Line], most: usize) -> usize
+    requires { 0 < length rest.now }
+    ensures { (0 < result) × (result ≤ length rest.now) }
 {
-    while let Some(line) = rest.pop() {
-        let is_mark = matches!(line, Line::Mark);
-        now.push(line)?;
-        if most <= now.len() || (is_mark && AT_ONCE <= now.len()) {
-            return Ok(());
-        }
+    let mut count = AT_ONCE.min(rest.len());
+    while count < most.min(rest.len()) && !matches!(rest[rest.len() - count], Line::Mark) {
+        count += 1;
     }
-    Ok(())
+    count
+}
+
+/// Turns round the lines that come next of those that are left, the last of which stands in front. Answers how many stay as they
+/// stand.
+#[tactic(auto, using(crate::proofs::Turning::turned_parts))]
+fn turn_next(rest: &mut [Line], most: usize) -> usize
+    requires { 0 < length rest.old }
+    ensures some { result < length rest.new }
+    ensures turned { reverse rest.old ≡ drop result rest.new ++ reverse (take result rest.new) }
+{
+    let left = rest.len() - next_lines(rest, most);
+    let (_, next) = rest.split_at_mut(left);
+    next.reverse();
+    left
 }
 
 /// Does all lines of a script as `run_phases`, and lets them go as they are done.
@@ -57,22 +67,22 @@ pub fn run_script_lines<R: Threads + Wait + Sync + AllocGlobal, H: Handler, G: G
     let mut number = u64::from(first_line);
     let mut rest = lines.into_vec();
     rest.reverse();
-    let mut now = Vec::new(rt.alloc());
     while !rest.is_empty() {
-        take_out(&mut rest, &mut now, sharing.part())?;
-        rest.shrink_to_fit();
+        let left = turn_next(rest.as_mut_slice(), sharing.part());
+        let (_, now) = rest.as_slice().split_at(left);
         run_phases(
             rt,
             handler,
             passes,
             lanes,
             number as u32,
-            now.as_slice(),
+            now,
             sharing,
             gate,
         )?;
         number += now.len() as u64;
-        now.clear();
+        rest.truncate(left);
+        rest.shrink_to_fit();
     }
     Ok(())
 }

@@ -10,7 +10,7 @@ use crate::alone::are_no_others;
 use crate::handler::Handler;
 use crate::in_order::run_in_order;
 use crate::phase::{hosts_of, run_phase};
-use crate::sharing::Sharing;
+use crate::sharing::{Sharing, weight_of};
 use crate::stop::Stop;
 use crate::stretch::serve_stretch;
 use dcd_base::{Gate, NoMemory};
@@ -93,20 +93,22 @@ fn first_stretch(hosts: u8, lanes: u8, lines: &[Line]) -> usize
 }
 
 /// How many lines the first phases have, up to the first that workers are to do.
-#[tactic(auto, using(crate::proofs::Phasing::some_lines, crate::proofs::Phasing::no_more_lines))]
 fn light_lines(lines: &[Line], sharing: Sharing) -> usize
     ensures { result ≤ length lines.now }
 {
-    let mut end = 0;
-    while end < lines.len() {
-        let (_, rest) = lines.split_at(end);
-        let (phase, _) = rest.split_at(first_phase(rest));
-        if !sharing.is_light(phase) {
-            return end;
+    let mut light = 0;
+    let mut weight = 0usize;
+    for (place, line) in lines.iter().enumerate() {
+        weight = weight.saturating_add(weight_of(line));
+        if sharing.light() < weight {
+            return light;
         }
-        end += phase.len();
+        if let Line::Mark = line {
+            light = place + 1;
+            weight = 0;
+        }
     }
-    end
+    lines.len()
 }
 
 /// Does so many of the lines one after another, the first of which has this number, and answers how many they are.

@@ -24,15 +24,15 @@ const COMMAND: usize = 8;
 const PART: usize = 13_108;
 
 impl Sharing {
-    /// Whether the caller does a phase of these lines by itself, whosever they are.
-    pub(crate) fn is_light(self, lines: &[Line]) -> bool {
+    /// How heavy a phase is at most that the caller does by itself, whosever its lines are.
+    pub(crate) fn light(self) -> usize {
         match self {
-            Sharing::EachPhase => false,
-            Sharing::BySize => are_light(lines),
+            Sharing::EachPhase => 0,
+            Sharing::BySize => LIGHT,
         }
     }
 
-    /// How many lines are taken out of a script at a time at most.
+    /// How many lines of a script are done at a time at most.
     pub(crate) fn part(self) -> usize {
         match self {
             Sharing::EachPhase => usize::MAX,
@@ -41,20 +41,8 @@ impl Sharing {
     }
 }
 
-/// Whether lines are light together. It stops at the first that is too much.
-fn are_light(lines: &[Line]) -> bool {
-    let mut weight = 0usize;
-    for line in lines {
-        weight = weight.saturating_add(weight_of(line));
-        if LIGHT < weight {
-            return false;
-        }
-    }
-    true
-}
-
 /// How heavy a line is.
-fn weight_of(line: &Line) -> usize {
+pub(crate) fn weight_of(line: &Line) -> usize {
     match line {
         Line::Do {
             act: Act::Command(_),

@@ -1,4 +1,4 @@
-use Rattle.std.proofs.Common.{◌≡◌, ◌+◌, ◌*◌, [], length, vec_len, IsTrue}
+use Rattle.std.proofs.Common.{◌≡◌, ◌+◌, ◌*◌, length, vec_len, IsTrue}
 use Rattle.std.specs.Prelude.{reverse}
 use Rattle.std.specs.List.{list_all}
 use Rattle.script_codec.specs.Scripts.{is_sound_line}
@@ -13,7 +13,6 @@ invariant-loop-sharing g l = record {
   sound : IsTrue (list_all (is_sound_line (g.H.Handler.reads.hosts l.fn.handler) l.fn.lanes) (reverse l.rest.items));
   count : length l.passes ≡ g.H.Handler.reads.hosts l.fn.handler * l.fn.lanes + 2;
   numbers : l.number + length l.rest.items ≡ l.fn.first_line + length l.fn.lines;
-  taken : l.now.items ≡ [];
 }
 
 abbrev pub decreases-loop-sharing : goal.decreases-loop-sharing

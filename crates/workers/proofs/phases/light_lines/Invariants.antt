@@ -1,8 +1,5 @@
-use Rattle.std.proofs.Common.{◌≤◌, ◌-◌, length}
+use Rattle.std.proofs.Common.{◌≤◌}
 use Rattle.workers.proofs.phases.light_lines.Given as goal
 
-abbrev pub invariant-loop-end : goal.invariant-loop-end
-invariant-loop-end l = l.end ≤ length l.lines
-
-abbrev pub decreases-loop-end : goal.decreases-loop-end
-decreases-loop-end l = length l.lines - l.end
+abbrev pub invariant-loop-place : goal.invariant-loop-place
+invariant-loop-place l = l.light ≤ l.place
