@@ -114,7 +114,7 @@ some_digits base v [] some is = absurd (omega (arith, some))
 some_digits base v (c ∷ cs) some is = is
 
 -- ---- what was cut off, if anything
-if_some_more : {A : Type 0} {P Q : A → Type 0} (o : Option A) → IfSome o P → ((x : A) → P x → Q x) → IfSome o Q
+pub if_some_more : {A : Type 0} {P Q : A → Type 0} (o : Option A) → IfSome o P → ((x : A) → P x → Q x) → IfSome o Q
 if_some_more None is more = tt
 if_some_more (Some x) is more = more x is
 

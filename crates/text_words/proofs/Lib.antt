@@ -1,6 +1,7 @@
 pub mod AheadLaws
 pub mod ExtentLaws
 pub mod FrontLaws
+pub mod ItemLaws
 pub mod LaneLaws
 pub mod LeadingLaws
 pub mod LimitLaws

@@ -1,7 +1,8 @@
 -- Bytes as pairs of digits.
-use Rattle.std.proofs.Common.{◌≡◌, ℕ, ◌<◌, ◌≤◌, ◌==◌, false, List, [], ◌∷◌, ◌++◌, length, take, drop, get_or, Option, Some, None, refl, sym, ap, ◌∙◌, arith, append-nil, append_assoc}
+use Rattle.std.proofs.Common.{◌≡◌, ℕ, ◌*◌, ◌<◌, ◌≤◌, ◌==◌, true, false, List, [], ◌∷◌, ◌++◌, length, take, drop, get_or, Option, Some, None, refl, sym, ap, ◌∙◌, arith, append-nil, append_assoc}
 use Rattle.text_words.specs.Chains.{◌>>?◌ as ◌>>=◌}
-use Rattle.text_words.specs.Pairs.{AppendsPairs, pair_said, pairs_said}
+use Rattle.std.proofs.lemmas.Bool.{cond-false, ne_eqb}
+use Rattle.text_words.specs.Pairs.{AppendsPairs, FillsPairs, pair_said, pairs_said, tag_of_bytes, tag_said}
 
 -- bytes behind those that are there
 abbrev pub pairs_behind : List ℕ → Option (List ℕ) → Option (List ℕ)
@@ -44,3 +45,41 @@ pair_fails out two (c ∷ []) whole more front pair is = absurd (omega (arith, m
 pair_fails out two (c ∷ d ∷ rest) whole more front pair is =
     let said : pair_said c d ≡ None = ap (λ (xs : List ℕ). pair_said (get_or xs 0 0) (get_or xs 1 0)) (sym front) ∙ pair in
     sym is ∙ ap (λ (p : Option ℕ). pairs_behind out (p >>= (λ byte. pairs_said rest >>= (λ bytes. Some (byte ∷ bytes))))) said
+
+-- ---- bytes in their places
+pub nothing_fills : (new : List ℕ) (said : Option (List ℕ)) → said ≡ None → FillsPairs new said false
+nothing_fills new None is = tt
+nothing_fills new (Some bytes) is = cc
+
+pub all_filled : (new rest : List ℕ) (said : Option (List ℕ)) → length rest ≡ 0 → pairs_behind new (pairs_said rest) ≡ said → FillsPairs new said true
+unfolding pairs_said
+all_filled new [] None none is = cc
+all_filled new [] (Some bytes) none is = let e : new ++ [] ≡ bytes = (cc) in sym (append-nil new) ∙ e
+all_filled new (c ∷ cs) said none is = absurd (omega (arith, none))
+
+pub none_behind : (said : Option (List ℕ)) → pairs_behind [] said ≡ said
+none_behind None = refl
+none_behind (Some bytes) = refl
+
+pairs_count : (word bytes : List ℕ) → pairs_said word ≡ Some bytes → length word ≡ 2 * length bytes
+unfolding pairs_said
+pairs_count [] bytes is = let e : [] ≡ bytes = (cc) in omega (arith, ap length e)
+pairs_count (c ∷ []) bytes is = cc
+pairs_count (c ∷ d ∷ rest) bytes is = first (pair_said c d) is (λ bs e. pairs_count rest bs e)
+  where
+    second : (b : ℕ) (said : Option (List ℕ)) → pairs_said rest ≡ said → (said >>= (λ bs. Some (b ∷ bs))) ≡ Some bytes → ((bs : List ℕ) → pairs_said rest ≡ Some bs → length rest ≡ 2 * length bs) → length (c ∷ d ∷ rest) ≡ 2 * length bytes
+    second b None e f each = cc
+    second b (Some bs) e f each = let g : b ∷ bs ≡ bytes = (cc) in omega (arith, ap length g, each bs e)
+
+    first : (o : Option ℕ) → (o >>= (λ b. pairs_said rest >>= (λ bs. Some (b ∷ bs)))) ≡ Some bytes → ((bs : List ℕ) → pairs_said rest ≡ Some bs → length rest ≡ 2 * length bs) → length (c ∷ d ∷ rest) ≡ 2 * length bytes
+    first None f each = cc
+    first (Some b) f each = second b (pairs_said rest) refl f each
+
+-- a word of another length says no tag
+pub no_tag_said : (word : List ℕ) → ((length word ≡ 32) → ⊥) → tag_said word ≡ None
+unfolding tag_said
+no_tag_said word other = by (pairs_said word) refl
+  where
+    by : (said : Option (List ℕ)) → pairs_said word ≡ said → (said >>= tag_of_bytes) ≡ None
+    by None e = refl
+    by (Some bytes) e = cond-false (length bytes == 16) _ _ (ne_eqb (length bytes) 16 (λ f. other (omega (arith, f, pairs_count word bytes e))))

@@ -96,10 +96,10 @@ front_at b (c ∷ cs) = ap (λ xs. b ∷ xs) (front_at c cs)
 front_and_last : (c : ℕ) (cs : List ℕ) → without_last (c ∷ cs) ++ last_character (c ∷ cs) ∷ [] ≡ c ∷ cs
 front_and_last c cs = let e : length (c ∷ cs) - 1 ≡ length cs = omega arith in ap (λ n. take n (c ∷ cs) ++ slice_index (c ∷ cs) n ∷ []) e ∙ front_at c cs
 
-last_push : (xs : List ℕ) (c : ℕ) → last_character (xs ++ c ∷ []) ≡ c
+pub last_push : (xs : List ℕ) (c : ℕ) → last_character (xs ++ c ∷ []) ≡ c
 last_push xs c = let e : length (xs ++ c ∷ []) - 1 ≡ length xs = omega (arith, length_push xs c) in ap (slice_index (xs ++ c ∷ [])) e ∙ get_or_at xs c [] 0 (length xs) refl
 
-front_push : (xs : List ℕ) (c : ℕ) → without_last (xs ++ c ∷ []) ≡ xs
+pub front_push : (xs : List ℕ) (c : ℕ) → without_last (xs ++ c ∷ []) ≡ xs
 front_push xs c = let e : length (xs ++ c ∷ []) - 1 ≡ length xs = omega (arith, length_push xs c) in ap (λ n. take n (xs ++ c ∷ [])) e ∙ take_at xs (c ∷ []) (length xs) refl
 
 high_word : (c : ℕ) (cs : List ℕ) → list_all is_high (without_last (c ∷ cs)) ≡ true → is_high (last_character (c ∷ cs)) ≡ true → list_all is_high (c ∷ cs) ≡ true
@@ -214,7 +214,7 @@ no_prefix v (c ∷ d ∷ cs) is = elim (cases_Bool (d == 120)) [
     never (Some m) e f = let g : None ≡ Some v = sym (ap (λ (o : Option ℕ). o >>= (λ k. digits_from 10 ((0 * 10 + m) * 10 + k) cs)) e) ∙ f in cc
 
 -- decimal digits say their number as a word too
-decimal_said : (v : ℕ) (word : List ℕ) → digits_said 10 word ≡ Some v → prefixed_said word ≡ Some v
+pub decimal_said : (v : ℕ) (word : List ℕ) → digits_said 10 word ≡ Some v → prefixed_said word ≡ Some v
 decimal_said v word is = cond-false (has_prefix word) (digits_said 16 (drop 2 word)) (digits_said 10 word) (no_prefix v word is) ∙ is
 
 -- what is printed of a number reads as it

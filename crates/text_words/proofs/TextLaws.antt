@@ -16,7 +16,7 @@ printed_plain c printed =
     rw (ne_eqb c 32 (λ e. omega (arith, h, e)), ne_eqb c 9 (λ e. omega (arith, h, e)), ne_eqb c 35 (λ e. omega (arith, h, e))) refl
 
 -- a word before what goes on no word
-word_then : (word rest : List ℕ) → IsTextWord word → goes_on rest ≡ false → words_in (word ++ rest) ≡ word ∷ words_in rest
+pub word_then : (word rest : List ℕ) → IsTextWord word → goes_on rest ≡ false → words_in (word ++ rest) ≡ word ∷ words_in rest
 word_then [] rest is stop = absurd (omega (arith, is.1))
 word_then (b ∷ []) rest is stop =
     let p = and_parts (is_printed b) true is.0 in

@@ -1,6 +1,7 @@
 pub mod Chains
 pub mod Characters
 pub mod Extents
+pub mod Items
 pub mod Leading
 pub mod Numbers
 pub mod Pairs

@@ -38,6 +38,13 @@ AppendsPairs old new (Some bytes) false = ⊥
 AppendsPairs old new None true = ⊥
 AppendsPairs old new None false = Unit {0}
 
+-- The bytes are those, where the word says any.
+abbrev pub FillsPairs : List ℕ → Option (List ℕ) → Bool → Type 0
+FillsPairs new (Some bytes) true = new ≡ bytes
+FillsPairs new (Some bytes) false = ⊥
+FillsPairs new None true = ⊥
+FillsPairs new None false = Unit {0}
+
 -- ---- printed
 
 -- the two digits of a byte

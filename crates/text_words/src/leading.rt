@@ -9,7 +9,7 @@ use crate::numbers::with_digit;
 
 /// The value of the digits that a few bytes begin with, and how many these are.
 #[inline(always)]
-fn leading_digits(base: u8, front: &[u8]) -> (u64, usize)
+pub fn leading_digits(base: u8, front: &[u8]) -> (u64, usize)
     requires high { base ≤ 16 }
     requires few { length front.now ≤ 16 }
     ensures value { digits_from base 0 (take result.1 front.now) ≡ Some result.0 }
@@ -29,7 +29,7 @@ fn leading_digits(base: u8, front: &[u8]) -> (u64, usize)
 /// The value of the digits that a text begins with, from 1 to 16 of them, and what stands behind these. `None` also where the
 /// text has fewer than 16 characters.
 #[inline(always)]
-fn cut_digits(base: u8, text: &[u8]) -> Option<(u64, &[u8])>
+pub fn cut_digits(base: u8, text: &[u8]) -> Option<(u64, &[u8])>
     requires { base ≤ 16 }
     ensures { IfSome result (λ r. CutsDigits base text.now r.0 r.1.now) }
 {

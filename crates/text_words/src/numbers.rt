@@ -51,7 +51,7 @@ pub fn with_digit(base: u8, number: u64, digit: u8) -> u64
 
 /// The value of at most 16 digits, for which 64 bits have room.
 #[inline(always)]
-fn short_value_of(base: u8, digits: &[u8]) -> Option<u64>
+pub fn short_value_of(base: u8, digits: &[u8]) -> Option<u64>
     requires low { 0 < base }
     requires high { base ≤ 16 }
     requires few { length digits.now ≤ 16 }
@@ -112,14 +112,16 @@ fn digits_said(base: u8, digits: &[u8]) -> Result<u64, NumberFault>
 }
 
 /// Whether the word begins as hexadecimal numbers do.
-fn has_prefix(word: &[u8]) -> bool
+#[inline(always)]
+pub fn has_prefix(word: &[u8]) -> bool
     ensures { result ≡ begins_hexadecimal word.now }
 {
     word.len() > 1 && word[0] == b'0' && word[1] == b'x'
 }
 
 /// The word without its last character.
-fn front(word: &[u8]) -> &[u8]
+#[inline(always)]
+pub fn front(word: &[u8]) -> &[u8]
     requires { 0 < length word.now }
     ensures { result.now ≡ without_last word.now }
 {
@@ -183,7 +185,7 @@ fn suffixed(word: &[u8], last: u8) -> Result<u64, NumberFault>
 
 /// Whether the character is a digit, which no suffix is. No branch depends on which.
 #[inline(always)]
-fn is_digit(c: u8) -> bool
+pub fn is_digit(c: u8) -> bool
     ensures { IsTrue result → (unit_of_suffix c ≡ None) × ((c == 104) ≡ false) }
 {
     (c <= b'9') | (c.wrapping_sub(b'a') < 6)

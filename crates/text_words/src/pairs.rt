@@ -1,14 +1,13 @@
 //! Bytes as pairs of hexadecimal digits.
 
 ghost use Rattle.hex.specs.Hex.{lower_digits};
-ghost use Rattle.std.specs.Prelude.{◌≡◌, ◌++◌, ◌<◌, IfOk, OnOk, slice_index, map};
+ghost use Rattle.std.specs.Prelude.{◌≡◌, ◌++◌, ◌*◌, ◌<◌, IfOk, OnOk, length, slice_index, map};
 ghost use Rattle.std.specs.List.{flat_map};
-ghost use Rattle.text_words.specs.Pairs.{AppendsPairs, pair_said, pair_text, pairs_said, tag_said, tag_text};
+ghost use Rattle.text_words.specs.Pairs.{AppendsPairs, FillsPairs, pair_said, pair_text, pairs_said, tag_said, tag_text};
 ghost use Rattle.text_words.specs.Words.{spaced};
 
 use crate::characters::digit_in;
 use dcd_base::{Bytes, NoMemory, Tag};
-use field_bytes::tag_at;
 use std::alloc::Global;
 
 /// The byte of two digits.
@@ -41,16 +40,45 @@ pub fn put_pairs_of(word: &[u8], out: &mut Bytes) -> Result<bool, NoMemory>
     Ok(rest.is_empty())
 }
 
-/// The tag that a word says: 32 hexadecimal digits in lower case, which are its 16 bytes in order.
+/// Fills bytes with those that pairs of digits in lower case say, and answers whether all of the word are such pairs. Where
+/// they are not, what the bytes are then is not said.
+#[inline(always)]
+fn fill_pairs(word: &[u8], out: &mut [u8]) -> bool
+    requires { length word.now ≡ 2 * length out.old }
+    ensures { FillsPairs out.new (pairs_said word.now) result }
+{
+    let mut rest = word;
+    for i in 0..out.len() {
+        let (pair, after) = rest.split_at(2);
+        let Some(byte) = pair_of(pair[0], pair[1]) else {
+            return false;
+        };
+        out[i] = byte;
+        rest = after;
+    }
+    true
+}
+
+/// The tag that a word says: 32 hexadecimal digits in lower case, which are its 16 bytes in order. It takes no memory.
 #[tactic(auto, unfolding(crate::specs::Pairs::tag_said))]
-pub fn tag_of(alloc: Global, word: &[u8]) -> Result<Option<Tag>, NoMemory>
+fn tag_said_by(word: &[u8]) -> Option<Tag>
+    ensures { result ≡ tag_said word.now }
+{
+    if word.len() != 32 {
+        return None;
+    }
+    let mut bytes = [0u8; 16];
+    if !fill_pairs(word, &mut bytes) {
+        return None;
+    }
+    Some(Tag(bytes))
+}
+
+/// The tag that a word says: 32 hexadecimal digits in lower case, which are its 16 bytes in order.
+pub fn tag_of(_alloc: Global, word: &[u8]) -> Result<Option<Tag>, NoMemory>
     ensures { IfOk result (λ tag. tag ≡ tag_said word.now) }
 {
-    let mut bytes = Bytes::new(alloc);
-    if !put_pairs_of(word, &mut bytes)? || bytes.len() != 16 {
-        return Ok(None);
-    }
-    Ok(Some(tag_at(bytes.as_slice(), 0)))
+    Ok(tag_said_by(word))
 }
 
 /// The digit of a value below 16.

@@ -1,10 +1,14 @@
 //! The words of a line, one after another.
 
-ghost use Rattle.std.specs.Prelude.{◌≡◌, ◌+◌, ◌<◌, ◌≤◌, ◌^◌, [], length};
+ghost use Rattle.std.specs.Prelude.{◌≡◌, ◌+◌, ◌<◌, ◌≤◌, ◌^◌, [], IfSome, Ok, Some, length};
+ghost use Rattle.text_words.specs.Extents.{extent_said, limited_extent};
+ghost use Rattle.text_words.specs.Numbers.{number_said};
 ghost use Rattle.text_words.specs.Unread.{behind_next, is_done, first_unread};
 ghost use Rattle.text_words.specs.Words.{ahead, words_in};
 
 use crate::fronts::{gaps, plain};
+use crate::items::{cut_extent_item, cut_number_item};
+use dcd_base::Extent;
 use std::marker::Model;
 
 /// What is still to come of a line: its words up to a comment, of which the next one is at hand.
@@ -101,5 +105,39 @@ impl<'a> Words<'a> {
             self.rest = rest;
             self.word += 1;
         }
+    }
+
+    /// Goes on to the word behind the next one, and answers the number that it says, where that is read at once: a short word
+    /// behind one space.
+    #[inline(always)]
+    pub fn advance_to_number(&mut self) -> Option<u64>
+        ensures words { self.new ≡ behind_next self.old }
+        ensures number { IfSome result (λ number. number_said (first_unread self.new) ≡ Some number) }
+    {
+        let Some((number, next, rest)) = cut_number_item(self.rest) else {
+            self.advance();
+            return None;
+        };
+        self.next = next;
+        self.rest = rest;
+        self.word += 1;
+        Some(number)
+    }
+
+    /// Goes on to the word behind the next one, and answers the extent that it says, where that is read at once: a short word
+    /// behind one space.
+    #[inline(always)]
+    pub fn advance_to_extent(&mut self) -> Option<Extent>
+        ensures words { self.new ≡ behind_next self.old }
+        ensures extent { IfSome result (λ extent. limited_extent (extent_said (first_unread self.new)) ≡ Ok extent) }
+    {
+        let Some((extent, next, rest)) = cut_extent_item(self.rest) else {
+            self.advance();
+            return None;
+        };
+        self.next = next;
+        self.rest = rest;
+        self.word += 1;
+        Some(extent)
     }
 }
