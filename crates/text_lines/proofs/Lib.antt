@@ -1,4 +1,5 @@
 pub mod FieldLaws
+pub mod ItemLaws
 pub mod KeywordLaws
 pub mod LineLaws
 pub mod ListLaws

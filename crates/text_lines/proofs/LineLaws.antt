@@ -1,9 +1,8 @@
 -- Lines of a script: what is read is what the words say, and the other way round.
-use Rattle.std.proofs.Common.{◌≡◌, ℕ, ◌<◌, ◌≤◌, ◌-◌, ◌^◌, Bool, true, false, cond, ◌==◌, ◌⊎◌, List, [], ◌∷◌, ◌++◌, length, Option, Some, None, Result, Ok, Err, refl, sym, ap, ◌∙◌, subst, inl, inr, append-nil}
+use Rattle.std.proofs.Common.{◌≡◌, ℕ, cond, ◌==◌, ◌⊎◌, List, [], ◌∷◌, ◌++◌, Option, Some, None, Result, Ok, refl, sym, ap, ◌∙◌, subst, inl, inr, append-nil}
 use lib.Pointwise.{pointwise, bytes_decides}
 use Rattle.std.specs.Prelude.{codes}
 use Rattle.std.proofs.lemmas.Bool.{cases_Bool, cond-false, cond-true}
-use Rattle.cci_codec.specs.Messages.{ReadsRequest}
 use Rattle.cci_codec.specs.declared.messages.Request.{Request}
 use Rattle.dcd_base.specs.declared.ids.HostId.{HostId}
 use Rattle.dcd_base.specs.declared.steps.Actor.{Actor}
@@ -12,16 +11,16 @@ use Rattle.host_payloads.specs.declared.requests.HostRequest.{HostRequest}
 use Rattle.journal_core.specs.declared.acts.Act.{Act}
 use Rattle.script_codec.specs.declared.script_line.Line.{Line}
 use Rattle.text_words.specs.Unread.{UnreadWords, first_unread}
-use Rattle.text_lines.specs.Actors.{SaysActor, actor_ahead, actor_of_word}
+use Rattle.text_lines.specs.Actors.{actor_ahead, actor_of_word}
 use Rattle.text_lines.specs.Commands.{host_command_said, host_command_text, manager_command_said, manager_command_text}
 use Rattle.text_lines.specs.Chains.{◌>>!◌ as ◌>>=◌}
 use Rattle.text_lines.specs.Fields.{end_ahead, may_ahead, number_ahead, one_word}
 use Rattle.text_lines.specs.HostRequests.{host_request_ahead}
 use Rattle.text_lines.specs.Keywords.{keyword_text}
-use Rattle.text_lines.specs.Layouts.{NamesHostCommand, NamesManagerCommand, SaysAct, SaysLine, TellsBytes, command_line, host_command_of, host_line_parts, host_request_parts, host_tail, load_parts, manager_command_of, manager_request_parts, manager_tail, most_64, store_parts, tag_part}
+use Rattle.text_lines.specs.Layouts.{NamesHostCommand, NamesManagerCommand, SaysAct, SaysLine, TellsBytes, command_line, host_command_of, host_tail, load_parts, manager_command_of, manager_tail, most_64, store_parts, tag_part}
 use Rattle.text_lines.specs.Lines.{actor_line_ahead, bytes_ahead, command_ahead, host_act_ahead, host_asked_ahead, host_message, host_rest_ahead, host_word, host_word_of, line_by, load_ahead, manager_act_ahead, manager_asked_ahead, manager_message, manager_word, message_said, opened_ahead, opening_ahead, opening_of_word, rest_ahead, scrub_ahead, speaker_act_ahead, store_ahead}
 use Rattle.text_lines.specs.ManagerRequests.{manager_request_ahead}
-use Rattle.text_lines.specs.Parts.{AreBytes, Form, Part, ReadsPart, ReadsParts, Takes}
+use Rattle.text_lines.specs.Parts.{Form, Part, ReadsPart, ReadsParts, Takes}
 use Rattle.text_lines.specs.declared.actors.Frame.{Frame}
 use Rattle.text_lines.specs.declared.actors.Speaker.{Speaker}
 use Rattle.text_lines.specs.declared.commands.HostCommand.{HostCommand}

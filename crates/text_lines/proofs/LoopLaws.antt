@@ -2,7 +2,7 @@
 use Rattle.std.proofs.Common.{◌≡◌, ℕ, zero, suc, ◌+◌, ◌-◌, ◌<◌, ◌≤◌, true, false, ◌==◌, nat_lt, ◌⊎◌, List, [], ◌∷◌, ◌++◌, length, Option, Some, None, Result, Ok, Err, refl, sym, ap, ◌∙◌, subst, inl, inr, arith, append-nil, append_assoc}
 use lib.Pointwise.{pointwise}
 use Rattle.std.specs.Prelude.{IfOk, IsTrue}
-use Rattle.std.proofs.lemmas.Bool.{cases_Bool, cond-false, cond-true, le-ltb, lt-ltb}
+use Rattle.std.proofs.lemmas.Bool.{cases_Bool, cond-false, cond-true, le-ltb, lt-ltb, ne_eqb}
 use Rattle.dcd_base.specs.declared.capacity.Extent.{Extent}
 use Rattle.host_payloads.specs.HostPayloads.{is_untagged}
 use Rattle.text_words.specs.Pairs.{AppendsPairs, pairs_said}
@@ -60,6 +60,25 @@ module _ {A : Type 0} (read : List ℕ → Result A Cause) where
       ∙ sym (ap (list_behind xs) (steps_at left u.line u.word u.words some other
       ∙ ap (item_then left) step))
       ∙ is
+
+  pub nothing_behind : (rest : Result (List A × UnreadWords) TextFault) → list_behind [] rest ≡ rest
+  nothing_behind (Ok others) = refl
+  nothing_behind (Err fault) = refl
+
+  -- where a word is there, no list ends
+  pub some_word : (u : UnreadWords) (x : A) (cause : Cause) → read [] ≡ Err cause → read (first_unread u) ≡ Ok x → is_done u ≡ false
+  some_word u x cause none is = at u.words is
+    where
+      at : (words : List (List ℕ)) → read (leading_word words) ≡ Ok x → none_left words ≡ false
+      at [] e = let f : Err cause ≡ Ok x = sym none ∙ e in cc
+      at (w ∷ ws) e = refl
+
+  pub list_takes : (wanted : Wanted) (left : ℕ) (u v : UnreadWords) (xs : List A) (x : A) (whole : Result (List A × UnreadWords) TextFault) → is_done u ≡ false → begins Keyword.MessageTag u ≡ false
+      → read (first_unread u) ≡ Ok x → 0 < left → v ≡ behind_next u → list_behind xs (list_ahead read left u) ≡ whole → list_behind (xs ++ x ∷ []) (list_ahead read (left - 1) v) ≡ whole
+  list_takes wanted left u v xs x whole some other is room next same =
+      let room_for : and_room left (read (first_unread u)) ≡ Ok x = ap (and_room left) is ∙ cond-false (left == 0) (Err Cause.MessageTooLong) (Ok x) (ne_eqb left 0 (λ e. omega (arith, room, e))) in
+      list_goes_on wanted left u v xs x whole some other
+      (one_told wanted u (and_room left (read (first_unread u))) some ∙ ap (told u) room_for ∙ ap (λ (w : UnreadWords). Ok (x, w)) (sym next)) same
 
   pub list_fails : (wanted : Wanted) (left : ℕ) (u : UnreadWords) (xs : List A) (fault : TextFault) (whole : Result (List A × UnreadWords) TextFault) → is_done u ≡ false → begins Keyword.MessageTag u ≡ false
       → one_word wanted u (and_room left (read (first_unread u))) ≡ Err fault → list_behind xs (list_ahead read left u) ≡ whole → whole ≡ Err fault

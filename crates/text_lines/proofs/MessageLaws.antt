@@ -1,5 +1,5 @@
 -- Messages byte by byte: what is read is what the words tell.
-use Rattle.std.proofs.Common.{◌≡◌, ℕ, zero, suc, ◌+◌, ◌<◌, ◌≤◌, Bool, true, false, nat_lt, List, [], ◌∷◌, ◌++◌, length, Option, Some, None, Result, Ok, Err, refl, sym, ap, ◌∙◌, subst, inl, inr, arith, append-nil, append_assoc, length-append}
+use Rattle.std.proofs.Common.{◌≡◌, ℕ, zero, suc, ◌+◌, ◌<◌, ◌≤◌, false, nat_lt, List, [], ◌∷◌, ◌++◌, length, Option, Some, None, Result, Ok, Err, refl, sym, ap, ◌∙◌, subst, inl, inr, arith, append-nil, append_assoc, length-append}
 use Rattle.std.proofs.lemmas.Bool.{cases_Bool, cond-false, cond-true, le-ltb, ltb-false}
 use Rattle.cci_codec.specs.Messages.{ReadsRequest, message_fault, request_in}
 use Rattle.cci_codec.specs.declared.faults.MessageFault.{MessageFault}
@@ -14,7 +14,6 @@ use Rattle.text_lines.specs.Fields.{refused, told}
 use Rattle.text_lines.specs.Lines.{bytes_ahead, bytes_at, bytes_or, bytes_with_room, message_or_fault, message_said}
 use Rattle.text_lines.specs.Parts.{AreBytes}
 use Rattle.text_lines.specs.declared.faults.Cause.{Cause}
-use Rattle.text_lines.specs.declared.faults.TextFault.{TextFault}
 use Rattle.text_lines.specs.declared.faults.Wanted.{Wanted}
 use Rattle.text_lines.proofs.FieldLaws.{Goes, bound, ok_is}
 

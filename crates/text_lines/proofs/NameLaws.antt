@@ -1,5 +1,5 @@
 -- The names of commands: what is read is what is written.
-use Rattle.std.proofs.Common.{◌≡◌, ℕ, Bool, true, false, cond, ◌==◌, ◌⊎◌, List, Option, Some, None, refl, sym, ap, ◌∙◌, inl, inr}
+use Rattle.std.proofs.Common.{◌≡◌, ℕ, cond, ◌==◌, ◌⊎◌, List, Option, Some, refl, sym, ap, ◌∙◌, inl, inr}
 use lib.Pointwise.{pointwise, bytes_decides}
 use Rattle.std.proofs.lemmas.Bool.{cases_Bool, cond-false, cond-true}
 use Rattle.text_lines.specs.Commands.{host_command_said, host_command_text, manager_command_said, manager_command_text}

@@ -176,6 +176,30 @@ configuration_cut text digits rest v begins last low = record {
   };
 }
 
+abbrev then_events : Result (ℕ × UnreadWords) TextFault → Result (HostRequest × UnreadWords) TextFault
+then_events read = read >>= (λ log. Ok (HostRequest.GetEvents log.0, log.1))
+
+events_is : (n v : ℕ) (word : List ℕ) → number_of_word 255 word ≡ Ok v → host_act_ahead (further_words n (codes "get-event-records" ∷ codes "log" ∷ word ∷ [])) ≡ Ok (command_act (host_message 0 (HostRequest.GetEvents v)), record { line = n; word = 5; words = [] })
+unfolding host_act_ahead host_word host_command_said host_asked_ahead host_request_ahead may_ahead named_ahead keyword_ahead number_ahead
+events_is n v word is = ap (λ (r : Result ℕ Cause). then_asked (then_events (told (record { line = n; word = 4; words = word ∷ [] }) r))) is
+
+pub events_cut : (text digits rest : List ℕ) (v : ℕ) → text ≡ codes "get-event-records log " ++ digits → CutsLast digits v rest → v ≤ 255 → CutsPage text (HostRequest.GetEvents v) rest
+events_cut text digits rest v begins last low =
+    let one : IsTextWord last.word = number_text v last.word last.said in
+    record {
+      counts = tt;
+      untagged = refl;
+      act = record {
+        words = codes "get-event-records" ∷ codes "log" ∷ last.word ∷ [];
+        sound = record { some = omega arith; each = ((refl, omega arith), ((refl, omega arith), (one, tt))) };
+        parts = begins ∙ ap (λ bytes. codes "get-event-records" ++ 32 ∷ (codes "log" ++ 32 ∷ bytes)) (last.parts ∙ line_one last.word rest)
+            ∙ ap (λ bytes. codes "get-event-records" ++ 32 ∷ bytes) (line_before (codes "log") (last.word ∷ []) rest (record { some = omega arith; each = (one, tt) }))
+            ∙ line_before (codes "get-event-records") (codes "log" ∷ last.word ∷ []) rest (record { some = omega arith; each = ((refl, omega arith), (one, tt)) });
+        end = 5;
+        reads = λ n. events_is n v last.word (read_number 255 v last.word last.said low);
+      };
+    }
+
 -- ---- whole lines
 abbrev then_line : ℕ → Result (Act × UnreadWords) TextFault → Result (Line × UnreadWords) TextFault
 then_line host read = read >>= (λ act. Ok (line_by (Speaker.Host host 0) act.0, act.1))

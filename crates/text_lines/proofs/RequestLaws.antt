@@ -1,19 +1,17 @@
 -- What commands say behind their names: what is read is what the words say.
-use Rattle.std.proofs.Common.{◌≡◌, ℕ, ◌-◌, ◌^◌, Bool, true, false, ◌==◌, ◌⊎◌, List, [], ◌∷◌, ◌++◌, Option, Some, None, Result, Ok, Err, refl, sym, ap, ◌∙◌, subst, inl, inr, append_assoc}
-use lib.Pointwise.{pointwise, bytes_decides}
-use Rattle.std.proofs.lemmas.Bool.{cases_Bool, cond-false, cond-true}
+use Rattle.std.proofs.Common.{◌≡◌, ℕ, Bool, false, ◌==◌, List, [], ◌∷◌, ◌++◌, Result, Ok, refl, sym, ap, ◌∙◌, subst, inl, inr}
+use lib.Pointwise.{pointwise}
 use Rattle.dcd_base.specs.declared.capacity.Extent.{Extent}
 use Rattle.dcd_base.specs.declared.capacity.Tag.{Tag}
 use Rattle.fm_payloads.specs.declared.requests.FmRequest.{FmRequest}
 use Rattle.host_payloads.specs.declared.requests.HostRequest.{HostRequest}
-use Rattle.text_words.specs.Unread.{UnreadWords, leading_word}
+use Rattle.text_words.specs.Unread.{UnreadWords}
 use Rattle.text_lines.specs.Actors.{host_ahead}
-use Rattle.text_lines.specs.Commands.{host_command_said, host_command_text, manager_command_said, manager_command_text}
 use Rattle.text_lines.specs.Chains.{◌>>!◌ as ◌>>=◌}
-use Rattle.text_lines.specs.Fields.{extents_ahead, flag_ahead, handles_ahead, keyword_ahead, may_ahead, may_tag_ahead, named_ahead, number_ahead, tag_ahead}
+use Rattle.text_lines.specs.Fields.{extents_ahead, flag_ahead, handles_ahead, may_ahead, may_tag_ahead, named_ahead, tag_ahead}
 use Rattle.text_lines.specs.HostRequests.{clearing_ahead, host_request_ahead, listing_ahead, page_ahead}
 use Rattle.text_lines.specs.Keywords.{keyword_text}
-use Rattle.text_lines.specs.Layouts.{capacity_parts, clearing_parts, host_command_of, host_tail, listing_parts, log_parts, manager_command_of, manager_tail, most_32, most_64, page_parts, setting_parts, spot_parts}
+use Rattle.text_lines.specs.Layouts.{capacity_parts, clearing_parts, host_command_of, host_tail, listing_parts, manager_command_of, manager_tail, most_32, most_64, page_parts, setting_parts, spot_parts}
 use Rattle.text_lines.specs.ManagerRequests.{add_ahead, capacity_ahead, host_page_ahead, manager_request_ahead, remove_ahead, setting_ahead, spot_ahead}
 use Rattle.text_lines.specs.Parts.{Form, Part, ReadsPart, Takes, key}
 use Rattle.text_lines.specs.Policies.{add_policy_ahead, release_flags_ahead}
@@ -28,7 +26,7 @@ use Rattle.text_lines.specs.declared.forms.Page.{Page}
 use Rattle.text_lines.specs.declared.forms.Setting.{Setting}
 use Rattle.text_lines.specs.declared.forms.Spot.{Spot}
 use Rattle.text_lines.specs.declared.keywords.Keyword.{Keyword}
-use Rattle.text_lines.proofs.FieldLaws.{Bound, FlagGoes, Goes, IsNot, Took, bound, flag_goes, flag_sound, flag_then, goes_then, keyword_goes, keyword_sound, may_goes, may_sound, named_goes, named_sound, ok_is, took_then}
+use Rattle.text_lines.proofs.FieldLaws.{Goes, IsNot, Took, bound, flag_goes, flag_sound, flag_then, goes_then, may_goes, may_sound, named_goes, named_sound, ok_is, took_then}
 use Rattle.text_lines.proofs.KeywordLaws.{IsInner, extents_not, is_key, stops_not}
 use Rattle.text_lines.proofs.ListLaws.{Stops}
 use Rattle.text_lines.proofs.PartLaws.{extents_goes, extents_sound, handles_goes, handles_sound, host_goes, host_sound, may_tag_goes, may_tag_sound, tag_goes, tag_sound}

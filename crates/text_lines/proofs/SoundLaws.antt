@@ -1,22 +1,20 @@
 -- A line that words say is one that a script may have: its actor is there, and its message is short.
-use Rattle.std.proofs.Common.{◌≡◌, ℕ, zero, suc, ◌+◌, ◌*◌, ◌^◌, ◌<◌, ◌≤◌, Bool, true, false, cond, ◌==◌, ◌&&◌, nat_lt, List, [], ◌∷◌, ◌++◌, length, map, Option, Some, None, Result, Ok, Err, refl, sym, ap, ◌∙◌, subst, inl, inr, arith, append-nil, length-append}
-use Rattle.std.specs.Prelude.{codes, flat_map}
-use Rattle.std.specs.Int.{w8, w16, w32, w64}
+use Rattle.std.proofs.Common.{◌≡◌, ℕ, ◌*◌, ◌≤◌, true, ◌==◌, ◌&&◌, nat_lt, List, [], ◌∷◌, length, Option, Some, None, Result, Ok, Err, refl, sym, ap, ◌∙◌, subst, inl, inr, arith, append-nil, length-append}
+use Rattle.std.specs.Prelude.{flat_map}
 use Rattle.std.proofs.lemmas.Bool.{and_from, cases_Bool, cond-false, cond-true, eq-eqb, eqb-true, le-leb}
 use Rattle.cci_codec.specs.Messages.{ReadsRequest, request_fields}
 use Rattle.cci_codec.specs.declared.messages.Request.{Request}
-use Rattle.dcd_base.specs.Words.{zero_tag}
 use Rattle.dcd_base.specs.declared.capacity.Extent.{Extent}
 use Rattle.dcd_base.specs.declared.capacity.Tag.{Tag}
 use Rattle.dcd_base.specs.declared.ids.HostId.{HostId}
 use Rattle.dcd_base.specs.declared.steps.Actor.{Actor}
-use Rattle.field_bytes.specs.EventCommands.{clear_fields, handle_fields}
+use Rattle.field_bytes.specs.EventCommands.{handle_fields}
 use Rattle.field_bytes.specs.Extents.{extent_fields}
 use Rattle.field_bytes.specs.Layouts.{spelling}
 use Rattle.field_bytes.proofs.Fields.{length_of_fields}
 use Rattle.fm_payloads.specs.ManagerPayloads.{manager_fields, placed_fields}
 use Rattle.fm_payloads.specs.declared.requests.FmRequest.{FmRequest}
-use Rattle.host_payloads.specs.HostPayloads.{host_fields, list_fields, listed_fields}
+use Rattle.host_payloads.specs.HostPayloads.{host_fields, listed_fields}
 use Rattle.host_payloads.specs.declared.requests.HostRequest.{HostRequest}
 use Rattle.journal_core.specs.declared.acts.Act.{Act}
 use Rattle.script_codec.specs.Scripts.{is_sound_line}
@@ -29,11 +27,9 @@ use Rattle.text_words.specs.Pairs.{pairs_said, tag_of_bytes, tag_said}
 use Rattle.text_words.specs.declared.faults.NumberFault.{NumberFault}
 use Rattle.text_lines.specs.Actors.{actor_of_seat, actor_of_word, has_dot, host_said, is_manager_word, seat_of_parts, seat_said}
 use Rattle.text_lines.specs.Layouts.{NamesHostCommand, NamesManagerCommand, SaysLine, TellsBytes, host_tail, manager_tail, tag_part}
-use Rattle.text_lines.specs.Lines.{host_message, manager_message}
 use Rattle.text_lines.specs.Parts.{AllSay, Part, ReadsPart, SaysExtent, Takes}
 use Rattle.text_lines.specs.declared.actors.Frame.{Frame}
 use Rattle.text_lines.specs.declared.actors.Speaker.{Speaker}
-use Rattle.text_lines.specs.declared.faults.Cause.{Cause}
 use Rattle.text_lines.specs.declared.faults.Wanted.{Wanted}
 use Rattle.text_lines.proofs.LineLaws.{split_parts}
 

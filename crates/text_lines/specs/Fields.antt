@@ -135,10 +135,12 @@ list_ahead read left u = list_at read left u.line u.word u.words
 unfoldable pub extents_ahead : ℕ → UnreadWords → Result (List Extent × UnreadWords) TextFault
 extents_ahead left u = list_ahead extent_of_word left u
 
+-- at least one handle, and at most 255
+abbrev pub some_handles_ahead : UnreadWords → Result (List ℕ × UnreadWords) TextFault
+some_handles_ahead u = do
+  first ← number_ahead 65535 u
+  list_behind (first.0 ∷ []) (list_ahead (number_of_word 65535) 254 first.1)
+
 -- handles behind their keyword, at most 255 and at least one; none where they are left out
 unfoldable pub handles_ahead : UnreadWords → Result (List ℕ × UnreadWords) TextFault
-handles_ahead u =
-    if begins Keyword.Handles u then (do
-      first ← number_ahead 65535 (behind_next u)
-      list_behind (first.0 ∷ []) (list_ahead (number_of_word 65535) 254 first.1))
-    else Ok ([], u)
+handles_ahead u = if begins Keyword.Handles u then some_handles_ahead (behind_next u) else Ok ([], u)

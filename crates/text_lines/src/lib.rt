@@ -19,6 +19,7 @@ mod openings;
 mod payloads;
 mod plain_lines;
 mod policies;
+mod short_payloads;
 
 pub use actors::Frame;
 pub use commands::{HostCommand, ManagerCommand};

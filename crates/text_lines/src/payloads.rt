@@ -6,6 +6,7 @@ ghost use Rattle.host_payloads.specs.HostPayloads.{HostCountsFit, host_fields, l
 ghost use Rattle.std.specs.Int.{w8, w16, w32};
 ghost use Rattle.std.specs.Prelude.{◌≡◌, [], ◌∷◌, IfOk, IsTrue, length};
 
+use crate::short_payloads::{FEW, clear_payload, list_payload, placed_payload};
 use cci_codec::Payload;
 use dcd_base::{Bytes, NoMemory};
 use field_bytes::{put_u8, put_u16, put_u32, put_zeros};
@@ -93,6 +94,22 @@ pub fn host_payload(alloc: Global, request: &HostRequest) -> Result<Payload, NoM
             Payload::from_slice(alloc, [*count, *first].as_slice())
         }
         HostRequest::GetExtents { count, first } => page_payload(alloc, *count, *first),
+        HostRequest::ClearEvents { log, all, handles } if handles.len() <= FEW => clear_payload(
+            alloc,
+            *log,
+            *all,
+            handles.as_slice(),
+        ),
+        HostRequest::AddResponse { more, extents } if extents.len() <= FEW => list_payload(
+            alloc,
+            *more,
+            extents.as_slice(),
+        ),
+        HostRequest::GiveBack { more, extents } if extents.len() <= FEW => list_payload(
+            alloc,
+            *more,
+            extents.as_slice(),
+        ),
         _ => long_host_payload(alloc, request),
     }
 }
@@ -122,6 +139,38 @@ pub fn manager_payload(alloc: Global, request: &FmRequest) -> Result<Payload, No
             lists_payload(alloc, *host, *count, *first)
         }
         FmRequest::ListTags { first, count } => page_payload(alloc, *first, *count),
+        FmRequest::Add {
+            host,
+            policy,
+            region,
+            length,
+            tag,
+            extents,
+        } if extents.len() <= FEW => placed_payload(
+            alloc,
+            *host,
+            *policy,
+            *region,
+            *length,
+            tag,
+            extents.as_slice(),
+        ),
+        FmRequest::Remove {
+            host,
+            flags,
+            region,
+            length,
+            tag,
+            extents,
+        } if extents.len() <= FEW => placed_payload(
+            alloc,
+            *host,
+            *flags,
+            *region,
+            *length,
+            tag,
+            extents.as_slice(),
+        ),
         _ => long_manager_payload(alloc, request),
     }
 }

@@ -151,14 +151,49 @@ fn cut_configuration(text: &[u8]) -> Option<(HostRequest, &[u8])>
     Some((request, rest))
 }
 
-/// A host's question for a page, and what stands behind its line.
+/// A host's question for records, and what stands behind its line.
 #[inline(always)]
-fn cut_page(text: &[u8]) -> Option<(HostRequest, &[u8])>
+fn cut_events(text: &[u8]) -> Option<(HostRequest, &[u8])>
+    ensures { IfSome result (λ r. CutsPage text.now r.0 r.1.now) }
+{
+    let text = cut_text(*b"get-event-records log ", text)?;
+    let (log, rest) = cut_last(text)?;
+    if log > 255 {
+        return None;
+    }
+    let log = log as u8;
+    let request = HostRequest::GetEvents { log };
+    Some((request, rest))
+}
+
+/// A host's question for extents or regions, and what stands behind its line.
+#[inline(always)]
+fn cut_listed(text: &[u8]) -> Option<(HostRequest, &[u8])>
     ensures { IfSome result (λ r. CutsPage text.now r.0 r.1.now) }
 {
     match cut_extents(text) {
         Some(found) => Some(found),
         None => cut_configuration(text),
+    }
+}
+
+/// Whether a text begins as each question does.
+#[inline(always)]
+fn may_ask(text: &[u8]) -> bool {
+    !text.is_empty() && text[0] == b'g'
+}
+
+/// A host's question for a page, and what stands behind its line.
+#[inline(always)]
+fn cut_page(text: &[u8]) -> Option<(HostRequest, &[u8])>
+    ensures { IfSome result (λ r. CutsPage text.now r.0 r.1.now) }
+{
+    if !may_ask(text) {
+        return None;
+    }
+    match cut_events(text) {
+        Some(found) => Some(found),
+        None => cut_listed(text),
     }
 }
 

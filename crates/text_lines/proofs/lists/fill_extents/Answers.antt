@@ -6,13 +6,12 @@ use Rattle.std.proofs.lemmas.List.Folds.{list_all-append}
 use Rattle.std.proofs.lemmas.Result.{err_from_is_err_and}
 use Rattle.host_payloads.specs.HostPayloads.{is_untagged}
 use Rattle.text_words.specs.Unread.{is_done}
-use Rattle.text_lines.specs.Fields.{and_room, extent_of_word, extents_ahead, list_behind, list_ahead, one_word}
+use Rattle.text_lines.specs.Fields.{and_room, extent_of_word, list_behind, list_ahead, one_word}
 use Rattle.text_lines.specs.declared.faults.Wanted.{Wanted}
 use Rattle.text_lines.proofs.LoopLaws.{item_untagged, list_ends, list_fails, list_goes_on, some_room}
 use Rattle.text_lines.proofs.lists.fill_extents.Goals as goal
 
 pub returns-in_err-one_word-clause-value : goal.returns-in_err-one_word-clause-value
-unfolding extents_ahead
 returns-in_err-one_word-clause-value c =
     let p = err_from_is_err_and c.from_residual.result c.from_residual.ensures.1 in
     let read = c.with_room-read.ensures ∙ ap (and_room c.loop-words.left) (c.extent_of_word.ensures.value ∙ ap extent_of_word c.next.ensures) in
@@ -36,14 +35,12 @@ loop-words-preserved c =
     }
 
 pub returns-else-not-begins-clause-value : goal.returns-else-not-begins-clause-value
-unfolding extents_ahead
 returns-else-not-begins-clause-value c = list_ends extent_of_word c.loop-words.left c.loop-words.words c.loop-words.extents _ (inr (sym c.begins.ensures ∙ c.if-not-begins.false)) c.loop-words.invariant.read
 
 pub returns-else-not-begins-clause-untagged : goal.returns-else-not-begins-clause-untagged
 returns-else-not-begins-clause-untagged c = c.loop-words.invariant.untagged
 
 pub returns-after-loop-words-clause-value : goal.returns-after-loop-words-clause-value
-unfolding extents_ahead
 returns-after-loop-words-clause-value c = list_ends extent_of_word c.loop-words.left c.loop-words.words c.loop-words.extents _ (inl (sym c.is_done.ensures ∙ c.loop-words-test.false)) c.loop-words.invariant.read
 
 pub returns-after-loop-words-clause-untagged : goal.returns-after-loop-words-clause-untagged

@@ -6,9 +6,9 @@ use Rattle.text_lines.proofs.lists.fill_extents.Given as goal
 
 abbrev pub invariant-loop-words : goal.invariant-loop-words
 invariant-loop-words l = record {
-  count : length l.extents + l.left ≡ l.most;
+  count : length l.extents + l.left ≡ length l.fn.extents + l.most;
   untagged : list_all is_untagged l.extents ≡ true;
-  read : list_behind l.extents (list_ahead extent_of_word l.left l.words) ≡ list_ahead extent_of_word l.most l.fn.words;
+  read : list_behind l.extents (list_ahead extent_of_word l.left l.words) ≡ list_behind l.fn.extents (list_ahead extent_of_word l.most l.fn.words);
 }
 
 abbrev pub decreases-loop-words : goal.decreases-loop-words
