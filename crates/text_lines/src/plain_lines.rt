@@ -191,9 +191,9 @@ fn cut_page(text: &[u8]) -> Option<(HostRequest, &[u8])>
     if !may_ask(text) {
         return None;
     }
-    match cut_events(text) {
+    match cut_listed(text) {
         Some(found) => Some(found),
-        None => cut_listed(text),
+        None => cut_events(text),
     }
 }
 
