@@ -21,7 +21,7 @@ use Rattle.text_lines.specs.Commands.{host_command_said}
 use Rattle.text_lines.specs.Fields.{end_ahead, keyword_ahead, may_ahead, named_ahead, number_ahead, number_of_word, number_or, told}
 use Rattle.text_lines.specs.HostRequests.{host_request_ahead, page_ahead}
 use Rattle.text_lines.specs.Lines.{actor_line_ahead, host_act_ahead, host_asked_ahead, host_message, host_word, line_by, load_ahead, opening_ahead, opening_of_actor, opening_of_word, rest_ahead, store_ahead}
-use Rattle.text_lines.specs.PlainLines.{CutsAct, CutsHost, CutsLast, CutsLine, CutsPage, command_act, further_words, host_line}
+use Rattle.text_lines.specs.PlainLines.{CutsAct, CutsHost, CutsLast, CutsLine, CutsPage, command_act, further_words, line_by_host}
 use Rattle.text_lines.specs.declared.forms.Page.{Page}
 use Rattle.text_lines.specs.declared.actors.Frame.{Frame}
 use Rattle.text_lines.specs.declared.actors.Speaker.{Speaker}
@@ -207,11 +207,11 @@ then_line host read = read >>= (λ act. Ok (line_by (Speaker.Host host 0) act.0,
 abbrev then_end : Result (Line × UnreadWords) TextFault → Result Line TextFault
 then_end read = read >>= (λ line. end_ahead line.1 >>= (λ end. Ok line.0))
 
-line_is : (frame : Frame) (host n end : ℕ) (act : Act) (words : List (List ℕ)) → host_act_ahead (further_words n words) ≡ Ok (act, record { line = n; word = end; words = [] }) → rest_ahead frame (Opening.By (Speaker.Host host 0)) (further_words n words) ≡ Ok (host_line host act)
+line_is : (frame : Frame) (host n end : ℕ) (act : Act) (words : List (List ℕ)) → host_act_ahead (further_words n words) ≡ Ok (act, record { line = n; word = end; words = [] }) → rest_ahead frame (Opening.By (Speaker.Host host 0)) (further_words n words) ≡ Ok (line_by_host host act)
 unfolding rest_ahead actor_line_ahead end_ahead
 line_is frame host n end act words is = ap (λ (r : Result (Act × UnreadWords) TextFault). then_end (then_line host r)) is
 
-line_cut_of : (frame : Frame) (text middle rest : List ℕ) (host : ℕ) (act : Act) → CutsHost frame text host middle → CutsAct middle act rest → CutsLine frame text (host_line host act) rest
+line_cut_of : (frame : Frame) (text middle rest : List ℕ) (host : ℕ) (act : Act) → CutsHost frame text host middle → CutsAct middle act rest → CutsLine frame text (line_by_host host act) rest
 line_cut_of frame text middle rest host act front back =
     let seat = seat_is frame front.digits host front.said front.below front.flat front.lanes in
     let opened = opening_is frame front.digits host (speaker_is frame front.digits host seat) in
@@ -225,5 +225,5 @@ line_cut_of frame text middle rest host act front back =
       reads = λ n. line_is frame host n back.end act back.words (back.reads n);
     }
 
-pub line_cut : (frame : Frame) (text middle rest : List ℕ) (host : ℕ) (act : Act) (line : Line) → line ≡ host_line host act → CutsHost frame text host middle → CutsAct middle act rest → CutsLine frame text line rest
+pub line_cut : (frame : Frame) (text middle rest : List ℕ) (host : ℕ) (act : Act) (line : Line) → line ≡ line_by_host host act → CutsHost frame text host middle → CutsAct middle act rest → CutsLine frame text line rest
 line_cut frame text middle rest host act line is front back = subst (λ l. CutsLine frame text l rest) (sym is) (line_cut_of frame text middle rest host act front back)

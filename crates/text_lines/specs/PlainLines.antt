@@ -55,8 +55,8 @@ abbrev pub command_act : Request → Act
 command_act message = Act.Command message
 
 -- the line of a host in lane 0
-abbrev pub host_line : ℕ → Act → Line
-host_line host act = Line.Do (Actor.Host host) 0 act
+abbrev pub line_by_host : ℕ → Act → Line
+line_by_host host act = Line.Do (Actor.Host host) 0 act
 
 -- The text begins with a request of a host that needs no list.
 pub record CutsPage (text : List ℕ) (request : HostRequest) (rest : List ℕ) : Type 0 where

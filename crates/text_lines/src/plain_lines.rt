@@ -5,7 +5,7 @@
 ghost use Rattle.host_payloads.specs.HostPayloads.{HostCountsFit, lists_untagged};
 ghost use Rattle.std.specs.Prelude.{◌≡◌, IfSome, IsTrue};
 ghost use Rattle.text_lines.specs.Lines.{host_message as message_of_host};
-ghost use Rattle.text_lines.specs.PlainLines.{CutsAct, CutsHost, CutsLast, CutsLine, CutsPage, access_act, command_act, host_line};
+ghost use Rattle.text_lines.specs.PlainLines.{CutsAct, CutsHost, CutsLast, CutsLine, CutsPage, access_act, command_act, line_by_host};
 
 use crate::actors::Frame;
 use crate::messages::host_message;
@@ -102,7 +102,7 @@ fn act_of(access: Access) -> Act
 /// The line of a host in lane 0.
 #[inline(always)]
 fn line_of(host: u8, act: Act) -> Line
-    ensures { result ≡ host_line host act }
+    ensures { result ≡ line_by_host host act }
 {
     Line::Do {
         actor: Actor::Host(HostId(host)),
