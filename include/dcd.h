@@ -10,9 +10,9 @@
 extern "C" {
 #endif
 
-/* What a call answers. Where it is not DCD_OK, the device is as it was before the call, except that a refused load or store
-   is a step of the device too (one that changes no word), and what is at the caller's pointers is as it was, except where
-   a line says what goes there. */
+/* What a call answers: of several that hold, but for DCD_NO_MEMORY, the first of this list. Where it is not DCD_OK, the device
+   is as it was before the call, except that a refused load or store is a step of the device too (one that changes no word),
+   and what is at the caller's pointers is as it was, except where a line says what goes there. */
 enum {
     DCD_OK = 0,
     DCD_NO_MEMORY = 1,        /* malloc answered null; the same call may be tried again later */

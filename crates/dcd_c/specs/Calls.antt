@@ -1,5 +1,5 @@
 -- What the calls of the library do, as relations between the device before and behind them.
-use Rattle.std.specs.Prelude.{◌≡◌, ◌≢◌, ℕ, ◌+◌, ◌<◌, ◌≤◌, ◌==◌, nat_lt, List, [], ◌++◌, drop, length, Option, Some, None, Result, Ok, Err, if◌then◌else◌}
+use Rattle.std.specs.Prelude.{◌≡◌, ◌≢◌, ℕ, ◌+◌, ◌<◌, ◌≤◌, ◌==◌, nat_lt, List, [], ◌++◌, drop, length, Option, Some, None, IsSome, Result, Ok, Err, if◌then◌else◌}
 use Rattle.dcd_base.specs.declared.steps.Actor.{Actor}
 use Rattle.cci_codec.specs.Messages.{ReadsRequest, message_fault, response_bytes}
 use Rattle.cci_codec.specs.declared.faults.MessageFault.{MessageFault}
@@ -52,10 +52,11 @@ pub record NeedsRoom (old : Living) (number : ℕ) (message : List ℕ) (room n 
   pub longer : room < n
   pub right : 12 < n → ByEveryLife old (λ life. 12 + payload_length (right_answer old.config life actor (Act.Command request)).0 ≡ n)
 
+-- The first fault: the actor is looked for, then the message is read, then the room is asked.
 abbrev pub RefusesMessage : Living → ℕ → List ℕ → ℕ → Fault → Type 0
 RefusesMessage d number message room Fault.NoMemory = Unit {0}
 RefusesMessage d number message room Fault.NoActor = actor_numbered d.config.hosts number ≡ None
-RefusesMessage d number message room (Fault.Message fault) = (fault ≢ MessageFault.NoMemory) × (message_fault message ≡ Some fault)
+RefusesMessage d number message room (Fault.Message fault) = IsSome (actor_numbered d.config.hosts number) × (fault ≢ MessageFault.NoMemory) × (message_fault message ≡ Some fault)
 RefusesMessage d number message room (Fault.NoRoom n) = NeedsRoom d number message room n
 RefusesMessage d number message room fault = ⊥
 
