@@ -1,7 +1,6 @@
 -- Digits and numbers that a text begins with.
 use Rattle.std.proofs.Common.{◌≡◌, ℕ, ◌+◌, ◌-◌, ◌*◌, ◌<◌, ◌≤◌, true, false, not, ◌&&◌, ◌||◌, ◌==◌, Bool, List, [], ◌∷◌, ◌++◌, length, take, get_or, slice_index, Option, Some, None, refl, sym, ap, ◌∙◌, inl, inr, arith, add-one}
 use Rattle.std.specs.Prelude.{IfSome}
-use Rattle.text_words.specs.Leading.{CutsDigits, CutsNumber}
 use Rattle.std.proofs.Math.Seq.{take-suc}
 use Rattle.std.specs.Option.{is_none}
 use Rattle.std.proofs.lemmas.Bool.{agree_below_at, and_parts, cases_Bool, cases_lt, cond-false, le-leb, lt-leb, not-true}
@@ -117,10 +116,3 @@ some_digits base v (c ∷ cs) some is = is
 pub if_some_more : {A : Type 0} {P Q : A → Type 0} (o : Option A) → IfSome o P → ((x : A) → P x → Q x) → IfSome o Q
 if_some_more None is more = tt
 if_some_more (Some x) is more = more x is
-
-pub count_cut : {A : Type 0} (value : A → ℕ) (rest : A → List ℕ) (text : List ℕ) (o : Option A) → IfSome o (λ r. CutsDigits 10 text (value r) (rest r)) → IfSome o (λ r. CutsNumber text (value r) (rest r))
-count_cut value rest text o is = if_some_more o is (λ r cut. record { word = cut.digits; parts = cut.parts; said = decimal_said (value r) cut.digits cut.said; fits = cut.fits })
-
-pub hexadecimal_cut : {A : Type 0} (value : A → ℕ) (rest : A → List ℕ) (text digits : List ℕ) (o : Option A) → text ≡ 48 ∷ 120 ∷ digits → IfSome o (λ r. CutsDigits 16 digits (value r) (rest r)) → IfSome o (λ r. CutsNumber text (value r) (rest r))
-hexadecimal_cut value rest text digits o begins is =
-    if_some_more o is (λ r cut. record { word = 48 ∷ 120 ∷ cut.digits; parts = begins ∙ ap (λ ds. 48 ∷ 120 ∷ ds) cut.parts; said = hexadecimal_said (value r) cut.digits cut.said; fits = cut.fits })

@@ -1,7 +1,11 @@
 -- Bytes as pairs of digits.
-use Rattle.std.proofs.Common.{◌≡◌, ℕ, ◌*◌, ◌<◌, ◌≤◌, ◌==◌, true, false, List, [], ◌∷◌, ◌++◌, length, take, drop, get_or, Option, Some, None, refl, sym, ap, ◌∙◌, arith, append-nil, append_assoc}
+use Rattle.std.proofs.Common.{◌≡◌, ℕ, ◌*◌, ◌<◌, ◌≤◌, ◌==◌, ◌&&◌, ◌+◌, true, false, List, [], ◌∷◌, ◌++◌, length, take, drop, get_or, Option, Some, None, refl, sym, ap, ◌∙◌, arith, append-nil, append_assoc}
 use Rattle.text_words.specs.Chains.{◌>>?◌ as ◌>>=◌}
-use Rattle.std.proofs.lemmas.Bool.{cond-false, ne_eqb}
+use Rattle.std.specs.List.{list_all}
+use Rattle.std.proofs.lemmas.Bool.{and_from, cond-false, ne_eqb}
+use Rattle.dcd_base.specs.declared.capacity.Tag.{Tag}
+use Rattle.text_words.specs.Characters.{digit_in, is_high}
+use Rattle.text_words.proofs.PrintedNumbers.{high_by}
 use Rattle.text_words.specs.Pairs.{AppendsPairs, FillsPairs, pair_said, pairs_said, tag_of_bytes, tag_said}
 
 -- bytes behind those that are there
@@ -83,3 +87,29 @@ no_tag_said word other = by (pairs_said word) refl
     by : (said : Option (List ℕ)) → pairs_said word ≡ said → (said >>= tag_of_bytes) ≡ None
     by None e = refl
     by (Some bytes) e = cond-false (length bytes == 16) _ _ (ne_eqb (length bytes) 16 (λ f. other (omega (arith, f, pairs_count word bytes e))))
+
+-- ---- a word that says pairs has digits alone
+pub pairs_high : (word bytes : List ℕ) → pairs_said word ≡ Some bytes → list_all is_high word ≡ true
+unfolding pairs_said
+pairs_high [] bytes is = refl
+pairs_high (c ∷ []) bytes is = cc
+pairs_high (c ∷ d ∷ rest) bytes is = both (digit_in 16 c) (digit_in 16 d) refl refl is (λ bs e. pairs_high rest bs e)
+  where
+    more : (b : ℕ) (said : Option (List ℕ)) → pairs_said rest ≡ said → (said >>= (λ bs. Some (b ∷ bs))) ≡ Some bytes → ((bs : List ℕ) → pairs_said rest ≡ Some bs → list_all is_high rest ≡ true) → list_all is_high rest ≡ true
+    more b None e f each = cc
+    more b (Some bs) e f each = each bs e
+
+    both : (high low : Option ℕ) → digit_in 16 c ≡ high → digit_in 16 d ≡ low → ((high >>= (λ h. low >>= (λ l. Some (h * 16 + l)))) >>= (λ b. pairs_said rest >>= (λ bs. Some (b ∷ bs)))) ≡ Some bytes
+        → ((bs : List ℕ) → pairs_said rest ≡ Some bs → list_all is_high rest ≡ true) → (is_high c && (is_high d && list_all is_high rest)) ≡ true
+    both None low e f g each = cc
+    both (Some h) None e f g each = cc
+    both (Some h) (Some l) e f g each =
+        and_from (is_high c) (is_high d && list_all is_high rest) (high_by 16 c h e) (and_from (is_high d) (list_all is_high rest) (high_by 16 d l f) (more (h * 16 + l) (pairs_said rest) refl g each))
+
+pub tag_high : (word : List ℕ) (tag : Tag) → tag_said word ≡ Some tag → list_all is_high word ≡ true
+unfolding tag_said
+tag_high word tag is = by (pairs_said word) refl is
+  where
+    by : (said : Option (List ℕ)) → pairs_said word ≡ said → (said >>= tag_of_bytes) ≡ Some tag → list_all is_high word ≡ true
+    by None e f = cc
+    by (Some bytes) e f = pairs_high word bytes e

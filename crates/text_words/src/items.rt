@@ -1,4 +1,4 @@
-//! Short numbers and extents that a text begins with, as lists have them.
+//! Short numbers and extents that a text begins with, as lines and lists have them.
 
 ghost use Rattle.std.specs.Prelude.{◌≡◌, ◌≤◌, IfSome, IsTrue, Ok, Some, false};
 ghost use Rattle.text_words.specs.Extents.{extent_said, limited_extent};
@@ -58,9 +58,10 @@ fn cut_prefixed(text: &[u8]) -> Option<(u64, &[u8])>
     }
 }
 
-/// A number with a suffix or without, and what stands behind it.
+/// The number that a text begins with, with a suffix or without, and what stands behind it. `None` also where there are many
+/// digits, or h behind them.
 #[inline(always)]
-fn cut_sized(text: &[u8]) -> Option<(u64, &[u8])>
+pub fn cut_number(text: &[u8]) -> Option<(u64, &[u8])>
     ensures { IfSome result (λ r. CutsNumber text.now r.0 r.1.now) }
 {
     let (number, rest) = cut_prefixed(text)?;
@@ -75,14 +76,15 @@ fn cut_sized(text: &[u8]) -> Option<(u64, &[u8])>
     Some((number, rest))
 }
 
-/// An extent without a tag, and what stands behind it.
+/// The extent without a tag that a text begins with, and what stands behind it. `None` also where a number has many digits, or
+/// h behind them.
 #[inline(always)]
-fn cut_extent(text: &[u8]) -> Option<(Extent, &[u8])>
+pub fn cut_extent(text: &[u8]) -> Option<(Extent, &[u8])>
     ensures { IfSome result (λ r. CutsExtent text.now r.0 r.1.now) }
 {
-    let (start, rest) = cut_sized(text)?;
+    let (start, rest) = cut_number(text)?;
     let rest = cut_text(*b"+", rest)?;
-    let (length, rest) = cut_sized(rest)?;
+    let (length, rest) = cut_number(rest)?;
     let extent = Extent {
         start,
         length,
@@ -107,7 +109,7 @@ pub fn cut_number_item(bytes: &[u8]) -> Option<(u64, &[u8], &[u8])>
     ensures said { IfSome result (λ r. number_said r.1.now ≡ Some r.0) }
 {
     let text = cut_text(*b" ", bytes)?;
-    let (number, rest) = cut_sized(text)?;
+    let (number, rest) = cut_number(text)?;
     if !ends_word(rest) {
         return None;
     }

@@ -1,7 +1,7 @@
-//! What a text begins with: digits, a number or given characters, and what stands behind them.
+//! What a text begins with: digits or given characters, and what stands behind them.
 
 ghost use Rattle.std.specs.Prelude.{◌≡◌, ◌++◌, ◌<◌, ◌≤◌, ◌^◌, IfSome, Some, length, take};
-ghost use Rattle.text_words.specs.Leading.{CutsDigits, CutsNumber};
+ghost use Rattle.text_words.specs.Leading.{CutsDigits};
 ghost use Rattle.text_words.specs.Numbers.{digits_from};
 
 use crate::characters::digit_in;
@@ -62,36 +62,5 @@ pub fn cut_text<const N: usize>(expected: [u8; N], text: &[u8]) -> Option<&[u8]>
     match text.strip_prefix(expected.as_slice()) {
         Some(rest) => Some(rest),
         None => None,
-    }
-}
-
-/// A number that a text begins with, 0x and hexadecimal digits, and what stands behind it.
-#[inline(always)]
-fn cut_hexadecimal(text: &[u8]) -> Option<(u64, &[u8])>
-    ensures { IfSome result (λ r. CutsNumber text.now r.0 r.1.now) }
-{
-    match cut_text(*b"0x", text) {
-        Some(digits) => cut_digits(16, digits),
-        None => None,
-    }
-}
-
-/// A number that a text begins with, decimal digits, and what stands behind it.
-#[inline(always)]
-fn cut_count(text: &[u8]) -> Option<(u64, &[u8])>
-    ensures { IfSome result (λ r. CutsNumber text.now r.0 r.1.now) }
-{
-    cut_digits(10, text)
-}
-
-/// The number that a text begins with, without a suffix, and what stands behind it. `None` also near the end of the text, and
-/// where there are many digits.
-#[inline(always)]
-pub fn cut_number(text: &[u8]) -> Option<(u64, &[u8])>
-    ensures { IfSome result (λ r. CutsNumber text.now r.0 r.1.now) }
-{
-    match cut_hexadecimal(text) {
-        Some(found) => Some(found),
-        None => cut_count(text),
     }
 }

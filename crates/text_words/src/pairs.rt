@@ -1,8 +1,9 @@
 //! Bytes as pairs of hexadecimal digits.
 
 ghost use Rattle.hex.specs.Hex.{lower_digits};
-ghost use Rattle.std.specs.Prelude.{◌≡◌, ◌++◌, ◌*◌, ◌<◌, IfOk, OnOk, length, slice_index, map};
+ghost use Rattle.std.specs.Prelude.{◌≡◌, ◌++◌, ◌*◌, ◌<◌, IfOk, IfSome, OnOk, length, slice_index, map};
 ghost use Rattle.std.specs.List.{flat_map};
+ghost use Rattle.text_words.specs.Items.{CutsTag};
 ghost use Rattle.text_words.specs.Pairs.{AppendsPairs, FillsPairs, pair_said, pair_text, pairs_said, tag_said, tag_text};
 ghost use Rattle.text_words.specs.Words.{spaced};
 
@@ -79,6 +80,21 @@ pub fn tag_of(_alloc: Global, word: &[u8]) -> Result<Option<Tag>, NoMemory>
     ensures { IfOk result (λ tag. tag ≡ tag_said word.now) }
 {
     Ok(tag_said_by(word))
+}
+
+/// The tag that a text begins with, 32 hexadecimal digits in lower case, and what stands behind it.
+#[inline(always)]
+pub fn cut_tag(text: &[u8]) -> Option<(Tag, &[u8])>
+    ensures { IfSome result (λ r. CutsTag text.now r.0 r.1.now) }
+{
+    if text.len() < 32 {
+        return None;
+    }
+    let (word, rest) = text.split_at(32);
+    match tag_said_by(word) {
+        Some(tag) => Some((tag, rest)),
+        None => None,
+    }
 }
 
 /// The digit of a value below 16.

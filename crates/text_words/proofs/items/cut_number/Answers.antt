@@ -1,7 +1,7 @@
 use Rattle.std.proofs.Common.{◌≡◌, ◌*◌, ◌<◌, ◌^◌, length, sym, ◌∙◌, arith}
 use Rattle.std.proofs.lemmas.Bool.{eqb-false}
 use Rattle.text_words.proofs.ItemLaws.{sized_number}
-use Rattle.text_words.proofs.items.cut_sized.Goals as goal
+use Rattle.text_words.proofs.items.cut_number.Goals as goal
 
 pub returns : goal.returns
 returns c =
