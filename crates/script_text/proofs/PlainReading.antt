@@ -5,8 +5,9 @@ use Rattle.script_codec.specs.declared.script_line.Line.{Line}
 use Rattle.text_words.specs.Unread.{Ahead, ahead_from, ahead_with, first_words}
 use Rattle.text_words.specs.Words.{line_text, spaced}
 use Rattle.text_words.proofs.TextLaws.{line_ahead_of}
-use Rattle.text_lines.specs.PlainLines.{CutsLine, further_words}
+use Rattle.text_lines.specs.PlainLines.{CutsLine}
 use Rattle.text_lines.specs.declared.actors.Frame.{Frame}
+use Rattle.text_lines.proofs.LineLaws.{line_goes}
 use Rattle.script_text.specs.Texts.{IsReadFirst}
 
 first_here : (n : ℕ) (words : List (List ℕ)) (a : Ahead) → 0 < length words → (ahead_with (first_words n words) a).lines ≡ first_words n words ∷ a.lines
@@ -16,14 +17,15 @@ first_here n (word ∷ words) a some = refl
 pub taken_first : (frame : Frame) (number : ℕ) (text rest : List ℕ) (line : Line) (old new : Ahead) → old ≡ ahead_from number text → new ≡ ahead_from (number + 1) rest → CutsLine frame text line rest → IsReadFirst frame old new line
 taken_first frame number text rest line old new before after cut =
     let whole : old ≡ ahead_with (first_words number cut.words) (ahead_from (number + 1) rest) = before ∙ ap (ahead_from number) cut.parts ∙ line_ahead_of number cut.words rest cut.sound in
+    let read = line_goes frame line (first_words number cut.words) cut.says in
     record {
       first = first_words number cut.words;
-      behind = further_words number cut.further;
-      opening = cut.opening;
+      behind = read.left;
+      opening = read.opening;
       here = ap (λ (a : Ahead). a.lines) whole ∙ first_here number cut.words (ahead_from (number + 1) rest) cut.sound.some ∙ ap (λ (a : Ahead). first_words number cut.words ∷ a.lines) (sym after);
       end = ap (λ (a : Ahead). a.end) after ∙ sym (ap (λ (a : Ahead). a.end) whole);
-      opens = cut.opens number;
-      reads = cut.reads number;
+      opens = read.opened;
+      reads = read.rest;
     }
 
 line_has_end : (words : List (List ℕ)) → 0 < length (line_text words)

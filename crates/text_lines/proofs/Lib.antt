@@ -4,9 +4,11 @@ pub mod KeywordLaws
 pub mod LineLaws
 pub mod ListLaws
 pub mod LoopLaws
+pub mod MessageCuts
 pub mod MessageLaws
 pub mod NameLaws
 pub mod OpeningLaws
+pub mod PartCuts
 pub mod PartLaws
 pub mod PlainLaws
 pub mod PolicyLaws

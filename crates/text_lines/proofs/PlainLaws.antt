@@ -21,7 +21,7 @@ use Rattle.text_lines.specs.Commands.{host_command_said}
 use Rattle.text_lines.specs.Fields.{end_ahead, keyword_ahead, may_ahead, named_ahead, number_ahead, number_of_word, number_or, told}
 use Rattle.text_lines.specs.HostRequests.{host_request_ahead, page_ahead}
 use Rattle.text_lines.specs.Lines.{actor_line_ahead, host_act_ahead, host_asked_ahead, host_message, host_word, line_by, load_ahead, opening_ahead, opening_of_actor, opening_of_word, rest_ahead, store_ahead}
-use Rattle.text_lines.specs.PlainLines.{CutsAct, CutsHost, CutsLast, CutsLine, CutsPage, command_act, further_words, line_by_host}
+use Rattle.text_lines.specs.PlainLines.{CutsAct, CutsHost, CutsHostLine, CutsLast, CutsLine, CutsPage, command_act, further_words, line_by_host}
 use Rattle.text_lines.specs.declared.forms.Page.{Page}
 use Rattle.text_lines.specs.declared.actors.Frame.{Frame}
 use Rattle.text_lines.specs.declared.actors.Speaker.{Speaker}
@@ -30,13 +30,14 @@ use Rattle.text_lines.specs.declared.faults.TextFault.{TextFault}
 use Rattle.text_lines.specs.declared.faults.Wanted.{Wanted}
 use Rattle.text_lines.specs.declared.keywords.Keyword.{Keyword}
 use Rattle.text_lines.specs.declared.openings.Opening.{Opening}
+use Rattle.text_lines.proofs.LineLaws.{line_sound}
 
 -- ---- numbers
 read_number : (most v : ℕ) (word : List ℕ) → number_said word ≡ Some v → v ≤ most → number_of_word most word ≡ Ok v
 read_number most v word said fits =
     ap (λ o. number_or most (limited most o)) said ∙ ap (λ test. number_or most (cond test (Ok v) (Err NumberFault.TooLarge))) (le-leb v most fits)
 
-number_text : (v : ℕ) (word : List ℕ) → number_said word ≡ Some v → IsTextWord word
+pub number_text : (v : ℕ) (word : List ℕ) → number_said word ≡ Some v → IsTextWord word
 number_text v word said = number_is_word word (number_high v word said)
 
 -- ---- texts of words
@@ -53,25 +54,25 @@ unfolding line_text
 line_one word rest = sym (ap (λ bytes. bytes ++ 10 ∷ [] ++ rest) (append-nil word) ∙ append_assoc word (10 ∷ []) rest)
 
 -- ---- hosts
-digits_text : (host : ℕ) (digits : List ℕ) → digits_said 10 digits ≡ Some host → IsTextWord (104 ∷ digits)
+pub digits_text : (host : ℕ) (digits : List ℕ) → digits_said 10 digits ≡ Some host → IsTextWord (104 ∷ digits)
 digits_text host [] said = cc
 digits_text host (c ∷ cs) said = number_is_word (104 ∷ c ∷ cs) (and_from (is_high 104) (list_all is_high (c ∷ cs)) refl (digits_high 10 0 host (c ∷ cs) said), omega arith)
 
 below_hosts : (limit n : ℕ) → n < limit → under limit (Some n) ≡ Ok n
 below_hosts limit n low = ap (λ test. cond test (Ok n) (Err NumberFault.TooLarge)) (lt-ltb n limit low)
 
-host_is : (digits : List ℕ) → host_said (104 ∷ digits) ≡ digits_said 10 digits
+pub host_is : (digits : List ℕ) → host_said (104 ∷ digits) ≡ digits_said 10 digits
 unfolding host_said
 host_is digits = refl
 
-seat_is : (frame : Frame) (digits : List ℕ) (host : ℕ) → digits_said 10 digits ≡ Some host → host < frame.hosts → (frame.version == 2) ≡ false → 0 < frame.lanes → seat_said frame (104 ∷ digits) ≡ Ok (host, 0)
+pub seat_is : (frame : Frame) (digits : List ℕ) (host : ℕ) → digits_said 10 digits ≡ Some host → host < frame.hosts → (frame.version == 2) ≡ false → 0 < frame.lanes → seat_said frame (104 ∷ digits) ≡ Ok (host, 0)
 unfolding seat_said
 seat_is frame digits host said low flat lanes =
     let front : under frame.hosts (host_said (104 ∷ digits)) ≡ Ok host = ap (under frame.hosts) (host_is digits ∙ said) ∙ below_hosts frame.hosts host low in
     let back : under frame.lanes (Some 0) ≡ Ok 0 = below_hosts frame.lanes 0 lanes in
     cond-false ((frame.version == 2) && has_dot (104 ∷ digits)) _ _ (ap (λ b. b && has_dot (104 ∷ digits)) flat) ∙ (λ i. seat_of_parts (front i) (back i))
 
-speaker_is : (frame : Frame) (digits : List ℕ) (host : ℕ) → seat_said frame (104 ∷ digits) ≡ Ok (host, 0) → actor_of_word frame Wanted.Line (104 ∷ digits) ≡ Ok (Speaker.Host host 0)
+pub speaker_is : (frame : Frame) (digits : List ℕ) (host : ℕ) → seat_said frame (104 ∷ digits) ≡ Ok (host, 0) → actor_of_word frame Wanted.Line (104 ∷ digits) ≡ Ok (Speaker.Host host 0)
 unfolding actor_of_word
 speaker_is frame digits host is = rw is refl
 
@@ -214,16 +215,15 @@ line_is frame host n end act words is = ap (λ (r : Result (Act × UnreadWords) 
 line_cut_of : (frame : Frame) (text middle rest : List ℕ) (host : ℕ) (act : Act) → CutsHost frame text host middle → CutsAct middle act rest → CutsLine frame text (line_by_host host act) rest
 line_cut_of frame text middle rest host act front back =
     let seat = seat_is frame front.digits host front.said front.below front.flat front.lanes in
-    let opened = opening_is frame front.digits host (speaker_is frame front.digits host seat) in
+    let opened = opens_is frame front.digits host 0 back.words (opening_is frame front.digits host (speaker_is frame front.digits host seat)) in
     record {
       words = (104 ∷ front.digits) ∷ back.words;
-      further = back.words;
-      opening = Opening.By (Speaker.Host host 0);
       sound = record { some = omega arith; each = (digits_text host front.digits front.said, back.sound.each) };
       parts = front.parts ∙ ap (λ bytes. 104 ∷ (front.digits ++ 32 ∷ bytes)) back.parts ∙ line_before (104 ∷ front.digits) back.words rest back.sound;
-      opens = λ n. opens_is frame front.digits host n back.words opened;
-      reads = λ n. line_is frame host n back.end act back.words (back.reads n);
+      says = line_sound frame (first_words 0 ((104 ∷ front.digits) ∷ back.words)) (further_words 0 back.words) (Opening.By (Speaker.Host host 0)) (line_by_host host act) opened (line_is frame host 0 back.end act back.words (back.reads 0));
     }
 
-pub line_cut : (frame : Frame) (text middle rest : List ℕ) (host : ℕ) (act : Act) (line : Line) → line ≡ line_by_host host act → CutsHost frame text host middle → CutsAct middle act rest → CutsLine frame text line rest
-line_cut frame text middle rest host act line is front back = subst (λ l. CutsLine frame text l rest) (sym is) (line_cut_of frame text middle rest host act front back)
+pub line_cut : (frame : Frame) (text rest : List ℕ) (host : ℕ) (act : Act) (line : Line) → line ≡ line_by_host host act → CutsAct text act rest → CutsHostLine frame host text line rest
+line_cut frame text rest host act line is back = record {
+  whole = λ front cut. subst (λ l. CutsLine frame front l rest) (sym is) (line_cut_of frame front text rest host act cut back);
+}

@@ -9,4 +9,5 @@ pub mod Lines
 pub mod ManagerRequests
 pub mod Parts
 pub mod PlainLines
+pub mod PlainParts
 pub mod Policies

@@ -8,11 +8,11 @@ use Rattle.journal_core.specs.declared.acts.Act.{Act}
 use Rattle.script_codec.specs.declared.script_line.Line.{Line}
 use Rattle.text_words.specs.Numbers.{digits_said, number_said}
 use Rattle.text_words.specs.Texts.{IsWordLine}
-use Rattle.text_words.specs.Unread.{UnreadWords, first_words}
+use Rattle.text_words.specs.Unread.{UnreadWords}
 use Rattle.text_words.specs.Words.{line_text}
-use Rattle.text_lines.specs.Lines.{host_act_ahead, host_message, opening_ahead, rest_ahead}
+use Rattle.text_lines.specs.Layouts.{SaysLine}
+use Rattle.text_lines.specs.Lines.{host_act_ahead, host_message}
 use Rattle.text_lines.specs.declared.actors.Frame.{Frame}
-use Rattle.text_lines.specs.declared.openings.Opening.{Opening}
 use Rattle.text_lines.specs.declared.plain_lines.Access.{Access}
 
 -- the words behind the first one of a line
@@ -64,12 +64,13 @@ pub record CutsPage (text : List ℕ) (request : HostRequest) (rest : List ℕ) 
   pub untagged : IsTrue (lists_untagged request)
   pub act : CutsAct text (command_act (host_message 0 request)) rest
 
--- The text begins with a line that is read as this one.
+-- The text begins with words that say this line.
 pub record CutsLine (frame : Frame) (text : List ℕ) (line : Line) (rest : List ℕ) : Type 0 where
   pub words : List (List ℕ)
-  pub further : List (List ℕ)
-  pub opening : Opening
   pub sound : IsWordLine words
   pub parts : text ≡ line_text words ++ rest
-  pub opens : (n : ℕ) → opening_ahead frame (first_words n words) ≡ Ok (opening, further_words n further)
-  pub reads : (n : ℕ) → rest_ahead frame opening (further_words n further) ≡ Ok line
+  pub says : SaysLine frame line words
+
+-- The text goes on with what a host does in this line.
+pub record CutsHostLine (frame : Frame) (host : ℕ) (text : List ℕ) (line : Line) (rest : List ℕ) : Type 0 where
+  pub whole : (front : List ℕ) → CutsHost frame front host text → CutsLine frame front line rest

@@ -17,7 +17,10 @@ mod manager_reading;
 mod messages;
 mod openings;
 mod payloads;
+mod plain_items;
 mod plain_lines;
+mod plain_messages;
+mod plain_parts;
 mod policies;
 mod short_payloads;
 
@@ -27,4 +30,5 @@ pub use faults::{Cause, TextFault, Wanted};
 pub use keywords::Keyword;
 pub use lines::{opening, rest};
 pub use openings::Opening;
-pub use plain_lines::{access_line, page_line};
+pub use plain_lines::plain_line;
+pub use plain_messages::PayloadRoom;

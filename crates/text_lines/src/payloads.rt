@@ -63,7 +63,7 @@ fn fill_lists(out: &mut [u8], host: u16, count: u32, first: u32)
 }
 
 /// The payload that asks for extents of a host.
-fn lists_payload(alloc: Global, host: u16, count: u32, first: u32) -> Result<Payload, NoMemory>
+pub fn lists_payload(alloc: Global, host: u16, count: u32, first: u32) -> Result<Payload, NoMemory>
     ensures { IfOk result (λ payload. payload ≡ spelling (Number w16 host ∷ Reserved 2 ∷ Number w32 count ∷ Number w32 first ∷ [])) }
 {
     let mut bytes = [0u8; 12];

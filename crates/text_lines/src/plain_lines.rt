@@ -1,14 +1,15 @@
-//! Lines that hosts have most often, read at once: with one space before each further word, and a line feed behind the last.
+//! Lines of frequent forms, read at once: with one space before each further word, and a line feed behind the last.
 //!
 //! Each function answers `None` where the text begins otherwise, or too near its end: such a line is read word by word.
 
 ghost use Rattle.host_payloads.specs.HostPayloads.{HostCountsFit, lists_untagged};
 ghost use Rattle.std.specs.Prelude.{◌≡◌, IfSome, IsTrue};
 ghost use Rattle.text_lines.specs.Lines.{host_message as message_of_host};
-ghost use Rattle.text_lines.specs.PlainLines.{CutsAct, CutsHost, CutsLast, CutsLine, CutsPage, access_act, command_act, line_by_host};
+ghost use Rattle.text_lines.specs.PlainLines.{CutsAct, CutsHost, CutsHostLine, CutsLast, CutsLine, CutsPage, access_act, command_act, line_by_host};
 
 use crate::actors::Frame;
 use crate::messages::host_message;
+use crate::plain_messages::{PayloadRoom, host_list, manager_message_at};
 use dcd_base::{Actor, HostId};
 use host_payloads::HostRequest;
 use journal_core::Act;
@@ -113,10 +114,9 @@ fn line_of(host: u8, act: Act) -> Line
 
 /// A load or a store of a host, and what stands behind its line.
 #[inline(always)]
-pub fn access_line(frame: Frame, text: &[u8]) -> Option<(Line, &[u8])>
-    ensures { IfSome result (λ r. CutsLine frame text.now r.0 r.1.now) }
+fn access_line(frame: Frame, host: u8, text: &[u8]) -> Option<(Line, &[u8])>
+    ensures { IfSome result (λ r. CutsHostLine frame host text.now r.0 r.1.now) }
 {
-    let (host, text) = cut_host(frame, text)?;
     let (access, rest) = cut_access(text)?;
     Some((line_of(host, act_of(access)), rest))
 }
@@ -177,20 +177,11 @@ fn cut_listed(text: &[u8]) -> Option<(HostRequest, &[u8])>
     }
 }
 
-/// Whether a text begins as each question does.
-#[inline(always)]
-fn may_ask(text: &[u8]) -> bool {
-    !text.is_empty() && text[0] == b'g'
-}
-
 /// A host's question for a page, and what stands behind its line.
 #[inline(always)]
 fn cut_page(text: &[u8]) -> Option<(HostRequest, &[u8])>
     ensures { IfSome result (λ r. CutsPage text.now r.0 r.1.now) }
 {
-    if !may_ask(text) {
-        return None;
-    }
     match cut_listed(text) {
         Some(found) => Some(found),
         None => cut_events(text),
@@ -211,11 +202,84 @@ fn asked(alloc: Global, request: &HostRequest) -> Option<Act>
 
 /// A host's question for a page, and what stands behind its line.
 #[inline(always)]
-pub fn page_line(alloc: Global, frame: Frame, text: &[u8]) -> Option<(Line, &[u8])>
-    ensures { IfSome result (λ r. CutsLine frame text.now r.0 r.1.now) }
+fn page_line(alloc: Global, frame: Frame, host: u8, text: &[u8]) -> Option<(Line, &[u8])>
+    ensures { IfSome result (λ r. CutsHostLine frame host text.now r.0 r.1.now) }
 {
-    let (host, text) = cut_host(frame, text)?;
     let (request, rest) = cut_page(text)?;
     let act = asked(alloc, &request)?;
     Some((line_of(host, act), rest))
+}
+
+/// What a host says with a list, and what stands behind its line.
+#[inline(always)]
+fn list_line<'a>(
+    alloc: Global,
+    frame: Frame,
+    host: u8,
+    text: &'a [u8],
+    room: &mut PayloadRoom,
+) -> Option<(Line, &'a [u8])>
+    ensures { IfSome result (λ r. CutsHostLine frame host text.now r.0 r.1.now) }
+{
+    let (message, rest) = host_list(alloc, text, room)?;
+    let rest = cut_text(*b"\n", rest)?;
+    Some((line_of(host, Act::Command(message)), rest))
+}
+
+/// What a host says or does, and what stands behind its line.
+#[inline(always)]
+fn host_line<'a>(
+    alloc: Global,
+    frame: Frame,
+    host: u8,
+    text: &'a [u8],
+    room: &mut PayloadRoom,
+) -> Option<(Line, &'a [u8])>
+    ensures { IfSome result (λ r. CutsHostLine frame host text.now r.0 r.1.now) }
+{
+    if text.is_empty() {
+        return None;
+    }
+    match text[0] {
+        b'l' | b's' => access_line(frame, host, text),
+        b'g' => page_line(alloc, frame, host, text),
+        _ => list_line(alloc, frame, host, text, room),
+    }
+}
+
+/// What the manager says, and what stands behind its line.
+fn manager_line<'a>(
+    alloc: Global,
+    frame: Frame,
+    text: &'a [u8],
+    room: &mut PayloadRoom,
+) -> Option<(Line, &'a [u8])>
+    ensures { IfSome result (λ r. CutsLine frame text.now r.0 r.1.now) }
+{
+    let text = cut_text(*b"fm", text)?;
+    let (message, rest) = manager_message_at(alloc, text, room)?;
+    let rest = cut_text(*b"\n", rest)?;
+    let line = Line::Do {
+        actor: Actor::Manager,
+        lane: 0,
+        act: Act::Command(message),
+    };
+    Some((line, rest))
+}
+
+/// A line that can be read at once, and what stands behind it.
+#[inline(always)]
+pub fn plain_line<'a>(
+    alloc: Global,
+    frame: Frame,
+    text: &'a [u8],
+    room: &mut PayloadRoom,
+) -> Option<(Line, &'a [u8])>
+    ensures { IfSome result (λ r. CutsLine frame text.now r.0 r.1.now) }
+{
+    let Some((host, act)) = cut_host(frame, text) else {
+        return manager_line(alloc, frame, text, room);
+    };
+    let (line, rest) = host_line(alloc, frame, host, act, room)?;
+    Some((line, rest))
 }

@@ -82,7 +82,7 @@ fn release_name(words: &mut Words<'_>) -> Result<u8, TextFault>
 }
 
 /// The flags of a release: bits 3:0 are the policy, bit 4 forced, bit 5 sanitize.
-fn release_flags_of(policy: u8, forced: bool, sanitize: bool) -> u8
+pub fn release_flags_of(policy: u8, forced: bool, sanitize: bool) -> u8
     requires { policy < 2 }
     ensures { result ≡ flags_of policy forced sanitize }
 {

@@ -1,10 +1,11 @@
 //! Payloads of lists of few items, put together without memory.
 
+ghost use Rattle.dcd_base.specs.Words.{flag_of};
 ghost use Rattle.field_bytes.specs.EventCommands.{FitsHandle, clear_fields};
-ghost use Rattle.field_bytes.specs.Layouts.{spelling, u16_bytes};
+ghost use Rattle.field_bytes.specs.Layouts.{spelling, u8_bytes, u16_bytes};
 ghost use Rattle.fm_payloads.specs.ManagerPayloads.{placed_fields, placed_head};
 ghost use Rattle.host_payloads.specs.HostPayloads.{list_fields, list_head, listed_bytes};
-ghost use Rattle.std.specs.Prelude.{◌≡◌, ◌+◌, ◌*◌, ◌++◌, ◌≤◌, IfOk, flat_map, length, take};
+ghost use Rattle.std.specs.Prelude.{◌≡◌, ◌+◌, ◌*◌, ◌++◌, ◌∷◌, [], ◌≤◌, IfOk, flat_map, length, take};
 
 use cci_codec::Payload;
 use dcd_base::{Extent, NoMemory, Tag};
@@ -26,7 +27,7 @@ fn fill_listed(out: &mut [u8], extent: &Extent)
 }
 
 /// Puts an extent's 24 bytes at a place, and leaves what stands before it.
-fn put_listed(out: &mut [u8], at: usize, extent: &Extent)
+pub fn put_listed(out: &mut [u8], at: usize, extent: &Extent)
     requires { at + 24 ≤ length out.old }
     ensures { take (at + 24) out.new ≡ take at out.old ++ listed_bytes extent.now }
 {
@@ -49,7 +50,7 @@ fn put_all_listed(out: &mut [u8], at: usize, extents: &[Extent])
 
 /// Puts what stands before the extents of a list at the start: how many they are, and More.
 #[tactic(auto, unfolding(host_payloads::specs::HostPayloads::list_head))]
-fn put_list_head(out: &mut [u8], count: u32, more: bool)
+pub fn put_list_head(out: &mut [u8], count: u32, more: bool)
     requires { 8 ≤ length out.old }
     ensures { take 8 out.new ≡ list_head count more }
 {
@@ -91,16 +92,24 @@ fn put_handles(out: &mut [u8], at: usize, handles: &[u16])
     }
 }
 
+/// Puts what stands before the handles at the start: the log, whether all of it, and how many handles come.
+pub fn put_clear_head(out: &mut [u8], log: u8, all: bool, count: u8)
+    requires { 6 ≤ length out.old }
+    ensures { take 6 out.new ≡ u8_bytes log ++ flag_of all ∷ u8_bytes count ++ 0 ∷ 0 ∷ 0 ∷ [] }
+{
+    put_u8(out, 0, log);
+    put_flag(out, 1, all);
+    put_u8(out, 2, count);
+    put_zeros::<3>(out, 3);
+}
+
 /// Fills the payload that clears records.
 fn fill_clear(out: &mut [u8], log: u8, all: bool, handles: &[u16])
     requires few { length handles.now ≤ 16 }
     requires whole { length out.old ≡ 6 + 2 * length handles.now }
     ensures { out.new ≡ spelling (clear_fields log all handles.now) }
 {
-    put_u8(out, 0, log);
-    put_flag(out, 1, all);
-    put_u8(out, 2, handles.len() as u8);
-    put_zeros::<3>(out, 3);
+    put_clear_head(out, log, all, handles.len() as u8);
     put_handles(out, 6, handles);
 }
 
@@ -122,7 +131,7 @@ pub fn clear_payload(
 
 /// Puts what stands before the extents, bytes 0 to 31, at the start.
 #[tactic(auto, unfolding(fm_payloads::specs::ManagerPayloads::placed_head))]
-fn put_placed_head(
+pub fn put_placed_head(
     out: &mut [u8],
     host: u16,
     choice: u8,

@@ -6,5 +6,5 @@ use Rattle.text_lines.proofs.plain_lines.page_line.Goals as goal
 
 pub returns : goal.returns
 returns c =
-    line_cut c.args.frame c.args.text.now c.in_ok-host.text.now c.in_ok-request.rest.now c.in_ok-host.host (command_act (host_message 0 c.in_ok-request.request)) c.line_of.result
-    (c.line_of.ensures ∙ ap (line_by_host c.in_ok-host.host) c.in_ok-act.ensures) c.in_ok-host.ensures c.in_ok-request.ensures.act
+    line_cut c.args.frame c.args.text.now c.in_ok-request.rest.now c.args.host (command_act (host_message 0 c.in_ok-request.request)) c.line_of.result
+    (c.line_of.ensures ∙ ap (line_by_host c.args.host) c.in_ok-act.ensures) c.in_ok-request.ensures.act

@@ -6,5 +6,5 @@ use Rattle.text_lines.proofs.short_payloads.fill_clear.Goals as goal
 pub returns : goal.returns
 returns c =
     filled (6 + 2 * length c.args.handles.now) (search rules)
-    (rw (c.put_handles.ensures, c.put_zeros.ensures.put, c.put_u8-2.ensures.put, c.put_flag.ensures.put, c.put_u8.ensures.put)
+    (rw (c.put_handles.ensures, c.put_clear_head.ensures)
     (clear_spelled c.args.log c.args.all c.args.handles.now))

@@ -3,7 +3,7 @@ use Rattle.std.specs.Prelude.{flat_map}
 use Rattle.field_bytes.specs.Layouts.{spelling}
 use Rattle.script_codec.specs.Scripts.{line_fields}
 use Rattle.script_text.specs.Texts.{lines_at, lines_behind}
-use Rattle.script_text.proofs.parsing.fill_pages.Given as goal
+use Rattle.script_text.proofs.parsing.fill_plain.Given as goal
 
 abbrev pub invariant-loop-left : goal.invariant-loop-left
 invariant-loop-left l = record {

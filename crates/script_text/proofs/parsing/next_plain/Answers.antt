@@ -1,6 +1,6 @@
 use Rattle.std.proofs.Common.{arith}
 use Rattle.script_text.proofs.PlainReading.{cut_is_shorter, taken_first}
-use Rattle.script_text.proofs.parsing.next_access.Goals as goal
+use Rattle.script_text.proofs.parsing.next_plain.Goals as goal
 
 pub overflow_add-number : goal.overflow_add-number
 overflow_add-number c =

@@ -1,7 +1,7 @@
 use Rattle.std.proofs.Common.{length, ap, ◌∙◌, arith}
 use Rattle.script_text.proofs.LineLoops.{lines_go_on}
 use Rattle.script_text.proofs.ScriptSizes.{size_more}
-use Rattle.script_text.proofs.parsing.fill_pages.Goals as goal
+use Rattle.script_text.proofs.parsing.fill_plain.Goals as goal
 
 pub loop-left-preserved : goal.loop-left-preserved
 loop-left-preserved c =
@@ -11,6 +11,6 @@ loop-left-preserved c =
       end = first.end ∙ c.loop-left.invariant.end;
       fewer = omega (arith, one, c.loop-left.invariant.fewer);
       size = rw c.in_ok-push.ensures.pushed (size_more c.loop-left.out c.in-Some.line c.loop-left.size _ c.loop-left.invariant.size c.size_with-size.ensures);
-      read = lines_go_on c.args.frame c.loop-left.left c.loop-left.out first.first c.loop-left.lines.lines c.next_page.new.lines.lines _ first.here c.loop-left.invariant.read first.opening first.behind c.in-Some.line _ first.opens
+      read = lines_go_on c.args.frame c.loop-left.left c.loop-left.out first.first c.loop-left.lines.lines c.next_plain.new.lines.lines _ first.here c.loop-left.invariant.read first.opening first.behind c.in-Some.line _ first.opens
           (λ none. omega (arith, none, c.loop-left-test.true)) first.reads c.in_ok-push.ensures.pushed;
     }
