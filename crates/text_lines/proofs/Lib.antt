@@ -12,5 +12,6 @@ pub mod PartCuts
 pub mod PartLaws
 pub mod PlainLaws
 pub mod PolicyLaws
+pub mod QuestionCuts
 pub mod RequestLaws
 pub mod SoundLaws

@@ -2,7 +2,6 @@
 use Rattle.std.proofs.Common.{◌≡◌, ℕ, ◌+◌, ◌*◌, ◌<◌, ◌≤◌, Bool, List, [], ◌∷◌, ◌++◌, length, take, drop, Ok, refl, sym, ap, ◌∙◌, subst, inl, inr, arith, append-nil, append_assoc, take-append-drop}
 use Rattle.std.specs.Prelude.{codes}
 use Rattle.std.specs.List.{AllByRecursion, flat_map}
-use Rattle.std.specs.Int.{w16, w32}
 use Rattle.std.proofs.lemmas.List.{drop-take, drop_at, take-take, take_at}
 use Rattle.cci_codec.specs.declared.messages.Request.{Request}
 use Rattle.dcd_base.specs.Words.{flag_of}
@@ -10,7 +9,7 @@ use Rattle.dcd_base.specs.declared.capacity.Extent.{Extent}
 use Rattle.dcd_base.specs.declared.capacity.Tag.{Tag}
 use Rattle.dcd_base.specs.declared.steps.Actor.{Actor}
 use Rattle.field_bytes.specs.Extents.{extent_bytes}
-use Rattle.field_bytes.specs.Layouts.{Number, Reserved, spelling, u16_bytes, u8_bytes}
+use Rattle.field_bytes.specs.Layouts.{u16_bytes, u8_bytes}
 use Rattle.field_bytes.proofs.EventCommands.{clear_spelled}
 use Rattle.field_bytes.proofs.Filling.{filled}
 use Rattle.fm_payloads.specs.ManagerPayloads.{placed_head}
@@ -24,7 +23,7 @@ use Rattle.script_codec.specs.declared.script_line.Line.{Line}
 use Rattle.text_words.specs.Characters.{IsTextWord}
 use Rattle.text_words.specs.Words.{line_text, spaced}
 use Rattle.text_lines.specs.Actors.{actor_of_word}
-use Rattle.text_lines.specs.Layouts.{capacity_parts, clearing_parts, host_request_parts, listing_parts, log_parts, manager_request_parts, page_parts, spot_parts, tag_part}
+use Rattle.text_lines.specs.Layouts.{capacity_parts, clearing_parts, host_request_parts, listing_parts, log_parts, manager_request_parts, spot_parts, tag_part}
 use Rattle.text_lines.specs.Parts.{Form, Part, key}
 use Rattle.text_lines.specs.PlainLines.{CutsHost, CutsHostLine, CutsLine, command_act, line_by_host}
 use Rattle.text_lines.specs.PlainParts.{CutsClearing, CutsHandles, CutsHostMessage, CutsListed, CutsListing, CutsManagerMessage, CutsParts, CutsPlaced, CutsPlacing, CutsSomeHandles}
@@ -130,17 +129,15 @@ removal_cut text first second third rest payload host region flags message begin
   message_is = is ∙ ap (λ (p : List ℕ). record { tag = 0; opcode = 0x5605; payload = p }) what.payload_is;
 }
 
-pub host_extents_cut : (text first second rest payload : List ℕ) (host count : ℕ) (message : Request) → text ≡ codes " get-dc-region-extent-lists" ++ first → CutsParts first (Part.HostOf host ∷ []) second → CutsParts second (page_parts 4294967295 0 count) rest
-    → payload ≡ spelling (Number w16 host ∷ Reserved 2 ∷ Number w32 count ∷ Number w32 0 ∷ []) → message ≡ record { tag = 0; opcode = 0x5603; payload = payload } → CutsManagerMessage text message rest
-host_extents_cut text first second rest payload host count message begins of page spelled is = record {
-  request = FmRequest.GetExtentLists host count 0;
-  cuts = cuts_then text first rest (Part.Fixed (codes "get-dc-region-extent-lists") ∷ []) (Part.HostOf host ∷ page_parts 4294967295 0 count) (cuts_fixed text (codes "get-dc-region-extent-lists") first (refl, omega arith) begins)
-      (cuts_then first second rest (Part.HostOf host ∷ []) (page_parts 4294967295 0 count) of page);
-  message_is = is ∙ ap (λ (p : List ℕ). record { tag = 0; opcode = 0x5603; payload = p }) spelled;
+pub clear_by_manager_cut : (text mid rest payload : List ℕ) (message : Request) → text ≡ codes " clear-event-records" ++ mid → CutsClearing mid payload rest → message ≡ record { tag = 0; opcode = 0x0101; payload = payload } → CutsManagerMessage text message rest
+clear_by_manager_cut text mid rest payload message begins what is = record {
+  request = FmRequest.ClearEvents what.log what.all what.handles;
+  cuts = cuts_then text mid rest (Part.Fixed (codes "clear-event-records") ∷ []) (clearing_parts what.log what.all what.handles) (cuts_fixed text (codes "clear-event-records") mid (refl, omega arith) begins) what.cuts;
+  message_is = is ∙ ap (λ (p : List ℕ). record { tag = 0; opcode = 0x0101; payload = p }) what.payload_is;
 }
 
 -- ---- lines
-line_begins : (front mid behind rest first : List ℕ) (words : List (List ℕ)) → front ≡ first ++ mid → mid ≡ flat_map spaced words ++ behind → behind ≡ 10 ∷ rest → front ≡ line_text (first ∷ words) ++ rest
+pub line_begins : (front mid behind rest first : List ℕ) (words : List (List ℕ)) → front ≡ first ++ mid → mid ≡ flat_map spaced words ++ behind → behind ≡ 10 ∷ rest → front ≡ line_text (first ∷ words) ++ rest
 unfolding line_text
 line_begins front mid behind rest first words a b end =
     a ∙ ap (λ bs. first ++ bs) (b ∙ ap (λ bs. flat_map spaced words ++ bs) end)

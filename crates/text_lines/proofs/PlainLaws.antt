@@ -49,7 +49,7 @@ line_before : (first : List ℕ) (words : List (List ℕ)) (rest : List ℕ) →
 line_before first [] rest is = let some = is.some in absurd (omega (arith, some))
 line_before first (word ∷ words) rest is = sym (append_assoc first (32 ∷ line_text (word ∷ words)) rest) ∙ ap (λ bytes. bytes ++ rest) (sym (line_more first word words))
 
-line_one : (word rest : List ℕ) → word ++ 10 ∷ rest ≡ line_text (word ∷ []) ++ rest
+pub line_one : (word rest : List ℕ) → word ++ 10 ∷ rest ≡ line_text (word ∷ []) ++ rest
 unfolding line_text
 line_one word rest = sym (ap (λ bytes. bytes ++ 10 ∷ [] ++ rest) (append-nil word) ∙ append_assoc word (10 ∷ []) rest)
 

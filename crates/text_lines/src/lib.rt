@@ -21,6 +21,7 @@ mod plain_items;
 mod plain_lines;
 mod plain_messages;
 mod plain_parts;
+mod plain_questions;
 mod policies;
 mod short_payloads;
 

@@ -24,7 +24,7 @@ fn fill_page(out: &mut [u8], first: u32, second: u32)
 }
 
 /// The payload that asks for members of a list.
-fn page_payload(alloc: Global, first: u32, second: u32) -> Result<Payload, NoMemory>
+pub fn page_payload(alloc: Global, first: u32, second: u32) -> Result<Payload, NoMemory>
     ensures { IfOk result (λ payload. payload ≡ spelling (Number w32 first ∷ Number w32 second ∷ [])) }
 {
     let mut bytes = [0u8; 8];
@@ -43,7 +43,7 @@ fn fill_regions(out: &mut [u8], host: u16, count: u8, first: u8)
 }
 
 /// The payload that asks for regions of a host.
-fn regions_payload(alloc: Global, host: u16, count: u8, first: u8) -> Result<Payload, NoMemory>
+pub fn regions_payload(alloc: Global, host: u16, count: u8, first: u8) -> Result<Payload, NoMemory>
     ensures { IfOk result (λ payload. payload ≡ spelling (Number w16 host ∷ Number w8 count ∷ Number w8 first ∷ [])) }
 {
     let mut bytes = [0u8; 4];

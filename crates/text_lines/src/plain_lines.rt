@@ -5,11 +5,15 @@
 ghost use Rattle.host_payloads.specs.HostPayloads.{HostCountsFit, lists_untagged};
 ghost use Rattle.std.specs.Prelude.{◌≡◌, IfSome, IsTrue};
 ghost use Rattle.text_lines.specs.Lines.{host_message as message_of_host};
+ghost use Rattle.text_lines.specs.PlainParts.{CutsManagerMessage};
 ghost use Rattle.text_lines.specs.PlainLines.{CutsAct, CutsHost, CutsHostLine, CutsLast, CutsLine, CutsPage, access_act, command_act, line_by_host};
 
 use crate::actors::Frame;
 use crate::messages::host_message;
-use crate::plain_messages::{PayloadRoom, host_list, manager_message_at};
+use crate::plain_items::next_number;
+use crate::plain_messages::{PayloadRoom, host_list, manager_list};
+use crate::plain_questions::manager_question;
+use cci_codec::Request;
 use dcd_base::{Actor, HostId};
 use host_payloads::HostRequest;
 use journal_core::Act;
@@ -247,6 +251,21 @@ fn host_line<'a>(
     }
 }
 
+/// A message of the manager behind its name, and what stands behind that.
+#[inline(always)]
+fn manager_message<'a>(
+    alloc: Global,
+    text: &'a [u8],
+    room: &mut PayloadRoom,
+) -> Option<(Request, &'a [u8])>
+    ensures { IfSome result (λ r. CutsManagerMessage text.now r.0 r.1.now) }
+{
+    match manager_list(alloc, text, room) {
+        Some(found) => Some(found),
+        None => manager_question(alloc, text),
+    }
+}
+
 /// What the manager says, and what stands behind its line.
 fn manager_line<'a>(
     alloc: Global,
@@ -257,7 +276,7 @@ fn manager_line<'a>(
     ensures { IfSome result (λ r. CutsLine frame text.now r.0 r.1.now) }
 {
     let text = cut_text(*b"fm", text)?;
-    let (message, rest) = manager_message_at(alloc, text, room)?;
+    let (message, rest) = manager_message(alloc, text, room)?;
     let rest = cut_text(*b"\n", rest)?;
     let line = Line::Do {
         actor: Actor::Manager,
@@ -265,6 +284,52 @@ fn manager_line<'a>(
         act: Act::Command(message),
     };
     Some((line, rest))
+}
+
+/// A mark, and what stands behind its line.
+#[inline(always)]
+fn mark_line(frame: Frame, text: &[u8]) -> Option<(Line, &[u8])>
+    ensures { IfSome result (λ r. CutsLine frame text.now r.0 r.1.now) }
+{
+    let rest = cut_text(*b"mark\n", text)?;
+    Some((Line::Mark, rest))
+}
+
+/// A turn of the sanitizer, and what stands behind its line.
+#[inline(always)]
+fn scrub_line(frame: Frame, text: &[u8]) -> Option<(Line, &[u8])>
+    ensures { IfSome result (λ r. CutsLine frame text.now r.0 r.1.now) }
+{
+    let text = cut_text(*b"scrub", text)?;
+    let (most, rest) = next_number(65535, text)?;
+    let rest = cut_text(*b"\n", rest)?;
+    let line = Line::Do {
+        actor: Actor::Sanitizer,
+        lane: 0,
+        act: Act::Scrub(most as u16),
+    };
+    Some((line, rest))
+}
+
+/// A line of no host, and what stands behind it.
+#[inline(always)]
+fn other_line<'a>(
+    alloc: Global,
+    frame: Frame,
+    text: &'a [u8],
+    room: &mut PayloadRoom,
+) -> Option<(Line, &'a [u8])>
+    ensures { IfSome result (λ r. CutsLine frame text.now r.0 r.1.now) }
+{
+    if text.is_empty() {
+        return None;
+    }
+    match text[0] {
+        b'f' => manager_line(alloc, frame, text, room),
+        b'm' => mark_line(frame, text),
+        b's' => scrub_line(frame, text),
+        _ => None,
+    }
 }
 
 /// A line that can be read at once, and what stands behind it.
@@ -278,7 +343,7 @@ pub fn plain_line<'a>(
     ensures { IfSome result (λ r. CutsLine frame text.now r.0 r.1.now) }
 {
     let Some((host, act)) = cut_host(frame, text) else {
-        return manager_line(alloc, frame, text, room);
+        return other_line(alloc, frame, text, room);
     };
     let (line, rest) = host_line(alloc, frame, host, act, room)?;
     Some((line, rest))

@@ -3,17 +3,14 @@
 //! The payload of such a command is put together in the room for it. Each function answers `None` where the text begins
 //! otherwise, or too near its end.
 
-ghost use Rattle.field_bytes.specs.Layouts.{Number, Reserved, spelling};
-ghost use Rattle.std.specs.Int.{w16, w32};
-ghost use Rattle.std.specs.Prelude.{◌≡◌, ◌≤◌, [], ◌∷◌, IfSome, length, take};
+ghost use Rattle.std.specs.Prelude.{◌≡◌, ◌≤◌, ◌∷◌, IfSome, length, take};
 ghost use Rattle.text_lines.specs.PlainParts.{CutsClearing, CutsHostMessage, CutsListing, CutsManagerMessage, CutsPlacing, CutsSomeHandles};
 
 use crate::forms::Spot;
-use crate::payloads::lists_payload;
 use crate::plain_items::{take_handles, take_listed, take_placed};
 use crate::plain_parts::{
-    cut_add_policy, cut_all, cut_count, cut_host_of, cut_log, cut_may_length, cut_may_tag,
-    cut_more, cut_release_flags, cut_spot,
+    cut_add_policy, cut_all, cut_log, cut_may_length, cut_may_tag, cut_more, cut_release_flags,
+    cut_spot,
 };
 use crate::short_payloads::{put_clear_head, put_list_head, put_placed_head};
 use cci_codec::{Payload, Request};
@@ -107,7 +104,7 @@ fn fill_placing<'a>(
 
 /// The payload of these bytes, if there is memory.
 #[inline(always)]
-fn payload_of(alloc: Global, bytes: &[u8]) -> Option<Payload>
+pub fn payload_of(alloc: Global, bytes: &[u8]) -> Option<Payload>
     ensures { IfSome result (λ payload. payload ≡ bytes.now) }
 {
     match Payload::from_slice(alloc, bytes) {
@@ -162,7 +159,7 @@ fn placing_payload<'a>(
 
 /// A message without a message tag.
 #[inline(always)]
-fn untagged(opcode: u16, payload: Payload) -> Request
+pub fn untagged(opcode: u16, payload: Payload) -> Request
     ensures { result ≡ record { tag = 0; opcode = opcode; payload = payload } }
 {
     Request {
@@ -249,31 +246,21 @@ fn removal<'a>(alloc: Global, text: &'a [u8], room: &mut PayloadRoom) -> Option<
     Some((untagged(0x5605, payload), rest))
 }
 
-/// The payload that asks for extents of a host from the first on, if there is memory.
-#[inline(always)]
-fn page_payload(alloc: Global, host: u16, count: u32) -> Option<Payload>
-    ensures { IfSome result (λ payload. payload ≡ spelling (Number w16 host ∷ Reserved 2 ∷ Number w32 count ∷ Number w32 0 ∷ [])) }
-{
-    match lists_payload(alloc, host, count, 0) {
-        Ok(payload) => Some(payload),
-        Err(_) => None,
-    }
-}
-
-/// The manager's question for extents of a host, and what stands behind it.
-fn host_extents(alloc: Global, text: &[u8]) -> Option<(Request, &[u8])>
+/// What clears records of the manager, and what stands behind it.
+fn clearing_by_manager<'a>(
+    alloc: Global,
+    text: &'a [u8],
+    room: &mut PayloadRoom,
+) -> Option<(Request, &'a [u8])>
     ensures { IfSome result (λ r. CutsManagerMessage text.now r.0 r.1.now) }
 {
-    let text = cut_text(*b" get-dc-region-extent-lists", text)?;
-    let (host, text) = cut_host_of(text)?;
-    let (count, rest) = cut_count(text)?;
-    let payload = page_payload(alloc, host, count)?;
-    Some((untagged(0x5603, payload), rest))
+    let text = cut_text(*b" clear-event-records", text)?;
+    let (payload, rest) = clearing_payload(alloc, text, room)?;
+    Some((untagged(0x0101, payload), rest))
 }
 
-/// What the manager says behind its name, and what stands behind that.
-#[inline(always)]
-pub fn manager_message_at<'a>(
+/// What the manager says with a list, and what stands behind that.
+pub fn manager_list<'a>(
     alloc: Global,
     text: &'a [u8],
     room: &mut PayloadRoom,
@@ -286,5 +273,5 @@ pub fn manager_message_at<'a>(
     if let Some(found) = removal(alloc, text, room) {
         return Some(found);
     }
-    host_extents(alloc, text)
+    clearing_by_manager(alloc, text, room)
 }

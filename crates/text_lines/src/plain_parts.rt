@@ -62,6 +62,16 @@ pub fn cut_count(text: &[u8]) -> Option<(u32, &[u8])>
     Some((count as u32, rest))
 }
 
+/// How many regions are wanted from the first on, and what stands behind that.
+#[inline(always)]
+pub fn cut_few(text: &[u8]) -> Option<(u8, &[u8])>
+    ensures { IfSome result (λ r. CutsParts text.now (page_parts 255 0 r.0) r.1.now) }
+{
+    let text = cut_text(*b" count", text)?;
+    let (count, rest) = next_number(255, text)?;
+    Some((count as u8, rest))
+}
+
 /// A host that the manager speaks of, and what stands behind it.
 #[inline(always)]
 pub fn cut_host_of(text: &[u8]) -> Option<(u16, &[u8])>
