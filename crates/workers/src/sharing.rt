@@ -1,5 +1,8 @@
 //! Which lines are worth workers of their own.
 
+ghost use Rattle.std.specs.Prelude.{◌≡◌};
+ghost use Rattle.workers.specs.Weights.{light_weight, weight_of};
+
 use journal_core::Act;
 use script_codec::Line;
 
@@ -17,15 +20,18 @@ pub enum Sharing {
 /// How heavy a phase is at most that the caller does by itself: workers that wait for one another at its marks take longer.
 const LIGHT: usize = 256;
 
-/// How heavy a command is beside a load, a store, a scrub or a mark.
-const COMMAND: usize = 8;
+/// How heavy a command is beside a load, a store, a scrub or a mark, which weigh 1.
+pub const COMMAND_WEIGHT: usize = 8;
 
 /// How many lines of a long phase are a part: a fifth of the lines that a script has at most.
 const PART: usize = 13_108;
 
 impl Sharing {
-    /// How heavy a phase is at most that the caller does by itself, whosever its lines are.
-    pub(crate) fn light(self) -> usize {
+    /// How heavy a phase is at most that the caller does by itself, whosever its lines are: the sum of what its lines weigh, its
+    /// mark among them.
+    pub fn light(self) -> usize
+        ensures { result ≡ light_weight self }
+    {
         match self {
             Sharing::EachPhase => 0,
             Sharing::BySize => LIGHT,
@@ -41,13 +47,15 @@ impl Sharing {
     }
 }
 
-/// How heavy a line is.
-pub(crate) fn weight_of(line: &Line) -> usize {
+/// How heavy a line is: `COMMAND_WEIGHT` for a command, else 1.
+pub fn weight_of(line: &Line) -> usize
+    ensures { result ≡ weight_of line.now }
+{
     match line {
         Line::Do {
             act: Act::Command(_),
             ..
-        } => COMMAND,
+        } => COMMAND_WEIGHT,
         _ => 1,
     }
 }
