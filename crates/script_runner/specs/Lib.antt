@@ -2,8 +2,10 @@ pub mod Completing
 pub mod Endings
 pub mod Fronts
 pub mod ItemByItem
+pub mod Lightness
 pub mod Planning
 pub mod Running
+pub mod Skimming
 pub mod Statuses
 pub mod Taking
 pub mod Threads

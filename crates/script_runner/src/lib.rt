@@ -3,14 +3,17 @@
 //! `run` does what the words of the command line ask for. In serial mode it reads the script line by line and does each
 //! line at once on the serial device; in threads mode it reads the whole script and does the lines of each lane by a worker
 //! of its own on the shared device. It writes the text of the journal, or one line that says why not. With a seed among the
-//! words it runs the generated script, reads nothing, and writes the summary.
+//! words it runs the generated script, reads nothing, and writes the summary. `run_and_leave` does a script that has light
+//! phases alone as in serial mode.
 #![tactic(auto)]
 
 mod generated;
 mod in_threads;
+mod light_rounds;
 mod lines;
 mod printing;
 mod script;
+mod skim;
 mod status;
 mod summaries;
 mod texts;

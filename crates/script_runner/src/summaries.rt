@@ -5,6 +5,7 @@ ghost use Rattle.script_runner.specs.declared.words.Mode.{Mode};
 
 use crate::generated::run_rounds;
 use crate::in_threads::{run_seed_in_threads, sharing_of};
+use crate::light_rounds::has_light_rounds;
 use crate::lines::part;
 use crate::printing::{print_merged_summary, print_summary};
 use crate::status::Status;
@@ -49,8 +50,26 @@ fn summary_serially<K: Sink>(alloc: Global, seed: u64, sink: &mut K, leaves: boo
     }
 }
 
-/// Runs the script in threads.
+/// Runs the script in threads. Where no thread would start, since each phase is light, that is its run on the serial device.
 fn summary_in_threads<R: Threads + Wait + Sync + AllocGlobal, K: Sink, G: Gate>(
+    rt: &R,
+    alloc: Global,
+    seed: u64,
+    sink: &mut K,
+    gate: &G,
+    leaves: bool,
+) -> Status
+    ensures { EndsAs (IsSummaryPlan Mode.Threads seed) ⊥ K.taken K.faults sink.old sink.new result }
+{
+    match has_light_rounds(alloc, seed, sharing_of(leaves).light()) {
+        Ok(true) => summary_serially(alloc, seed, sink, leaves),
+        Ok(false) => summary_by_workers(rt, alloc, seed, sink, gate, leaves),
+        Err(NoMemory) => Status::NoMemory,
+    }
+}
+
+/// Runs the script by workers.
+fn summary_by_workers<R: Threads + Wait + Sync + AllocGlobal, K: Sink, G: Gate>(
     rt: &R,
     alloc: Global,
     seed: u64,

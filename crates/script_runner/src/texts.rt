@@ -8,6 +8,7 @@ use crate::in_threads::{run_input_in_threads, sharing_of};
 use crate::lines::part;
 use crate::printing::{print_merged_text, print_text};
 use crate::script::run_script;
+use crate::skim::has_light_phases;
 use crate::status::Status;
 use dcd_base::{Bytes, Failed, Gate, Sink};
 use report::refusal;
@@ -38,8 +39,27 @@ pub(crate) fn text_serially<K: Sink>(
     }
 }
 
-/// Runs the script that the input is in threads, and writes its text.
+/// Runs the script that the input is in threads, and writes its text. Where no thread would start, since each phase is light, that
+/// is its run on the serial device.
 pub(crate) fn text_in_threads<R: Threads + Wait + Sync + AllocGlobal, K: Sink, G: Gate>(
+    rt: &R,
+    alloc: Global,
+    input: Bytes,
+    sink: &mut K,
+    gate: &G,
+    leaves: bool,
+) -> Status
+    ensures { EndsAs (IsPlannedFor Mode.Threads input) ⊥ K.taken K.faults sink.old sink.new result }
+{
+    if has_light_phases(input.as_slice(), sharing_of(leaves).light()) {
+        text_serially(alloc, input, sink, leaves)
+    } else {
+        text_by_workers(rt, alloc, input, sink, gate, leaves)
+    }
+}
+
+/// Runs the script that the input is by workers, and writes its text.
+fn text_by_workers<R: Threads + Wait + Sync + AllocGlobal, K: Sink, G: Gate>(
     rt: &R,
     alloc: Global,
     input: Bytes,

@@ -58,7 +58,8 @@ pub fn run<R: Threads + Wait + Sync + AllocGlobal, S: Source, K: Sink, G: Gate>(
 /// the program, all at once. For a program that ends then.
 ///
 /// In threads mode lines that are not worth a thread get none: the calling thread does phases of few lines, in the order of the
-/// lines, and a phase of very many lines is done part by part. So the gate is not to wait for a line of another lane.
+/// lines, and a phase of very many lines is done part by part. So the gate is not to wait for a line of another lane. A script
+/// that has no other phases is done as in serial mode, and the gate is not called.
 pub fn run_and_leave<R: Threads + Wait + Sync + AllocGlobal, S: Source, K: Sink, G: Gate>(
     rt: &R,
     alloc: Global,
