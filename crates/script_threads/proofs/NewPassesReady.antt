@@ -14,7 +14,7 @@ use Rattle.std.specs.Prelude.{IfOk}
 use Rattle.std.specs.declared.result.Result.{Result}
 use Rattle.std.specs.declared.result.Result.TheVariants.{Ok, Err}
 use Rattle.workers.specs.Handling.{HandlerReads}
-use Rattle.workers.specs.Phases.{Phase, Task, phase, tasks}
+use Rattle.workers.specs.Phases.{Phase, phase, tasks}
 use Rattle.workers.specs.Serving.{EachReady, IsReady}
 use Rattle.script_threads.proofs.LineActors.{line_actor}
 
@@ -30,7 +30,7 @@ tasks_few hosts lanes k n (Line.Mark ∷ lines) = let rest = tasks_few hosts lan
 tasks_few hosts lanes k n (Line.Do actor lane act ∷ lines) =
     by_pass (pass_of hosts lanes actor lane == k) (record { line = n; act = act }) (tasks hosts lanes k (n + 1) lines) (tasks_few hosts lanes k (n + 1) lines)
   where
-    by_pass : (b : Bool) (t : Task) (ts : List Task) → length ts ≤ length lines → length (if b then t ∷ ts else ts) ≤ length (Line.Do actor lane act ∷ lines)
+    by_pass : {T : Type 0} (b : Bool) (t : T) (ts : List T) → length ts ≤ length lines → length (if b then t ∷ ts else ts) ≤ length (Line.Do actor lane act ∷ lines)
     by_pass true t ts few = omega (arith, few)
     by_pass false t ts few = omega (arith, few)
 

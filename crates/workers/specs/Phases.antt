@@ -1,14 +1,9 @@
 -- The lines of a phase, and which of them are a pass's.
 use Rattle.std.specs.Prelude.{◌≡◌, ℕ, suc, ◌+◌, ◌==◌, Bool, true, false, List, [], ◌∷◌, ◌++◌, map, if◌then◌else◌}
-use Rattle.journal_core.specs.declared.acts.Act.{Act}
 use Rattle.journal_core.specs.Merging.{Call}
 use Rattle.script_codec.specs.declared.script_line.Line.{Line}
 use Rattle.script_codec.specs.Covering.{pass_of}
-
--- a line that a pass has to do: its number and its act
-pub record Task : Type 0 where
-  pub line : ℕ
-  pub act : Act
+pub use Rattle.workers.specs.declared.todo.Task.{Task}
 
 -- the task of which a call is
 abbrev pub task_of : Call → Task

@@ -7,7 +7,9 @@ ghost use Rattle.workers.specs.Phases.{phase};
 ghost use Rattle.workers.specs.Serving.{EachReady, EachServed, EachServedSome};
 
 use crate::handler::Handler;
-use crate::phases::run_phases;
+use crate::long::run_long;
+use crate::phase::hosts_of;
+use crate::phases::{have_several, run_phases};
 use crate::sharing::Sharing;
 use dcd_base::{Gate, NoMemory};
 use script_codec::{Line, Lines};
@@ -18,13 +20,45 @@ use std::thread::Threads;
 /// How many lines are done at a time at least.
 const AT_ONCE: usize = 4096;
 
-/// How many of the lines that are left, the last of which stands in front, come next: up to a mark, and at most so many.
-fn next_lines(rest: &[Line], most: usize) -> usize
+/// How many lines the last phase has of those that are left, the last of which stands in front.
+fn last_phase(rest: &[Line]) -> usize
+    ensures { result ≤ length rest.now }
+{
+    for place in 1..rest.len() {
+        if let Line::Mark = rest[place] {
+            return place;
+        }
+    }
+    rest.len()
+}
+
+/// How many lines the last phase has, if it is a long one that several passes have lines in; else 0. Such a phase is done whole, by
+/// workers that let its lines go.
+fn long_end(hosts: u8, lanes: u8, rest: &[Line], sharing: Sharing) -> usize
+    ensures { result ≤ length rest.now }
+{
+    let last = last_phase(rest);
+    let (phase, _) = rest.split_at(last);
+    if sharing.part() < last && have_several(hosts, lanes, phase) {
+        last
+    } else {
+        0
+    }
+}
+
+/// How many of the lines that are left, the last of which stands in front, come next: up to a mark, and at most so many, and none of
+/// those of a long end.
+fn next_lines(rest: &[Line], most: usize, long: usize) -> usize
     requires { 0 < length rest.now }
     ensures { (0 < result) × (result ≤ length rest.now) }
 {
-    let mut count = AT_ONCE.min(rest.len());
-    while count < most.min(rest.len()) && !matches!(rest[rest.len() - count], Line::Mark) {
+    let end = if long < rest.len() {
+        rest.len() - long
+    } else {
+        rest.len()
+    };
+    let mut count = AT_ONCE.min(end);
+    while count < most.min(end) && !matches!(rest[rest.len() - count], Line::Mark) {
         count += 1;
     }
     count
@@ -33,12 +67,12 @@ fn next_lines(rest: &[Line], most: usize) -> usize
 /// Turns round the lines that come next of those that are left, the last of which stands in front. Answers how many stay as they
 /// stand.
 #[tactic(auto, using(crate::proofs::Turning::turned_parts))]
-fn turn_next(rest: &mut [Line], most: usize) -> usize
+fn turn_next(rest: &mut [Line], most: usize, long: usize) -> usize
     requires { 0 < length rest.old }
     ensures some { result < length rest.new }
     ensures turned { reverse rest.old ≡ drop result rest.new ++ reverse (take result rest.new) }
 {
-    let left = rest.len() - next_lines(rest, most);
+    let left = rest.len() - next_lines(rest, most, long);
     let (_, next) = rest.split_at_mut(left);
     next.reverse();
     left
@@ -67,8 +101,14 @@ pub fn run_script_lines<R: Threads + Wait + Sync + AllocGlobal, H: Handler, G: G
     let mut number = u64::from(first_line);
     let mut rest = lines.into_vec();
     rest.reverse();
+    let hosts = hosts_of(passes.len(), lanes);
+    let long = long_end(hosts, lanes, &rest, sharing);
     while !rest.is_empty() {
-        let left = turn_next(rest.as_mut_slice(), sharing.part());
+        if rest.len() == long {
+            rest.reverse();
+            return run_long(rt, handler, passes, lanes, number as u32, rest, gate);
+        }
+        let left = turn_next(rest.as_mut_slice(), sharing.part(), long);
         let (_, now) = rest.as_slice().split_at(left);
         run_phases(
             rt,

@@ -34,7 +34,7 @@ fn first_phase(lines: &[Line]) -> usize
 }
 
 /// Whether several passes have lines among these.
-fn have_several(hosts: u8, lanes: u8, lines: &[Line]) -> bool {
+pub(crate) fn have_several(hosts: u8, lanes: u8, lines: &[Line]) -> bool {
     let pass = match lines.first() {
         Some(Line::Do { actor, lane, .. }) => pass_of(hosts, lanes, actor, *lane),
         _ => 0,

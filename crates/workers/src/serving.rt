@@ -18,7 +18,7 @@ use script_codec::Line;
 use std::sync::Wait;
 
 /// Does one act of a worker.
-fn serve_act<R: Wait, P: Send, H: Handler<Pass = P>, G: Gate>(
+pub(crate) fn serve_act<R: Wait, P: Send, H: Handler<Pass = P>, G: Gate>(
     rt: &R,
     handler: &H,
     gate: &G,

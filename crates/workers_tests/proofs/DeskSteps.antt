@@ -15,7 +15,7 @@ use Rattle.journal_core.specs.declared.acts.Act.{Act}
 use Rattle.script_codec.specs.declared.script_line.Line.{Line}
 use Rattle.script_codec.specs.Covering.{pass_of}
 use Rattle.script_codec.specs.Scripts.{is_sound_line}
-use Rattle.workers.specs.Phases.{Task, task_of, tasks, phase}
+use Rattle.workers.specs.Phases.{task_of, tasks, phase}
 use Rattle.workers.specs.Serving.{EachReady, EachServed, IsReady}
 use Rattle.workers_tests.specs.Desks.{AreDesks, DeskState, IsDesk, actor_at, desk_reads}
 
@@ -64,15 +64,15 @@ actor_right hosts lanes Actor.Sanitizer lane act sound =
     ap (λ b. if b then Actor.Host ((hosts * lanes + 1) / lanes) else if (hosts * lanes + 1) == hosts * lanes then Actor.Manager else Actor.Sanitizer) (le-ltb (hosts * lanes + 1) (hosts * lanes) (omega arith))
     ∙ ap (λ b. if b then Actor.Manager else Actor.Sanitizer) (ne_eqb (hosts * lanes + 1) (hosts * lanes) (λ e. absurd (omega (arith, e))))
 
-with_line : (b : Bool) (n : ℕ) (act : Act) (rest : List Task) (most : ℕ) → length rest ≤ most → length (if b then record { line = n; act = act } ∷ rest else rest) ≤ suc most
-with_line true n act rest most few = omega (arith, few)
-with_line false n act rest most few = omega (arith, few)
+with_line : {T : Type 0} (b : Bool) (task : T) (rest : List T) (most : ℕ) → length rest ≤ most → length (if b then task ∷ rest else rest) ≤ suc most
+with_line true task rest most few = omega (arith, few)
+with_line false task rest most few = omega (arith, few)
 
 -- a pass has no more tasks than there are lines
 tasks_few : (hosts lanes k n : ℕ) (lines : List Line) → length (tasks hosts lanes k n lines) ≤ length lines
 tasks_few hosts lanes k n [] = omega arith
 tasks_few hosts lanes k n (Line.Mark ∷ lines) = let few = tasks_few hosts lanes k (n + 1) lines in omega (arith, few)
-tasks_few hosts lanes k n (Line.Do actor lane act ∷ lines) = with_line (pass_of hosts lanes actor lane == k) n act (tasks hosts lanes k (n + 1) lines) (length lines) (tasks_few hosts lanes k (n + 1) lines)
+tasks_few hosts lanes k n (Line.Do actor lane act ∷ lines) = with_line (pass_of hosts lanes actor lane == k) (record { line = n; act = act }) (tasks hosts lanes k (n + 1) lines) (length lines) (tasks_few hosts lanes k (n + 1) lines)
 
 desk_ready : {H : Type 0} (hosts : H → ℕ) (keeper : H) (h lanes most first k : ℕ) (lines : List Line) (d : DeskState) → most + length lines < 2 ^ 32 → IsDesk h lanes most k d
     → IsReady (desk_reads hosts) keeper (phase h lanes first lines) k d

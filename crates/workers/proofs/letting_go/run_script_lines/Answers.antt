@@ -3,6 +3,7 @@ use Rattle.std.proofs.lemmas.List.{length-append, length-reverse, reverse-revers
 use Rattle.std.specs.List.{list_all}
 use Rattle.script_codec.specs.Scripts.{is_sound_line}
 use Rattle.workers.specs.Serving.{EachPair}
+use Rattle.workers.proofs.Ending.{last_begun, last_ready, last_served}
 use Rattle.workers.proofs.Phasing.{HasServedTo, all_served, at_first, phase_ready, phase_served, phase_stopped, some_served, sound_parts}
 use Rattle.workers.proofs.Turning.{lent_whole, next_parts}
 use Rattle.workers.proofs.letting_go.run_script_lines.Goals as goal
@@ -84,3 +85,19 @@ returns-clause-served g c =
 pub returns-clause-begun : goal.returns-clause-begun
 returns-clause-begun g c =
     some_served g.H.Handler.reads c.args.handler.now (g.H.Handler.reads.hosts c.args.handler.now) c.args.lanes c.args.first_line c.args.lines c.loop-sharing.number 0 (reverse c.loop-sharing.rest.items) c.args.passes.now c.loop-sharing.passes c.loop-sharing.invariant.served
+
+pub run_long-requires-clause-sound : goal.run_long-requires-clause-sound
+run_long-requires-clause-sound g c κs within =
+    subst (λ lines. IsTrue (list_all (is_sound_line (g.H.Handler.reads.hosts c.args.handler.now) c.args.lanes) lines)) (sym c.reverse-then-len-long.ensures.items) c.loop-sharing.invariant.sound
+
+pub run_long-requires-clause-ready : goal.run_long-requires-clause-ready
+run_long-requires-clause-ready g c κs within =
+    last_ready g.H.Handler.reads c.args.handler.now (g.H.Handler.reads.hosts c.args.handler.now) c.args.lanes c.args.first_line c.args.lines c.loop-sharing.number (reverse c.loop-sharing.rest.items) c.reverse-then-len-long.new.self.items c.args.passes.now c.loop-sharing.passes (sym c.reverse-then-len-long.ensures.items) c.requires.ready c.loop-sharing.invariant.served
+
+pub returns-then-len-long-clause-served : goal.returns-then-len-long-clause-served
+returns-then-len-long-clause-served g c =
+    last_served g.H.Handler.reads c.args.handler.now (g.H.Handler.reads.hosts c.args.handler.now) c.args.lanes c.args.first_line c.args.lines c.run_long.result c.loop-sharing.number (reverse c.loop-sharing.rest.items) c.reverse-then-len-long.new.self.items c.args.passes.now c.loop-sharing.passes c.run_long.new.passes (sym c.reverse-then-len-long.ensures.items) c.loop-sharing.invariant.served c.run_long.ensures.served
+
+pub returns-then-len-long-clause-begun : goal.returns-then-len-long-clause-begun
+returns-then-len-long-clause-begun g c =
+    last_begun g.H.Handler.reads c.args.handler.now (g.H.Handler.reads.hosts c.args.handler.now) c.args.lanes c.args.first_line c.args.lines c.loop-sharing.number (reverse c.loop-sharing.rest.items) c.reverse-then-len-long.new.self.items c.args.passes.now c.loop-sharing.passes c.run_long.new.passes (sym c.reverse-then-len-long.ensures.items) c.loop-sharing.invariant.served c.run_long.ensures.begun
