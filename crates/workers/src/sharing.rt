@@ -13,7 +13,8 @@ pub enum Sharing {
     /// The lines of a phase that several passes have go to workers, however few or many they are. So it has to be where a gate waits
     /// for lines of another pass.
     EachPhase,
-    /// The caller does light phases by itself, and a phase of very many lines is done part by part.
+    /// The caller does light phases by itself, and a phase of very many lines is done part by part, or lets its lines go as it is
+    /// done where it is the last.
     BySize,
 }
 
