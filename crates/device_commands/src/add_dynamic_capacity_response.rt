@@ -23,6 +23,7 @@ ghost use Rattle.std.specs.Prelude.{◌≡◌, ◌++◌, ◌∷◌, ◌<◌, ◌
 use crate::draft::Draft;
 use crate::held_lists::{hold, unhold};
 use crate::log_records::{LogRecords, event_for, no_extent, one_record, records_of_extents};
+use crate::rooms::with_room;
 use crate::runs::run_of;
 use crate::tags::tags_of;
 use dcd_base::{Extent, Extents, HostId, LogId, NoMemory, Seq};
@@ -39,6 +40,7 @@ use std::alloc::Global;
 ///
 /// The first broken rule of the row comes where one is broken. `config` is the configuration that the device was made
 /// with, `present` the one with the present blocks. They have the same granules, so that only `present` is read.
+#[inline(never)]
 pub fn add_response(
     alloc: Global,
     config: &Config,
@@ -128,7 +130,8 @@ fn answered(
     requires granular { All (λ x. IsTrue (is_granular present.now host x.start x.length)) accepted.now }
     ensures { IfOk result (λ changes. changes ≡ answer_changes present.now host lists.now accepted.now) }
 {
-    let mut changes = unhold(alloc, host, HeldKind::Responses, lists.responses())?;
+    let changes = unhold(alloc, host, HeldKind::Responses, lists.responses())?;
+    let mut changes = with_room(changes, accepted.len())?;
     changes.push(Effect::Answer(host, accepted.copy()?))?;
     put_takes(present, host, accepted.as_slice(), &mut changes)?;
     Ok(changes)

@@ -111,7 +111,7 @@ fn extents_of(
     requires runs { All (IsRun present.now) runs.now }
     ensures { IfOk result (λ xs. xs ≡ extents_of present.now host runs.now) }
 {
-    let mut extents = Extents::new(alloc);
+    let mut extents = Extents::with_capacity(alloc, runs.len())?;
     for i in 0..runs.len() {
         extents.push(extent_of(present, host, &runs[i], no_tag(), 0))?;
     }
@@ -128,7 +128,7 @@ fn with_tag(
     requires { length extents.now ≤ 4096 }
     ensures { IfOk result (λ xs. xs ≡ with_tag shareable tag.now extents.now) }
 {
-    let mut tagged = Extents::new(alloc);
+    let mut tagged = Extents::with_capacity(alloc, extents.len())?;
     for i in 0..extents.len() {
         tagged.push(tagged_one(shareable, tag, i as u16 + 1, &extents[i]))?;
     }

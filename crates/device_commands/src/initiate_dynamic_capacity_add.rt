@@ -9,10 +9,12 @@ ghost use Rattle.device_commands.specs.InitiateDynamicCapacityAdd.{is_used_tag, 
 ghost use Rattle.device_commands.specs.InitiateDynamicCapacityAdd.{tag_rule};
 ghost use Rattle.device_commands.specs.ListDrafts.{TellOf};
 ghost use Rattle.event_records.specs.declared.events.EventKind.{EventKind};
+ghost use Rattle.extent_list.specs.ExtentLists.{has_extent_of};
 ghost use Rattle.journal_core.specs.declared.outcome.Effect.{Effect};
 ghost use Rattle.device_state.specs.StateAfter.{IsReached, part_of};
 ghost use Rattle.dcd_base.specs.declared.steps.LogId.{LogId};
 ghost use Rattle.host_lists.specs.Lists.{extent_total};
+ghost use Rattle.std.specs.List.{list_any};
 ghost use Rattle.std.specs.Prelude.{◌≡◌, ◌+◌, ◌==◌, ◌^◌, ◌<◌, ◌≤◌, ◌∷◌, [], IfNone, IfOk, length};
 ghost use Rattle.tag_refs.specs.Tables.{passes};
 ghost use Rattle.tag_refs.specs.declared.entries.TagEntry.{TagEntry};
@@ -21,7 +23,7 @@ use crate::choosing::{Asked, new_extents};
 use crate::draft::Draft;
 use crate::log_records::{LogRecords, log_full, records_to};
 use dcd_base::limits::TAGS;
-use dcd_base::{Extents, HostId, LogId, NoMemory, RegionId, Seq, Tag, is_no_tag};
+use dcd_base::{Extent, Extents, HostId, LogId, NoMemory, RegionId, Seq, Tag, is_no_tag};
 use dcd_codes::{Refusal, Rule};
 use device_state::State;
 use event_records::EventKind;
@@ -53,6 +55,7 @@ pub struct AddRequest {
 /// by 2 Prescriptive, and the granules of an open tag by 3 Enable Shared Access (profile).
 ///
 /// The first broken rule comes, in the order of the code.
+#[inline(never)]
 pub fn add(
     alloc: Global,
     config: &Config,
@@ -178,7 +181,31 @@ fn has_tag(state: &State, host: HostId, tag: &Tag) -> bool
     ensures { result ≡ lists_have tag.now (part_of state.now host).lists }
 {
     let lists = &state.part(host).lists;
-    lists.has_accepted(tag) || lists.has_offered(tag)
+    lists.has_accepted(tag) || is_offered(lists, tag)
+}
+
+/// Whether an extent of an unanswered offer has the tag.
+fn is_offered(lists: &HostLists, tag: &Tag) -> bool
+    ensures { result ≡ list_any (has_extent_of tag.now) lists.now.offers }
+{
+    for i in 0..lists.offer_count() {
+        if has_extent(lists.offer_at(i), tag) {
+            return true;
+        }
+    }
+    false
+}
+
+/// Whether one of the extents has the tag. They are looked at one by one, since most offers have few.
+fn has_extent(extents: &[Extent], tag: &Tag) -> bool
+    ensures { result ≡ has_extent_of tag.now extents.now }
+{
+    for i in 0..extents.len() {
+        if extents[i].tag == *tag {
+            return true;
+        }
+    }
+    false
 }
 
 /// Whether the tag is open in the region.

@@ -19,6 +19,7 @@ ghost use Rattle.std.specs.Prelude.{◌≡◌, ◌<◌, ◌≤◌, IfOk, Option,
 use crate::draft::{Draft, DraftParts};
 use crate::leaves::put_leaves;
 use crate::log_records::{LogRecords, log_full, records_to};
+use crate::rooms::with_room;
 use crate::tags::tags_of;
 use dcd_base::{Bytes, Extents, HostId, LogId, NoMemory, RegionId, Seq, Tag};
 use dcd_codes::{Refusal, Rule};
@@ -53,6 +54,7 @@ pub struct RemoveRequest {
 ///
 /// The first broken rule comes: `NoSuchHost`; `UnsupportedFlag` where it cleans without force; `NoSuchPolicy`; the
 /// rules of the policy; `LogFull` where the host's log has no room for a record of each extent.
+#[inline(never)]
 pub fn remove(
     alloc: Global,
     config: &Config,
@@ -165,7 +167,7 @@ fn by_force(
     ensures { IfOk result (IsTakenByForce config.now host cleaning (part_of state.now host).lists leaving) }
 {
     let lists = lists_without(state, host, &leaving)?;
-    let mut changes = Effects::new(alloc);
+    let mut changes = with_room(Effects::new(alloc), leaving.len())?;
     put_leaves(config, host, cleaning, leaving.as_slice(), &mut changes)?;
     let tags = tags_of(alloc, leaving.as_slice())?;
     let log_records = removal_records(alloc, host, &lists, EventKind::Forced, &leaving)?;

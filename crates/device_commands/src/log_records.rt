@@ -60,7 +60,7 @@ pub fn records_of_extents(
 {
     let extents_available = lists.extents_available();
     let tags_available = lists.tags_available();
-    let mut events = Seq::new(alloc);
+    let mut events = Seq::with_capacity(alloc, extents.len())?;
     for i in 0..extents.len() {
         events.push(Event {
             handle: 0,

@@ -19,6 +19,7 @@ use crate::draft::Draft;
 use crate::held_lists::{hold, unhold};
 use crate::leaves::put_leaves;
 use crate::log_records::records_to;
+use crate::rooms::with_room;
 use crate::tags::tags_of;
 use dcd_base::{Extent, Extents, HostId, LogId, NoMemory};
 use dcd_codes::Refusal;
@@ -34,6 +35,7 @@ use std::alloc::Global;
 ///
 /// The first broken rule of the row comes where one is broken. `config` is the configuration that the device was made
 /// with, `present` the one with the present blocks. They have the same granules, so that only `present` is read.
+#[inline(never)]
 pub fn give_back(
     alloc: Global,
     config: &Config,
@@ -93,7 +95,8 @@ fn extents_released(
     ensures drafts { IfOk result (IsReleased present.now host lists.now leaving.now after) }
     ensures few { IfOk result (λ draft. IfSome draft.lists (λ new. extent_total new ≤ 64)) }
 {
-    let mut changes = unhold(alloc, host, HeldKind::Releases, lists.releases())?;
+    let changes = unhold(alloc, host, HeldKind::Releases, lists.releases())?;
+    let mut changes = with_room(changes, leaving.len())?;
     put_leaves(present, host, false, leaving, &mut changes)?;
     let tags = tags_of(alloc, leaving)?;
     let log_records = records_to(

@@ -29,6 +29,7 @@ use std::alloc::Global;
 ///
 /// The first broken rule comes: `NoSuchRegion`; `NotSupportedSize`; `SanitizeDiffers`; `RegionInUse` with how many of
 /// its granules are not free; `LogFull` of the first host whose log has no room for a record.
+#[inline(never)]
 pub(crate) fn set_region(
     alloc: Global,
     config: &Config,
