@@ -5,7 +5,7 @@ ghost use Rattle.control_core.specs.PutChanges.{IsRegionOrNone, NameNoOthers, Pu
 ghost use Rattle.device_rules.specs.ChangedRuns.{IsWithinRegion, IsSoundChange, LiesIn};
 ghost use Rattle.device_state.specs.Updates.{IsOfDevice};
 ghost use Rattle.region_config.specs.Granules.{granule_total};
-ghost use Rattle.std.specs.Prelude.{◌≡◌, ◌+◌, ◌-◌, ◌<◌, ◌≤◌, All, IfOk, OnOk, Some, slice_index_or, ℕ};
+ghost use Rattle.std.specs.Prelude.{◌≡◌, ◌+◌, ◌-◌, ◌<◌, ◌≤◌, ◌^◌, All, IfOk, IsTrue, OnOk, Some, slice_index_or, ℕ};
 
 use dcd_base::{Change, Changes, Granule, NoMemory, Run, host_bits};
 use device_state::{Holders, State};
@@ -28,12 +28,15 @@ pub(crate) fn changes_of(
     ensures changes { IfOk result (AreChangesFrom config.now state.now effects.now) }
     ensures inside { IfOk result (λ changes. All (LiesIn (granule_total config.now)) changes) }
 {
+    if effects.is_empty() {
+        return Ok(Changes::new(alloc));
+    }
     let changes = put_all(alloc, config, &state.holders, effects)?;
     Ok(changes)
 }
 
 /// The changes of all the effects, from these holders on.
-#[inline(always)]
+#[inline(never)]
 fn put_all(
     alloc: Global,
     config: &Config,
@@ -140,12 +143,42 @@ fn run_end(holders: &Holders, at: u32, end: u32) -> u32
     ensures same { (g : ℕ) → at ≤ g → g < result → slice_index_or holders.now g 0 ≡ slice_index_or holders.now at 0 }
 {
     let bits = holders.at(Granule(at));
-    for next in at + 1..end {
+    for next in strides_end(holders, at + 1, end, bits)..end {
         if holders.at(Granule(next)) != bits {
             return next;
         }
     }
     end
+}
+
+/// The number of the first granule behind those strides of four from one on that have these holders throughout.
+#[inline(always)]
+fn strides_end(holders: &Holders, first: u32, end: u32, bits: u16) -> u32
+    requires { first ≤ end }
+    ensures from { first ≤ result }
+    ensures within { result ≤ end }
+    ensures same { (g : ℕ) → first ≤ g → g < result → slice_index_or holders.now g 0 ≡ bits }
+{
+    let mut next = first;
+    while end - next >= 4 && are_four_held_so(holders, next, bits) {
+        next += 4;
+    }
+    next
+}
+
+/// Whether four granules from one on have these holders.
+#[inline(always)]
+fn are_four_held_so(holders: &Holders, first: u32, bits: u16) -> bool
+    requires { first + 3 < 2 ^ 32 }
+    ensures first { IsTrue result → slice_index_or holders.now first 0 ≡ bits }
+    ensures second { IsTrue result → slice_index_or holders.now (first + 1) 0 ≡ bits }
+    ensures third { IsTrue result → slice_index_or holders.now (first + 2) 0 ≡ bits }
+    ensures fourth { IsTrue result → slice_index_or holders.now (first + 3) 0 ≡ bits }
+{
+    holders.at(Granule(first + 3)) == bits
+        && holders.at(Granule(first + 2)) == bits
+        && holders.at(Granule(first + 1)) == bits
+        && holders.at(Granule(first)) == bits
 }
 
 /// The change of the granules from one up to the one before another, which all have the holders of the first.

@@ -147,7 +147,7 @@ impl Control {
             update,
         } = self.decide(&actor, &act)?;
         let changes = self.changes_by(&actor, &act, &effects)?;
-        let kept = EntryEffects::of(&effects)?;
+        let kept = kept_of(&effects)?;
         let entry = self.next_entry(pass, line, actor, act, reply, effects, kept);
         self.take(entry, update);
         Ok(changes)
@@ -269,7 +269,7 @@ impl Control {
             update,
         } = decided;
         let changes = self.changes_by(&actor, &act, &effects)?;
-        let kept = EntryEffects::of(&effects)?;
+        let kept = kept_of(&effects)?;
         let entry = self.next_entry(pass, line, actor, act, reply, effects, kept);
         Ok(Plan {
             entry,
@@ -277,4 +277,15 @@ impl Control {
             update,
         })
     }
+}
+
+/// The effects as an entry keeps them. Most steps have none.
+#[inline(always)]
+fn kept_of(effects: &Effects) -> Result<EntryEffects, NoMemory>
+    ensures { IfOk result (λ kept. kept ≡ effects.now) }
+{
+    if effects.is_empty() {
+        return Ok(EntryEffects::none());
+    }
+    EntryEffects::of(effects)
 }

@@ -16,7 +16,7 @@ use crate::ending::ending;
 use crate::fitting::part_fits;
 use crate::recording::{put_ends, put_records_of_logs};
 use cci_codec::Request;
-use dcd_base::{HostId, NoMemory, Seq, Tag};
+use dcd_base::{Boxed, HostId, NoMemory, Seq, Tag};
 use dcd_codes::{Code, Refusal, Rule};
 use device_commands::{
     Content, Draft, DraftParts, LogRecords, answer, dropped, refused, told_change,
@@ -65,8 +65,26 @@ pub(crate) fn recorded(
 {
     match draft.into_content() {
         Content::Reply(payload) => Ok(replied(alloc, request, payload)),
-        Content::Parts(parts) => recorded_parts(alloc, state, host, request, parts.into_inner()),
+        Content::Parts(parts) => recorded_boxed(alloc, state, host, request, parts),
     }
+}
+
+/// A command that breaks no rule and may change something, whose parts lie on the heap. It stands apart, so that one that
+/// only replies makes no room for them.
+#[inline(never)]
+fn recorded_boxed(
+    alloc: Global,
+    state: &State,
+    host: HostId,
+    request: &Request,
+    parts: Boxed<DraftParts>,
+) -> Result<Decided, NoMemory>
+    requires host { host < length state.now.hosts.items }
+    requires few { host < 16 }
+    requires known { All (λ (n : LogRecords). IsOfLog (length state.now.hosts.items) n.log) parts.log_records }
+    ensures { IfOk result (Does state.now host request.now parts) }
+{
+    recorded_parts(alloc, state, host, request, parts.into_inner())
 }
 
 /// A command that breaks no rule and may change something, by whose draft the host has these lists, or the ones that it

@@ -163,11 +163,24 @@ fn read(alloc: Global, state: &State, request: &Request, draft: Draft) -> Result
 {
     match draft.into_content() {
         Content::Reply(payload) => Ok(replied(alloc, request, payload)),
-        Content::Parts(parts) => {
-            let parts = parts.into_inner();
-            entered(alloc, state, request, parts, &[], TagChange::Nothing)
-        }
+        Content::Parts(parts) => entered_boxed(alloc, state, request, parts),
     }
+}
+
+/// A command that changes no lists and no tags is entered, whose parts lie on the heap. It stands apart, so that one that
+/// only replies makes no room for them.
+#[inline(never)]
+fn entered_boxed(
+    alloc: Global,
+    state: &State,
+    request: &Request,
+    parts: Boxed<DraftParts>,
+) -> Result<Decided, NoMemory>
+    requires known { All (λ (n : LogRecords). IsOfLog (length state.now.hosts.items) n.log) parts.log_records }
+    ensures { IfOk result (EntersDraft state.now request.now parts [] TagChange.Nothing) }
+{
+    let parts = parts.into_inner();
+    entered(alloc, state, request, parts, &[], TagChange::Nothing)
 }
 
 /// What a 5606h comes to.

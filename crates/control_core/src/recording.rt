@@ -12,6 +12,7 @@ use device_state::State;
 use event_log::{EventLog, handle_after};
 use event_records::Event;
 use journal_core::{Effect, Effects};
+use std::mem::replace;
 
 /// Puts the ends of tags behind the changes.
 pub(crate) fn put_ends(tags: &[Tag], effects: &mut Effects) -> Result<(), NoMemory>
@@ -64,13 +65,17 @@ fn put_records(
 ) -> Result<(), NoMemory>
     ensures { OnOk result (effects.new ≡ effects.old ++ records_by id.now log.now.next (log.now.capacity - length log.now.records) events.now) }
 {
+    let alloc = effects.allocator();
+    let mut items = replace(effects, Effects::new(alloc)).into_vec();
+    items.reserve(events.len())?;
     let mut next = log.next_handle();
     let mut room = log.room();
     for i in 0..events.len() {
-        effects.push(record_of(id, next, room, &events[i]))?;
+        items.push_reserved(record_of(id, next, room, &events[i]));
         next = next_behind(next, room);
         room = room.saturating_sub(1);
     }
+    *effects = Effects::from_vec(alloc, items);
     Ok(())
 }
 

@@ -10,10 +10,10 @@ use Rattle.control_core.specs.declared.decided.Decided.{Decided}
 use Rattle.control_core.proofs.Doing.{replied_done}
 use Rattle.control_core.proofs.host_steps.recorded.Goals as goal
 
-pub recorded_parts-requires-clause-known : goal.recorded_parts-requires-clause-known
-recorded_parts-requires-clause-known c =
+pub recorded_boxed-requires-clause-known : goal.recorded_boxed-requires-clause-known
+recorded_boxed-requires-clause-known c =
     subst (λ (d : DraftParts). All (λ (n : LogRecords). IsOfLog (length c.args.state.now.hosts.items) n.log) d.log_records)
-    (sym c.into_content.ensures ∙ ap parts_of_content c.in-Parts.is ∙ sym c.into_inner.ensures) c.requires.known
+    (sym c.into_content.ensures ∙ ap parts_of_content c.in-Parts.is) c.requires.known
 
 pub returns-in-Reply : goal.returns-in-Reply
 returns-in-Reply c = λ cfg before o kept of drafts.
@@ -24,5 +24,5 @@ returns-in-Reply c = λ cfg before o kept of drafts.
 
 pub returns-in-Parts : goal.returns-in-Parts
 returns-in-Parts c =
-    subst (λ (d : DraftParts). IfOk c.recorded_parts.result (Does c.args.state.now c.args.host c.args.request.now d))
-    (c.into_inner.ensures ∙ sym (ap parts_of_content c.in-Parts.is) ∙ c.into_content.ensures) c.recorded_parts.ensures
+    subst (λ (d : DraftParts). IfOk c.recorded_boxed.result (Does c.args.state.now c.args.host c.args.request.now d))
+    (sym (ap parts_of_content c.in-Parts.is) ∙ c.into_content.ensures) c.recorded_boxed.ensures

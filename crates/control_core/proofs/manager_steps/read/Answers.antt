@@ -11,11 +11,11 @@ use Rattle.control_core.specs.declared.decided.Decided.{Decided}
 use Rattle.control_core.proofs.Managed.{replied_entered}
 use Rattle.control_core.proofs.manager_steps.read.Goals as goal
 
-pub entered-requires : goal.entered-requires
-entered-requires c = record {
+pub entered_boxed-requires : goal.entered_boxed-requires
+entered_boxed-requires c = record {
   known =
       subst (λ (d : DraftParts). All (λ (n : LogRecords). IsOfLog (length c.args.state.now.hosts.items) n.log) d.log_records)
-      (sym c.into_content.ensures ∙ ap parts_of_content c.in-Parts.is ∙ sym c.into_inner-parts.ensures) c.requires.known;
+      (sym c.into_content.ensures ∙ ap parts_of_content c.in-Parts.is) c.requires.known;
 }
 
 pub returns-in-Reply : goal.returns-in-Reply
@@ -25,5 +25,5 @@ returns-in-Reply c = λ cfg before o kept of is.
 
 pub returns-in-Parts : goal.returns-in-Parts
 returns-in-Parts c =
-    subst (λ (d : DraftParts). IfOk c.entered.result (EntersDraft c.args.state.now c.args.request.now d [] TagChange.Nothing))
-    (c.into_inner-parts.ensures ∙ sym (ap parts_of_content c.in-Parts.is) ∙ c.into_content.ensures) c.entered.ensures
+    subst (λ (d : DraftParts). IfOk c.entered_boxed.result (EntersDraft c.args.state.now c.args.request.now d [] TagChange.Nothing))
+    (sym (ap parts_of_content c.in-Parts.is) ∙ c.into_content.ensures) c.entered_boxed.ensures
