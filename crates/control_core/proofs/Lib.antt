@@ -15,4 +15,3 @@ pub mod Recorded
 pub mod Scrubbed
 pub mod Shortness
 pub mod SoundChanges
-pub mod Strides
