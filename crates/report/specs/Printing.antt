@@ -1,5 +1,5 @@
 -- How a printer passes a text on to a sink, a part at a time.
-use Rattle.std.specs.Prelude.{ℕ, ◌≤◌, List, [], ◌∷◌, ◌++◌, Option, Some, None}
+use Rattle.std.specs.Prelude.{◌≡◌, ℕ, ◌≤◌, List, [], ◌∷◌, ◌++◌, Option, Some, None, take}
 use Rattle.dcd_base.specs.Streams.{HasRisen, Passes}
 
 -- A write failed, and a front of the text was taken.
@@ -34,3 +34,11 @@ with_bytes bytes (Some waits) = Some (waits ++ bytes)
 abbrev pub with_byte : ℕ → Option (List ℕ) → Option (List ℕ)
 with_byte byte None = None
 with_byte byte (Some waits) = Some (waits ++ byte ∷ [])
+
+-- how many bytes a piece has; the last piece of a text may have fewer
+abbrev pub piece_length : ℕ
+piece_length = 16384
+
+-- These bytes stand in a buffer from a place to an end, behind what stood before that place.
+pub record IsWrittenAt (start : ℕ) (old : List ℕ) (end : ℕ) (new : List ℕ) (bytes : List ℕ) : Type 0 where
+  pub front : take end new ≡ take start old ++ bytes

@@ -1,36 +1,38 @@
 //! The printer: it gathers bytes into pieces and hands each full piece to a sink.
 
 ghost use Rattle.hex.specs.Hex.{encode_lower};
-ghost use Rattle.report.specs.Printing.{with_byte, with_bytes, Puts};
+ghost use Rattle.report.specs.Printing.{piece_length, with_byte, with_bytes, Puts};
 ghost use Rattle.std.specs.Prelude.{◌≡◌, ◌+◌, ◌*◌, ◌<◌, ◌≤◌, [], ◌∷◌, ◌++◌, IfSome, None, OnErr, OnOk, Some, decimal, length};
 
-use crate::places::{write_bytes, write_hex};
+use crate::hex_digits::write_hex;
+use crate::places::write_bytes;
 use dcd_base::{Failed, Sink, write_all};
 use hex::encode_to_slice;
 use itoa::Buffer;
 use std::marker::Model;
 
 /// How many bytes a piece has; the last piece of a text may have fewer.
-const PIECE: usize = 4096;
+const PIECE: usize = 16_384;
 
-/// Gathers bytes into pieces of 4,096 and hands them to a sink. After a write that failed it drops all that is put.
+/// Gathers bytes into pieces of 16,384 and hands them to a sink. After a write that failed it drops all that is put.
 ///
 /// Contracts see the bytes that wait, or none where a write failed.
 #[derive(Drop)]
 pub struct Printer {
-    buffer: [u8; 4096],
+    buffer: [u8; PIECE],
     len: usize,
     failed: bool,
 }
 
 impl Model for Printer {
+    ghost use Rattle.report.specs.Printing.{piece_length};
     ghost use Rattle.std.specs.Prelude.{◌≤◌, None, Option, List, Some, if◌then◌else◌, take, ℕ};
 
     ghost Value = { Option (List ℕ) };
 
     ghost view = { λ p. if p.failed then None else Some (take p.len p.buffer) };
 
-    ghost invariant = { λ p. p.len ≤ 4096 };
+    ghost invariant = { λ p. p.len ≤ piece_length };
 }
 
 impl Printer {
@@ -39,7 +41,7 @@ impl Printer {
         ensures { result ≡ Some [] }
     {
         Printer {
-            buffer: [0; 4096],
+            buffer: [0; PIECE],
             len: 0,
             failed: false,
         }
@@ -67,7 +69,7 @@ impl Printer {
     #[tactic(auto, using(crate::proofs::Parts::prints_nothing))]
     fn make_room<K: Sink>(&mut self, sink: &mut K)
         ensures prints { Puts K.taken K.faults sink.old self.old sink.new self.new [] }
-        ensures room { IfSome self.new (λ waits. length waits < 4096) }
+        ensures room { IfSome self.new (λ waits. length waits < piece_length) }
     {
         if self.len == PIECE {
             self.send(sink);
@@ -76,7 +78,7 @@ impl Printer {
 
     /// Lets one more byte wait.
     fn store(&mut self, byte: u8)
-        requires { IfSome self.old (λ waits. length waits < 4096) }
+        requires { IfSome self.old (λ waits. length waits < piece_length) }
         ensures { self.new ≡ with_byte byte self.old }
     {
         if !self.failed {
@@ -97,7 +99,7 @@ impl Printer {
 
     /// Lets the digits of bytes wait.
     fn store_hex(&mut self, bytes: &[u8])
-        requires { IfSome self.old (λ waits. length waits + 2 * length bytes.now ≤ 4096) }
+        requires { IfSome self.old (λ waits. length waits + 2 * length bytes.now ≤ piece_length) }
         ensures { self.new ≡ with_bytes (encode_lower bytes.now) self.old }
     {
         if !self.failed {
@@ -146,7 +148,7 @@ impl Printer {
 
     /// Puts the digits of bytes that fit, and of one more byte.
     fn put_part<K: Sink>(&mut self, sink: &mut K, part: &[u8], byte: u8)
-        requires { IfSome self.old (λ waits. length waits + 2 * length part.now ≤ 4096) }
+        requires { IfSome self.old (λ waits. length waits + 2 * length part.now ≤ piece_length) }
         ensures { Puts K.taken K.faults sink.old self.old sink.new self.new (encode_lower (part.now ++ byte ∷ [])) }
     {
         self.store_hex(part);
@@ -155,7 +157,7 @@ impl Printer {
 
     /// Lets bytes wait.
     fn store_all(&mut self, bytes: &[u8])
-        requires { IfSome self.old (λ waits. length waits + length bytes.now ≤ 4096) }
+        requires { IfSome self.old (λ waits. length waits + length bytes.now ≤ piece_length) }
         ensures { self.new ≡ with_bytes bytes.now self.old }
     {
         if !self.failed {

@@ -38,7 +38,7 @@ fn to_the_end<R: Threads + Wait + Sync + AllocGlobal>(
     words: &[String],
     script: &Bytes,
 ) -> Result<(Status, bool), NoMemory> {
-    let mut sink = MemSink::new(rt.alloc(), 9000, Vec::new(rt.alloc()));
+    let mut sink = MemSink::new(rt.alloc(), 20_000, Vec::new(rt.alloc()));
     let status = printed(rt, words, script, &mut sink)?;
     Ok((status, sink.taken().as_slice().ends_with(END)))
 }
@@ -50,7 +50,7 @@ fn to_the_fault<R: Threads + Wait + Sync + AllocGlobal>(
     script: &Bytes,
 ) -> Result<(Status, usize), NoMemory> {
     let fails = Vec::from_slice(rt.alloc(), &[3])?;
-    let mut sink = MemSink::new(rt.alloc(), 9000, fails);
+    let mut sink = MemSink::new(rt.alloc(), 20_000, fails);
     let status = printed(rt, words, script, &mut sink)?;
     Ok((status, sink.taken().len()))
 }
@@ -63,14 +63,14 @@ pub fn word_of(alloc: Global, mode: &str) -> Result<Vec<String>, Fail> {
 }
 
 #[test]
-fn the_written_script_is_printed_in_pieces_of_4096_bytes(rt: HostRuntime) -> Result<(), Fail> {
+fn the_written_script_is_printed_in_pieces_of_16384_bytes(rt: HostRuntime) -> Result<(), Fail> {
     let script = generated(rt.alloc())?;
     for mode in ["--mode=serial", "--mode=threads"] {
         let words = word_of(rt.alloc(), mode)?;
         let end = to_the_end(&rt, words.as_slice(), &script)?;
         see(&rt, &end, &(Status::Done, true));
         let fault = to_the_fault(&rt, words.as_slice(), &script)?;
-        see(&rt, &fault, &(Status::WriteFault, 8192));
+        see(&rt, &fault, &(Status::WriteFault, 32_768));
     }
     Ok(())
 }

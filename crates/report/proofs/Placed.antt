@@ -1,0 +1,77 @@
+-- What stands in a buffer once more was written behind what stood there.
+use Rattle.std.proofs.Common.{◌≡◌, ℕ, ◌+◌, ◌-◌, ◌*◌, ◌/◌, ◌%◌, ◌<◌, ◌≤◌, List, [], ◌∷◌, ◌++◌, length, take, drop, slice_index, slice_set, sym, ap, ◌∙◌, arith, subst}
+use Rattle.std.proofs.lemmas.List.{append_assoc, append-nil, length-drop, take_all, take_more, take-append-drop}
+use Rattle.std.proofs.lemmas.Simd.{length-chunk, take_more_put_chunk}
+use Rattle.std.proofs.Math.Seq.{take-add}
+use lib.Lanes.{chunk, put_chunk}
+use Rattle.hex.proofs.HexLemmas.{length-encode_with}
+use Rattle.hex.proofs.Pairs.{take-two_writes}
+use Rattle.hex.specs.Hex.{encode_lower, encode_with, lower_digits}
+use Rattle.report.proofs.Parts.{encode_lower-append}
+use Rattle.report.specs.Printing.{IsWrittenAt}
+
+-- one part behind another
+pub written_then : {a b c : ℕ} {o m n : List ℕ} {xs ys : List ℕ} → IsWrittenAt a o b m xs → IsWrittenAt b m c n ys → IsWrittenAt a o c n (xs ++ ys)
+written_then {a} {b} {c} {o} {m} {n} {xs} {ys} first next = record {
+  front = next.front ∙ ap (λ zs. zs ++ ys) first.front ∙ append_assoc (take a o) xs ys;
+}
+
+-- the same bytes, written otherwise
+pub written_as : {a b : ℕ} {o n : List ℕ} {xs ys : List ℕ} → IsWrittenAt a o b n xs → xs ≡ ys → IsWrittenAt a o b n ys
+written_as {a} {b} {o} {n} {xs} {ys} first e = subst (λ zs. IsWrittenAt a o b n zs) e first
+
+-- ---- the digits of bytes
+
+-- none are written yet
+pub digits_start : (at : ℕ) (out bytes : List ℕ) → IsWrittenAt at out (at + 2 * 0) out (encode_lower (take 0 bytes))
+unfolding encode_with
+digits_start at out bytes =
+    let e : at + 2 * 0 ≡ at = omega arith in
+    record { front = ap (λ n. take n out) e ∙ sym (append-nil (take at out)) }
+
+-- those of a vector more
+pub digits_more : (n : ℕ) {lanes : List ℕ} (bytes old out : List ℕ) (at i : ℕ) → i + n ≤ length bytes → at + 2 * length bytes ≤ length out
+    → lanes ≡ encode_lower (chunk i n bytes) → IsWrittenAt at old (at + 2 * i) out (encode_lower (take i bytes))
+    → IsWrittenAt at old (at + 2 * (i + n)) (put_chunk (at + 2 * i) out lanes) (encode_lower (take (i + n) bytes))
+digits_more n {lanes} bytes old out at i some room is before =
+    let long : length lanes ≡ 2 * n = ap length is ∙ length-encode_with lower_digits (chunk i n bytes) ∙ ap (λ k. 2 * k) (length-chunk i n bytes some) in
+    record {
+      front = take_more_put_chunk (at + 2 * i) out lanes (at + 2 * (i + n)) (omega (arith, long)) (omega arith)
+          ∙ ap (λ xs. xs ++ lanes) before.front ∙ append_assoc (take at old) (encode_lower (take i bytes)) lanes
+          ∙ ap (λ xs. take at old ++ xs) (ap (λ xs. encode_lower (take i bytes) ++ xs) is
+          ∙ sym (encode_lower-append (take i bytes) (chunk i n bytes)) ∙ ap encode_lower (sym (take-add i n bytes)));
+    }
+
+-- those of a byte more
+pub digits_step : (bytes old out : List ℕ) (at i x y : ℕ) → i < length bytes → at + 2 * length bytes ≤ length out
+    → x ≡ slice_index lower_digits (slice_index bytes i / 16) → y ≡ slice_index lower_digits (slice_index bytes i % 16)
+    → IsWrittenAt at old (at + 2 * i) out (encode_lower (take i bytes))
+    → IsWrittenAt at old (at + 2 * (i + 1)) (slice_set (slice_set out (at + 2 * i) x) (at + 2 * i + 1) y) (encode_lower (take (i + 1) bytes))
+unfolding encode_with
+digits_step bytes old out at i x y some room ex ey before =
+    let two : at + 2 * (i + 1) ≡ at + 2 * i + 2 = omega arith in
+    let digits : encode_lower (slice_index bytes i ∷ []) ≡ x ∷ y ∷ [] = λ k. sym ex k ∷ sym ey k ∷ [] in
+    record {
+      front = ap (λ n. take n (slice_set (slice_set out (at + 2 * i) x) (at + 2 * i + 1) y)) two ∙ take-two_writes out (at + 2 * i) x y (omega arith)
+          ∙ ap (λ xs. xs ++ (x ∷ y ∷ [])) before.front ∙ append_assoc (take at old) (encode_lower (take i bytes)) (x ∷ y ∷ [])
+          ∙ ap (λ xs. take at old ++ xs) (ap (λ xs. encode_lower (take i bytes) ++ xs) (sym digits)
+          ∙ sym (encode_lower-append (take i bytes) (slice_index bytes i ∷ [])) ∙ ap encode_lower (sym (take_more bytes i 0 some)));
+    }
+
+-- those of all
+pub digits_all : (bytes : List ℕ) {old out : List ℕ} {at i : ℕ} → length bytes ≤ i → i ≤ length bytes → IsWrittenAt at old (at + 2 * i) out (encode_lower (take i bytes))
+    → IsWrittenAt at old (at + 2 * length bytes) out (encode_lower bytes)
+digits_all bytes {old} {out} {at} {i} some all before =
+    let e : i ≡ length bytes = omega (arith, some, all) in
+    let w : take i bytes ≡ bytes = take_all i bytes some in
+    subst (λ n. IsWrittenAt at old (at + 2 * n) out (encode_lower bytes)) e (written_as before (ap encode_lower w))
+
+-- those of some and then those of the rest
+pub digits_both : (bytes : List ℕ) {old mid out rest : List ℕ} {at i : ℕ} → i ≤ length bytes → rest ≡ drop i bytes → IsWrittenAt at old (at + 2 * i) mid (encode_lower (take i bytes))
+    → IsWrittenAt (at + 2 * i) mid (at + 2 * i + 2 * length rest) out (encode_lower rest) → IsWrittenAt at old (at + 2 * length bytes) out (encode_lower bytes)
+digits_both bytes {old} {mid} {out} {rest} {at} {i} some behind first next =
+    let long : length rest ≡ length bytes - i = ap length behind ∙ length-drop i bytes in
+    let end : at + 2 * i + 2 * length rest ≡ at + 2 * length bytes = omega (arith, long, some) in
+    let whole : encode_lower (take i bytes) ++ encode_lower rest ≡ encode_lower bytes =
+    sym (encode_lower-append (take i bytes) rest) ∙ ap encode_lower (ap (λ xs. take i bytes ++ xs) behind ∙ take-append-drop i bytes) in
+    subst (λ n. IsWrittenAt at old n out (encode_lower bytes)) end (written_as (written_then first next) whole)
