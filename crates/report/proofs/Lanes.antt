@@ -75,7 +75,7 @@ turns_of_sixteen =
 pub sixteen_are : (xs : List ℕ) → length xs ≡ 16 → AreDigits 16 turns_of_sixteen xs
 unfolding encode_with
 sixteen_are = spelled (AreDigits 16 turns_of_sixteen) 16 (λ f h.
-    let h = h in let k = h.1.1.1.1.1.1.1.1 in
+    let k = h.1.1.1.1.1.1.1.1 in
     digits_then _ h.0 (digits_then _ h.1.0 (digits_then _ h.1.1.0 (digits_then _ h.1.1.1.0
     (digits_then _ h.1.1.1.1.0 (digits_then _ h.1.1.1.1.1.0 (digits_then _ h.1.1.1.1.1.1.0 (digits_then _ h.1.1.1.1.1.1.1.0
     (digits_then _ k.0 (digits_then _ k.1.0 (digits_then _ k.1.1.0 (digits_then _ k.1.1.1.0

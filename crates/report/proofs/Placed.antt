@@ -1,8 +1,8 @@
 -- What stands in a buffer once more was written behind what stood there.
-use Rattle.std.proofs.Common.{◌≡◌, ℕ, ◌+◌, ◌-◌, ◌*◌, ◌/◌, ◌%◌, ◌<◌, ◌≤◌, List, [], ◌∷◌, ◌++◌, length, take, drop, slice_index, slice_set, sym, ap, ◌∙◌, arith, subst}
-use Rattle.std.proofs.lemmas.List.{append_assoc, append-nil, length-drop, take_all, take_more, take-append-drop}
+use Rattle.std.proofs.Common.{◌≡◌, ℕ, ◌+◌, ◌-◌, ◌*◌, ◌/◌, ◌%◌, ◌<◌, ◌≤◌, List, [], ◌∷◌, ◌++◌, length, take, drop, slice_index, slice_set, refl, sym, ap, ◌∙◌, arith, subst}
+use Rattle.std.proofs.lemmas.List.{append_assoc, append-nil, length-drop, length-take-le, take_all, take_more, take_more_set, take-append-drop, take-take}
 use Rattle.std.proofs.lemmas.Simd.{length-chunk, take_more_put_chunk}
-use Rattle.std.proofs.Math.Seq.{take-add}
+use Rattle.std.proofs.Math.Seq.{take-add, take-append_seam, take-append-add}
 use lib.Lanes.{chunk, put_chunk}
 use Rattle.hex.proofs.HexLemmas.{length-encode_with}
 use Rattle.hex.proofs.Pairs.{take-two_writes}
@@ -75,3 +75,31 @@ digits_both bytes {old} {mid} {out} {rest} {at} {i} some behind first next =
     let whole : encode_lower (take i bytes) ++ encode_lower rest ≡ encode_lower bytes =
     sym (encode_lower-append (take i bytes) rest) ∙ ap encode_lower (ap (λ xs. take i bytes ++ xs) behind ∙ take-append-drop i bytes) in
     subst (λ n. IsWrittenAt at old n out (encode_lower bytes)) end (written_as (written_then first next) whole)
+
+-- ---- words, of which the first bytes count
+
+-- a byte behind what stands there
+pub written_byte : (out : List ℕ) (at byte : ℕ) → at < length out → IsWrittenAt at out (at + 1) (slice_set out at byte) (byte ∷ [])
+written_byte out at byte some = record { front = take_more_set out at byte some }
+
+-- the first bytes of what was stored
+pub written_front : (out lanes : List ℕ) (at count : ℕ) → count ≤ length lanes → at + length lanes ≤ length out
+    → IsWrittenAt at out (at + count) (put_chunk at out lanes) (take count lanes)
+written_front out lanes at count some room =
+    let whole = take_more_put_chunk at out lanes (at + length lanes) refl room in
+    let long : length (take at out) ≡ at = length-take-le at out (omega (arith, room)) in
+    record {
+      front = sym (take-take (at + count) (at + length lanes) (put_chunk at out lanes) (omega (arith, some))) ∙ ap (take (at + count)) whole
+          ∙ ap (λ n. take (n + count) (take at out ++ lanes)) (sym long) ∙ take-append-add (take at out) lanes count;
+    }
+
+-- a text at the front of what a vector holds that was read from a place of a buffer
+pub front_is : (buffer text rest : List ℕ) (start left count : ℕ) → drop start buffer ≡ text ++ rest → count ≡ length text → count ≤ 32 → 32 ≤ left
+    → take count (chunk 0 32 (take left (drop start buffer))) ≡ text
+front_is buffer text rest start left count is long most many =
+    take-take count 32 (take left (drop start buffer)) most ∙ take-take count left (drop start buffer) (omega (arith, most, many))
+    ∙ ap (take count) is ∙ ap (λ n. take n (text ++ rest)) long ∙ take-append_seam text rest
+
+-- the same end, written otherwise
+pub written_to : {a b c : ℕ} {o n : List ℕ} {xs : List ℕ} → IsWrittenAt a o b n xs → b ≡ c → IsWrittenAt a o c n xs
+written_to {a} {b} {c} {o} {n} {xs} first e = subst (λ end. IsWrittenAt a o end n xs) e first

@@ -8,6 +8,7 @@ ghost use Rattle.report.specs.Texts.{act_name, entry_line, entry_lines, fault_nu
 ghost use Rattle.std.specs.Prelude.{◌≡◌, ◌<◌, ◌^◌, length};
 
 use crate::printing::Printer;
+use crate::step_writing::step_room;
 use cci_codec::{Response, response_head};
 use dcd_base::{AccessFault, Actor, Sink};
 use journal_core::{Act, Lender, Lent, Reply};
@@ -103,9 +104,11 @@ fn put_reply<K: Sink>(printer: &mut Printer, sink: &mut K, reply: &Reply)
     }
 }
 
-/// Puts the line of a step: its number, its line in the script, its actor, and its answer.
+/// Puts the parts of the line of a step, where a piece ends in it.
+#[cold]
+#[inline(never)]
 #[tactic(auto, using(crate::proofs::Parts::prints_then), unfolding(crate::specs::Texts::step_line))]
-fn put_step<K: Sink>(
+fn put_step_parts<K: Sink>(
     printer: &mut Printer,
     sink: &mut K,
     number: u64,
@@ -121,6 +124,27 @@ fn put_step<K: Sink>(
     printer.put_actor(sink, actor);
     put_act(printer, sink, act);
     put_reply(printer, sink, reply);
+}
+
+/// Puts the line of a step: its number, its line in the script, its actor, and its answer. It mostly fits into the piece.
+#[tactic(auto, using(crate::proofs::Parts::prints_waiting))]
+fn put_step<K: Sink>(
+    printer: &mut Printer,
+    sink: &mut K,
+    number: u64,
+    line: u32,
+    actor: Actor,
+    act: &Act,
+    reply: &Reply,
+)
+    requires { IsShort reply.now }
+    ensures { Puts K.taken K.faults sink.old printer.old sink.new printer.new (step_line number line actor act.now reply.now) }
+{
+    if step_room(reply) <= printer.room() {
+        printer.store_step(number, line, actor, act, reply);
+    } else {
+        put_step_parts(printer, sink, number, line, actor, act, reply);
+    }
 }
 
 /// Puts the line of an entry, which is lent.

@@ -10,6 +10,7 @@ mod printing;
 mod refusals;
 mod rendering;
 mod state_lines;
+mod step_writing;
 mod words;
 
 pub use refusals::refusal;

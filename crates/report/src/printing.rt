@@ -1,14 +1,18 @@
 //! The printer: it gathers bytes into pieces and hands each full piece to a sink.
 
+ghost use Rattle.control_core.specs.Deciding.{IsShort};
 ghost use Rattle.hex.specs.Hex.{encode_lower};
-ghost use Rattle.report.specs.Printing.{piece_length, with_byte, with_bytes, Puts};
+ghost use Rattle.report.specs.Printing.{piece_length, step_room, with_byte, with_bytes, Puts};
+ghost use Rattle.report.specs.Texts.{step_line};
 ghost use Rattle.std.specs.Prelude.{◌≡◌, ◌+◌, ◌*◌, ◌<◌, ◌≤◌, [], ◌∷◌, ◌++◌, IfSome, None, OnErr, OnOk, Some, decimal, length};
 
 use crate::hex_digits::write_hex;
 use crate::places::write_bytes;
-use dcd_base::{Failed, Sink, write_all};
+use crate::step_writing::write_step;
+use dcd_base::{Actor, Failed, Sink, write_all};
 use hex::encode_to_slice;
 use itoa::Buffer;
+use journal_core::{Act, Reply};
 use std::marker::Model;
 
 /// How many bytes a piece has; the last piece of a text may have fewer.
@@ -188,6 +192,25 @@ impl Printer {
     {
         for byte in bytes {
             self.put_byte(sink, *byte);
+        }
+    }
+
+    /// How many more bytes can wait.
+    pub fn room(&self) -> usize
+        ensures { IfSome self.now (λ waits. length waits + result ≤ piece_length) }
+    {
+        PIECE - self.len
+    }
+
+    /// Lets the line of a step wait.
+    #[inline(always)]
+    pub fn store_step(&mut self, number: u64, line: u32, actor: Actor, act: &Act, reply: &Reply)
+        requires short { IsShort reply.now }
+        requires room { IfSome self.old (λ waits. length waits + step_room reply.now ≤ piece_length) }
+        ensures { self.new ≡ with_bytes (step_line number line actor act.now reply.now) self.old }
+    {
+        if !self.failed {
+            self.len = write_step(&mut self.buffer, self.len, number, line, actor, act, reply);
         }
     }
 

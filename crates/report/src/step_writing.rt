@@ -1,0 +1,306 @@
+//! The line of a step, written at once where there is room for all of it.
+//!
+//! Words are written as eight bytes and numbers as thirty-two, whatever their length: what stands behind the end of one is written over by the next.
+
+ghost use Rattle.control_core.specs.Deciding.{IsShort};
+ghost use Rattle.journal_core.specs.declared.acts.Reply.{Reply};
+ghost use Rattle.report.specs.Printing.{IsWrittenAt, step_room};
+ghost use Rattle.report.specs.Texts.{act_name, actor_name, host_name, next_word, reply_words, rest_of_line, step_line};
+ghost use Rattle.std.specs.Prelude.{◌≡◌, ◌+◌, ◌*◌, ◌<◌, ◌≤◌, ◌++◌, ◌∷◌, [], decimal, length, take};
+
+use crate::hex_digits::write_hex;
+use cci_codec::{Response, response_head};
+use dcd_base::{AccessFault, Actor};
+use itoa::write_digits;
+use journal_core::{Act, Reply};
+use std::simd::prelude::*;
+
+/// How much room the line of a step with this reply is written in, in bytes. The line itself may be shorter.
+#[inline(always)]
+pub(crate) fn step_room(reply: &Reply) -> usize
+    requires { IsShort reply.now }
+    ensures { result ≡ step_room reply.now }
+{
+    match reply {
+        Reply::Answer(response) => 96 + 2 * response.payload.as_slice().len(),
+        _ => 96,
+    }
+}
+
+/// Writes a byte at a place.
+#[inline(always)]
+fn write_byte(out: &mut [u8], at: usize, byte: u8)
+    requires { at < length out.old }
+    ensures { IsWrittenAt at out.old (at + 1) out.new (byte ∷ []) }
+{
+    out[at] = byte;
+}
+
+/// Writes the first bytes of a word at a place, and answers where they end.
+#[inline(always)]
+fn write_word(out: &mut [u8], at: usize, word: u8x8, count: usize) -> usize
+    requires count { count ≤ 8 }
+    requires room { at + 8 ≤ length out.old }
+    ensures end { result ≡ at + count }
+    ensures word { IsWrittenAt at out.old result out.new (take count word) }
+{
+    word.copy_to_slice(&mut out[at..]);
+    at + count
+}
+
+/// Writes the first bytes of a numeral at a place, and answers where they end.
+#[inline(always)]
+fn write_numeral(out: &mut [u8], at: usize, numeral: u8x32, count: usize) -> usize
+    requires count { count ≤ 32 }
+    requires room { at + 32 ≤ length out.old }
+    ensures end { result ≡ at + count }
+    ensures numeral { IsWrittenAt at out.old result out.new (take count numeral) }
+{
+    numeral.copy_to_slice(&mut out[at..]);
+    at + count
+}
+
+/// The decimal digits of a number, at most 20, and how many there are.
+#[inline(always)]
+fn numeral(number: u64) -> (u8x32, usize)
+    ensures count { result.1 ≤ 20 }
+    ensures digits { take result.1 result.0 ≡ decimal number }
+{
+    let mut digits = [0u8; 52];
+    let start = write_digits(number, &mut digits, 20);
+    (u8x32::from_slice(&digits[start..]), 20 - start)
+}
+
+/// Writes a number at a place, and answers where its digits end.
+#[inline(always)]
+fn write_number(out: &mut [u8], at: usize, number: u64) -> usize
+    requires { at + 32 ≤ length out.old }
+    ensures end { result ≤ at + 20 }
+    ensures digits { IsWrittenAt at out.old result out.new (decimal number) }
+{
+    let (digits, count) = numeral(number);
+    write_numeral(out, at, digits, count)
+}
+
+/// Writes two numbers with a space between. The digits of two that are equal are made once.
+#[inline(always)]
+#[tactic(auto, using(crate::proofs::Placed::written_then))]
+fn write_numbers(out: &mut [u8], at: usize, first: u64, second: u64) -> usize
+    requires { at + 53 ≤ length out.old }
+    ensures end { result ≤ at + 41 }
+    ensures digits { IsWrittenAt at out.old result out.new (decimal first ++ next_word (decimal second)) }
+{
+    let (digits, count) = numeral(first);
+    let end = write_numeral(out, at, digits, count);
+    write_byte(out, end, b' ');
+    if first == second {
+        write_numeral(out, end + 1, digits, count)
+    } else {
+        write_number(out, end + 1, second)
+    }
+}
+
+/// Writes a space and the name of a host.
+#[inline(always)]
+fn write_host(out: &mut [u8], at: usize, host: u8) -> usize
+    requires { at + 8 ≤ length out.old }
+    ensures end { result ≤ at + 5 }
+    ensures name { IsWrittenAt at out.old result out.new (next_word (host_name host)) }
+{
+    match host {
+        0..10 => write_short_host(out, at, host),
+        10..100 => write_long_host(out, at, host),
+        _ => write_longest_host(out, at, host),
+    }
+}
+
+/// Writes a space and the name of a host whose number has one digit.
+#[inline(always)]
+fn write_short_host(out: &mut [u8], at: usize, host: u8) -> usize
+    requires most { host < 10 }
+    requires room { at + 8 ≤ length out.old }
+    ensures end { result ≤ at + 5 }
+    ensures name { IsWrittenAt at out.old result out.new (next_word (host_name host)) }
+{
+    write_word(
+        out,
+        at,
+        u8x8::from_array([b' ', b'h', b'0' + host, 0, 0, 0, 0, 0]),
+        3,
+    )
+}
+
+/// Writes a space and the name of a host whose number has two digits.
+#[inline(always)]
+fn write_long_host(out: &mut [u8], at: usize, host: u8) -> usize
+    requires least { 10 ≤ host }
+    requires most { host < 100 }
+    requires room { at + 8 ≤ length out.old }
+    ensures end { result ≤ at + 5 }
+    ensures name { IsWrittenAt at out.old result out.new (next_word (host_name host)) }
+{
+    write_word(
+        out,
+        at,
+        u8x8::from_array([b' ', b'h', b'0' + host / 10, b'0' + host % 10, 0, 0, 0, 0]),
+        4,
+    )
+}
+
+/// Writes a space and the name of a host whose number has three digits.
+#[inline(always)]
+fn write_longest_host(out: &mut [u8], at: usize, host: u8) -> usize
+    requires least { 100 ≤ host }
+    requires room { at + 8 ≤ length out.old }
+    ensures end { result ≤ at + 5 }
+    ensures name { IsWrittenAt at out.old result out.new (next_word (host_name host)) }
+{
+    let ones = host % 100;
+    write_word(
+        out,
+        at,
+        u8x8::from_array([
+            b' ',
+            b'h',
+            b'0' + host / 100,
+            b'0' + ones / 10,
+            b'0' + ones % 10,
+            0,
+            0,
+            0,
+        ]),
+        5,
+    )
+}
+
+/// Writes a space and the name of an actor.
+#[inline(always)]
+fn write_actor(out: &mut [u8], at: usize, actor: Actor) -> usize
+    requires { at + 8 ≤ length out.old }
+    ensures end { result ≤ at + 5 }
+    ensures name { IsWrittenAt at out.old result out.new (next_word (actor_name actor)) }
+{
+    match actor {
+        Actor::Host(host) => write_host(out, at, host.0),
+        Actor::Manager => write_word(out, at, u8x8::from_array(*b" fm     "), 3),
+        Actor::Sanitizer => write_word(out, at, u8x8::from_array(*b" sz     "), 3),
+    }
+}
+
+/// Writes a space and the name of an act.
+#[inline(always)]
+fn write_act(out: &mut [u8], at: usize, act: &Act) -> usize
+    requires { at + 8 ≤ length out.old }
+    ensures end { result ≤ at + 4 }
+    ensures name { IsWrittenAt at out.old result out.new (next_word (act_name act.now)) }
+{
+    match act {
+        Act::Command(_) => write_word(out, at, u8x8::from_array(*b" cmd    "), 4),
+        Act::Load(_) => write_word(out, at, u8x8::from_array(*b" ld     "), 3),
+        Act::Store(_, _) => write_word(out, at, u8x8::from_array(*b" st     "), 3),
+        Act::Scrub(_) => write_word(out, at, u8x8::from_array(*b" sc     "), 3),
+    }
+}
+
+/// Writes a space, the digits of a response and the end of the line.
+#[inline(always)]
+fn write_response(out: &mut [u8], at: usize, response: &Response) -> usize
+    requires short { length response.now.payload ≤ 2048 }
+    requires room { at + 33 + 2 * length response.now.payload ≤ length out.old }
+    ensures end { result ≤ at + 26 + 2 * length response.now.payload }
+    ensures words { IsWrittenAt at out.old result out.new (rest_of_line (reply_words (Reply.Answer response.now))) }
+{
+    let payload = response.payload.as_slice();
+    let head = response_head(
+        response.tag,
+        response.opcode,
+        response.code,
+        payload.len() as u32,
+    );
+    write_byte(out, at, b' ');
+    write_hex(out, at + 1, head.as_slice());
+    write_hex(out, at + 25, payload);
+    write_byte(out, at + 25 + 2 * payload.len(), b'\n');
+    at + 26 + 2 * payload.len()
+}
+
+/// Writes a space, the sixteen digits of a word, the most significant first, and the end of the line.
+#[inline(always)]
+fn write_loaded(out: &mut [u8], at: usize, word: u64) -> usize
+    requires { at + 18 ≤ length out.old }
+    ensures end { result ≡ at + 18 }
+    ensures words { IsWrittenAt at out.old result out.new (rest_of_line (reply_words (Reply.Word word))) }
+{
+    write_byte(out, at, b' ');
+    write_hex(out, at + 1, word.to_be_bytes().as_slice());
+    write_byte(out, at + 17, b'\n');
+    at + 18
+}
+
+/// Writes that a load or a store was refused, why, and the end of the line.
+#[inline(always)]
+fn write_refused(out: &mut [u8], at: usize, fault: AccessFault) -> usize
+    requires { at + 17 ≤ length out.old }
+    ensures end { result ≡ at + 11 }
+    ensures words { IsWrittenAt at out.old result out.new (rest_of_line (reply_words (Reply.Refused fault))) }
+{
+    let end = write_word(out, at, u8x8::from_array(*b" refused"), 8);
+    match fault {
+        AccessFault::Misaligned => write_word(out, end, u8x8::from_array(*b" 1\n     "), 3),
+        AccessFault::OutsideRegions => write_word(out, end, u8x8::from_array(*b" 2\n     "), 3),
+        AccessFault::NotGranted => write_word(out, end, u8x8::from_array(*b" 3\n     "), 3),
+    }
+}
+
+/// Writes a space, how many granules were zeroed and the end of the line.
+#[inline(always)]
+fn write_scrubbed(out: &mut [u8], at: usize, count: u32) -> usize
+    requires { at + 33 ≤ length out.old }
+    ensures end { result ≤ at + 22 }
+    ensures words { IsWrittenAt at out.old result out.new (rest_of_line (reply_words (Reply.Scrubbed count))) }
+{
+    write_byte(out, at, b' ');
+    let end = write_number(out, at + 1, u64::from(count));
+    write_byte(out, end, b'\n');
+    end + 1
+}
+
+/// Writes a reply and the end of the line.
+#[inline(always)]
+fn write_reply(out: &mut [u8], at: usize, reply: &Reply) -> usize
+    requires short { IsShort reply.now }
+    requires room { at + step_room reply.now ≤ length out.old + 50 }
+    ensures end { result ≤ length out.old }
+    ensures words { IsWrittenAt at out.old result out.new (rest_of_line (reply_words reply.now)) }
+{
+    match reply {
+        Reply::Answer(response) => write_response(out, at, response),
+        Reply::Word(word) => write_loaded(out, at, *word),
+        Reply::Stored => write_word(out, at, u8x8::from_array(*b" ok\n    "), 4),
+        Reply::Refused(fault) => write_refused(out, at, *fault),
+        Reply::Scrubbed(count) => write_scrubbed(out, at, *count),
+    }
+}
+
+/// Writes the line of a step at a place, behind what stands before it, and answers where it ends.
+#[inline(always)]
+#[tactic(auto, using(crate::proofs::Placed::written_then), unfolding(crate::specs::Texts::step_line))]
+pub(crate) fn write_step(
+    out: &mut [u8],
+    at: usize,
+    number: u64,
+    line: u32,
+    actor: Actor,
+    act: &Act,
+    reply: &Reply,
+) -> usize
+    requires short { IsShort reply.now }
+    requires room { at + step_room reply.now ≤ length out.old }
+    ensures end { result ≤ length out.old }
+    ensures line { IsWrittenAt at out.old result out.new (step_line number line actor act.now reply.now) }
+{
+    let numbered = write_numbers(out, at, number, u64::from(line));
+    let named = write_actor(out, numbered, actor);
+    let told = write_act(out, named, act);
+    write_reply(out, told, reply)
+}
