@@ -15,7 +15,7 @@ use crate::sizes::{is_short, size_with};
 use dcd_base::NoMemory;
 use script_codec::{Head, Line, Script};
 use std::alloc::Global;
-use text_lines::{Cause, Frame, PayloadRoom, TextFault, opening, plain_line, rest};
+use text_lines::{Cause, Frame, PayloadRoom, TextFault, opening, plain_access, plain_line, rest};
 use text_words::TextLines;
 
 /// The most lines of a script.
@@ -30,6 +30,17 @@ fn frame_of(head: &Head) -> Frame
         hosts: head.config.hosts(),
         lanes: head.lanes,
     }
+}
+
+/// The next line, where it is a load or a store that can be read at once; else nothing is taken.
+#[inline(always)]
+fn next_access(frame: Frame, lines: &mut TextLines<'_>) -> Option<Line>
+    ensures { TakesPlainLine frame lines.old lines.new result }
+{
+    let (number, text) = lines.unread();
+    let (line, rest) = plain_access(frame, text)?;
+    *lines = TextLines::from(number + 1, rest);
+    Some(line)
 }
 
 /// The next line, where it can be read at once; else nothing is taken.
@@ -53,6 +64,32 @@ fn next_plain(
 struct Filling {
     left: u32,
     size: u64,
+}
+
+/// Puts loads and stores behind the lines that are there, as long as they can be read at once.
+fn fill_accesses(
+    frame: Frame,
+    before: Filling,
+    lines: &mut TextLines<'_>,
+    out: &mut script_codec::Lines,
+) -> Result<Filling, NoMemory>
+    requires { before.size ≡ min (length (spelling (flat_map line_fields out.old))) 18446744073709551615 }
+    ensures value { IfOk result (λ after. lines_behind out.new (lines_at after.left frame lines.new.lines)
+        ≡ lines_behind out.old (lines_at before.left frame lines.old.lines)) }
+    ensures size { IfOk result (λ after. after.size ≡ min (length (spelling (flat_map line_fields out.new))) 18446744073709551615) }
+    ensures end { lines.new.end ≡ lines.old.end }
+    ensures fewer { length lines.new.lines ≤ length lines.old.lines }
+{
+    let mut left = before.left;
+    let mut size = before.size;
+    while left > 0
+        && let Some(line) = next_access(frame, lines)
+    {
+        size = size_with(size, &line);
+        out.push(line)?;
+        left -= 1;
+    }
+    Ok(Filling { left, size })
 }
 
 /// Puts lines behind those that are there, as long as they can be read at once.
@@ -100,7 +137,8 @@ fn fill_lines(
     let mut left = most;
     let mut size = 0u64;
     loop {
-        let plain = fill_plain(alloc, frame, Filling { left, size }, lines, &mut room, out)?;
+        let accesses = fill_accesses(frame, Filling { left, size }, lines, out)?;
+        let plain = fill_plain(alloc, frame, accesses, lines, &mut room, out)?;
         left = plain.left;
         size = plain.size;
         let Some(mut words) = lines.next() else {

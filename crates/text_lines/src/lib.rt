@@ -31,5 +31,5 @@ pub use faults::{Cause, TextFault, Wanted};
 pub use keywords::Keyword;
 pub use lines::{opening, rest};
 pub use openings::Opening;
-pub use plain_lines::plain_line;
+pub use plain_lines::{plain_access, plain_line};
 pub use plain_messages::PayloadRoom;

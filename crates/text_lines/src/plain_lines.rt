@@ -125,6 +125,16 @@ fn access_line(frame: Frame, host: u8, text: &[u8]) -> Option<(Line, &[u8])>
     Some((line_of(host, act_of(access)), rest))
 }
 
+/// A load or a store that can be read at once, and what stands behind its line.
+#[inline(always)]
+pub fn plain_access(frame: Frame, text: &[u8]) -> Option<(Line, &[u8])>
+    ensures { IfSome result (λ r. CutsLine frame text.now r.0 r.1.now) }
+{
+    let (host, act) = cut_host(frame, text)?;
+    let (line, rest) = access_line(frame, host, act)?;
+    Some((line, rest))
+}
+
 /// A host's question for extents of its list, and what stands behind its line.
 #[inline(always)]
 fn cut_extents(text: &[u8]) -> Option<(HostRequest, &[u8])>

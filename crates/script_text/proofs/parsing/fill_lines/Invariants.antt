@@ -5,12 +5,12 @@ use Rattle.script_codec.specs.Scripts.{line_fields}
 use Rattle.script_text.specs.Texts.{lines_at, lines_behind}
 use Rattle.script_text.proofs.parsing.fill_lines.Given as goal
 
-abbrev pub invariant-loop-plain : goal.invariant-loop-plain
-invariant-loop-plain l = record {
+abbrev pub invariant-loop-accesses : goal.invariant-loop-accesses
+invariant-loop-accesses l = record {
   end : l.lines.end ≡ l.fn.lines.end;
   size : l.size ≡ min (length (spelling (flat_map line_fields l.out))) 18446744073709551615;
   read : lines_behind l.out (lines_at l.left l.frame l.lines.lines) ≡ lines_at l.most l.frame l.fn.lines.lines;
 }
 
-abbrev pub decreases-loop-plain : goal.decreases-loop-plain
-decreases-loop-plain l = length l.lines.lines
+abbrev pub decreases-loop-accesses : goal.decreases-loop-accesses
+decreases-loop-accesses l = length l.lines.lines
