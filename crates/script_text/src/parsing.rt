@@ -13,6 +13,7 @@ ghost use Rattle.text_lines.specs.Fields.{GivesLast};
 use crate::configs::head;
 use crate::sizes::{is_short, size_with};
 use dcd_base::NoMemory;
+use journal_core::Act;
 use script_codec::{Head, Line, Script};
 use std::alloc::Global;
 use text_lines::{Cause, Frame, PayloadRoom, TextFault, opening, plain_access, plain_line, rest};
@@ -79,6 +80,7 @@ fn fill_accesses(
     ensures size { IfOk result (λ after. after.size ≡ min (length (spelling (flat_map line_fields out.new))) 18446744073709551615) }
     ensures end { lines.new.end ≡ lines.old.end }
     ensures fewer { length lines.new.lines ≤ length lines.old.lines }
+    ensures less { IfOk result (λ after. after.left ≤ before.left) }
 {
     let mut left = before.left;
     let mut size = before.size;
@@ -92,7 +94,19 @@ fn fill_accesses(
     Ok(Filling { left, size })
 }
 
-/// Puts lines behind those that are there, as long as they can be read at once.
+/// Whether a line is a load or a store.
+fn is_access(line: &Line) -> bool {
+    match line {
+        Line::Do {
+            act: Act::Load(_) | Act::Store(..),
+            ..
+        } => true,
+        _ => false,
+    }
+}
+
+/// Puts lines behind those that are there, as long as they can be read at once, and to the first load or store at most: more of
+/// them may follow.
 fn fill_plain(
     alloc: Global,
     frame: Frame,
@@ -107,13 +121,17 @@ fn fill_plain(
     ensures size { IfOk result (λ after. after.size ≡ min (length (spelling (flat_map line_fields out.new))) 18446744073709551615) }
     ensures end { lines.new.end ≡ lines.old.end }
     ensures fewer { length lines.new.lines ≤ length lines.old.lines }
+    ensures less { IfOk result (λ after. after.left ≤ before.left) }
 {
     let mut left = before.left;
     let mut size = before.size;
+    let mut goes_on = true;
     while left > 0
+        && goes_on
         && let Some(line) = next_plain(alloc, frame, lines, room)
     {
         size = size_with(size, &line);
+        goes_on = !is_access(&line);
         out.push(line)?;
         left -= 1;
     }
@@ -139,8 +157,12 @@ fn fill_lines(
     loop {
         let accesses = fill_accesses(frame, Filling { left, size }, lines, out)?;
         let plain = fill_plain(alloc, frame, accesses, lines, &mut room, out)?;
+        let is_done = plain.left == left;
         left = plain.left;
         size = plain.size;
+        if !is_done {
+            continue;
+        }
         let Some(mut words) = lines.next() else {
             return Ok(size);
         };

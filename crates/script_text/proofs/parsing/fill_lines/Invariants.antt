@@ -13,4 +13,4 @@ invariant-loop-accesses l = record {
 }
 
 abbrev pub decreases-loop-accesses : goal.decreases-loop-accesses
-decreases-loop-accesses l = length l.lines.lines
+decreases-loop-accesses l = l.left

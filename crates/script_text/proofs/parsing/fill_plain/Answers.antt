@@ -10,6 +10,7 @@ loop-left-preserved c =
     record {
       end = first.end ∙ c.loop-left.invariant.end;
       fewer = omega (arith, one, c.loop-left.invariant.fewer);
+      less = omega (arith, c.loop-left.invariant.less);
       size = rw c.in_ok-push.ensures.pushed (size_more c.loop-left.out c.in-Some.line c.loop-left.size _ c.loop-left.invariant.size c.size_with-size.ensures);
       read = lines_go_on c.args.frame c.loop-left.left c.loop-left.out first.first c.loop-left.lines.lines c.next_plain.new.lines.lines _ first.here c.loop-left.invariant.read first.opening first.behind c.in-Some.line _ first.opens
           (λ none. omega (arith, none, c.loop-left-test.true)) first.reads c.in_ok-push.ensures.pushed;

@@ -9,6 +9,7 @@ abbrev pub invariant-loop-left : goal.invariant-loop-left
 invariant-loop-left l = record {
   end : l.lines.end ≡ l.fn.lines.end;
   fewer : length l.lines.lines ≤ length l.fn.lines.lines;
+  less : l.left ≤ l.fn.before.left;
   size : l.size ≡ min (length (spelling (flat_map line_fields l.out))) 18446744073709551615;
   read : lines_behind l.out (lines_at l.left l.frame l.lines.lines) ≡ lines_behind l.fn.out (lines_at l.fn.before.left l.frame l.fn.lines.lines);
 }
