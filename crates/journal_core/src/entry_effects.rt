@@ -123,6 +123,16 @@ impl<'a> Model for WithoutExtents<'a> {
 }
 
 impl WithoutExtents<'_> {
+    /// None.
+    #[tactic(auto, unfolding(crate::specs::Tokens::tokens_in))]
+    pub(crate) fn none() -> WithoutExtents<'static>
+        ensures { result ≡ [] }
+    {
+        WithoutExtents {
+            tokens: Tokens::new(&[]),
+        }
+    }
+
     /// The next one, or none behind the last.
     pub fn next(&mut self) -> Option<Effect>
         ensures { MatchOption result (self.old ≡ []) (λ effect. self.old ≡ effect ∷ self.new) }

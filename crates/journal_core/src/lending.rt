@@ -2,12 +2,17 @@
 
 ghost use Rattle.journal_core.specs.Lending.{first_entry, first_stamp, goes_first, lent, lent_entry};
 ghost use Rattle.journal_core.specs.Merging.{Rising};
+ghost use Rattle.journal_core.specs.Seen.{kind_of, seen_reply};
+ghost use Rattle.journal_core.specs.Tokens.{without_extents};
 ghost use Rattle.journal_core.specs.declared.entries.Entry.{Entry};
 ghost use Rattle.std.specs.Prelude.{◌≡◌, ◌<◌, ◌^◌, IfOk, List, drop, length};
 
+use crate::acts::Act;
 use crate::entries::Entry;
+use crate::entry_effects::WithoutExtents;
 use crate::loads_and_stores::Access;
-use dcd_base::{NoMemory, Stamp};
+use crate::seen::StepSeen;
+use dcd_base::{Actor, NoMemory, Stamp};
 
 /// An entry that is lent.
 #[derive(Clone, Copy, Debug)]
@@ -26,6 +31,55 @@ impl Lent<'_> {
         match self {
             Lent::Full(entry) => entry.copy(),
             Lent::Small(access) => Ok(access.entry()),
+        }
+    }
+
+    /// What the line of a printed journal is made of.
+    #[inline]
+    pub fn seen(&self) -> StepSeen<'_>
+        ensures line { result.line ≡ (lent_entry self.now).line }
+        ensures actor { result.actor ≡ (lent_entry self.now).actor }
+        ensures kind { result.kind ≡ kind_of (lent_entry self.now).act }
+        ensures reply { seen_reply result.reply ≡ (lent_entry self.now).reply }
+    {
+        match self {
+            Lent::Full(entry) => StepSeen {
+                line: entry.line,
+                actor: entry.actor,
+                kind: entry.act.kind(),
+                reply: entry.reply.seen(),
+            },
+            Lent::Small(access) => access.seen(),
+        }
+    }
+
+    /// The act, as one of its own. Only a command takes memory, for its payload.
+    pub fn act(&self) -> Result<Act, NoMemory>
+        ensures { IfOk result (λ act. act ≡ (lent_entry self.now).act) }
+    {
+        match self {
+            Lent::Full(entry) => entry.act.copy(),
+            Lent::Small(access) => Ok(access.act()),
+        }
+    }
+
+    /// The actor.
+    pub fn actor(&self) -> Actor
+        ensures { result ≡ (lent_entry self.now).actor }
+    {
+        match self {
+            Lent::Full(entry) => entry.actor,
+            Lent::Small(access) => access.actor(),
+        }
+    }
+
+    /// Those of the effects that have no extents, one after another. It takes no memory.
+    pub fn effects_without_extents(&self) -> WithoutExtents<'_>
+        ensures { result ≡ without_extents (lent_entry self.now).effects }
+    {
+        match self {
+            Lent::Full(entry) => entry.effects.without_extents(),
+            Lent::Small(_) => WithoutExtents::none(),
         }
     }
 }

@@ -1,12 +1,14 @@
 //! Loads and stores, kept small.
 
 ghost use Rattle.journal_core.specs.Accesses.{access_entry, load_said, stored_unless};
+ghost use Rattle.journal_core.specs.Seen.{kind_of, seen_reply};
 ghost use Rattle.journal_core.specs.declared.acts.Act.{Act};
 ghost use Rattle.std.specs.Prelude.{◌≡◌};
 
 use crate::acts::{Act, Reply};
 use crate::entries::Entry;
 use crate::entry_effects::EntryEffects;
+use crate::seen::{ActKind, ReplySeen, StepSeen};
 use dcd_base::{AccessFault, Actor, HostId, Seq, Stamp};
 use std::marker::Model;
 
@@ -168,6 +170,45 @@ impl Access {
             reply: self.reply(),
             effects: EntryEffects::none(),
             stamp: self.stamp,
+        }
+    }
+
+    /// What the line of a printed journal is made of.
+    #[inline]
+    pub(crate) fn seen(&self) -> StepSeen<'_>
+        ensures line { result.line ≡ self.now.line }
+        ensures actor { result.actor ≡ self.now.actor }
+        ensures kind { result.kind ≡ kind_of self.now.act }
+        ensures reply { seen_reply result.reply ≡ self.now.reply }
+    {
+        StepSeen {
+            line: self.line,
+            actor: self.actor(),
+            kind: self.act_kind(),
+            reply: self.reply_seen(),
+        }
+    }
+
+    /// What kind of act it is.
+    fn act_kind(&self) -> ActKind
+        ensures { result ≡ kind_of self.now.act }
+    {
+        match self.kind {
+            Kind::Load => ActKind::Load,
+            Kind::Store => ActKind::Store,
+        }
+    }
+
+    /// What was replied.
+    fn reply_seen(&self) -> ReplySeen<'_>
+        ensures { seen_reply result ≡ self.now.reply }
+    {
+        match self.refused {
+            Some(fault) => ReplySeen::Refused(fault),
+            None => match self.kind {
+                Kind::Load => ReplySeen::Word(self.word),
+                Kind::Store => ReplySeen::Stored,
+            },
         }
     }
 }
