@@ -1,5 +1,4 @@
 -- What is seen of a step that is lent.
-use Rattle.std.specs.Prelude.{ℕ}
 use Rattle.cci_codec.specs.declared.messages.Response.{Response}
 use Rattle.journal_core.specs.declared.acts.Act.{Act}
 use Rattle.journal_core.specs.declared.acts.Reply.{Reply}

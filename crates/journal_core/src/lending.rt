@@ -79,7 +79,7 @@ impl Lent<'_> {
     {
         match self {
             Lent::Full(entry) => entry.effects.without_extents(),
-            Lent::Small(_) => WithoutExtents::none(),
+            Lent::Small(access) => access.effects_without_extents(),
         }
     }
 }

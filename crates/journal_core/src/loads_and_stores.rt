@@ -2,12 +2,13 @@
 
 ghost use Rattle.journal_core.specs.Accesses.{access_entry, load_said, stored_unless};
 ghost use Rattle.journal_core.specs.Seen.{kind_of, seen_reply};
+ghost use Rattle.journal_core.specs.Tokens.{without_extents};
 ghost use Rattle.journal_core.specs.declared.acts.Act.{Act};
 ghost use Rattle.std.specs.Prelude.{◌≡◌};
 
 use crate::acts::{Act, Reply};
 use crate::entries::Entry;
-use crate::entry_effects::EntryEffects;
+use crate::entry_effects::{EntryEffects, WithoutExtents};
 use crate::seen::{ActKind, ReplySeen, StepSeen};
 use dcd_base::{AccessFault, Actor, HostId, Seq, Stamp};
 use std::marker::Model;
@@ -187,6 +188,15 @@ impl Access {
             kind: self.act_kind(),
             reply: self.reply_seen(),
         }
+    }
+
+    /// Its effects without extents, which are none.
+    pub(crate) fn effects_without_extents(&self) -> WithoutExtents<'_>
+        ensures { result ≡ without_extents self.now.effects }
+    {
+        // What is seen of it has none.
+        let _kind = self.kind;
+        WithoutExtents::none()
     }
 
     /// What kind of act it is.
