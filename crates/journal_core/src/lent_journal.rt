@@ -4,7 +4,7 @@ ghost use Rattle.journal_core.specs.Merging.{Rising, merged};
 ghost use Rattle.std.specs.Prelude.{◌≡◌, ◌∷◌, []};
 
 use crate::both::Both;
-use crate::entries::Entry;
+use crate::kept_entries::KeptEntries;
 use crate::lent_lists::{LentAccesses, LentEntries};
 use crate::loads_and_stores::Access;
 
@@ -13,10 +13,10 @@ pub type Whole<'a> = Both<LentEntries<'a>, LentAccesses<'a>>;
 
 /// Lends the entries of a control and a list of loads and stores as one journal. The stamps of both rise.
 #[tactic(auto, using(crate::proofs::Pushing::merged_of_one))]
-pub fn whole<'a>(control: &'a [Entry], accesses: &'a [Access]) -> Whole<'a>
-    requires control { Rising control.now }
+pub fn whole<'a>(control: &'a KeptEntries, accesses: &'a [Access]) -> Whole<'a>
+    requires control { Rising control.now.entries }
     requires accesses { Rising accesses.now }
-    ensures { result ≡ merged control.now (accesses.now ∷ []) }
+    ensures { result ≡ merged control.now.entries (accesses.now ∷ []) }
 {
-    Both::new(LentEntries::new(control), LentAccesses::new(accesses))
+    Both::new(control.lend(), LentAccesses::new(accesses))
 }

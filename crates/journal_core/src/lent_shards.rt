@@ -5,7 +5,7 @@ ghost use Rattle.journal_core.specs.Merging.{Rising, in_order, merged};
 ghost use Rattle.std.specs.Prelude.{◌≡◌, ◌≤◌, length};
 
 use crate::both::Both;
-use crate::entries::Entry;
+use crate::kept_entries::KeptEntries;
 use crate::lent_lists::{LentAccesses, LentEntries};
 use crate::loads_and_stores::Accesses;
 
@@ -67,14 +67,14 @@ fn eight<'a>(lists: &'a [Accesses], at: usize) -> Eight<'a>
 
 /// Lends the entries of a control and up to sixteen lists of loads and stores as one journal. The stamps of each rise.
 #[tactic(auto, using(crate::proofs::Parts::whole_of_parts))]
-pub fn whole_of_shards<'a>(control: &'a [Entry], shards: &'a [Accesses]) -> WholeOfShards<'a>
-    requires control { Rising control.now }
+pub fn whole_of_shards<'a>(control: &'a KeptEntries, shards: &'a [Accesses]) -> WholeOfShards<'a>
+    requires control { Rising control.now.entries }
     requires shards { AllRise shards.now }
     requires few { length shards.now ≤ 16 }
-    ensures { result ≡ merged control.now shards.now }
+    ensures { result ≡ merged control.now.entries shards.now }
 {
     Both::new(
-        LentEntries::new(control),
+        control.lend(),
         Both::new(eight(shards, 0), eight(shards, 8)),
     )
 }
