@@ -1,13 +1,14 @@
 -- Effects told as tokens and gathered from them.
-use Rattle.std.proofs.Common.{◌≡◌, ℕ, List, [], ◌∷◌, ◌++◌, None, map, refl, sym, ap, ◌∙◌, append_assoc, append-nil}
-use Rattle.std.specs.Prelude.{IsFalse, filter_map, flat_map}
+use Rattle.std.proofs.Common.{◌≡◌, ℕ, List, [], ◌∷◌, ◌++◌, None, Some, length, map, suc, arith, refl, sym, ap, ◌∙◌, append_assoc, append-nil}
+use Rattle.std.specs.Prelude.{◌==◌, IsFalse, filter_map, flat_map, true}
+use Rattle.std.proofs.lemmas.Bool.{eqb-true}
 use Rattle.dcd_base.specs.declared.capacity.Extent.{Extent}
 use Rattle.journal_core.specs.declared.coding.Coder.{Coder}
 use Rattle.journal_core.specs.declared.outcome.Effect.{Effect}
 use Rattle.journal_core.specs.declared.tokens.Token.{Token}
 use Rattle.journal_core.specs.Coding.{CodesTo}
 use Rattle.journal_core.specs.Slots.{no_slots, slots_in}
-use Rattle.journal_core.specs.Tokens.{effect_alone, effects_from, tokens_in, tokens_of, without_extents}
+use Rattle.journal_core.specs.Tokens.{effect_alone, effects_from, effects_told, tokens_in, tokens_of, without_extents}
 use Rattle.journal_core.proofs.CoderSteps.{nothing_told}
 
 -- extents wait behind those that wait already
@@ -50,6 +51,11 @@ written_back a b effects fresh empty ok codes =
     ∙ ap (λ (z : ℕ → ℕ). effects_from [] (tokens_in z None (t.added ++ []))) (sym fresh)
     ∙ ap (effects_from []) (t.told [] ∙ ap (λ (z : List Token). flat_map tokens_of effects ++ z) (nothing_told (slots_in b.slots)) ∙ append-nil (flat_map tokens_of effects))
     ∙ all_back effects
+
+-- no bytes tell none
+pub no_bytes : (bytes : List ℕ) → (length bytes == 0) ≡ true → [] ≡ effects_told (Some bytes)
+no_bytes [] none = sym (ap (effects_from []) (nothing_told no_slots))
+no_bytes (byte ∷ bytes) none = absurd (omega (arith, eqb-true (suc (length bytes)) 0 none))
 
 -- effects without extents are tokens alone
 pub alone_back : (waiting : List Extent) (tokens : List Token) → without_extents (effects_from waiting tokens) ≡ filter_map effect_alone tokens

@@ -8,6 +8,7 @@ pub mod Gathered
 pub mod HoldingSteps
 pub mod Inserting
 pub mod JournalSteps
+pub mod Keepings
 pub mod Lists
 pub mod MergedFilters
 pub mod Merges

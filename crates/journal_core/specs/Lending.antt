@@ -1,6 +1,7 @@
 -- Entries that are lent one after another.
 use Rattle.std.specs.Prelude.{◌≡◌, ℕ, Bool, true, false, not, All, List, [], ◌∷◌, Option, Some, None, drop, flat_map, take}
 use Rattle.dcd_base.specs.declared.steps.Stamp.{Stamp}
+use Rattle.journal_core.specs.Keeping.{step_entry}
 use Rattle.journal_core.specs.Merging.{Rising, is_later}
 use Rattle.journal_core.specs.declared.entries.Entry.{Entry}
 use Rattle.journal_core.specs.declared.lending.Lent.{Lent}
@@ -9,6 +10,7 @@ use Rattle.journal_core.specs.declared.lending.Lent.{Lent}
 abbrev pub lent_entry : Lent → Entry
 lent_entry (Lent.Full e) = e.now
 lent_entry (Lent.Small a) = a.now
+lent_entry (Lent.Step s) = step_entry s.number s.step.now s.bytes.now
 
 abbrev pub lent : Option Lent → Option Entry
 lent None = None

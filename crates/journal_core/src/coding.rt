@@ -39,6 +39,16 @@ impl Coder {
         }
     }
 
+    /// Begins anew, in the room of the bytes that were written.
+    pub(crate) fn restart(&mut self)
+        ensures slots { slots_in self.new.slots ≡ no_slots }
+        ensures bytes { self.new.bytes ≡ [] }
+    {
+        self.slots = [0; SLOTS];
+        self.bytes.clear();
+        self.failed = false;
+    }
+
     /// The bytes that were written; None where there was no memory for them.
     pub(crate) fn written(&self) -> Option<&[u8]>
         ensures { IfSome result (λ bytes. IsFalse self.now.failed × (bytes.now ≡ self.now.bytes)) }

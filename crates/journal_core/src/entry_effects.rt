@@ -1,8 +1,8 @@
 //! The effects that an entry keeps.
 
 ghost use Rattle.journal_core.specs.Slots.{no_slots};
-ghost use Rattle.journal_core.specs.Tokens.{effects_from, tokens_in, without_extents};
-ghost use Rattle.std.specs.Prelude.{◌≡◌, [], ◌∷◌, IfOk, MatchOption, None};
+ghost use Rattle.journal_core.specs.Tokens.{effects_from, effects_told, tokens_in, without_extents};
+ghost use Rattle.std.specs.Prelude.{◌≡◌, [], ◌∷◌, IfOk, MatchOption, None, Some};
 
 use crate::coding::Coder;
 use crate::entries::Effects;
@@ -63,14 +63,25 @@ impl EntryEffects {
     pub fn without_extents(&self) -> WithoutExtents<'_>
         ensures { result ≡ without_extents self.now }
     {
-        WithoutExtents {
-            tokens: Tokens::new(self.told()),
+        WithoutExtents::of(self.told())
+    }
+
+    /// The effects that these bytes tell.
+    pub(crate) fn told_by(alloc: Global, bytes: &[u8]) -> Result<EntryEffects, NoMemory>
+        ensures { IfOk result (λ kept. kept ≡ effects_told (Some bytes.now)) }
+    {
+        if bytes.is_empty() {
+            return Ok(EntryEffects::none());
         }
+        let bytes = Bytes::from_slice(alloc, bytes)?;
+        Ok(EntryEffects {
+            told: Some(Boxed::new(alloc, bytes)?),
+        })
     }
 
     /// The bytes that tell the effects.
-    fn told(&self) -> &[u8]
-        ensures { effects_from [] (tokens_in no_slots None result.now) ≡ self.now }
+    pub(crate) fn told(&self) -> &[u8]
+        ensures { effects_told (Some result.now) ≡ self.now }
     {
         match &self.told {
             Some(bytes) => bytes.get().as_slice(),
@@ -106,6 +117,18 @@ fn coded(alloc: Global, effects: &[Effect]) -> Result<Bytes, NoMemory>
     }
 }
 
+/// The bytes that tell these effects, as the coder writes them in the place of what it wrote before.
+pub(crate) fn retold<'a>(coder: &'a mut Coder, effects: &[Effect]) -> Result<&'a [u8], NoMemory>
+    ensures { IfOk result (λ told. effects_told (Some told.now) ≡ effects.now) }
+{
+    coder.restart();
+    coder.put_effects(effects);
+    match coder.written() {
+        Some(bytes) => Ok(bytes),
+        None => Err(NoMemory),
+    }
+}
+
 /// Effects without extents, one after another: all but offers, answers and held lists. Contracts see those that are still to come.
 #[derive(Debug, Drop)]
 pub struct WithoutExtents<'a> {
@@ -130,6 +153,15 @@ impl WithoutExtents<'_> {
     {
         WithoutExtents {
             tokens: Tokens::new(&[]),
+        }
+    }
+
+    /// Those that these bytes tell.
+    pub(crate) fn of(bytes: &[u8]) -> WithoutExtents<'_>
+        ensures { result ≡ without_extents (effects_told (Some bytes.now)) }
+    {
+        WithoutExtents {
+            tokens: Tokens::new(bytes),
         }
     }
 

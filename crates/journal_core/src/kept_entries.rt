@@ -7,8 +7,11 @@ ghost use Rattle.journal_core.specs.declared.entries.Entry.{Entry};
 ghost use Rattle.std.specs.Prelude.{◌≡◌, ◌+◌, ◌++◌, ◌∷◌, ◌<◌, ◌≤◌, [], List, OnErr, OnOk, Some, length};
 
 use crate::acts::{Act, Reply};
+use crate::coding::Coder;
 use crate::entries::{Effects, Entry};
-use crate::entry_effects::EntryEffects;
+use crate::entry_effects::{EntryEffects, retold};
+use crate::kept_list::KeptList;
+use crate::kept_steps::{KeptStep, Parts, kept_small};
 use crate::lending::Lent;
 use crate::lent_lists::LentEntries;
 use dcd_base::{Actor, Boxed, NoMemory, Stamp};
@@ -17,20 +20,22 @@ use std::marker::Model;
 
 /// Commands and scrubs in the order in which they happened.
 ///
-/// Contracts see the entries, and how many more there is room for.
+/// Contracts see the entries, and how many more there is room for. The payloads of an entry, and some bytes that tell its
+/// effects, lie in one block behind those of the entry before, and what else it says takes 40 bytes. An entry that is no
+/// answered command and no scrub, or for which `push_reserved` finds no room, lies on the heap by itself.
 #[derive(Drop)]
 pub struct KeptEntries {
-    entries: Vec<Entry>,
+    list: KeptList,
+    /// Writes the effects of the next entry.
+    coder: Coder,
 }
 
 impl Model for KeptEntries {
     ghost use Rattle.journal_core.specs.Keeping.{Keeping};
-    ghost use Rattle.std.specs.Prelude.{◌-◌};
-    ghost use Rattle.std.specs.Vec.{vec_capacity, vec_len};
 
     ghost Value = { Keeping };
 
-    ghost view = { λ k. record { entries = k.entries.items; spare = vec_capacity k.entries - vec_len k.entries } };
+    ghost view = { λ k. record { entries = k.list.entries; spare = k.list.spare } };
 }
 
 impl KeptEntries {
@@ -39,7 +44,8 @@ impl KeptEntries {
         ensures { result.entries ≡ [] }
     {
         KeptEntries {
-            entries: Vec::new(alloc),
+            list: KeptList::new(alloc),
+            coder: Coder::new(alloc),
         }
     }
 
@@ -47,7 +53,7 @@ impl KeptEntries {
     pub fn len(&self) -> usize
         ensures { result ≡ length self.now.entries }
     {
-        self.entries.as_slice().len()
+        self.list.len()
     }
 
     /// Makes room for one more entry.
@@ -55,17 +61,19 @@ impl KeptEntries {
         ensures room { OnOk result (0 < self.new.spare) }
         ensures kept { self.new.entries ≡ self.old.entries }
     {
-        self.entries.reserve(1)?;
-        Ok(())
+        self.list.reserve_place()
     }
 
     /// Makes room for this entry, in which `push_reserved` keeps it small.
-    pub fn make_room_for(&mut self, _entry: &Entry) -> Result<(), NoMemory>
+    pub fn make_room_for(&mut self, entry: &Entry) -> Result<(), NoMemory>
         ensures room { OnOk result (0 < self.new.spare) }
         ensures kept { self.new.entries ≡ self.old.entries }
     {
-        self.entries.reserve(1)?;
-        Ok(())
+        self.list.reserve_place()?;
+        match kept_small(entry) {
+            Some((step, _)) => self.list.reserve_bytes(step.width as usize),
+            None => Ok(()),
+        }
     }
 
     /// Puts an entry behind the others. It takes no memory.
@@ -75,7 +83,12 @@ impl KeptEntries {
         ensures pushed { self.new.entries ≡ self.old.entries ++ entry ∷ [] }
         ensures room_left { self.old.spare ≤ self.new.spare + 1 }
     {
-        self.entries.push_reserved(entry.into_inner());
+        match kept_small(entry.get()) {
+            Some((step, parts)) if step.width as usize <= self.list.room() => {
+                self.list.put_step(step, &parts)
+            }
+            _ => self.list.put_apart(entry),
+        }
     }
 
     /// Puts the entry of a step behind the others, with the next stamp. Without memory the entries are as before.
@@ -91,6 +104,32 @@ impl KeptEntries {
         ensures appended { OnOk result (self.new.entries ≡ self.old.entries ++ next_entry self.old.entries pass line actor act.now (reply.now, effects.now) ∷ []) }
         ensures kept { OnErr result (self.new.entries ≡ self.old.entries) }
     {
+        self.list.reserve_place()?;
+        let parts = Parts::of(act, reply, retold(&mut self.coder, effects.as_slice())?);
+        match KeptStep::of(pass, line, actor, act, reply, &parts) {
+            Some(step) => {
+                self.list.reserve_bytes(step.width as usize)?;
+                self.list.put_step(step, &parts);
+                Ok(())
+            }
+            None => self.append_apart(pass, line, actor, act, reply, effects),
+        }
+    }
+
+    /// The same, of an entry that is not kept small.
+    fn append_apart(
+        &mut self,
+        pass: u32,
+        line: u32,
+        actor: Actor,
+        act: &Act,
+        reply: &Reply,
+        effects: &Effects,
+    ) -> Result<(), NoMemory>
+        requires room { 0 < self.old.spare }
+        ensures appended { OnOk result (self.new.entries ≡ self.old.entries ++ next_entry self.old.entries pass line actor act.now (reply.now, effects.now) ∷ []) }
+        ensures kept { OnErr result (self.new.entries ≡ self.old.entries) }
+    {
         let entry = Entry {
             pass,
             line,
@@ -99,11 +138,11 @@ impl KeptEntries {
             reply: reply.copy()?,
             effects: EntryEffects::of(effects)?,
             stamp: Stamp {
-                number: self.len() as u64 + 1,
+                number: self.list.len() as u64 + 1,
                 count: 0,
             },
         };
-        self.entries.push(entry)?;
+        self.list.put_apart(Boxed::new(effects.allocator(), entry)?);
         Ok(())
     }
 
@@ -112,16 +151,13 @@ impl KeptEntries {
         requires { Rising self.now.entries }
         ensures { result ≡ self.now.entries }
     {
-        LentEntries::new(self.entries.as_slice())
+        self.list.lend()
     }
 
     /// The last entry, lent, or none where there is none.
     pub fn last(&self) -> Option<Lent<'_>>
         ensures { (before : List Entry) (e : Entry) → self.now.entries ≡ before ++ e ∷ [] → lent result ≡ Some e }
     {
-        match self.entries.as_slice().last() {
-            Some(entry) => Some(Lent::Full(entry)),
-            None => None,
-        }
+        self.list.last()
     }
 }

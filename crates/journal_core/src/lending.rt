@@ -10,6 +10,7 @@ ghost use Rattle.std.specs.Prelude.{◌≡◌, ◌<◌, ◌^◌, IfOk, List, dro
 use crate::acts::Act;
 use crate::entries::Entry;
 use crate::entry_effects::WithoutExtents;
+use crate::lent_steps::LentStep;
 use crate::loads_and_stores::Access;
 use crate::seen::StepSeen;
 use dcd_base::{Actor, NoMemory, Stamp};
@@ -21,6 +22,8 @@ pub enum Lent<'a> {
     Full(&'a Entry),
     /// That of a load or a store.
     Small(&'a Access),
+    /// That of a command or a scrub.
+    Step(LentStep<'a>),
 }
 
 impl Lent<'_> {
@@ -31,6 +34,7 @@ impl Lent<'_> {
         match self {
             Lent::Full(entry) => entry.copy(),
             Lent::Small(access) => Ok(access.entry()),
+            Lent::Step(step) => step.entry(),
         }
     }
 
@@ -50,6 +54,7 @@ impl Lent<'_> {
                 reply: entry.reply.seen(),
             },
             Lent::Small(access) => access.seen(),
+            Lent::Step(step) => step.seen(),
         }
     }
 
@@ -60,6 +65,7 @@ impl Lent<'_> {
         match self {
             Lent::Full(entry) => entry.act.copy(),
             Lent::Small(access) => Ok(access.act()),
+            Lent::Step(step) => step.act(),
         }
     }
 
@@ -70,6 +76,7 @@ impl Lent<'_> {
         match self {
             Lent::Full(entry) => entry.actor,
             Lent::Small(access) => access.actor(),
+            Lent::Step(step) => step.actor(),
         }
     }
 
@@ -80,6 +87,7 @@ impl Lent<'_> {
         match self {
             Lent::Full(entry) => entry.effects.without_extents(),
             Lent::Small(access) => access.effects_without_extents(),
+            Lent::Step(step) => step.effects_without_extents(),
         }
     }
 }

@@ -1,39 +1,52 @@
 //! Entries lent out of one list.
 
+ghost use Rattle.journal_core.specs.Keeping.{entries_of, widths};
 ghost use Rattle.journal_core.specs.Merging.{Rising};
-ghost use Rattle.std.specs.Prelude.{◌≡◌};
+ghost use Rattle.std.specs.Prelude.{◌≡◌, ◌≤◌, length};
 
-use crate::entries::Entry;
+use crate::kept_steps::Kept;
 use crate::lending::{Lender, Lent};
 use crate::loads_and_stores::Access;
 use dcd_base::Stamp;
+use std::alloc::Global;
 use std::marker::Model;
 
-/// Entries lent out of a list of them. Contracts see those that are still to come.
+/// Entries of a control lent out of where they are kept. Contracts see those that are still to come.
 #[derive(Debug, Drop)]
 pub struct LentEntries<'a> {
-    entries: &'a [Entry],
+    alloc: Global,
+    kept: &'a [Kept],
+    /// Those of the kept ones, and maybe more.
+    bytes: &'a [u8],
+    /// How many entries are before these.
+    before: u64,
 }
 
 impl<'a> Model for LentEntries<'a> {
-    ghost use Rattle.journal_core.specs.Merging.{Rising};
+    ghost use Rattle.journal_core.specs.Keeping.{CanBeLent, entries_of};
     ghost use Rattle.journal_core.specs.declared.entries.Entry.{Entry};
     ghost use Rattle.std.specs.Prelude.{List};
 
     ghost Value = { List Entry };
 
-    ghost view = { λ l. l.entries.now };
+    ghost view = { λ l. entries_of l.before l.kept.now l.bytes.now };
 
-    ghost invariant = { λ l. Rising l.entries.now };
+    ghost invariant = { λ l. CanBeLent l.before l.kept.now l.bytes.now };
 }
 
 impl<'a> LentEntries<'a> {
-    /// All entries of the list, whose stamps rise.
-    pub fn new(entries: &'a [Entry]) -> LentEntries<'a>
-        requires { Rising entries.now }
-        ensures { result ≡ entries.now }
+    /// All entries that are kept, with these bytes. Their stamps rise.
+    pub(crate) fn new(alloc: Global, kept: &'a [Kept], bytes: &'a [u8]) -> LentEntries<'a>
+        requires within { widths kept.now ≤ length bytes.now }
+        requires rising { Rising (entries_of 0 kept.now bytes.now) }
+        ensures { result ≡ entries_of 0 kept.now bytes.now }
     {
-        LentEntries { entries }
+        LentEntries {
+            alloc,
+            kept,
+            bytes,
+            before: 0,
+        }
     }
 }
 
@@ -41,36 +54,39 @@ impl<'a> Lender for LentEntries<'a> {
     ghost rest = { λ l. l };
 
     #[inline]
-    #[tactic(auto, using(crate::proofs::Lists::no_stamp))]
     fn stamp(&self) -> Option<Stamp> {
-        let entries = self.entries;
-        match entries.split_first() {
-            Some((entry, _)) => Some(entry.stamp),
+        let kept = self.kept;
+        match kept.split_first() {
+            Some((first, _)) => Some(first.stamp(self.before + 1)),
             None => None,
         }
     }
 
     #[inline]
-    #[tactic(auto, using(crate::proofs::Lists::no_entry))]
     fn peek(&self) -> Option<Lent<'_>> {
-        let entries = self.entries;
-        match entries.split_first() {
-            Some((entry, _)) => Some(Lent::Full(entry)),
+        let kept = self.kept;
+        match kept.split_first() {
+            Some((first, _)) => {
+                let (its, _) = self.bytes.split_at(first.width());
+                Some(first.lend(self.alloc, its, self.before + 1))
+            }
             None => None,
         }
     }
 
     #[inline]
-    #[tactic(auto, using(crate::proofs::Lists::none_left))]
     fn skip(&mut self) {
-        let entries = self.entries;
-        if let Some((_, rest)) = entries.split_first() {
-            self.entries = rest;
+        let kept = self.kept;
+        if let Some((first, rest)) = kept.split_first() {
+            let (_, others) = self.bytes.split_at(first.width());
+            self.kept = rest;
+            self.bytes = others;
+            self.before += 1;
         }
     }
 
     fn len(&self) -> u64 {
-        self.entries.len() as u64
+        self.kept.len() as u64
     }
 }
 

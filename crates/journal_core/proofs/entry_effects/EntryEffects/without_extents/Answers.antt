@@ -1,12 +1,6 @@
-use Rattle.std.proofs.Common.{[], None, ap, sym, ◌∙◌}
-use Rattle.std.specs.Prelude.{filter_map}
-use Rattle.journal_core.specs.Slots.{no_slots}
-use Rattle.journal_core.specs.Tokens.{effect_alone, tokens_in, without_extents}
-use Rattle.journal_core.proofs.Gathered.{alone_back}
+use Rattle.std.proofs.Common.{ap, ◌∙◌}
+use Rattle.journal_core.specs.Tokens.{without_extents}
 use Rattle.journal_core.proofs.entry_effects.EntryEffects.without_extents.Goals as goal
 
 pub returns : goal.returns
-returns c =
-    ap (filter_map effect_alone) c.new.ensures
-    ∙ sym (alone_back [] (tokens_in no_slots None c.told.result.now))
-    ∙ ap without_extents c.told.ensures
+returns c = c.of.ensures ∙ ap without_extents c.told.ensures

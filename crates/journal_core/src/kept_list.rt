@@ -1,0 +1,139 @@
+//! A list of entries that are kept as small as their bytes.
+
+ghost use Rattle.journal_core.specs.Keeping.{Roomy, next_stamp, parts_bytes, step_entry};
+ghost use Rattle.journal_core.specs.Lending.{lent};
+ghost use Rattle.journal_core.specs.Merging.{Rising};
+ghost use Rattle.journal_core.specs.declared.entries.Entry.{Entry};
+ghost use Rattle.std.specs.Prelude.{◌≡◌, ◌+◌, ◌++◌, ◌∷◌, ◌<◌, ◌≤◌, ◌^◌, [], List, OnOk, Some, length};
+ghost use Rattle.std.specs.Vec.{vec_capacity, vec_len};
+
+use crate::entries::Entry;
+use crate::kept_steps::{Kept, KeptStep, Parts};
+use crate::lending::Lent;
+use crate::lent_lists::LentEntries;
+use dcd_base::{Boxed, NoMemory};
+use std::alloc::Global;
+use std::marker::Model;
+
+/// Entries of commands and scrubs. Their payloads and the bytes that tell their effects lie one behind another in one block.
+///
+/// Contracts see the entries, for how many more there is room, and for how many more bytes.
+#[derive(Drop)]
+pub(crate) struct KeptList {
+    alloc: Global,
+    kept: Vec<Kept>,
+    bytes: Vec<u8>,
+}
+
+impl Model for KeptList {
+    ghost use Rattle.journal_core.specs.Keeping.{Roomy, entries_of, widths};
+    ghost use Rattle.std.specs.Prelude.{◌≡◌, ◌-◌, length};
+    ghost use Rattle.std.specs.Vec.{vec_capacity, vec_len};
+
+    ghost Value = { Roomy };
+
+    ghost view = { λ k. record { entries = entries_of 0 k.kept.items k.bytes.items; spare = vec_capacity k.kept - vec_len k.kept; room = vec_capacity k.bytes - vec_len k.bytes } };
+
+    ghost invariant = { λ k. widths k.kept.items ≡ length k.bytes.items };
+}
+
+/// Puts the parts of a step behind the bytes. It takes no memory.
+fn put_parts(bytes: &mut Vec<u8>, parts: &Parts<'_>)
+    requires { vec_len bytes.old + length (parts_bytes parts.now) ≤ vec_capacity bytes.old }
+    ensures put { bytes.new.items ≡ bytes.old.items ++ parts_bytes parts.now }
+{
+    let _ = bytes.extend_from_slice(parts.asked);
+    let _ = bytes.extend_from_slice(parts.replied);
+    let _ = bytes.extend_from_slice(parts.told);
+}
+
+impl KeptList {
+    /// No entry.
+    #[tactic(auto, using(crate::proofs::Keepings::no_entries))]
+    pub(crate) fn new(alloc: Global) -> KeptList
+        ensures { result.entries ≡ [] }
+    {
+        KeptList {
+            alloc,
+            kept: Vec::new(alloc),
+            bytes: Vec::new(alloc),
+        }
+    }
+
+    /// How many entries there are.
+    pub(crate) fn len(&self) -> usize
+        ensures count { result ≡ length self.now.entries }
+        ensures few { result < 2 ^ 63 }
+    {
+        self.kept.as_slice().len()
+    }
+
+    /// For how many more bytes there is room.
+    pub(crate) fn room(&self) -> usize
+        ensures { result ≡ self.now.room }
+    {
+        self.bytes.capacity() - self.bytes.len()
+    }
+
+    /// Makes room for one more entry.
+    pub(crate) fn reserve_place(&mut self) -> Result<(), NoMemory>
+        ensures place { OnOk result (0 < self.new.spare) }
+        ensures kept { self.new.entries ≡ self.old.entries }
+    {
+        self.kept.reserve(1)?;
+        Ok(())
+    }
+
+    /// Makes room for so many more bytes.
+    pub(crate) fn reserve_bytes(&mut self, bytes: usize) -> Result<(), NoMemory>
+        ensures room { OnOk result (bytes ≤ self.new.room) }
+        ensures spare { self.new.spare ≡ self.old.spare }
+        ensures kept { self.new.entries ≡ self.old.entries }
+    {
+        self.bytes.reserve(bytes)?;
+        Ok(())
+    }
+
+    /// Puts a step behind the others, its parts behind their bytes. It takes no memory.
+    pub(crate) fn put_step(&mut self, step: KeptStep, parts: &Parts<'_>)
+        requires place { 0 < self.old.spare }
+        requires width { step.width ≡ length (parts_bytes parts.now) }
+        requires room { step.width ≤ self.old.room }
+        ensures put { self.new.entries ≡ self.old.entries ++ step_entry (length self.old.entries + 1) step (parts_bytes parts.now) ∷ [] }
+        ensures spare { self.old.spare ≤ self.new.spare + 1 }
+    {
+        put_parts(&mut self.bytes, parts);
+        self.kept.push_reserved(Kept::Step(step));
+    }
+
+    /// Puts an entry behind the others, as it is. It takes no memory.
+    pub(crate) fn put_apart(&mut self, entry: Boxed<Entry>)
+        requires place { 0 < self.old.spare }
+        ensures put { self.new.entries ≡ self.old.entries ++ entry ∷ [] }
+        ensures spare { self.old.spare ≤ self.new.spare + 1 }
+    {
+        self.kept.push_reserved(Kept::Apart(entry));
+    }
+
+    /// The entries, lent in their order.
+    pub(crate) fn lend(&self) -> LentEntries<'_>
+        requires { Rising self.now.entries }
+        ensures { result ≡ self.now.entries }
+    {
+        LentEntries::new(self.alloc, self.kept.as_slice(), self.bytes.as_slice())
+    }
+
+    /// The last entry, lent, or none where there is none.
+    pub(crate) fn last(&self) -> Option<Lent<'_>>
+        ensures { (before : List Entry) (e : Entry) → self.now.entries ≡ before ++ e ∷ [] → lent result ≡ Some e }
+    {
+        match self.kept.as_slice().split_last() {
+            Some((last, before)) => {
+                let bytes = self.bytes.as_slice();
+                let (_, its) = bytes.split_at(bytes.len() - last.width());
+                Some(last.lend(self.alloc, its, before.len() as u64 + 1))
+            }
+            None => None,
+        }
+    }
+}
