@@ -10,4 +10,5 @@ mod pieces;
 mod tags;
 
 pub use list::{ExtentList, TooMany};
-pub use tags::has_extent_of;
+pub use pieces::{has_range_in, shares_range_with};
+pub use tags::{has_extent_of, same_tag};

@@ -14,18 +14,23 @@ fn end_of(start: u64, bytes: u64) -> u128
 }
 
 /// Whether the range lies in the extent.
-pub(crate) fn has_range_in(extent: &Extent, start: u64, bytes: u64) -> bool
+pub fn has_range_in(extent: &Extent, start: u64, bytes: u64) -> bool
     ensures { result ≡ has_range start bytes extent.now }
 {
-    extent.start <= start && end_of(start, bytes) <= end_of(extent.start, extent.length)
+    if start < extent.start || extent.length < start - extent.start {
+        return false;
+    }
+    bytes <= extent.length - (start - extent.start)
 }
 
 /// Whether the range and the extent overlap.
-pub(crate) fn shares_range_with(extent: &Extent, start: u64, bytes: u64) -> bool
+pub fn shares_range_with(extent: &Extent, start: u64, bytes: u64) -> bool
     ensures { result ≡ shares_range start bytes extent.now }
 {
-    (start as u128) < end_of(extent.start, extent.length)
-        && (extent.start as u128) < end_of(start, bytes)
+    if extent.start < start {
+        return start - extent.start < extent.length;
+    }
+    extent.start - start < bytes && (start < extent.start || 0 < extent.length)
 }
 
 /// What remains of the extent below the range, if anything.
