@@ -1,2 +1,4 @@
-mod EachTag
-mod FirstOwner
+pub mod EachTag
+pub mod FirstOwner
+pub mod OneByOne
+pub mod Rising

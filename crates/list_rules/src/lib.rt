@@ -4,12 +4,18 @@
 //! answers the first rule that its part of a row breaks, with the index of the extent that breaks it.
 #![tactic(auto)]
 
+mod fitting;
 mod limits;
+mod lookup;
+mod orders;
 mod owners;
 mod placing;
 mod tags;
 
+pub use fitting::{put_marked, unfit};
 pub use limits::{too_many_extents, too_many_listed};
+pub use lookup::Owners;
+pub use orders::is_rising;
 pub use owners::{is_in, marked, not_whole, shares_address};
 pub use placing::{misplaced, region_at};
 pub use tags::incomplete;

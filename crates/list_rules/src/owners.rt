@@ -4,32 +4,26 @@ ghost use Rattle.extent_list.specs.ExtentLists.{is_in, is_whole, lies_in, marked
 ghost use Rattle.list_rules.specs.Listing.{is_shareable_at, not_whole, overlapping};
 ghost use Rattle.dcd_codes.specs.Rules.{◌breaks◌};
 ghost use Rattle.dcd_codes.specs.declared.rules.Rule.{Rule};
-ghost use Rattle.std.specs.Prelude.{◌≡◌, ◌+◌, ◌^◌, ◌<◌, IfSome, length, not, position};
+ghost use Rattle.std.specs.Prelude.{◌≡◌, ◌^◌, ◌<◌, IfSome, length, not, position};
 
 use crate::placing::region_at;
 use dcd_base::{Extent, HostId};
 use dcd_codes::Rule;
+use extent_list::{has_range_in, shares_range_with};
 use region_config::Config;
 
-/// The first address behind an extent, which may be 2^64 and more.
-fn end_of(extent: &Extent) -> u128
-    ensures { result ≡ extent.now.start + extent.now.length }
-{
-    u128::from(extent.start) + u128::from(extent.length)
-}
-
 /// Whether one extent lies in another.
-fn lies_in(extent: &Extent, owner: &Extent) -> bool
+pub(crate) fn lies_in(extent: &Extent, owner: &Extent) -> bool
     ensures { result ≡ lies_in extent.now owner.now }
 {
-    owner.start <= extent.start && end_of(extent) <= end_of(owner)
+    has_range_in(owner, extent.start, extent.length)
 }
 
 /// Whether two extents share an address.
 fn overlaps(extent: &Extent, other: &Extent) -> bool
     ensures { result ≡ overlaps extent.now other.now }
 {
-    u128::from(extent.start) < end_of(other) && u128::from(other.start) < end_of(extent)
+    shares_range_with(other, extent.start, extent.length)
 }
 
 /// Whether the extent lies in one of the owners.
@@ -50,7 +44,7 @@ fn owner_of(owners: &[Extent], extent: &Extent) -> Extent
 }
 
 /// The index of the first owner in which the extent lies.
-fn first_owner(owners: &[Extent], extent: &Extent) -> Option<usize>
+pub(crate) fn first_owner(owners: &[Extent], extent: &Extent) -> Option<usize>
     ensures value { result ≡ position (lies_in extent.now) owners.now }
     ensures known { IfSome result (λ index. index < length owners.now) }
 {

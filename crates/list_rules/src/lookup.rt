@@ -1,0 +1,112 @@
+//! Owners, and the search for those of one listed extent after another.
+
+ghost use Rattle.extent_list.specs.ExtentLists.{lies_in, marked};
+ghost use Rattle.std.specs.Prelude.{◌≡◌, ◌<◌, IfSome, IsTrue, length, position, slice_index_or};
+ghost use Rattle.dcd_base.specs.declared.capacity.Extent.{Extent};
+
+use crate::orders::is_rising;
+use crate::owners::{first_owner, lies_in};
+use dcd_base::Extent;
+use std::marker::Model;
+
+/// The extents in which those of a list have to lie.
+///
+/// Contracts see the owners. Where they stand by rising address, an extent lies in one of them only, and the search
+/// for it begins near the last one that was found.
+#[derive(Debug, Drop)]
+pub struct Owners<'a> {
+    list: &'a [Extent],
+    rise: bool,
+}
+
+impl<'a> Model for Owners<'a> {
+    ghost use Rattle.dcd_base.specs.declared.capacity.Extent.{Extent};
+    ghost use Rattle.list_rules.specs.Orders.{AreRising};
+    ghost use Rattle.std.specs.Prelude.{◌≡◌, List, true};
+
+    ghost Value = { List Extent };
+
+    ghost view = { λ o. o.list.now };
+
+    ghost invariant = { λ o. o.rise ≡ true → AreRising o.list.now };
+}
+
+impl<'a> Owners<'a> {
+    /// These owners.
+    pub fn of(list: &'a [Extent]) -> Owners<'a>
+        ensures { result ≡ list.now }
+    {
+        let rise = is_rising(list);
+        Owners { list, rise }
+    }
+
+    /// The owners in order.
+    pub(crate) fn as_slice(&self) -> &[Extent]
+        ensures { result.now ≡ self.now }
+    {
+        self.list
+    }
+
+    /// The index of the first owner in which the extent lies. It is looked for at `near` first, which then becomes that
+    /// index.
+    pub(crate) fn index_of(&self, extent: &Extent, near: &mut usize) -> Option<usize>
+        ensures value { result ≡ position (lies_in extent.now) self.now }
+        ensures known { IfSome result (λ index. index < length self.now) }
+    {
+        let found = self.search(extent, *near);
+        if let Some(index) = found {
+            *near = index;
+        }
+        found
+    }
+
+    /// The extent with the tag and the sequence of the first owner in which it lies, which is looked for at `near` first.
+    pub(crate) fn marked(&self, extent: &Extent, near: &mut usize) -> Extent
+        ensures { result ≡ marked self.now extent.now }
+    {
+        match self.index_of(extent, near) {
+            Some(index) => marked_by(extent, &self.list[index]),
+            None => *extent,
+        }
+    }
+
+    /// The index of the first owner in which the extent lies, looked for at `near` first.
+    fn search(&self, extent: &Extent, near: usize) -> Option<usize>
+        ensures value { result ≡ position (lies_in extent.now) self.now }
+        ensures known { IfSome result (λ index. index < length self.now) }
+    {
+        if self.rise && extent.length > 0 {
+            if let Some(index) = owner_from(self.list, near, extent) {
+                return Some(index);
+            }
+        }
+        first_owner(self.list, extent)
+    }
+}
+
+/// The extent with the tag and the sequence of this owner.
+fn marked_by(extent: &Extent, owner: &Extent) -> Extent
+    ensures { result ≡ record extent.now { tag = owner.now.tag; sequence = owner.now.sequence } }
+{
+    Extent {
+        tag: owner.tag,
+        sequence: owner.sequence,
+        ..*extent
+    }
+}
+
+/// An owner in which the extent lies, from the index `near` on up to the first that begins behind it.
+fn owner_from(owners: &[Extent], near: usize, extent: &Extent) -> Option<usize>
+    ensures known { IfSome result (λ index. index < length owners.now) }
+    ensures owner { IfSome result (λ index. (d : Extent) → IsTrue (lies_in extent.now (slice_index_or owners.now index d))) }
+{
+    for index in near..owners.len() {
+        if lies_in(extent, &owners[index]) {
+            return Some(index);
+        }
+        if extent.start < owners[index].start {
+            return None;
+        }
+    }
+    None
+}
