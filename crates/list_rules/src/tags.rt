@@ -5,12 +5,14 @@ ghost use Rattle.dcd_codes.specs.Rules.{◌breaks◌};
 ghost use Rattle.dcd_codes.specs.declared.rules.Rule.{Rule};
 ghost use Rattle.extent_list.specs.ExtentLists.{count_of_tag, has_extent_of};
 ghost use Rattle.list_rules.specs.Listing.{incomplete, shared_of, some_left, too_few_of};
-ghost use Rattle.std.specs.Prelude.{◌≡◌, ◌^◌, ◌<◌, ◌≤◌, IfOk, OnOk, [], length, nat_lt, not};
+ghost use Rattle.list_rules.specs.Sharing.{HasNoShareable, HaveSameTags};
+ghost use Rattle.std.specs.Prelude.{◌≡◌, ◌^◌, ◌<◌, ◌≤◌, IfOk, OnOk, [], false, length, nat_lt, not, true};
 
-use crate::owners::{is_shareable_at, marked};
-use dcd_base::{Extent, Extents, HostId, NoMemory, Tag};
+use crate::lookup::Owners;
+use crate::owners::is_shareable_at;
+use dcd_base::{Extent, Extents, HostId, NoMemory, RegionId, Tag};
 use dcd_codes::Rule;
-use extent_list::has_extent_of;
+use extent_list::{has_extent_of, same_tag};
 use region_config::Config;
 use std::alloc::Global;
 
@@ -30,16 +32,31 @@ pub fn incomplete(
     requires listed { length list.now < 2 ^ 32 }
     ensures { IfOk result (λ found. found ≡ incomplete config.now host owners.now list.now) }
 {
+    if !has_shareable(config) {
+        return Ok(None);
+    }
     let mut shared = Extents::new(alloc);
-    find_shared(config, host, owners, list, &mut shared)?;
+    find_shared(config, host, &Owners::of(owners), list, &mut shared)?;
     Ok(some_left(owners, shared.as_slice()))
+}
+
+/// Whether a region of the device is shareable.
+fn has_shareable(config: &Config) -> bool
+    ensures { result ≡ false → HasNoShareable config.now }
+{
+    for number in 0..config.regions() {
+        if config.region(RegionId(number)).shareable {
+            return true;
+        }
+    }
+    false
 }
 
 /// The listed extents of shareable regions, each with the tag of the one in which it lies.
 fn find_shared(
     config: &Config,
     host: HostId,
-    owners: &[Extent],
+    owners: &Owners,
     list: &[Extent],
     shared: &mut Extents,
 ) -> Result<(), NoMemory>
@@ -48,10 +65,10 @@ fn find_shared(
     ensures shared { OnOk result (shared.new ≡ shared_of config.now host owners.now list.now) }
     ensures few { OnOk result (length shared.new ≤ length list.now) }
 {
+    let mut near = 0;
     for extent in list {
-        let extent = marked(owners, extent);
-        if is_shareable_at(config, host, &extent) {
-            shared.push(extent)?;
+        if is_shareable_at(config, host, extent) {
+            shared.push(owners.marked(extent, &mut near))?;
         }
     }
     Ok(())
@@ -63,6 +80,9 @@ fn some_left(owners: &[Extent], shared: &[Extent]) -> Option<Rule>
     requires listed { length shared.now < 2 ^ 32 }
     ensures { result ≡ some_left owners.now shared.now }
 {
+    if have_same_tags(owners, shared) {
+        return None;
+    }
     for i in 0..shared.len() {
         let (before, _) = shared.split_at(i);
         if let Some(rule) = left_of(owners, shared, before, &shared[i].tag) {
@@ -72,16 +92,41 @@ fn some_left(owners: &[Extent], shared: &[Extent]) -> Option<Rule>
     None
 }
 
+/// Whether there are as many of both, and each has the tag of the other at its index.
+fn have_same_tags(owners: &[Extent], shared: &[Extent]) -> bool
+    ensures { result ≡ true → HaveSameTags owners.now shared.now }
+{
+    if owners.len() != shared.len() {
+        return false;
+    }
+    for i in 0..shared.len() {
+        if !same_tag(&owners[i].tag, &shared[i].tag) {
+            return false;
+        }
+    }
+    true
+}
+
 /// The rule of one tag, unless an extent before has it.
 fn left_of(owners: &[Extent], shared: &[Extent], before: &[Extent], tag: &Tag) -> Option<Rule>
     requires owners { length owners.now < 2 ^ 32 }
     requires listed { length shared.now < 2 ^ 32 }
     ensures { result ≡ where_true (not (has_extent_of tag.now before.now)) (too_few_of owners.now shared.now tag.now) }
 {
-    if has_extent_of(tag, before) {
+    if is_seen(tag, before) {
         return None;
     }
     too_few(count_of_tag(tag, shared), count_of_tag(tag, owners))
+}
+
+/// Whether an extent before has the tag; the last one is looked at first.
+fn is_seen(tag: &Tag, before: &[Extent]) -> bool
+    ensures { result ≡ has_extent_of tag.now before.now }
+{
+    match before.last() {
+        Some(last) if same_tag(&last.tag, tag) => true,
+        _ => has_extent_of(tag, before),
+    }
 }
 
 /// The rule of a tag with so many extents, of which so many are listed.
@@ -99,5 +144,8 @@ fn count_of_tag(tag: &Tag, extents: &[Extent]) -> u32
     requires { length extents.now < 2 ^ 32 }
     ensures { result ≡ count_of_tag tag.now extents.now }
 {
-    extents.iter().filter(|extent| extent.tag == *tag).count() as u32
+    extents
+        .iter()
+        .filter(|extent| same_tag(&extent.tag, tag))
+        .count() as u32
 }

@@ -2,6 +2,7 @@ use Rattle.std.proofs.Common.{get_or, sym, ◌∙◌}
 use Rattle.list_rules.specs.Listing.{too_few_of}
 use Rattle.list_rules.proofs.EachTag.{next_is, over_found, over_more}
 use Rattle.list_rules.proofs.FirstOwner.{no_extent}
+use Rattle.list_rules.proofs.Shares.{none_left}
 use Rattle.list_rules.proofs.tags.some_left.Goals as goal
 
 pub returns-in-Some : goal.returns-in-Some
@@ -17,3 +18,6 @@ loop-i-preserved c =
     let check = too_few_of c.args.owners.now shared in
     over_more check shared c.loop-i.i no_extent c.loop-i-test.true c.loop-i.invariant
     (next_is check _ c.split_at.result.0.now (get_or shared c.loop-i.i no_extent) c.split_at.ensures.front ∙ sym c.left_of.ensures ∙ c.in_default.is)
+
+pub returns-then-have_same_tags : goal.returns-then-have_same_tags
+returns-then-have_same_tags c = sym (none_left c.args.owners.now c.args.shared.now (c.have_same_tags.ensures c.if-have_same_tags.true))
