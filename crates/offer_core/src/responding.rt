@@ -11,9 +11,9 @@ use crate::offers::Offers;
 use crate::row::broken_rule;
 use dcd_base::{Extent, Extents, HostId, NoMemory};
 use dcd_codes::Refusal;
-use list_rules::marked;
+use list_rules::{Owners, put_marked};
 use region_config::Config;
-use std::alloc::{AllocError, Global};
+use std::alloc::Global;
 
 impl Offers {
     /// The host's response to its oldest offer (CXL 3.1, 8.2.9.9.9.3): this list of a message behind the held one,
@@ -71,7 +71,6 @@ impl Offers {
         }
         let alloc = self.held.allocator();
         let accepted = marked_all(alloc, self.oldest(), self.held.as_slice(), list.as_slice())?;
-        let accepted = Extents::from_vec(alloc, accepted);
         self.held.clear();
         match self.waiting.pop_front() {
             Some(offer) => Ok(Answered::Done { offer, accepted }),
@@ -87,12 +86,12 @@ fn marked_all(
     offered: &[Extent],
     held: &[Extent],
     list: &[Extent],
-) -> Result<Vec<Extent>, AllocError>
-    ensures { IfOk result (λ accepted.
-        accepted.items ≡ map (marked offered.now) (held.now ++ list.now)) }
+) -> Result<Extents, NoMemory>
+    ensures { IfOk result (λ accepted. accepted ≡ map (marked offered.now) (held.now ++ list.now)) }
 {
-    held.iter()
-        .chain(list.iter())
-        .map(|extent| marked(offered, extent))
-        .collect(alloc)
+    let mut accepted = Extents::with_capacity(alloc, held.len() + list.len())?;
+    let owners = Owners::of(offered);
+    put_marked(&owners, held, &mut accepted)?;
+    put_marked(&owners, list, &mut accepted)?;
+    Ok(accepted)
 }

@@ -1,17 +1,16 @@
 //! The first rule that a response breaks.
 
 ghost use Rattle.extent_list.specs.ExtentLists.{count_in};
+ghost use Rattle.list_rules.specs.Listing.{overlapping};
 ghost use Rattle.offer_core.specs.Offerings.{lists_of};
 ghost use Rattle.offer_core.specs.Responses.{extent_rule, respond_rule};
-ghost use Rattle.std.specs.Prelude.{◌≡◌, ◌+◌, ◌^◌, ◌<◌, ◌≤◌, IfOk, drop, length};
+ghost use Rattle.std.specs.Prelude.{◌≡◌, ◌+◌, ◌^◌, ◌<◌, ◌≤◌, IfOk, None, drop, length, true};
 
 use crate::offers::Offers;
 use dcd_base::limits::LISTED_EXTENTS;
 use dcd_base::{Extent, HostId, NoMemory};
 use dcd_codes::Rule;
-use list_rules::{
-    incomplete, is_in, misplaced, not_whole, region_at, shares_address, too_many_extents,
-};
+use list_rules::{Owners, incomplete, is_rising, misplaced, region_at, too_many_extents, unfit};
 use region_config::Config;
 
 /// The first rule of its row that a response breaks (CXL 3.1, 8.2.9.9.9.3): this list of a message behind the held one.
@@ -42,8 +41,18 @@ pub fn broken_rule(
     let mut whole = offers.held().copy()?;
     whole.extend_from_slice(list)?;
     let (offer, whole) = (offers.oldest(), whole.as_slice());
+    let (owners, rises) = (Owners::of(offer), is_rising(whole));
+    let mut near = 0;
     for i in 0..whole.len() {
-        if let Some(rule) = broken_answered_extent(config, host, offer, &whole[..i], &whole[i]) {
+        if let Some(rule) = broken_answered_extent(
+            config,
+            host,
+            &owners,
+            &mut near,
+            rises,
+            &whole[..i],
+            &whole[i],
+        ) {
             return Ok(Some(rule));
         }
     }
@@ -53,16 +62,20 @@ pub fn broken_rule(
     }
 }
 
-/// The first rule that an extent of the list breaks behind those before it, whose number is its index.
+/// The first rule that an extent of the list breaks behind those before it, whose number is its index. Where the list
+/// `rises`, it shares no address with them; its owner is looked for at `near` first.
 fn broken_answered_extent(
     config: &Config,
     host: HostId,
-    offer: &[Extent],
+    offer: &Owners,
+    near: &mut usize,
+    rises: bool,
     before: &[Extent],
     extent: &Extent,
 ) -> Option<Rule>
     requires host { host < config.now.hosts }
     requires listed { length before.now < 2 ^ 32 }
+    requires apart { rises ≡ true → overlapping before.now extent.now ≡ None }
     ensures { result ≡ extent_rule config.now host offer.now before.now extent.now }
 {
     let index = before.len() as u32;
@@ -70,13 +83,8 @@ fn broken_answered_extent(
     if let Some(rule) = misplaced(config, host, region, index, extent) {
         return Some(rule);
     }
-    if !is_in(offer, extent) {
-        return Some(Rule::NotOffered(index));
-    }
-    if let Some(rule) = shares_address(before, extent) {
-        return Some(rule);
-    }
-    not_whole(config, host, offer, index, extent)
+    let missing = Rule::NotOffered(index);
+    unfit(config, host, offer, near, rises, before, extent, missing)
 }
 
 /// How many extents the offers behind the oldest have together.
