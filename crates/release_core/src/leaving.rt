@@ -1,11 +1,12 @@
 //! The rules of an extent that is to leave its host.
 
+ghost use Rattle.list_rules.specs.Listing.{overlapping};
 ghost use Rattle.release_core.specs.Leaving.{leaving_rule, region_for};
-ghost use Rattle.std.specs.Prelude.{◌≡◌, ◌^◌, ◌<◌, length};
+ghost use Rattle.std.specs.Prelude.{◌≡◌, ◌^◌, ◌<◌, None, length, true};
 
 use dcd_base::{Extent, HostId, RegionId};
 use dcd_codes::Rule;
-use list_rules::{is_in, misplaced, not_whole, region_at, shares_address};
+use list_rules::{Owners, misplaced, region_at, unfit};
 use region_config::Config;
 
 /// Where the extents of a list have to lie.
@@ -17,17 +18,21 @@ pub(crate) enum Within {
     Region(RegionId),
 }
 
-/// The first rule that an extent of the list breaks behind those before it, whose number is its index.
+/// The first rule that an extent of the list breaks behind those before it, whose number is its index. Where the list
+/// `rises`, it shares no address with them; its owner is looked for at `near` first.
 pub(crate) fn broken_leaving_extent(
     config: &Config,
     host: HostId,
-    accepted: &[Extent],
+    accepted: &Owners,
+    near: &mut usize,
     bounds: &Within,
+    rises: bool,
     before: &[Extent],
     extent: &Extent,
 ) -> Option<Rule>
     requires host { host < config.now.hosts }
     requires listed { length before.now < 2 ^ 32 }
+    requires apart { rises ≡ true → overlapping before.now extent.now ≡ None }
     ensures { result ≡ leaving_rule config.now host accepted.now bounds.now before.now extent.now }
 {
     let index = before.len() as u32;
@@ -35,13 +40,8 @@ pub(crate) fn broken_leaving_extent(
     if let Some(rule) = misplaced(config, host, region, index, extent) {
         return Some(rule);
     }
-    if !is_in(accepted, extent) {
-        return Some(Rule::NotAccepted(index));
-    }
-    if let Some(rule) = shares_address(before, extent) {
-        return Some(rule);
-    }
-    not_whole(config, host, accepted, index, extent)
+    let missing = Rule::NotAccepted(index);
+    unfit(config, host, accepted, near, rises, before, extent, missing)
 }
 
 /// The region in which the extent has to lie: the one that the command names, or else the one that has its first address.

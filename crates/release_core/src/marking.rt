@@ -1,10 +1,10 @@
 //! Extents as they leave: with the tag and the sequence of the accepted extent in which each lies.
 
 ghost use Rattle.extent_list.specs.ExtentLists.{marked};
-ghost use Rattle.std.specs.Prelude.{◌≡◌, [], IfOk, OnOk, map};
+ghost use Rattle.std.specs.Prelude.{◌≡◌, IfOk, map};
 
 use dcd_base::{Extent, Extents, NoMemory};
-use list_rules::marked;
+use list_rules::{Owners, put_marked};
 use std::alloc::Global;
 
 /// The extents of the list, each with the tag and the sequence of the accepted extent in which it lies.
@@ -15,18 +15,7 @@ pub(crate) fn marked_list(
 ) -> Result<Extents, NoMemory>
     ensures { IfOk result (λ leaving. leaving ≡ map (marked accepted.now) list.now) }
 {
-    let mut leaving = Extents::new(alloc);
-    put_marked(accepted, list, &mut leaving)?;
+    let mut leaving = Extents::with_capacity(alloc, list.len())?;
+    put_marked(&Owners::of(accepted), list, &mut leaving)?;
     Ok(leaving)
-}
-
-/// Puts them into an empty list.
-fn put_marked(accepted: &[Extent], list: &[Extent], leaving: &mut Extents) -> Result<(), NoMemory>
-    requires { leaving.old ≡ [] }
-    ensures { OnOk result (leaving.new ≡ map (marked accepted.now) list.now) }
-{
-    for extent in list {
-        leaving.push(marked(accepted, extent))?;
-    }
-    Ok(())
 }
