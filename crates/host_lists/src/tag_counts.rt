@@ -6,8 +6,8 @@ ghost use Rattle.offer_core.specs.Offerings.{lists_of};
 ghost use Rattle.std.specs.List.{list_any};
 ghost use Rattle.std.specs.Prelude.{◌≡◌, ◌++◌, ◌≤◌, length, take};
 
-use dcd_base::{Extent, Tag, is_no_tag};
-use extent_list::has_extent_of;
+use dcd_base::{Extent, Tag, no_tag};
+use extent_list::{has_extent_of, same_tag};
 use offer_core::Offers;
 
 /// Whether an extent of the first `count` offers has the tag.
@@ -43,7 +43,7 @@ fn is_new(tag: &Tag, accepted: &[Extent], offers: &Offers, count: usize, before:
     requires { count ≤ length offers.now.offers }
     ensures { result ≡ is_new (extents_before accepted.now (lists_of offers.now.offers) count ++ before.now) tag.now }
 {
-    !is_no_tag(tag) && !is_among(tag, accepted, offers, count, before)
+    !same_tag(tag, &no_tag()) && !is_among(tag, accepted, offers, count, before)
 }
 
 /// How many tags there are with these extents behind the accepted ones and the first `count` offers, which have
