@@ -47,8 +47,8 @@ pub fn unfit(
     part_rule(config, host, owner, before.len() as u32, extent)
 }
 
-/// The rule of an address that one before has too.
-fn sharing(rises: bool, before: &[Extent], extent: &Extent) -> Option<Rule>
+/// The rule that an extent breaks which shares an address with one before it. Where the list `rises`, none does.
+pub fn sharing(rises: bool, before: &[Extent], extent: &Extent) -> Option<Rule>
     requires listed { length before.now < 2 ^ 32 }
     requires apart { rises ≡ true → overlapping before.now extent.now ≡ None }
     ensures { result ≡ overlapping before.now extent.now }

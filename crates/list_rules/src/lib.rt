@@ -12,7 +12,7 @@ mod owners;
 mod placing;
 mod tags;
 
-pub use fitting::{put_marked, unfit};
+pub use fitting::{put_marked, sharing, unfit};
 pub use limits::{too_many_extents, too_many_listed};
 pub use lookup::Owners;
 pub use orders::is_rising;

@@ -8,6 +8,7 @@ use Rattle.dcd_codes.specs.Rules.{each_in}
 use Rattle.dcd_codes.proofs.RuleSteps.{each_in_found, each_in_more}
 use Rattle.granule_map.specs.StateLists.{is_free_at}
 use Rattle.list_rules.specs.Listing.{too_many_listed}
+use Rattle.list_rules.proofs.Rising.{apart}
 use Rattle.media_map.specs.Places.{IsRun, run_of}
 use Rattle.selection.specs.Selections.{AreApart, are_free, free_extent_rule, listed_runs}
 use Rattle.selection.proofs.Prescribed.{extent_broken, kept_apart, kept_free, kept_runs}
@@ -64,3 +65,6 @@ pub returns-clause-are_free : goal.returns-clause-are_free
 returns-clause-are_free c =
     subst (λ (runs : List Run). are_free (is_free_at c.args.map.now.states) runs ≡ true) (sym (tried c))
     (kept_free c.args.config.now c.args.host c.regions-regions.ensures.sound c.requires.host c.args.region (is_free_at c.args.map.now.states) [] c.as_slice-listed.result.now (unbroken c))
+
+pub try_extent-requires-clause-apart : goal.try_extent-requires-clause-apart
+try_extent-requires-clause-apart c = λ yes. apart c.as_slice-listed.result.now c.loop-i.i no_extent (c.is_rising-rises.ensures yes) c.loop-i-test.true
