@@ -9,7 +9,7 @@ use Rattle.journal_core.specs.declared.tokens.Token.{Token}
 use Rattle.journal_core.specs.Coding.{AddsBytes, CodesTo}
 use Rattle.journal_core.specs.Slots.{slots_in, with_byte, with_slot}
 use Rattle.journal_core.specs.Tokens.{token_of, tokens_in}
-use Rattle.journal_core.proofs.Slotting.{slots_in-set, with_slot-byte}
+use Rattle.journal_core.proofs.Slotting.{with_slot-byte}
 
 -- ---- what bytes tell
 
@@ -41,12 +41,12 @@ adds_then {a} {b} {c} {xs} {ys} p q = record {
   appended = λ ok.
       let r = q.appended ok in
       let s = p.appended r.0 in
-      (s.0, r.1 ∙ ap (λ (z : List ℕ). z ++ ys) s.1 ∙ append_assoc a.bytes xs ys);
+      (s.0, r.1 ∙ ap (λ (z : List ℕ). z ++ ys) s.1 ∙ append_assoc a.bytes.items xs ys);
 }
 
 pub codes_none : (a : Coder) (s : ℕ → ℕ) → s ≡ slots_in a.slots → CodesTo a a s []
 codes_none a s e = record {
-  coded = λ ok. (ok, record { added = []; put = sym (append-nil a.bytes); told = λ more. ap (λ (z : ℕ → ℕ). tokens_in z None more) (sym e) });
+  coded = λ ok. (ok, record { added = []; put = sym (append-nil a.bytes.items); told = λ more. ap (λ (z : ℕ → ℕ). tokens_in z None more) (sym e) });
 }
 
 pub codes_then : {a b c : Coder} {s : ℕ → ℕ} {xs ys : List Token} → CodesTo a b (slots_in b.slots) xs → CodesTo b c s ys → CodesTo a c s (xs ++ ys)
@@ -57,7 +57,7 @@ codes_then {a} {b} {c} {s} {xs} {ys} p q = record {
         t.0,
         record {
           added = t.1.added ++ r.1.added;
-          put = r.1.put ∙ ap (λ (z : List ℕ). z ++ r.1.added) t.1.put ∙ append_assoc a.bytes t.1.added r.1.added;
+          put = r.1.put ∙ ap (λ (z : List ℕ). z ++ r.1.added) t.1.put ∙ append_assoc a.bytes.items t.1.added r.1.added;
           told = λ more.
               ap (tokens_in (slots_in a.slots) None) (append_assoc t.1.added r.1.added more)
               ∙ t.1.told (r.1.added ++ more)
@@ -80,7 +80,7 @@ codes_byte a b c k place byte bytes lt in_eight len small before adds = record {
         t.0,
         record {
           added = t.1.added ++ (8 * k + place) ∷ byte ∷ [];
-          put = r.1 ∙ ap (λ (z : List ℕ). z ++ (8 * k + place) ∷ byte ∷ []) t.1.put ∙ append_assoc a.bytes t.1.added _;
+          put = r.1 ∙ ap (λ (z : List ℕ). z ++ (8 * k + place) ∷ byte ∷ []) t.1.put ∙ append_assoc a.bytes.items t.1.added _;
           told = λ more.
               ap (tokens_in s None) (append_assoc t.1.added ((8 * k + place) ∷ byte ∷ []) more)
               ∙ t.1.told ((8 * k + place) ∷ byte ∷ more)
@@ -93,21 +93,10 @@ codes_byte a b c k place byte bytes lt in_eight len small before adds = record {
 }
 
 -- a slot all of whose bytes are set
-pub codes_number : (a b : Coder) (k n : ℕ) (bytes wanted : List ℕ) → b.slots ≡ a.slots → k < length b.slots → length bytes ≡ 8 → length wanted ≡ 8 → take 8 bytes ≡ take 8 wanted → from_le_bytes w64 wanted ≡ n → CodesTo a b (with_slot (slots_in a.slots) k (from_le_bytes w64 bytes)) [] → CodesTo a (record b { slots = set b.slots k n }) (slots_in (set b.slots k n)) []
-codes_number a b k n bytes wanted kept lt len len' same is before =
+pub codes_number : (a b : Coder) (k n : ℕ) (bytes wanted : List ℕ) → length bytes ≡ 8 → length wanted ≡ 8 → take 8 bytes ≡ take 8 wanted → from_le_bytes w64 wanted ≡ n → CodesTo a b (with_slot (slots_in a.slots) k (from_le_bytes w64 bytes)) [] → CodesTo a b (with_slot (slots_in a.slots) k n) []
+codes_number a b k n bytes wanted len len' same is before =
     let whole : bytes ≡ wanted = sym (take_all 8 bytes (omega arith)) ∙ same ∙ take_all 8 wanted (omega arith) in
-    let end : with_slot (slots_in a.slots) k (from_le_bytes w64 bytes) ≡ slots_in (set b.slots k n) =
-    ap (λ (z : List ℕ). with_slot (slots_in a.slots) k (from_le_bytes w64 z)) whole
-    ∙ ap (λ m. with_slot (slots_in a.slots) k m) is
-    ∙ ap (λ (z : List ℕ). with_slot (slots_in z) k n) (sym kept)
-    ∙ sym (slots_in-set b.slots k n lt) in
-    record {
-      coded = λ ok.
-          let t = before.coded ok in (
-            t.0,
-            record { added = t.1.added; put = t.1.put; told = λ more. t.1.told more ∙ ap (λ (z : ℕ → ℕ). tokens_in z None more) end },
-          );
-    }
+    subst (λ m. CodesTo a b (with_slot (slots_in a.slots) k m) []) (ap (from_le_bytes w64) whole ∙ is) before
 
 -- the end of a token
 pub codes_end : (a b : Coder) (kind : ℕ) → 128 ≤ kind → AddsBytes a b (kind ∷ []) → CodesTo a b (slots_in b.slots) (token_of kind (slots_in a.slots) ∷ [])

@@ -43,10 +43,10 @@ all_back [] = refl
 all_back (e ∷ effects) = one_back e (flat_map tokens_of effects) ∙ ap (λ (z : List Effect). e ∷ z) (all_back effects)
 
 -- what a coder wrote tells the effects
-pub written_back : (a b : Coder) (effects : List Effect) → slots_in a.slots ≡ no_slots → a.bytes ≡ [] → IsFalse b.failed → CodesTo a b (slots_in b.slots) (flat_map tokens_of effects) → effects_from [] (tokens_in no_slots None b.bytes) ≡ effects
+pub written_back : (a b : Coder) (effects : List Effect) → slots_in a.slots ≡ no_slots → a.bytes.items ≡ [] → IsFalse b.failed → CodesTo a b (slots_in b.slots) (flat_map tokens_of effects) → effects_from [] (tokens_in no_slots None b.bytes.items) ≡ effects
 written_back a b effects fresh empty ok codes =
     let t = (codes.coded ok).1 in
-    let bytes : b.bytes ≡ t.added ++ [] = t.put ∙ ap (λ (z : List ℕ). z ++ t.added) empty ∙ sym (append-nil t.added) in
+    let bytes : b.bytes.items ≡ t.added ++ [] = t.put ∙ ap (λ (z : List ℕ). z ++ t.added) empty ∙ sym (append-nil t.added) in
     ap (λ (z : List ℕ). effects_from [] (tokens_in no_slots None z)) bytes
     ∙ ap (λ (z : ℕ → ℕ). effects_from [] (tokens_in z None (t.added ++ []))) (sym fresh)
     ∙ ap (effects_from []) (t.told [] ∙ ap (λ (z : List Token). flat_map tokens_of effects ++ z) (nothing_told (slots_in b.slots)) ∙ append-nil (flat_map tokens_of effects))

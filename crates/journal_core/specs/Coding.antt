@@ -13,7 +13,7 @@ pub record TellsTokens (old new : List ℕ) (slots slots' : ℕ → ℕ) (tokens
 
 -- Unless memory failed by now, it had not failed before, and the bytes since then tell these tokens and lead to these slots.
 pub record CodesTo (old new : Coder) (slots : ℕ → ℕ) (tokens : List Token) : Type 0 where
-  pub coded : IsFalse new.failed → IsFalse old.failed × TellsTokens old.bytes new.bytes (slots_in old.slots) slots tokens
+  pub coded : IsFalse new.failed → IsFalse old.failed × TellsTokens old.bytes.items new.bytes.items (slots_in old.slots) slots tokens
 
 -- They lead to the slots that the coder has.
 abbrev pub Codes : Coder → Coder → List Token → Type 0
@@ -22,4 +22,4 @@ Codes old new tokens = CodesTo old new (slots_in new.slots) tokens
 -- Unless memory failed by now, it had not failed before, and these bytes came behind the others.
 pub record AddsBytes (old new : Coder) (added : List ℕ) : Type 0 where
   pub slots : new.slots ≡ old.slots
-  pub appended : IsFalse new.failed → IsFalse old.failed × (new.bytes ≡ old.bytes ++ added)
+  pub appended : IsFalse new.failed → IsFalse old.failed × (new.bytes.items ≡ old.bytes.items ++ added)

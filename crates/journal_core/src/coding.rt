@@ -1,28 +1,32 @@
 //! Effects to bytes.
 
 ghost use Rattle.event_records.specs.Records.{kind_number};
-ghost use Rattle.journal_core.specs.Coding.{AddsBytes, Codes};
+ghost use Rattle.journal_core.specs.Coding.{AddsBytes, Codes, CodesTo};
 ghost use Rattle.journal_core.specs.Slots.{FitsWhat, no_slots, number_of_held, number_of_log, slots_in, slotted_event, slotted_extent, slotted_held, slotted_log, slotted_run, slotted_tag, telling_event, telling_extent, telling_flag, telling_held, telling_host, telling_log, telling_run, telling_tag, telling_what, with_slot};
 ghost use Rattle.journal_core.specs.Tokens.{token_of, tokens_of};
 ghost use Rattle.journal_core.specs.declared.tokens.Token.{Token};
-ghost use Rattle.std.specs.Prelude.{◌≡◌, ℕ, ◌+◌, ◌*◌, ◌%◌, ◌<◌, ◌≤◌, ◌^◌, [], ◌∷◌, IfSome, IsFalse, flat_map, map, true};
+ghost use Rattle.std.specs.Prelude.{◌≡◌, ℕ, ◌+◌, ◌*◌, ◌%◌, ◌<◌, ◌≤◌, ◌^◌, [], ◌∷◌, IfSome, IsFalse, IsTrue, flat_map, map, true, vec_capacity, vec_len};
 
+use crate::alike_bytes::alike_until;
 use crate::outcome::{Effect, HeldKind};
 use crate::slots::{
     ANSWER, BLOCK, CLEARED, COUNT, EVENT_HOST, EVENT_KIND, EXTENTS_LEFT, FIRST, FLAG, HANDLE, HOLD,
     HOST, LEAVE, LENGTH, LOG, LOGGED, MISSED, MORE, OFFER, REF, REGION, RESET, SEQUENCE, SLOTS,
     SOIL, START, Slots, TAG_END, TAG_HIGH, TAG_LOW, TAGS_LEFT, TAKE, UNHOLD, ZERO,
 };
-use dcd_base::{Bytes, Extent, HostId, LogId, RegionId, Run, Tag};
+use dcd_base::{Extent, HostId, LogId, RegionId, Run, Tag};
 use event_records::{Event, EventKind};
 use field_bytes::{are_bytes, u64_at};
 use std::alloc::Global;
+
+/// So many bytes tell a changed number at most: for each of its eight bytes its place and itself.
+const CHANGE: usize = 16;
 
 /// Writes effects as bytes. Without memory it has failed from then on.
 #[derive(Debug, Drop)]
 pub(crate) struct Coder {
     slots: Slots,
-    bytes: Bytes,
+    bytes: Vec<u8>,
     failed: bool,
 }
 
@@ -30,11 +34,11 @@ impl Coder {
     /// Nothing is written, and all slots are 0.
     pub(crate) fn new(alloc: Global) -> Coder
         ensures slots { slots_in result.slots ≡ no_slots }
-        ensures bytes { result.bytes ≡ [] }
+        ensures bytes { result.bytes.items ≡ [] }
     {
         Coder {
             slots: [0; SLOTS],
-            bytes: Bytes::new(alloc),
+            bytes: Vec::new(alloc),
             failed: false,
         }
     }
@@ -51,7 +55,7 @@ impl Coder {
 
     /// The bytes that were written; None where there was no memory for them.
     pub(crate) fn written(&self) -> Option<&[u8]>
-        ensures { IfSome result (λ bytes. IsFalse self.now.failed × (bytes.now ≡ self.now.bytes)) }
+        ensures { IfSome result (λ bytes. IsFalse self.now.failed × (bytes.now ≡ self.now.bytes.items)) }
     {
         if self.failed {
             None
@@ -69,14 +73,47 @@ impl Coder {
         }
     }
 
-    /// Writes the place of a byte in a slot, and the byte.
+    /// Writes the place of a byte in a slot, and the byte. There is room for both.
     fn push_change(&mut self, slot: usize, place: usize, byte: u8)
         requires slot { slot < 16 }
         requires place { place < 8 }
-        ensures { AddsBytes self.old self.new ((8 * slot + place) ∷ byte ∷ []) }
+        requires room { vec_len self.old.bytes + 2 ≤ vec_capacity self.old.bytes }
+        ensures added { AddsBytes self.old self.new ((8 * slot + place) ∷ byte ∷ []) }
+        ensures len { vec_len self.new.bytes ≡ vec_len self.old.bytes + 2 }
+        ensures capacity { vec_capacity self.new.bytes ≡ vec_capacity self.old.bytes }
     {
-        self.push((8 * slot + place) as u8);
-        self.push(byte);
+        self.bytes.push_reserved((8 * slot + place) as u8);
+        self.bytes.push_reserved(byte);
+    }
+
+    /// Writes the bytes by which a number differs from that in the slot. There is room for them.
+    fn push_changes(&mut self, slot: usize, number: u64)
+        requires slot { slot < 16 }
+        requires room { vec_len self.old.bytes + 16 ≤ vec_capacity self.old.bytes }
+        ensures slots { self.new.slots ≡ self.old.slots }
+        ensures coded { CodesTo self.old self.new (with_slot (slots_in self.old.slots) slot number) [] }
+    {
+        let told = self.slots[slot];
+        let wanted = number.to_le_bytes();
+        let mut place = alike_until(told, number, 0);
+        while place < 8 {
+            self.push_change(slot, place, wanted[place]);
+            place = alike_until(told, number, place + 1);
+        }
+    }
+
+    /// Makes room for the bytes by which two numbers can differ.
+    fn make_room(&mut self) -> bool
+        ensures slots { self.new.slots ≡ self.old.slots }
+        ensures bytes { self.new.bytes.items ≡ self.old.bytes.items }
+        ensures failed { IsFalse self.new.failed → IsFalse self.old.failed × IsTrue result }
+        ensures room { IsTrue result → vec_len self.new.bytes + 16 ≤ vec_capacity self.new.bytes }
+    {
+        let has_room = self.bytes.reserve(CHANGE).is_ok();
+        if !has_room {
+            self.failed = true;
+        }
+        has_room
     }
 
     /// Writes the bytes by which a number differs from that in the slot, and puts it there.
@@ -85,13 +122,8 @@ impl Coder {
         ensures slots { slots_in self.new.slots ≡ with_slot (slots_in self.old.slots) slot number }
         ensures coded { Codes self.old self.new [] }
     {
-        let mut bytes = self.slots[slot].to_le_bytes();
-        let wanted = number.to_le_bytes();
-        for i in 0..8 {
-            if bytes[i] != wanted[i] {
-                self.push_change(slot, i, wanted[i]);
-                bytes[i] = wanted[i];
-            }
+        if self.make_room() {
+            self.push_changes(slot, number);
         }
         self.slots[slot] = number;
     }

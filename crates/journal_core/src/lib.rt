@@ -5,6 +5,7 @@
 #![tactic(auto)]
 
 mod acts;
+mod alike_bytes;
 mod both;
 mod coding;
 mod copying;
