@@ -7,7 +7,9 @@
 mod blocks;
 mod map;
 mod marks;
+mod replacing;
 mod states;
 
 pub use map::GranuleMap;
+pub use replacing::Replaced;
 pub use states::GranuleState;

@@ -8,6 +8,7 @@ ghost use Rattle.std.specs.Prelude.{◌≡◌, ◌↔◌, ◌+◌, ◌-◌, ◌<
 
 use crate::blocks::{count_free_blocks, free_from, longest_run_of, lowest_block, next_free};
 use crate::marks::{count_with, next_with, next_with_either};
+use crate::replacing::{Replaced, replace_run};
 use crate::states::{DIRTY, FREE, GranuleState, IN_USE, is_same_state};
 use dcd_base::{Granule, NoMemory, Run};
 use std::alloc::Global;
@@ -99,9 +100,27 @@ impl GranuleMap {
         ensures granules { length self.new.states ≡ length self.old.states }
         ensures spare { self.old.spare ≤ self.new.spare }
     {
+        let _replaced = self.replace_run(run, state);
+    }
+
+    /// Gives each granule of the run this state, as `set_run` does, and counts those that were free and dirty before.
+    pub fn replace_run(&mut self, run: Run, state: GranuleState) -> Replaced
+        requires spare { 0 < self.old.spare }
+        requires within { run.first + run.count ≤ length self.old.states }
+        ensures states { self.new.states ≡ with_run self.old.states run state }
+        ensures granules { length self.new.states ≡ length self.old.states }
+        ensures spare { self.old.spare ≤ self.new.spare }
+        ensures free { result.free ≡ count_by is_free_state (part_of self.old.states run) }
+        ensures dirty { result.dirty ≡ count_by is_dirty_state (part_of self.old.states run) }
+    {
         let mark = state.mark();
-        fill_states(self.granules.as_mut_slice(), &run, &state);
-        fill_marks(self.marks.as_mut_slice(), &run, mark);
+        replace_run(
+            self.granules.as_mut_slice(),
+            self.marks.as_mut_slice(),
+            &run,
+            &state,
+            mark,
+        )
     }
 
     /// Gives one granule of the map this state. Takes no memory where there is spare, and leaves the spare.
@@ -280,24 +299,6 @@ impl GranuleMap {
             end as usize,
         ) as u32
     }
-}
-
-/// Makes each state of the run this one.
-fn fill_states(states: &mut [GranuleState], run: &Run, state: &GranuleState)
-    requires { run.now.first + run.now.count ≤ length states.old }
-    ensures { states.new ≡ with_run states.old run.now state.now }
-{
-    let first = run.first.0 as usize;
-    states[first..first + run.count as usize].fill(*state);
-}
-
-/// Makes each mark of the run this one.
-fn fill_marks(marks: &mut [u8], run: &Run, mark: u8)
-    requires { run.now.first + run.now.count ≤ length marks.old }
-    ensures { marks.new ≡ take run.now.first marks.old ++ replicate run.now.count mark ++ drop (run.now.first + run.now.count) marks.old }
-{
-    let first = run.first.0 as usize;
-    marks[first..first + run.count as usize].fill(mark);
 }
 
 /// Makes one state this one.

@@ -1,0 +1,51 @@
+-- A run of a list whose items are replaced one after another, and what they were.
+use Rattle.std.proofs.Common.{◌≡◌, ℕ, ◌+◌, ◌-◌, ◌<◌, ◌≤◌, Bool, true, false, cond, List, [], ◌∷◌, ◌++◌, length, get_or, set, take, drop, replicate, ap, sym, ◌∙◌, arith, append-nil, append_assoc, length-append, length-drop}
+use Rattle.std.specs.Prelude.{count_by}
+use Rattle.std.proofs.Math.Seq.{set-append_seam}
+use Rattle.std.proofs.Math.Nat.{add-zero}
+use Rattle.std.proofs.lemmas.List.{drop_more, get_or-append_right, get_or-drop, length-replicate, length-take-le, replicate-append-replicate, take-append-drop, take_more}
+use Rattle.std.proofs.lemmas.List.Sums.{sum_by-append, sum_by-cons}
+
+-- the list with so many items from the first on replaced
+abbrev pub replaced : {X : Type 0} → ℕ → ℕ → X → List X → List X
+replaced first i x xs = take first xs ++ replicate i x ++ drop (first + i) xs
+
+module _ {X : Type 0} (xs : List X) (first i : ℕ) (x : X) (within : first + i < length xs) where
+  front : length (take first xs ++ replicate i x) ≡ first + i
+  front = length-append (take first xs) (replicate i x) ∙ omega (arith, length-take-le first xs (omega (arith, within)), length-replicate i x)
+
+  -- one item more
+  pub replaced_more : set (replaced first i x xs) (first + i) x ≡ replaced first (i + 1) x xs
+  replaced_more =
+      let past = drop (first + i + 1) xs in
+      let place : first + i + 1 ≡ first + (i + 1) = omega arith in
+      ap (λ (ys : List X). set (take first xs ++ replicate i x ++ ys) (first + i) x) (drop_more xs (first + i) x within)
+      ∙ ap (λ n. set (take first xs ++ replicate i x ++ get_or xs (first + i) x ∷ past) n x) (sym front)
+      ∙ set-append_seam (take first xs ++ replicate i x) (get_or xs (first + i) x) past x
+      ∙ sym (append_assoc (take first xs ++ replicate i x) (x ∷ []) past)
+      ∙ ap (λ (ys : List X). ys ++ past) (append_assoc (take first xs) (replicate i x) (x ∷ []) ∙ ap (λ (ys : List X). take first xs ++ ys) (replicate-append-replicate i 1 x))
+      ∙ ap (λ n. take first xs ++ replicate (i + 1) x ++ drop n xs) place
+
+  -- the next item is as it was
+  pub replaced_next : (d : X) → get_or (replaced first i x xs) (first + i) d ≡ get_or xs (first + i) d
+  replaced_next d =
+      let none : first + i + (first + i - (first + i)) ≡ first + i = omega arith in
+      get_or-append_right (take first xs ++ replicate i x) (drop (first + i) xs) (first + i) (first + i) d front (omega arith)
+      ∙ get_or-drop (first + i) xs (first + i - (first + i)) d
+      ∙ ap (λ n. get_or xs n d) none
+
+pub replaced_none : {X : Type 0} (xs : List X) (first : ℕ) (x : X) → xs ≡ replaced first 0 x xs
+replaced_none xs first x =
+    let none : first ≡ first + 0 = omega arith in
+    sym (take-append-drop first xs) ∙ ap (λ n. take first xs ++ drop n xs) none ∙ ap (λ (ys : List _). ys ++ drop (first + 0) xs) (sym (append-nil (take first xs)))
+
+-- one item more is counted
+pub counted_more : (p : ℕ → Bool) (xs : List ℕ) (first i : ℕ) → first + i < length xs → count_by p (take (i + 1) (drop first xs)) ≡ count_by p (take i (drop first xs)) + cond (p (get_or xs (first + i) 0)) 1 0
+counted_more p xs first i within =
+    ap (count_by p) (take_more (drop first xs) i 0 (omega (arith, length-drop first xs, within)))
+    ∙ sum_by-append (λ m. cond (p m) 1 0) (take i (drop first xs)) (get_or (drop first xs) i 0 ∷ [])
+    ∙ ap (λ n. count_by p (take i (drop first xs)) + n) (sum_by-cons (λ m. cond (p m) 1 0) (get_or (drop first xs) i 0) [] ∙ add-zero _ ∙ ap (λ m. cond (p m) 1 0) (get_or-drop first xs i 0))
+
+pub one_at_most : (b : Bool) → cond b 1 0 ≤ 1
+one_at_most true = omega arith
+one_at_most false = omega arith
