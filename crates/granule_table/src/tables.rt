@@ -126,11 +126,13 @@ impl GranuleTable {
         ensures changed { IsChanged (given state.now) run.now self.old self.new }
         ensures unclean { self.new.unclean ≡ self.old.unclean }
     {
-        let free = self.map.free_in(*run);
-        let dirty = self.map.dirty_in(*run);
-        self.map.set_run(*run, *state);
-        self.free = recounted(self.free, free, all_or_none(state.is_free(), run.count));
-        self.dirty = recounted(self.dirty, dirty, all_or_none(state.is_dirty(), run.count));
+        let was = self.map.replace_run(*run, *state);
+        self.free = recounted(self.free, was.free, all_or_none(state.is_free(), run.count));
+        self.dirty = recounted(
+            self.dirty,
+            was.dirty,
+            all_or_none(state.is_dirty(), run.count),
+        );
     }
 
     /// Each granule of a run of the table has to be zeroed from now on, or has not.
