@@ -1,10 +1,9 @@
 //! A run that is given another state, and what it was before.
 
-ghost use Rattle.granule_map.specs.StateLists.{with_run};
 ghost use Rattle.memchr.specs.Find.{is_byte};
 ghost use Rattle.std.specs.Prelude.{◌≡◌, ◌+◌, ◌≤◌, ◌++◌, count_by, drop, if◌then◌else◌, length, replicate, take};
 
-use crate::states::{DIRTY, FREE, GranuleState};
+use crate::states::{DIRTY, FREE};
 use dcd_base::Run;
 
 /// How many granules of a run were free, and how many dirty.
@@ -14,17 +13,9 @@ pub struct Replaced {
     pub dirty: u32,
 }
 
-/// Makes each state and each mark of the run these, and counts the marks that were there.
-pub(crate) fn replace_run(
-    states: &mut [GranuleState],
-    marks: &mut [u8],
-    run: &Run,
-    state: &GranuleState,
-    mark: u8,
-) -> Replaced
-    requires states { run.now.first + run.now.count ≤ length states.old }
-    requires marks { run.now.first + run.now.count ≤ length marks.old }
-    ensures states { states.new ≡ with_run states.old run.now state.now }
+/// Makes each mark of the run this one, and counts those that were there.
+pub(crate) fn replace_marks(marks: &mut [u8], run: &Run, mark: u8) -> Replaced
+    requires { run.now.first + run.now.count ≤ length marks.old }
     ensures marks { marks.new ≡ take run.now.first marks.old ++ replicate run.now.count mark ++ drop (run.now.first + run.now.count) marks.old }
     ensures free { result.free ≡ count_by (is_byte FREE) (take run.now.count (drop run.now.first marks.old)) }
     ensures dirty { result.dirty ≡ count_by (is_byte DIRTY) (take run.now.count (drop run.now.first marks.old)) }
@@ -36,7 +27,6 @@ pub(crate) fn replace_run(
         free += one_if(FREE, was);
         dirty += one_if(DIRTY, was);
         marks[first + i] = mark;
-        states[first + i] = *state;
     }
     Replaced { free, dirty }
 }
