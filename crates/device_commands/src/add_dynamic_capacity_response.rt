@@ -34,6 +34,7 @@ use journal_core::{Effect, Effects, HeldKind};
 use offer_core::broken_rule;
 use region_config::Config;
 use std::alloc::Global;
+use std::mem::replace;
 
 /// The host's response to its oldest offer: this list behind what it holds of earlier messages, and whether more
 /// messages are to follow (CXL 3.1, 8.2.9.9.9.3).
@@ -188,8 +189,12 @@ fn put_takes(
     requires granular { All (λ x. IsTrue (is_granular present.now host x.start x.length)) extents.now }
     ensures { OnOk result (changes.new ≡ changes.old ++ takes present.now host extents.now) }
 {
+    let alloc = changes.allocator();
+    let mut effects = replace(changes, Effects::new(alloc)).into_vec();
+    effects.reserve(extents.len())?;
     for i in 0..extents.len() {
-        changes.push(Effect::Take(host, run_of(present, host, &extents[i])))?;
+        effects.push_reserved(Effect::Take(host, run_of(present, host, &extents[i])));
     }
+    *changes = Effects::from_vec(alloc, effects);
     Ok(())
 }

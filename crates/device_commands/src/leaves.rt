@@ -9,6 +9,7 @@ use crate::runs::run_of;
 use dcd_base::{Extent, HostId, NoMemory, Run};
 use journal_core::{Effect, Effects};
 use region_config::Config;
+use std::mem::replace;
 
 /// Each of the extents leaves the host; where the removal cleans, its granules are soiled at once.
 pub(crate) fn put_leaves(
@@ -22,20 +23,17 @@ pub(crate) fn put_leaves(
     requires granular { All (λ x. IsTrue (is_granular config.now host x.start x.length)) extents.now }
     ensures { OnOk result (changes.new ≡ changes.old ++ removals config.now host clean extents.now) }
 {
+    let alloc = changes.allocator();
+    let mut effects = replace(changes, Effects::new(alloc)).into_vec();
+    effects.reserve(extents.len().saturating_mul(2))?;
     for i in 0..extents.len() {
-        put_leave(host, clean, &run_of(config, host, &extents[i]), changes)?;
+        let run = run_of(config, host, &extents[i]);
+        effects.push_reserved(leave_of(host, &run));
+        if clean {
+            effects.push_reserved(Effect::Soil(run));
+        }
     }
-    Ok(())
-}
-
-/// The run leaves the host, and is soiled where the removal cleans.
-fn put_leave(host: HostId, clean: bool, run: &Run, changes: &mut Effects) -> Result<(), NoMemory>
-    ensures { OnOk result (changes.new ≡ changes.old ++ Effect.Leave host run.now ∷ soils clean run.now) }
-{
-    changes.push(leave_of(host, run))?;
-    if clean {
-        return changes.push(Effect::Soil(*run));
-    }
+    *changes = Effects::from_vec(alloc, effects);
     Ok(())
 }
 

@@ -1,7 +1,10 @@
-use Rattle.std.proofs.Common.{◌≡◌, ◌++◌, take}
+use Rattle.std.proofs.Common.{◌≡◌, ◌++◌, ◌+◌, ◌≤◌, length, take, vec_capacity, vec_len}
 use Rattle.device_commands.specs.AddDynamicCapacityResponse.{takes}
 use Rattle.device_commands.proofs.add_dynamic_capacity_response.put_takes.Given as goal
 
--- The extents so far are taken.
+-- The extents so far are taken, and there is room for the others.
 abbrev pub invariant-loop-i : goal.invariant-loop-i
-invariant-loop-i l = l.changes ≡ l.fn.changes ++ takes l.present l.host (take l.i l.extents)
+invariant-loop-i l = record {
+  put : l.effects.items ≡ l.fn.changes ++ takes l.present l.host (take l.i l.extents);
+  room : vec_len l.effects + length l.extents ≤ vec_capacity l.effects + l.i;
+}
