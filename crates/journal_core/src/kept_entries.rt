@@ -4,7 +4,7 @@ ghost use Rattle.journal_core.specs.Keeping.{Keeping, next_entry, next_stamp};
 ghost use Rattle.journal_core.specs.Merging.{Rising};
 ghost use Rattle.journal_core.specs.Lending.{lent};
 ghost use Rattle.journal_core.specs.declared.entries.Entry.{Entry};
-ghost use Rattle.std.specs.Prelude.{◌≡◌, ◌+◌, ◌++◌, ◌∷◌, ◌<◌, ◌≤◌, [], List, OnErr, OnOk, Some, length};
+ghost use Rattle.std.specs.Prelude.{◌≡◌, ◌+◌, ◌++◌, ◌^◌, ◌∷◌, ◌<◌, ◌≤◌, [], List, OnErr, OnOk, Some, length};
 
 use crate::acts::{Act, Reply};
 use crate::coding::Coder;
@@ -49,9 +49,10 @@ impl KeptEntries {
         }
     }
 
-    /// How many entries there are.
+    /// How many entries there are, which are fewer than 2^63.
     pub fn len(&self) -> usize
-        ensures { result ≡ length self.now.entries }
+        ensures value { result ≡ length self.now.entries }
+        ensures few { result < 2 ^ 63 }
     {
         self.list.len()
     }
