@@ -6,6 +6,7 @@ use Rattle.std.specs.declared.result.Result.TheVariants.{Ok, Err}
 use Rattle.std.proofs.lemmas.List.Elements.{All-push}
 use Rattle.journal_core.specs.declared.entries.Entry.{Entry}
 use Rattle.journal_core.specs.declared.outcome.Effect.{Effect}
+use Rattle.journal_core.specs.Keeping.{next_stamp}
 use Rattle.journal_core.proofs.EachSteps.{Each-push}
 use Rattle.region_config.specs.Configurations.{Configuration}
 use Rattle.device_rules.specs.Legal.{Meets}
@@ -18,6 +19,7 @@ use Rattle.device_state.proofs.EnteredSteps.{kept-entered, of_device}
 use Rattle.control_core.specs.Deciding.{Holds, IsShort}
 use Rattle.control_core.specs.Pasts.{CanEnter, EntersStep, IsOfStep, IsPast, LiveControlled}
 use Rattle.control_core.specs.PutChanges.{AreOfOneHost}
+use Rattle.control_core.proofs.Stamped.{stamped_next}
 use Rattle.control_core.proofs.OneHost.{of_one_host}
 
 -- what is so by each past is so by every past
@@ -63,12 +65,13 @@ reached_entered d now new u can entered =
     (past_entered d.config can.step.past d.state now can.step.leads can.step.entry can.step.meets new can.step.effects_are u can.update entered)
 
 -- so what every control keeps is kept
-pub holds_next : (old now : LiveControlled) (before : List Entry) → Holds old.config before old.state → (e : Entry) → Meets old.config before e → IsShort e.reply →
+pub holds_next : (old now : LiveControlled) (before : List Entry) → Holds old.config before old.state → (e : Entry) → Meets old.config before e → e.stamp ≡ next_stamp before → IsShort e.reply →
     (new : List Effect) → e.effects ≡ new → (u : NewParts) → IsUpdate old.config before new u → EntersStep old now new u → Holds now.config (before ++ e ∷ []) now.state
-holds_next old now before holds e meets short new are u update enters =
+holds_next old now before holds e meets stamp short new are u update enters =
     let leads = enters before (past_held old.config before old.state holds) update e meets are in record {
       sound = leads.sound;
       legal = leads.legal;
+      stamped = stamped_next before e holds.stamped stamp;
       kept = leads.kept;
       short = All-push (λ (x : Entry). IsShort x.reply) before e holds.short short;
     }

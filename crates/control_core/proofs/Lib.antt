@@ -15,3 +15,4 @@ pub mod Recorded
 pub mod Scrubbed
 pub mod Shortness
 pub mod SoundChanges
+pub mod Stamped

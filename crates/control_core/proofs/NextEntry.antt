@@ -1,5 +1,5 @@
 -- The entry that comes next meets what the entries before it ask.
-use Rattle.std.proofs.Common.{◌≡◌, ℕ, ◌<◌, false, List, [], refl, sym, subst, arith}
+use Rattle.std.proofs.Common.{◌≡◌, ℕ, ◌<◌, false, List, [], ◌∷◌, ◌++◌, length, None, ◌+◌, refl, sym, subst, arith}
 use Rattle.std.specs.Prelude.{IsTrue}
 use Rattle.std.proofs.lemmas.Bool.{ltb-true}
 use Rattle.dcd_base.specs.declared.ids.HostId.{HostId}
@@ -8,12 +8,16 @@ use Rattle.journal_core.specs.declared.acts.Act.{Act}
 use Rattle.journal_core.specs.declared.entries.Entry.{Entry}
 use Rattle.journal_core.specs.declared.outcome.Effect.{Effect}
 use Rattle.region_config.specs.Configurations.{Configuration}
+use Rattle.journal_core.proofs.Lists.{rising_none}
 use Rattle.device_rules.specs.Answers.{answer}
 use Rattle.device_rules.specs.Legal.{Meets}
-use Rattle.control_core.specs.Deciding.{Holds}
-use Rattle.control_core.specs.Pasts.{IsOfStep, IsPast, LiveControlled}
+use Rattle.control_core.specs.Deciding.{AreStamped, Holds, IsDecidedBy, IsShort}
+use Rattle.control_core.specs.Pasts.{CanEnter, EntersStep, IsOfStep, IsPast, LiveControlled}
+use Rattle.control_core.specs.declared.decided.Decided.{Decided}
+use Rattle.device_state.specs.declared.updates.TagChange.{TagChange}
+use Rattle.journal_core.specs.Keeping.{next_entry}
 use Rattle.control_core.specs.Steps.{Controlled, IsNextEntry, MayStep, journal_entry}
-use Rattle.control_core.proofs.Entering.{past_held}
+use Rattle.control_core.proofs.Entering.{holds_next, past_entered, past_held}
 
 never : IsTrue false → ⊥
 never e = cc
@@ -40,7 +44,10 @@ is_known c h (Act.Scrub n) may = absurd (never may.fits)
 pub holds_first : (c : Configuration) (entries : List Entry) (d : LiveControlled) → entries ≡ [] → d.config ≡ c → IsPast c [] d.state → Holds d.config entries d.state
 holds_first c entries d none same leads =
     subst (λ es. Holds d.config es d.state) (sym none)
-    (subst (λ k. Holds k [] d.state) (sym same) (record { sound = leads.sound; legal = tt; kept = leads.kept; short = λ k e below. absurd (omega (arith, below)) }))
+    (subst (λ k. Holds k [] d.state) (sym same) (record { sound = leads.sound; legal = tt; stamped = none_stamped; kept = leads.kept; short = λ k e below. absurd (omega (arith, below)) }))
+  where
+    none_stamped : AreStamped []
+    none_stamped = record { rising = rising_none; below = λ k e below. absurd (omega (arith, below)) }
 
 -- The effects that are decided are those of a step.
 pub is_of_step : (d : LiveControlled) (before : List Entry) → Holds d.config before d.state → (actor : Actor) (act : Act) → MayStep d.config actor act → (es : List Effect) →
@@ -52,3 +59,48 @@ is_of_step d before holds actor act may es is = record {
   meets = next_meets d.config before 0 0 actor act may;
   effects_are = sym is;
 }
+
+-- ---- what is decided
+
+-- What is decided, put behind the entries, is the entry that comes next.
+pub next_is : (c : Configuration) (before : List Entry) (pass line : ℕ) (actor : Actor) (act : Act) (d : Decided) → IsDecidedBy c before actor act d →
+    next_entry before pass line actor act (d.reply, d.effects) ≡ journal_entry c before pass line actor act
+next_is c before pass line actor act d is = λ i. record {
+  pass = pass;
+  line = line;
+  actor = actor;
+  act = act;
+  reply = is.reply i;
+  effects = is.effects i;
+  stamp = record { number = length before + 1; count = 0 };
+}
+
+-- It can be entered.
+pub can_enter : (k : LiveControlled) (before : List Entry) → Holds k.config before k.state → (actor : Actor) (act : Act) → MayStep k.config actor act →
+    (d : Decided) → IsDecidedBy k.config before actor act d → CanEnter k d.effects d.update
+unfolding is_of_step
+can_enter k before holds actor act may d is = record { step = is_of_step k before holds actor act may d.effects is.effects; update = is.update }
+
+-- With it the control has what every control keeps, where its state is entered.
+pub holds_decided : (old now : LiveControlled) (before : List Entry) → Holds old.config before old.state → (pass line : ℕ) (actor : Actor) (act : Act) → MayStep old.config actor act →
+    (d : Decided) → IsDecidedBy old.config before actor act d → EntersStep old now d.effects d.update →
+    Holds now.config (before ++ next_entry before pass line actor act (d.reply, d.effects) ∷ []) now.state
+holds_decided old now before holds pass line actor act may d is enters =
+    subst (λ (e : Entry). Holds now.config (before ++ e ∷ []) now.state) (sym (next_is old.config before pass line actor act d is))
+    (holds_next old now before holds (journal_entry old.config before pass line actor act) (next_meets old.config before pass line actor act may) refl
+    (subst IsShort is.reply is.short) d.effects (sym is.effects) d.update is.update enters)
+
+-- A step without effects, beside which nothing is put in place, leaves what is kept.
+pub enters_nothing : (d : LiveControlled) → EntersStep d d [] (record { lists = None; tags = TagChange.Nothing })
+enters_nothing d = λ past leads update e meets are.
+    past_entered d.config past d.state d.state leads e meets [] are (record { lists = None; tags = TagChange.Nothing }) update (record {
+      present_is = refl;
+      host_count = refl;
+      granule_count = refl;
+      cells = λ g below. refl;
+      holders_are = refl;
+      manager_is = refl;
+      logs = λ h below. refl;
+      lists = λ h below. refl;
+      tags_are = refl;
+    })

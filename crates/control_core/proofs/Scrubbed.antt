@@ -28,7 +28,6 @@ use Rattle.device_state.specs.declared.updates.TagChange.{TagChange}
 use Rattle.device_commands.proofs.ZeroedGranules.{map_twice}
 use Rattle.device_commands.specs.Scrub.{IsZeroed}
 use Rattle.device_commands.specs.declared.scrub.Zeroed.{Zeroed}
-use Rattle.device_state.specs.declared.updates.NewParts.{NewParts}
 
 -- ---- what is put in place: nothing
 
@@ -51,15 +50,15 @@ scrub_update c before gs = record {
 }
 
 -- A scrub comes to this.
-pub is_scrub : (c : Configuration) (s : State) (n : ℕ) (z : Zeroed) (u : NewParts) → IsZeroed c s n z → u ≡ record { lists = None; tags = TagChange.Nothing } →
-    IsDecided c s Actor.Sanitizer (Act.Scrub n) (record { reply = Reply.Scrubbed z.granules; effects = z.changes; update = u })
-is_scrub c s n z u is nothing = λ before legal kept.
+pub is_scrub : (c : Configuration) (s : State) (n : ℕ) (z : Zeroed) → IsZeroed c s n z →
+    IsDecided c s Actor.Sanitizer (Act.Scrub n) (record { reply = Reply.Scrubbed z.granules; effects = z.changes; update = record { lists = None; tags = TagChange.Nothing } })
+is_scrub c s n z is = λ before legal kept.
     let answers = is before legal kept in
     let gs : List ℕ = rules_scrubbed c (effects before) n in
     let zeroed : z.changes ≡ zeroes c (rules_scrubbed c (effects before) n) = ap (λ (p : Reply × List Effect). p.1) answers in
     record {
       reply = ap (λ (p : Reply × List Effect). p.0) answers;
       effects = zeroed;
-      update = subst (λ es. IsUpdate c before es u) (sym zeroed) (subst (IsUpdate c before (zeroes c gs)) (sym nothing) (scrub_update c before gs));
+      update = subst (λ es. IsUpdate c before es (record { lists = None; tags = TagChange.Nothing })) (sym zeroed) (scrub_update c before gs);
       short = tt;
     }

@@ -6,6 +6,7 @@ use Rattle.region_config.specs.Soundness.{IsSound}
 use Rattle.journal_core.specs.declared.acts.Act.{Act}
 use Rattle.journal_core.specs.declared.acts.Reply.{Reply}
 use Rattle.journal_core.specs.declared.entries.Entry.{Entry}
+use Rattle.journal_core.specs.Merging.{Rising}
 use Rattle.device_rules.specs.Answers.{answer}
 use Rattle.device_rules.specs.Legal.{Legal}
 use Rattle.device_state.specs.StateAfter.{IsStateAfter}
@@ -36,9 +37,15 @@ pub record IsDecidedBy (c : Configuration) (before : List Entry) (actor : Actor)
 abbrev pub IsDecided : Configuration → State → Actor → Act → Decided → Type 0
 IsDecided c s actor act d = (before : List Entry) → Legal c before → IsStateAfter c before s → IsDecidedBy c before actor act d
 
--- What every control keeps: its entries are legal, what is kept is what they say, and all responses are short.
+-- The stamps rise, and no number is larger than how many entries there are.
+pub record AreStamped (journal : List Entry) : Type 0 where
+  pub rising : Rising journal
+  pub below : All (λ (e : Entry). e.stamp.number ≤ length journal) journal
+
+-- What every control keeps: its entries are legal and stamped, what is kept is what they say, and all responses are short.
 pub record Holds (c : Configuration) (journal : List Entry) (s : State) : Type 0 where
   pub sound : IsSound c
   pub legal : Legal c journal
+  pub stamped : AreStamped journal
   pub kept : IsStateAfter c journal s
   pub short : AreShort journal

@@ -1,5 +1,6 @@
 pub mod Broken
 pub mod Deciding
+pub mod Decisions
 pub mod Doing
 pub mod Fitting
 pub mod HeldExtents

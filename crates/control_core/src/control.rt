@@ -3,20 +3,22 @@
 ghost use Rattle.control_core.specs.Steps.{AreChangesOf, IsNextEntry, MayStep, journal_entry};
 ghost use Rattle.device_rules.specs.ChangedRuns.{AreChanges, LiesIn};
 ghost use Rattle.control_core.specs.Deciding.{AreShort, IsDecidedBy, IsShort};
+ghost use Rattle.control_core.specs.Decisions.{only_replied};
 ghost use Rattle.device_rules.specs.Answers.{answer as answer_to};
 ghost use Rattle.device_rules.specs.Legal.{Legal};
 ghost use Rattle.device_state.specs.Updates.{IsUpdate};
 ghost use Rattle.journal_core.specs.Entries.{effects};
+ghost use Rattle.journal_core.specs.Merging.{Rising};
 ghost use Rattle.region_config.specs.Granules.{granule_total};
 ghost use Rattle.std.specs.Prelude.{◌≡◌, ◌+◌, ◌++◌, ◌∷◌, ◌<◌, ◌≤◌, [], All, IfOk, OnErr, OnOk};
 
-use crate::decided::Decided;
+use crate::decided::{Decided, Decision, DecisionContent};
 use crate::live::LiveControl;
 use crate::plan::Plan;
 use crate::planned::PlannedEntry;
-use dcd_base::{Actor, Changes, NoMemory, Stamp};
+use dcd_base::{Actor, Boxed, Changes, NoMemory, Stamp};
 use device_state::Update;
-use journal_core::{Act, Effects, Entry, EntryEffects, Reply};
+use journal_core::{Act, Effects, Entry, EntryEffects, KeptEntries, Reply};
 use region_config::Config;
 use std::alloc::Global;
 use std::marker::Model;
@@ -27,24 +29,23 @@ use std::marker::Model;
 #[derive(Drop)]
 pub struct Control {
     pub(crate) live: LiveControl,
-    entries: Vec<Entry>,
+    entries: KeptEntries,
 }
 
 impl Model for Control {
     ghost use Rattle.control_core.specs.Deciding.{Holds};
     ghost use Rattle.control_core.specs.Steps.{Controlled};
-    ghost use Rattle.std.specs.Prelude.{◌-◌, min};
-    ghost use Rattle.std.specs.Vec.{vec_capacity, vec_len};
+    ghost use Rattle.std.specs.Prelude.{min};
 
     ghost Value = { Controlled };
 
     ghost view = { λ c. record {
       config = c.live.config;
-      entries = c.entries.items;
-      spare = min c.live.state.tags.spare (vec_capacity c.entries - vec_len c.entries);
+      entries = c.entries.entries;
+      spare = min c.live.state.tags.spare c.entries.spare;
     } };
 
-    ghost invariant = { λ c. Holds c.live.config c.entries.items c.live.state };
+    ghost invariant = { λ c. Holds c.live.config c.entries.entries c.live.state };
 }
 
 impl Control {
@@ -55,7 +56,7 @@ impl Control {
     {
         Ok(Control {
             live: LiveControl::new(alloc, config)?,
-            entries: Vec::new(alloc),
+            entries: KeptEntries::new(alloc),
         })
     }
 
@@ -66,13 +67,14 @@ impl Control {
         self.live.config()
     }
 
-    /// Its commands and scrubs, in order. The payload of each response has at most 2,048 bytes.
-    pub fn entries(&self) -> &[Entry]
-        ensures value { result.now ≡ self.now.entries }
+    /// Its commands and scrubs, in order, with rising stamps. The payload of each response has at most 2,048 bytes.
+    pub fn entries(&self) -> &KeptEntries
+        ensures value { result.now.entries ≡ self.now.entries }
         ensures legal { Legal self.now.config self.now.entries }
+        ensures rising { Rising self.now.entries }
         ensures short { AreShort self.now.entries }
     {
-        self.entries.as_slice()
+        &self.entries
     }
 
     /// Takes all the memory that a step needs and decides it. The control is seen as before, but that it has room for
@@ -97,8 +99,9 @@ impl Control {
         ensures inside { IfOk result (λ plan. All (LiesIn (granule_total self.old.config)) plan.changes) }
         ensures update { IfOk result (λ plan. IsUpdate self.old.config self.old.entries plan.entry.effects plan.update) }
     {
-        self.make_room()?;
-        self.planned(pass, line, actor, act)
+        let plan = self.planned(pass, line, actor, act)?;
+        self.make_room_for(plan.entry())?;
+        Ok(plan)
     }
 
     /// Enters the step of a plan. Its reply stands in the entry. It takes no memory.
@@ -140,21 +143,90 @@ impl Control {
         ensures changes { IfOk result (AreChangesOf self.old.config self.old.entries actor act) }
         ensures inside { IfOk result (λ changes. All (LiesIn (granule_total self.old.config)) changes) }
     {
+        match self.decide(&actor, &act)?.into_content() {
+            DecisionContent::Reply(reply) => self.take_reply(pass, line, actor, &act, &reply),
+            DecisionContent::Step(decided) => self.take_step(pass, line, actor, &act, decided),
+        }
+    }
+
+    /// Takes a step that only replies, which is decided.
+    #[inline(always)]
+    fn take_reply(
+        &mut self,
+        pass: u32,
+        line: u32,
+        actor: Actor,
+        act: &Act,
+        reply: &Reply,
+    ) -> Result<Changes, NoMemory>
+        requires may { MayStep self.old.config actor act.now }
+        requires decided { IsDecidedBy self.old.config self.old.entries actor act.now (only_replied reply.now) }
+        ensures config { self.new.config ≡ self.old.config }
+        ensures entered { OnOk result (self.new.entries ≡ self.old.entries ++ journal_entry self.old.config self.old.entries pass line actor act.now ∷ []) }
+        ensures kept { OnErr result (self.new.entries ≡ self.old.entries) }
+        ensures changes { IfOk result (AreChangesOf self.old.config self.old.entries actor act.now) }
+        ensures inside { IfOk result (λ changes. All (LiesIn (granule_total self.old.config)) changes) }
+    {
+        let none = Effects::new(self.live.alloc);
+        let changes = self.changes_by(&actor, act, &none)?;
+        self.entries.append(pass, line, actor, act, reply, &none)?;
+        Ok(changes)
+    }
+
+    /// Takes a step that may change something, which is decided.
+    #[inline(never)]
+    fn take_step(
+        &mut self,
+        pass: u32,
+        line: u32,
+        actor: Actor,
+        act: &Act,
+        decided: Boxed<Decided>,
+    ) -> Result<Changes, NoMemory>
+        requires may { MayStep self.old.config actor act.now }
+        requires decided { IsDecidedBy self.old.config self.old.entries actor act.now decided }
+        ensures config { self.new.config ≡ self.old.config }
+        ensures entered { OnOk result (self.new.entries ≡ self.old.entries ++ journal_entry self.old.config self.old.entries pass line actor act.now ∷ []) }
+        ensures kept { OnErr result (self.new.entries ≡ self.old.entries) }
+        ensures changes { IfOk result (AreChangesOf self.old.config self.old.entries actor act.now) }
+        ensures inside { IfOk result (λ changes. All (LiesIn (granule_total self.old.config)) changes) }
+    {
         self.make_room()?;
         let Decided {
             reply,
             effects,
             update,
-        } = self.decide(&actor, &act)?;
-        let changes = self.changes_by(&actor, &act, &effects)?;
-        let kept = kept_of(&effects)?;
-        let entry = self.next_entry(pass, line, actor, act, reply, effects, kept);
-        self.take(entry, update);
+        } = decided.into_inner();
+        let changes = self.changes_by(&actor, act, &effects)?;
+        self.append(pass, line, actor, act, &reply, &effects, update)?;
         Ok(changes)
     }
 
-    /// The entry of a step behind the entries so far.
+    /// Enters a step that is decided so, with its next entry.
     #[inline(always)]
+    fn append(
+        &mut self,
+        pass: u32,
+        line: u32,
+        actor: Actor,
+        act: &Act,
+        reply: &Reply,
+        effects: &Effects,
+        update: Update,
+    ) -> Result<(), NoMemory>
+        requires room { 0 < self.old.spare }
+        requires may { MayStep self.old.config actor act.now }
+        requires decided { IsDecidedBy self.old.config self.old.entries actor act.now (record { reply = reply.now; effects = effects.now; update = update }) }
+        ensures config { self.new.config ≡ self.old.config }
+        ensures entered { OnOk result (self.new.entries ≡ self.old.entries ++ journal_entry self.old.config self.old.entries pass line actor act.now ∷ []) }
+        ensures kept { OnErr result (self.new.entries ≡ self.old.entries) }
+    {
+        self.entries.append(pass, line, actor, act, reply, effects)?;
+        self.live.enter(effects.as_slice(), update);
+        Ok(())
+    }
+
+    /// The entry of a step behind the entries so far.
     fn next_entry(
         &self,
         pass: u32,
@@ -163,28 +235,27 @@ impl Control {
         act: Act,
         reply: Reply,
         effects: Effects,
-        kept: EntryEffects,
-    ) -> PlannedEntry
+    ) -> Result<PlannedEntry, NoMemory>
         requires reply { reply ≡ (answer_to self.now.config self.now.entries actor act).0 }
         requires effects { effects ≡ (answer_to self.now.config self.now.entries actor act).1 }
-        requires kept { kept ≡ effects }
-        ensures { result ≡ journal_entry self.now.config self.now.entries pass line actor act }
+        ensures { IfOk result (λ entry. entry ≡ journal_entry self.now.config self.now.entries pass line actor act) }
     {
-        PlannedEntry {
-            entry: Entry {
-                pass,
-                line,
-                actor,
-                act,
-                reply,
-                effects: kept,
-                stamp: Stamp {
-                    number: self.entries.as_slice().len() as u64 + 1,
-                    count: 0,
-                },
+        let entry = Entry {
+            pass,
+            line,
+            actor,
+            act,
+            reply,
+            effects: EntryEffects::of(&effects)?,
+            stamp: Stamp {
+                number: self.entries.len() as u64 + 1,
+                count: 0,
             },
+        };
+        Ok(PlannedEntry {
+            entry: Boxed::new(self.live.alloc, entry)?,
             effects,
-        }
+        })
     }
 
     /// Enters the next entry, and puts its update in place.
@@ -209,7 +280,17 @@ impl Control {
         ensures entries { self.new.entries ≡ self.old.entries }
         ensures room { OnOk result (0 < self.new.spare) }
     {
-        self.entries.reserve(1)?;
+        self.entries.make_room()?;
+        self.live.make_room()
+    }
+
+    /// Makes room for this entry, and for a tag that it opens.
+    fn make_room_for(&mut self, entry: &Entry) -> Result<(), NoMemory>
+        ensures config { self.new.config ≡ self.old.config }
+        ensures entries { self.new.entries ≡ self.old.entries }
+        ensures room { OnOk result (0 < self.new.spare) }
+    {
+        self.entries.make_room_for(entry)?;
         self.live.make_room()
     }
 
@@ -222,13 +303,13 @@ impl Control {
         ensures inside { IfOk result (λ plan. All (LiesIn (granule_total self.now.config)) plan.changes) }
         ensures update { IfOk result (λ plan. IsUpdate self.now.config self.now.entries plan.entry.effects plan.update) }
     {
-        let decided = self.decide(&actor, &act)?;
+        let decided = self.decide(&actor, &act)?.into_parts(self.live.alloc);
         self.plan(pass, line, actor, act, decided)
     }
 
     /// What a step comes to.
     #[inline(always)]
-    fn decide(&self, actor: &Actor, act: &Act) -> Result<Decided, NoMemory>
+    fn decide(&self, actor: &Actor, act: &Act) -> Result<Decision, NoMemory>
         requires { MayStep self.now.config actor.now act.now }
         ensures { IfOk result (λ d. IsDecidedBy self.now.config self.now.entries actor.now act.now d) }
     {
@@ -269,23 +350,11 @@ impl Control {
             update,
         } = decided;
         let changes = self.changes_by(&actor, &act, &effects)?;
-        let kept = kept_of(&effects)?;
-        let entry = self.next_entry(pass, line, actor, act, reply, effects, kept);
+        let entry = self.next_entry(pass, line, actor, act, reply, effects)?;
         Ok(Plan {
             entry,
             changes,
             update,
         })
     }
-}
-
-/// The effects as an entry keeps them. Most steps have none.
-#[inline(always)]
-fn kept_of(effects: &Effects) -> Result<EntryEffects, NoMemory>
-    ensures { IfOk result (λ kept. kept ≡ effects.now) }
-{
-    if effects.is_empty() {
-        return Ok(EntryEffects::none());
-    }
-    EntryEffects::of(effects)
 }

@@ -1,17 +1,19 @@
 //! What a step comes to.
 
+ghost use Rattle.control_core.specs.Decisions.{only_replied, decided_in};
 ghost use Rattle.dcd_codes.specs.declared.codes.Code.{Code};
 ghost use Rattle.device_rules.specs.Answers.{response};
 ghost use Rattle.device_state.specs.declared.updates.TagChange.{TagChange};
-ghost use Rattle.std.specs.Prelude.{◌≡◌, [], None};
+ghost use Rattle.std.specs.Prelude.{◌≡◌, [], IfOk, None};
 
 use cci_codec::Request;
-use dcd_base::Bytes;
+use dcd_base::{Boxed, Bytes, NoMemory};
 use dcd_codes::Code;
 use device_commands::answer;
 use device_state::Update;
 use journal_core::{Effects, Reply};
 use std::alloc::Global;
+use std::marker::Model;
 
 /// The reply to a step, its effects, and what is put in place beside them.
 #[derive(Drop)]
@@ -24,14 +26,101 @@ pub struct Decided {
     pub update: Update,
 }
 
+/// What a decision has.
+#[derive(Drop)]
+pub enum DecisionContent {
+    /// A reply, and no more.
+    Reply(Reply),
+    /// All parts.
+    Step(Boxed<Decided>),
+}
+
+/// What a step comes to.
+///
+/// Contracts see its parts. One that only replies has no more than its reply; the parts of any other lie on the heap.
+#[derive(Drop)]
+pub struct Decision {
+    content: DecisionContent,
+}
+
+impl Model for Decision {
+    ghost use Rattle.control_core.specs.Decisions.{decided_in};
+    ghost use Rattle.control_core.specs.declared.decided.Decided.{Decided};
+
+    ghost Value = { Decided };
+
+    ghost view = { λ decision. decided_in decision.content };
+}
+
+impl Decision {
+    /// A reply, and no more. It takes no memory.
+    #[inline(always)]
+    pub(crate) fn only(reply: Reply) -> Decision
+        ensures { result ≡ only_replied reply }
+    {
+        Decision {
+            content: DecisionContent::Reply(reply),
+        }
+    }
+
+    /// A reply and effects, beside which nothing is put in place. Without effects it takes no memory.
+    pub(crate) fn changing(
+        alloc: Global,
+        reply: Reply,
+        effects: Effects,
+    ) -> Result<Decision, NoMemory>
+        ensures { IfOk result (λ decision. decision ≡ record { reply = reply; effects = effects; update = record { lists = None; tags = TagChange.Nothing } }) }
+    {
+        if effects.is_empty() {
+            return Ok(Decision::only(reply));
+        }
+        Decision::of(
+            alloc,
+            Decided {
+                reply,
+                effects,
+                update: Update::nothing(),
+            },
+        )
+    }
+
+    /// A decision of these parts. Without memory they are let go.
+    pub(crate) fn of(alloc: Global, decided: Decided) -> Result<Decision, NoMemory>
+        ensures { IfOk result (λ decision. decision ≡ decided) }
+    {
+        let decided = Boxed::new(alloc, decided)?;
+        Ok(Decision {
+            content: DecisionContent::Step(decided),
+        })
+    }
+
+    /// Its parts, taken from the heap.
+    pub fn into_parts(self, alloc: Global) -> Decided
+        ensures { result ≡ self }
+    {
+        match self.content {
+            DecisionContent::Reply(reply) => Decided {
+                reply,
+                effects: Effects::new(alloc),
+                update: Update::nothing(),
+            },
+            DecisionContent::Step(decided) => decided.into_inner(),
+        }
+    }
+
+    /// What it has: a reply alone, or all parts where they lie.
+    #[inline(always)]
+    pub fn into_content(self) -> DecisionContent
+        ensures { decided_in result ≡ self }
+    {
+        self.content
+    }
+}
+
 /// A command that succeeds with this payload and changes nothing. It takes no memory.
 #[inline(always)]
-pub(crate) fn replied(alloc: Global, request: &Request, payload: Bytes) -> Decided
-    ensures { result ≡ record { reply = response request.now Code.Success payload; effects = []; update = record { lists = None; tags = TagChange.Nothing } } }
+pub(crate) fn replied(request: &Request, payload: Bytes) -> Decision
+    ensures { result ≡ only_replied (response request.now Code.Success payload) }
 {
-    Decided {
-        reply: answer(request, Code::Success, payload),
-        effects: Effects::new(alloc),
-        update: Update::nothing(),
-    }
+    Decision::only(answer(request, Code::Success, payload))
 }

@@ -11,7 +11,7 @@ ghost use Rattle.device_commands.specs.declared.log_records.LogRecords.{LogRecor
 ghost use Rattle.journal_core.specs.declared.acts.Act.{Act};
 ghost use Rattle.std.specs.Prelude.{◌<◌, All, IfOk, length};
 
-use crate::decided::{Decided, replied};
+use crate::decided::{Decided, Decision, replied};
 use crate::ending::ending;
 use crate::fitting::part_fits;
 use crate::recording::{put_ends, put_records_of_logs};
@@ -35,7 +35,7 @@ pub(crate) fn host_recorded(
     host: HostId,
     request: &Request,
     drafted: Result<Draft, Refusal>,
-) -> Result<Decided, NoMemory>
+) -> Result<Decision, NoMemory>
     requires host { host < config.now.hosts }
     requires reached { IsReached config.now state.now }
     requires drafted { Drafted config.now state.now host request.now drafted }
@@ -57,14 +57,14 @@ pub(crate) fn recorded(
     host: HostId,
     request: &Request,
     draft: Draft,
-) -> Result<Decided, NoMemory>
+) -> Result<Decision, NoMemory>
     requires host { host < length state.now.hosts.items }
     requires few { host < 16 }
     requires known { All (λ (n : LogRecords). IsOfLog (length state.now.hosts.items) n.log) draft.log_records }
     ensures { IfOk result (Does state.now host request.now draft) }
 {
     match draft.into_content() {
-        Content::Reply(payload) => Ok(replied(alloc, request, payload)),
+        Content::Reply(payload) => Ok(replied(request, payload)),
         Content::Parts(parts) => recorded_boxed(alloc, state, host, request, parts),
     }
 }
@@ -78,7 +78,7 @@ fn recorded_boxed(
     host: HostId,
     request: &Request,
     parts: Boxed<DraftParts>,
-) -> Result<Decided, NoMemory>
+) -> Result<Decision, NoMemory>
     requires host { host < length state.now.hosts.items }
     requires few { host < 16 }
     requires known { All (λ (n : LogRecords). IsOfLog (length state.now.hosts.items) n.log) parts.log_records }
@@ -95,7 +95,7 @@ fn recorded_parts(
     host: HostId,
     request: &Request,
     parts: DraftParts,
-) -> Result<Decided, NoMemory>
+) -> Result<Decision, NoMemory>
     requires host { host < length state.now.hosts.items }
     requires few { host < 16 }
     requires known { All (λ (n : LogRecords). IsOfLog (length state.now.hosts.items) n.log) parts.log_records }
@@ -121,11 +121,16 @@ fn recorded_parts(
             )?;
             let change = told_change(host, tags);
             let update = Update::new(alloc, Some(NewLists { host, lists }), change)?;
-            Ok(Decided {
-                reply: answer(request, Code::Success, payload),
-                effects,
-                update,
-            })
+            let reply = answer(request, Code::Success, payload);
+            let decision = Decision::of(
+                alloc,
+                Decided {
+                    reply,
+                    effects,
+                    update,
+                },
+            )?;
+            Ok(decision)
         }
         None => {
             let lists = &state.part(host).lists;
@@ -139,11 +144,16 @@ fn recorded_parts(
                 &log_records,
             )?;
             let update = Update::new(alloc, None, told_change(host, tags))?;
-            Ok(Decided {
-                reply: answer(request, Code::Success, payload),
-                effects,
-                update,
-            })
+            let reply = answer(request, Code::Success, payload);
+            let decision = Decision::of(
+                alloc,
+                Decided {
+                    reply,
+                    effects,
+                    update,
+                },
+            )?;
+            Ok(decision)
         }
     }
 }
@@ -177,15 +187,14 @@ fn refused_by(
     host: HostId,
     request: &Request,
     rule: &Rule,
-) -> Result<Decided, NoMemory>
+) -> Result<Decision, NoMemory>
     requires host { host < config.now.hosts }
     requires reached { IsReached config.now state.now }
     ensures { IfOk result (Refuses config.now state.now host request.now rule.now) }
 {
     let lists = &state.part(host).lists;
-    Ok(Decided {
-        reply: refused(alloc, request, rule),
-        effects: dropped(alloc, host, lists, request.opcode)?,
-        update: Update::nothing(),
-    })
+    let reply = refused(alloc, request, rule);
+    let effects = dropped(alloc, host, lists, request.opcode)?;
+    let decision = Decision::changing(alloc, reply, effects)?;
+    Ok(decision)
 }

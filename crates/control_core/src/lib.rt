@@ -22,6 +22,6 @@ mod recording;
 mod scrub_steps;
 
 pub use control::Control;
-pub use decided::Decided;
+pub use decided::{Decided, Decision, DecisionContent};
 pub use live::LiveControl;
 pub use plan::Plan;

@@ -9,7 +9,7 @@ ghost use Rattle.region_config.specs.Granules.{granule_total};
 ghost use Rattle.std.specs.Prelude.{◌≡◌, ◌+◌, ◌<◌, ◌≤◌, [], All, IfOk, OnOk};
 
 use crate::changing::changes_of;
-use crate::decided::Decided;
+use crate::decided::Decision;
 use crate::host_steps::host_recorded;
 use crate::manager_steps::{manager_command, manager_recorded};
 use crate::scrub_steps::scrub_step;
@@ -66,9 +66,14 @@ impl LiveControl {
         &self.config
     }
 
+    /// Where it takes its memory from.
+    pub fn allocator(&self) -> Global {
+        self.alloc
+    }
+
     /// What a command or a scrub that fits its actor comes to.
     #[inline(always)]
-    pub fn decide(&self, actor: &Actor, act: &Act) -> Result<Decided, NoMemory>
+    pub fn decide(&self, actor: &Actor, act: &Act) -> Result<Decision, NoMemory>
         requires { MayStep self.now.config actor.now act.now }
         ensures { IfOk result (λ d. ByEveryPast self.now (λ past. IsDecidedBy self.now.config past actor.now act.now d)) }
     {

@@ -18,7 +18,7 @@ ghost use Rattle.std.specs.declared.result.Result.TheVariants.{Ok};
 ghost use Rattle.table_laws.specs.QuietRequests.{is_quiet_manager};
 ghost use Rattle.tag_refs.specs.Tables.{is_used, passes, with_reference};
 
-use crate::decided::{Decided, replied};
+use crate::decided::{Decided, Decision, replied};
 use crate::fitting::request_fits;
 use crate::host_steps::recorded;
 use crate::recording::{put_ends, put_records_of_logs};
@@ -32,7 +32,6 @@ use device_commands::{
 use device_state::{NewLists, State, TagChange, Update};
 use fm_payloads::{FmRequest, PayloadFault, decode};
 use host_lists::HostLists;
-use journal_core::Effects;
 use region_config::Config;
 use std::alloc::Global;
 
@@ -42,19 +41,15 @@ pub(crate) fn manager_recorded(
     config: &Config,
     state: &State,
     request: &Request,
-    managed: Result<Decided, Refusal>,
-) -> Result<Decided, NoMemory>
+    managed: Result<Decision, Refusal>,
+) -> Result<Decision, NoMemory>
     requires reached { IsReached config.now state.now }
     requires managed { Manages config.now state.now request.now managed }
     ensures { IfOk result (IsDecided config.now state.now Actor.Manager (Act.Command request.now)) }
 {
     match managed {
-        Ok(decided) => Ok(decided),
-        Err(Refusal::Broken(rule)) => Ok(Decided {
-            reply: refused(alloc, request, &rule),
-            effects: Effects::new(alloc),
-            update: Update::nothing(),
-        }),
+        Ok(decision) => Ok(decision),
+        Err(Refusal::Broken(rule)) => Ok(Decision::only(refused(alloc, request, &rule))),
         Err(Refusal::NoMemory) => Err(NoMemory),
     }
 }
@@ -65,7 +60,7 @@ pub(crate) fn manager_command(
     config: &Config,
     state: &State,
     request: &Request,
-) -> Result<Decided, Refusal>
+) -> Result<Decision, Refusal>
     requires reached { IsReached config.now state.now }
     ensures { Manages config.now state.now request.now result }
 {
@@ -141,7 +136,7 @@ fn decide_quiet(
     state: &State,
     request: &Request,
     asked: &FmRequest,
-) -> Result<Decided, Refusal>
+) -> Result<Decision, Refusal>
     requires reached { IsReached config.now state.now }
     requires asked { manager_request request.now.opcode request.now.payload ≡ Ok asked.now }
     requires few { FewCleared asked.now }
@@ -157,12 +152,12 @@ fn decide_quiet(
 
 /// A command that changes no lists and no tags is entered.
 #[inline(always)]
-fn read(alloc: Global, state: &State, request: &Request, draft: Draft) -> Result<Decided, NoMemory>
+fn read(alloc: Global, state: &State, request: &Request, draft: Draft) -> Result<Decision, NoMemory>
     requires known { All (λ (n : LogRecords). IsOfLog (length state.now.hosts.items) n.log) draft.log_records }
     ensures { IfOk result (EntersDraft state.now request.now draft [] TagChange.Nothing) }
 {
     match draft.into_content() {
-        Content::Reply(payload) => Ok(replied(alloc, request, payload)),
+        Content::Reply(payload) => Ok(replied(request, payload)),
         Content::Parts(parts) => entered_boxed(alloc, state, request, parts),
     }
 }
@@ -175,7 +170,7 @@ fn entered_boxed(
     state: &State,
     request: &Request,
     parts: Boxed<DraftParts>,
-) -> Result<Decided, NoMemory>
+) -> Result<Decision, NoMemory>
     requires known { All (λ (n : LogRecords). IsOfLog (length state.now.hosts.items) n.log) parts.log_records }
     ensures { IfOk result (EntersDraft state.now request.now parts [] TagChange.Nothing) }
 {
@@ -190,7 +185,7 @@ fn decide_add_reference(
     state: &State,
     request: &Request,
     tag: &Tag,
-) -> Result<Decided, Refusal>
+) -> Result<Decision, Refusal>
     requires reached { IsReached config.now state.now }
     requires asked { manager_request request.now.opcode request.now.payload ≡ Ok (FmRequest.AddReference tag.now) }
     ensures { Manages config.now state.now request.now result }
@@ -211,7 +206,7 @@ fn decide_remove_reference(
     state: &State,
     request: &Request,
     tag: &Tag,
-) -> Result<Decided, Refusal>
+) -> Result<Decision, Refusal>
     requires reached { IsReached config.now state.now }
     requires asked { manager_request request.now.opcode request.now.payload ≡ Ok (FmRequest.RemoveReference tag.now) }
     ensures { Manages config.now state.now request.now result }
@@ -253,7 +248,7 @@ fn added(
     request: &Request,
     asked: &AddRequest,
     parts: DraftParts,
-) -> Result<Decided, NoMemory>
+) -> Result<Decision, NoMemory>
     requires host { asked.now.host < config.now.hosts }
     requires byte { asked.now.host < 256 }
     requires region { asked.now.region < length config.now.regions }
@@ -282,11 +277,16 @@ fn added(
     let mut effects = changes;
     put_records_of_logs(state, &log_records, &mut effects)?;
     let update = Update::new(alloc, new_lists(host, lists), change)?;
-    Ok(Decided {
-        reply: answer(request, Code::Success, payload),
-        effects,
-        update,
-    })
+    let reply = answer(request, Code::Success, payload);
+    let decision = Decision::of(
+        alloc,
+        Decided {
+            reply,
+            effects,
+            update,
+        },
+    )?;
+    Ok(decision)
 }
 
 /// The lists of the host, where they are new.
@@ -307,7 +307,7 @@ fn entered(
     parts: DraftParts,
     ended: &[Tag],
     change: TagChange,
-) -> Result<Decided, NoMemory>
+) -> Result<Decision, NoMemory>
     requires known { All (λ (n : LogRecords). IsOfLog (length state.now.hosts.items) n.log) parts.log_records }
     ensures { IfOk result (EntersDraft state.now request.now parts ended.now change) }
 {
@@ -322,9 +322,14 @@ fn entered(
     put_ends(ended, &mut effects)?;
     put_records_of_logs(state, &log_records, &mut effects)?;
     let update = Update::new(alloc, None, change)?;
-    Ok(Decided {
-        reply: answer(request, Code::Success, payload),
-        effects,
-        update,
-    })
+    let reply = answer(request, Code::Success, payload);
+    let decision = Decision::of(
+        alloc,
+        Decided {
+            reply,
+            effects,
+            update,
+        },
+    )?;
+    Ok(decision)
 }

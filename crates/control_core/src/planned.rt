@@ -2,6 +2,7 @@
 
 ghost use Rattle.std.specs.Prelude.{◌≡◌};
 
+use dcd_base::Boxed;
 use journal_core::{Effects, Entry};
 use std::marker::Model;
 
@@ -10,7 +11,7 @@ use std::marker::Model;
 /// Contracts see the entry.
 #[derive(Drop)]
 pub(crate) struct PlannedEntry {
-    pub(crate) entry: Entry,
+    pub(crate) entry: Boxed<Entry>,
     pub(crate) effects: Effects,
 }
 
@@ -30,6 +31,6 @@ impl PlannedEntry {
     pub(crate) fn entry(&self) -> &Entry
         ensures { result.now ≡ self.now }
     {
-        &self.entry
+        self.entry.get()
     }
 }

@@ -6,10 +6,10 @@ ghost use Rattle.device_state.specs.StateAfter.{IsReached};
 ghost use Rattle.journal_core.specs.declared.acts.Act.{Act};
 ghost use Rattle.std.specs.Prelude.{IfOk};
 
-use crate::decided::Decided;
+use crate::decided::Decision;
 use dcd_base::NoMemory;
 use device_commands::zero_dirty;
-use device_state::{State, Update};
+use device_state::State;
 use journal_core::Reply;
 use region_config::Config;
 use std::alloc::Global;
@@ -20,14 +20,12 @@ pub(crate) fn scrub_step(
     config: &Config,
     state: &State,
     most: u16,
-) -> Result<Decided, NoMemory>
+) -> Result<Decision, NoMemory>
     requires reached { IsReached config.now state.now }
     ensures { IfOk result (IsDecided config.now state.now Actor.Sanitizer (Act.Scrub most)) }
 {
     let zeroed = zero_dirty(alloc, config, state, most)?;
-    Ok(Decided {
-        reply: Reply::Scrubbed(zeroed.granules),
-        effects: zeroed.changes,
-        update: Update::nothing(),
-    })
+    let reply = Reply::Scrubbed(zeroed.granules);
+    let decision = Decision::changing(alloc, reply, zeroed.changes)?;
+    Ok(decision)
 }

@@ -1,4 +1,6 @@
+use Rattle.std.proofs.Common.{◌∙◌, ap}
+use Rattle.control_core.specs.Decisions.{only_replied}
 use Rattle.control_core.proofs.decided.replied.Goals as goal
 
 pub returns : goal.returns
-returns c = λ i. record { reply = c.answer.ensures i; effects = c.new.ensures i; update = c.nothing.ensures i }
+returns c = c.only.ensures ∙ ap only_replied c.answer.ensures

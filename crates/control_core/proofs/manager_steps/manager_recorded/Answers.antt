@@ -1,4 +1,4 @@
-use Rattle.std.proofs.Common.{◌≡◌, rules, subst, sym}
+use Rattle.std.proofs.Common.{◌≡◌, [], refl, rules, subst, sym}
 use Rattle.dcd_base.specs.declared.steps.Actor.{Actor}
 use Rattle.journal_core.specs.declared.acts.Act.{Act}
 use Rattle.std.specs.declared.result.Result.{Result}
@@ -7,7 +7,6 @@ use Rattle.dcd_codes.specs.declared.refusals.Refusal.{Refusal}
 use Rattle.control_core.specs.Deciding.{IsDecidedBy}
 use Rattle.control_core.specs.Managing.{Manages}
 use Rattle.control_core.specs.declared.decided.Decided.{Decided}
-use Rattle.device_state.specs.declared.updates.NewParts.{NewParts}
 use Rattle.control_core.proofs.Managed.{refused_manager}
 use Rattle.control_core.proofs.manager_steps.manager_recorded.Goals as goal
 
@@ -17,5 +16,5 @@ returns-in-Err-Broken c = λ before legal kept.
     let q = c.args.request.now in
     let is : c.args.managed ≡ Err (Refusal.Broken c.in-Err-Broken.rule) = search rules in
     let broke = subst (λ (r : Result Decided Refusal). Manages cfg c.args.state.now q r) is c.requires.managed in
-    subst (λ (u : NewParts). IsDecidedBy cfg before Actor.Manager (Act.Command q) (record { reply = c.refused.result; effects = c.new.result; update = u })) (sym c.nothing.ensures)
-    (refused_manager cfg before q c.in-Err-Broken.rule (broke before legal kept) c.refused.result c.new.result c.refused.ensures c.new.ensures)
+    subst (λ (d : Decided). IsDecidedBy cfg before Actor.Manager (Act.Command q) d) (sym c.only.ensures)
+    (refused_manager cfg before q c.in-Err-Broken.rule (broke before legal kept) c.refused.result [] c.refused.ensures refl)

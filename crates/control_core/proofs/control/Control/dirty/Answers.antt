@@ -7,4 +7,4 @@ use Rattle.control_core.proofs.control.Control.dirty.Goals as goal
 
 pub returns : goal.returns
 returns c = subst (λ (d : Controlled). c.dirty.result ≡ dirty_count d.config (effects d.entries)) c.self.view_is
-    (c.dirty.ensures c.self.inside.entries.items (past_held c.self.inside.live.config c.self.inside.entries.items c.self.inside.live.state c.self.invariant))
+    (c.dirty.ensures c.self.inside.entries.entries (past_held c.self.inside.live.config c.self.inside.entries.entries c.self.inside.live.state c.self.invariant))

@@ -7,4 +7,4 @@ use Rattle.control_core.proofs.control.Control.granules_held.Goals as goal
 
 pub returns : goal.returns
 returns c = subst (λ (d : Controlled). c.granules_held.result ≡ granules_held d.config c.args.host (effects d.entries)) c.self.view_is
-    (c.granules_held.ensures c.self.inside.entries.items (past_held c.self.inside.live.config c.self.inside.entries.items c.self.inside.live.state c.self.invariant))
+    (c.granules_held.ensures c.self.inside.entries.entries (past_held c.self.inside.live.config c.self.inside.entries.entries c.self.inside.live.state c.self.invariant))

@@ -8,4 +8,4 @@ use Rattle.control_core.proofs.control.Control.held_releases.Goals as goal
 
 pub returns : goal.returns
 returns c = subst (λ (d : Controlled). c.held_releases.result.now ≡ held_of c.args.host HeldKind.Releases (effects d.entries)) c.self.view_is
-    (c.held_releases.ensures c.self.inside.entries.items (past_held c.self.inside.live.config c.self.inside.entries.items c.self.inside.live.state c.self.invariant))
+    (c.held_releases.ensures c.self.inside.entries.entries (past_held c.self.inside.live.config c.self.inside.entries.entries c.self.inside.live.state c.self.invariant))

@@ -8,4 +8,4 @@ use Rattle.control_core.proofs.control.Control.held_responses.Goals as goal
 
 pub returns : goal.returns
 returns c = subst (λ (d : Controlled). c.held_responses.result.now ≡ held_of c.args.host HeldKind.Responses (effects d.entries)) c.self.view_is
-    (c.held_responses.ensures c.self.inside.entries.items (past_held c.self.inside.live.config c.self.inside.entries.items c.self.inside.live.state c.self.invariant))
+    (c.held_responses.ensures c.self.inside.entries.entries (past_held c.self.inside.live.config c.self.inside.entries.entries c.self.inside.live.state c.self.invariant))

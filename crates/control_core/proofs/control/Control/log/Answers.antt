@@ -8,4 +8,4 @@ use Rattle.control_core.proofs.control.Control.log.Goals as goal
 
 pub returns : goal.returns
 returns c = subst (λ (d : Controlled). c.log.result.now ≡ state_of (places_in c.args.log) (log_of c.args.log (effects d.entries))) c.self.view_is
-    (c.log.ensures c.self.inside.entries.items (past_held c.self.inside.live.config c.self.inside.entries.items c.self.inside.live.state c.self.invariant))
+    (c.log.ensures c.self.inside.entries.entries (past_held c.self.inside.live.config c.self.inside.entries.entries c.self.inside.live.state c.self.invariant))

@@ -13,8 +13,8 @@ offer-requires-clause-index c =
     let live = c.self.inside.live in
     let host = subst (λ (d : Controlled). c.args.host < d.config.hosts) (sym c.self.view_is) c.requires.host in
     let below = subst (λ (d : Controlled). c.args.index < length (offers_of c.args.host (effects d.entries))) (sym c.self.view_is) c.requires.index in
-    subst (λ (offers : List (List Extent)). c.args.index < length offers) (sym (offers_told live.config c.self.inside.entries.items live.state c.self.invariant.kept c.args.host host)) below
+    subst (λ (offers : List (List Extent)). c.args.index < length offers) (sym (offers_told live.config c.self.inside.entries.entries live.state c.self.invariant.kept c.args.host host)) below
 
 pub returns : goal.returns
 returns c = subst (λ (d : Controlled). slice_get (offers_of c.args.host (effects d.entries)) c.args.index ≡ Some c.offer.result.now) c.self.view_is
-    (c.offer.ensures c.self.inside.entries.items (past_held c.self.inside.live.config c.self.inside.entries.items c.self.inside.live.state c.self.invariant))
+    (c.offer.ensures c.self.inside.entries.entries (past_held c.self.inside.live.config c.self.inside.entries.entries c.self.inside.live.state c.self.invariant))

@@ -14,8 +14,8 @@ record-requires-clause-index c =
     let live = c.self.inside.live in
     let known = subst (λ (d : Controlled). IsOfLog d.config.hosts c.args.log) (sym c.self.view_is) c.requires.log in
     let below = subst (λ (d : Controlled). c.args.index < length (records_of c.args.log (effects d.entries))) (sym c.self.view_is) c.requires.index in
-    subst (λ (records : List Event). c.args.index < length records) (sym (records_told live.config c.self.inside.entries.items live.state c.self.invariant.kept c.args.log known)) below
+    subst (λ (records : List Event). c.args.index < length records) (sym (records_told live.config c.self.inside.entries.entries live.state c.self.invariant.kept c.args.log known)) below
 
 pub returns : goal.returns
 returns c = subst (λ (d : Controlled). slice_get (records_of c.args.log (effects d.entries)) c.args.index ≡ Some c.record.result) c.self.view_is
-    (c.record.ensures c.self.inside.entries.items (past_held c.self.inside.live.config c.self.inside.entries.items c.self.inside.live.state c.self.invariant))
+    (c.record.ensures c.self.inside.entries.entries (past_held c.self.inside.live.config c.self.inside.entries.entries c.self.inside.live.state c.self.invariant))

@@ -9,4 +9,4 @@ use Rattle.control_core.proofs.control.Control.states.Goals as goal
 
 pub returns : goal.returns
 returns c = subst (λ (d : Controlled). map status_of c.states.result.now.states ≡ map (λ g. status d.config g (effects d.entries)) (all_granules d.config)) c.self.view_is
-    (c.states.ensures c.self.inside.entries.items (past_held c.self.inside.live.config c.self.inside.entries.items c.self.inside.live.state c.self.invariant))
+    (c.states.ensures c.self.inside.entries.entries (past_held c.self.inside.live.config c.self.inside.entries.entries c.self.inside.live.state c.self.invariant))

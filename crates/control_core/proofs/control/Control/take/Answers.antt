@@ -1,4 +1,5 @@
 use Rattle.std.proofs.Common.{◌≡◌, List, ap, sym, subst, ◌∙◌}
+use Rattle.journal_core.specs.Keeping.{next_stamp}
 use Rattle.journal_core.specs.declared.entries.Entry.{Entry}
 use Rattle.journal_core.specs.declared.outcome.Effect.{Effect}
 use Rattle.device_rules.specs.Legal.{Meets}
@@ -12,7 +13,7 @@ use Rattle.control_core.proofs.control.Control.take.Goals as goal
 pub enter-requires-clause-step : goal.enter-requires-clause-step
 enter-requires-clause-step c =
     let live = c.self.inside.live in
-    let before = c.self.inside.entries.items in
+    let before = c.self.inside.entries.entries in
     let e = c.entry.inside.entry in
     let meets = subst (λ (x : Entry). Meets live.config before x) (sym c.entry.view_is)
     (subst (λ (d : Controlled). Meets d.config d.entries c.args.entry) (sym c.self.view_is) (is_next_meets c.args.self.now c.args.entry c.requires.next)) in
@@ -32,14 +33,19 @@ enter-requires-clause-step c =
 pub invariant_of-self : goal.invariant_of-self
 invariant_of-self c =
     let live = c.self.inside.live in
-    let before = c.self.inside.entries.items in
+    let before = c.self.inside.entries.entries in
     let e = c.entry.inside.entry in
     let meets = subst (λ (x : Entry). Meets live.config before x) (sym c.entry.view_is)
     (subst (λ (d : Controlled). Meets d.config d.entries c.args.entry) (sym c.self.view_is) (is_next_meets c.args.self.now c.args.entry c.requires.next)) in
+    let stamp : e.stamp ≡ next_stamp before = ap (λ (x : Entry). x.stamp) (c.entry.view_is ∙ c.requires.next.is) ∙ ap (λ (d : Controlled). next_stamp d.entries) (sym c.self.view_is) in
     let short = subst (λ (x : Entry). IsShort x.reply) (sym c.entry.view_is) c.requires.short in
     let are : e.effects ≡ c.as_slice.result.now = sym (c.as_slice.ensures ∙ c.entry.invariant) in
     let update = subst (λ (d : Controlled). IsUpdate d.config d.entries c.args.entry.effects c.args.update) (sym c.self.view_is) c.requires.update in
-    subst (λ (es : List Entry). Holds c.enter.new.self.config es c.enter.new.self.state) (sym c.push_reserved.ensures.items)
-    (holds_next live c.enter.new.self before c.self.invariant e meets short c.as_slice.result.now are c.args.update
+    subst (λ (es : List Entry). Holds c.enter.new.self.config es c.enter.new.self.state) (sym c.push_reserved.ensures.pushed)
+    (holds_next live c.enter.new.self before c.self.invariant e meets stamp short c.as_slice.result.now are c.args.update
     (subst (λ (es : List Effect). IsUpdate live.config before es c.args.update) (ap (λ (x : Entry). x.effects) (sym c.entry.view_is) ∙ are) update)
     c.enter.ensures.entered)
+
+pub push_reserved-requires-clause-stamp : goal.push_reserved-requires-clause-stamp
+push_reserved-requires-clause-stamp c =
+    ap (λ (x : Entry). x.stamp) (c.entry.view_is ∙ c.requires.next.is) ∙ ap (λ (d : Controlled). next_stamp d.entries) (sym c.self.view_is)

@@ -1,0 +1,15 @@
+-- What a decision has.
+use Rattle.std.specs.Prelude.{[], None}
+use Rattle.control_core.specs.declared.decided.Decided.{Decided}
+use Rattle.control_core.specs.declared.decided.DecisionContent.{DecisionContent}
+use Rattle.journal_core.specs.declared.acts.Reply.{Reply}
+use Rattle.device_state.specs.declared.updates.TagChange.{TagChange}
+
+-- what a step comes to that only replies
+abbrev pub only_replied : Reply → Decided
+only_replied reply = record { reply = reply; effects = []; update = record { lists = None; tags = TagChange.Nothing } }
+
+-- the parts: of a reply alone no effects, and nothing that is put in place
+abbrev pub decided_in : DecisionContent → Decided
+decided_in (DecisionContent.Reply reply) = only_replied reply
+decided_in (DecisionContent.Step decided) = decided
