@@ -17,6 +17,9 @@ use Rattle.journal_core.specs.declared.acts.Reply.{Reply}
 use Rattle.journal_core.specs.declared.outcome.Effect.{Effect}
 use Rattle.journal_core.specs.declared.entries.Entry.{Entry}
 use Rattle.journal_core.specs.Entries.{effects}
+use Rattle.journal_core.specs.Seen.{kind_of, seen_reply}
+use Rattle.journal_core.specs.declared.seen.ActKind.{ActKind}
+use Rattle.journal_core.specs.declared.seen.StepSeen.{StepSeen}
 use Rattle.device_rules.specs.Counts.{dirty_count, extent_count, free_count, granules_held, missed_of, records_of}
 
 -- a word that is not the first of its line
@@ -48,12 +51,15 @@ fault_number AccessFault.NotGranted = 3
 
 -- ---- an entry: its number, its line, its actor and its answer
 
--- how the acts are called
+-- how the kinds of acts are called, and with them the acts
+abbrev pub kind_name : ActKind → List ℕ
+kind_name ActKind.Command = codes "cmd"
+kind_name ActKind.Load = codes "ld"
+kind_name ActKind.Store = codes "st"
+kind_name ActKind.Scrub = codes "sc"
+
 abbrev pub act_name : Act → List ℕ
-act_name (Act.Command q) = codes "cmd"
-act_name (Act.Load d) = codes "ld"
-act_name (Act.Store d value) = codes "st"
-act_name (Act.Scrub n) = codes "sc"
+act_name act = kind_name (kind_of act)
 
 abbrev pub reply_words : Reply → List (List ℕ)
 reply_words (Reply.Answer s) = encode_lower (response_bytes s) ∷ []
@@ -63,12 +69,16 @@ reply_words (Reply.Refused fault) = codes "refused" ∷ decimal (fault_number fa
 reply_words (Reply.Scrubbed n) = decimal n ∷ []
 
 -- the line of a step: its number, its line in the script, who did what, and the reply
-unfoldable pub step_line : ℕ → ℕ → Actor → Act → Reply → List ℕ
-step_line n line actor act reply = line_of (decimal n ∷ decimal line ∷ actor_name actor ∷ act_name act ∷ reply_words reply)
+unfoldable pub step_line : ℕ → ℕ → Actor → ActKind → Reply → List ℕ
+step_line n line actor kind reply = line_of (decimal n ∷ decimal line ∷ actor_name actor ∷ kind_name kind ∷ reply_words reply)
+
+-- the line of a step that is lent
+abbrev pub seen_line : ℕ → StepSeen → List ℕ
+seen_line n step = step_line n step.line step.actor step.kind (seen_reply step.reply)
 
 -- the line of an entry, and its number
 unfoldable pub entry_line : ℕ × Entry → List ℕ
-entry_line (n, e) = step_line n e.line e.actor e.act e.reply
+entry_line (n, e) = step_line n e.line e.actor (kind_of e.act) e.reply
 
 unfoldable pub entry_lines : List Entry → List ℕ
 entry_lines journal = flat_map entry_line (enumerate_from 1 journal)

@@ -2,16 +2,17 @@
 
 ghost use Rattle.control_core.specs.Deciding.{AreShort, IsShort};
 ghost use Rattle.journal_core.specs.Lending.{lent_entry};
+ghost use Rattle.journal_core.specs.Seen.{seen_reply, seen_response};
 ghost use Rattle.journal_core.specs.declared.acts.Reply.{Reply};
 ghost use Rattle.report.specs.Printing.{Puts};
-ghost use Rattle.report.specs.Texts.{act_name, entry_line, entry_lines, fault_number, next_word, reply_words, rest_of_line, step_line};
+ghost use Rattle.report.specs.Texts.{entry_line, entry_lines, fault_number, kind_name, next_word, reply_words, rest_of_line, seen_line};
 ghost use Rattle.std.specs.Prelude.{◌≡◌, ◌<◌, ◌^◌, length};
 
 use crate::printing::Printer;
 use crate::step_writing::step_room;
-use cci_codec::{Response, response_head};
-use dcd_base::{AccessFault, Actor, Sink};
-use journal_core::{Act, Lender, Lent, Reply};
+use cci_codec::response_head;
+use dcd_base::{AccessFault, Sink};
+use journal_core::{ActKind, Lender, Lent, ReplySeen, ResponseSeen, StepSeen};
 
 /// The number of a fault of a load or store.
 fn fault_number(fault: AccessFault) -> u64
@@ -24,34 +25,33 @@ fn fault_number(fault: AccessFault) -> u64
     }
 }
 
-/// Puts a space and the name of an act.
-fn put_act<K: Sink>(printer: &mut Printer, sink: &mut K, act: &Act)
-    ensures { Puts K.taken K.faults sink.old printer.old sink.new printer.new (next_word (act_name act.now)) }
+/// Puts a space and the name of a kind of act.
+fn put_kind<K: Sink>(printer: &mut Printer, sink: &mut K, kind: ActKind)
+    ensures { Puts K.taken K.faults sink.old printer.old sink.new printer.new (next_word (kind_name kind)) }
 {
-    match act {
-        Act::Command(_) => printer.put(sink, b" cmd"),
-        Act::Load(_) => printer.put(sink, b" ld"),
-        Act::Store(_, _) => printer.put(sink, b" st"),
-        Act::Scrub(_) => printer.put(sink, b" sc"),
+    match kind {
+        ActKind::Command => printer.put(sink, b" cmd"),
+        ActKind::Load => printer.put(sink, b" ld"),
+        ActKind::Store => printer.put(sink, b" st"),
+        ActKind::Scrub => printer.put(sink, b" sc"),
     }
 }
 
 /// Puts the digits of a response: its header, then its payload.
 #[tactic(auto, using(crate::proofs::Parts::prints_then))]
-fn put_response<K: Sink>(printer: &mut Printer, sink: &mut K, response: &Response)
-    requires { length response.now.payload < 2 ^ 21 }
-    ensures { Puts K.taken K.faults sink.old printer.old sink.new printer.new (rest_of_line (reply_words (Reply.Answer response.now))) }
+fn put_response<K: Sink>(printer: &mut Printer, sink: &mut K, response: &ResponseSeen<'_>)
+    requires { length response.now.payload.now < 2 ^ 21 }
+    ensures { Puts K.taken K.faults sink.old printer.old sink.new printer.new (rest_of_line (reply_words (Reply.Answer (seen_response response.now)))) }
 {
-    let payload = response.payload.as_slice();
     let head = response_head(
         response.tag,
         response.opcode,
         response.code,
-        payload.len() as u32,
+        response.payload.len() as u32,
     );
     printer.put_byte(sink, b' ');
     printer.put_hex(sink, head.as_slice());
-    printer.put_hex(sink, payload);
+    printer.put_hex(sink, response.payload);
     printer.end_line(sink);
 }
 
@@ -91,16 +91,16 @@ fn put_scrubbed<K: Sink>(printer: &mut Printer, sink: &mut K, count: u32)
 }
 
 /// Puts a reply and ends the line.
-fn put_reply<K: Sink>(printer: &mut Printer, sink: &mut K, reply: &Reply)
-    requires { IsShort reply.now }
-    ensures { Puts K.taken K.faults sink.old printer.old sink.new printer.new (rest_of_line (reply_words reply.now)) }
+fn put_reply<K: Sink>(printer: &mut Printer, sink: &mut K, reply: &ReplySeen<'_>)
+    requires { IsShort (seen_reply reply.now) }
+    ensures { Puts K.taken K.faults sink.old printer.old sink.new printer.new (rest_of_line (reply_words (seen_reply reply.now))) }
 {
     match reply {
-        Reply::Answer(response) => put_response(printer, sink, response),
-        Reply::Word(word) => put_loaded(printer, sink, *word),
-        Reply::Stored => put_stored(printer, sink),
-        Reply::Refused(fault) => put_refused(printer, sink, *fault),
-        Reply::Scrubbed(count) => put_scrubbed(printer, sink, *count),
+        ReplySeen::Answer(response) => put_response(printer, sink, response),
+        ReplySeen::Word(word) => put_loaded(printer, sink, *word),
+        ReplySeen::Stored => put_stored(printer, sink),
+        ReplySeen::Refused(fault) => put_refused(printer, sink, *fault),
+        ReplySeen::Scrubbed(count) => put_scrubbed(printer, sink, *count),
     }
 }
 
@@ -108,42 +108,26 @@ fn put_reply<K: Sink>(printer: &mut Printer, sink: &mut K, reply: &Reply)
 #[cold]
 #[inline(never)]
 #[tactic(auto, using(crate::proofs::Parts::prints_then), unfolding(crate::specs::Texts::step_line))]
-fn put_step_parts<K: Sink>(
-    printer: &mut Printer,
-    sink: &mut K,
-    number: u64,
-    line: u32,
-    actor: Actor,
-    act: &Act,
-    reply: &Reply,
-)
-    requires { IsShort reply.now }
-    ensures { Puts K.taken K.faults sink.old printer.old sink.new printer.new (step_line number line actor act.now reply.now) }
+fn put_step_parts<K: Sink>(printer: &mut Printer, sink: &mut K, number: u64, step: &StepSeen<'_>)
+    requires { IsShort (seen_reply step.now.reply) }
+    ensures { Puts K.taken K.faults sink.old printer.old sink.new printer.new (seen_line number step.now) }
 {
-    printer.put_numbers(sink, number, u64::from(line));
-    printer.put_actor(sink, actor);
-    put_act(printer, sink, act);
-    put_reply(printer, sink, reply);
+    printer.put_numbers(sink, number, u64::from(step.line));
+    printer.put_actor(sink, step.actor);
+    put_kind(printer, sink, step.kind);
+    put_reply(printer, sink, &step.reply);
 }
 
 /// Puts the line of a step: its number, its line in the script, its actor, and its answer. It mostly fits into the piece.
 #[tactic(auto, using(crate::proofs::Parts::prints_waiting))]
-fn put_step<K: Sink>(
-    printer: &mut Printer,
-    sink: &mut K,
-    number: u64,
-    line: u32,
-    actor: Actor,
-    act: &Act,
-    reply: &Reply,
-)
-    requires { IsShort reply.now }
-    ensures { Puts K.taken K.faults sink.old printer.old sink.new printer.new (step_line number line actor act.now reply.now) }
+fn put_step<K: Sink>(printer: &mut Printer, sink: &mut K, number: u64, step: &StepSeen<'_>)
+    requires { IsShort (seen_reply step.now.reply) }
+    ensures { Puts K.taken K.faults sink.old printer.old sink.new printer.new (seen_line number step.now) }
 {
-    if step_room(reply) <= printer.room() {
-        printer.store_step(number, line, actor, act, reply);
+    if step_room(&step.reply) <= printer.room() {
+        printer.store_step(number, step);
     } else {
-        put_step_parts(printer, sink, number, line, actor, act, reply);
+        put_step_parts(printer, sink, number, step);
     }
 }
 
@@ -153,26 +137,8 @@ fn put_entry<K: Sink>(printer: &mut Printer, sink: &mut K, number: u64, entry: &
     requires { IsShort (lent_entry entry.now).reply }
     ensures { Puts K.taken K.faults sink.old printer.old sink.new printer.new (entry_line (number, lent_entry entry.now)) }
 {
-    match entry {
-        Lent::Full(entry) => put_step(
-            printer,
-            sink,
-            number,
-            entry.line,
-            entry.actor,
-            &entry.act,
-            &entry.reply,
-        ),
-        Lent::Small(access) => put_step(
-            printer,
-            sink,
-            number,
-            access.line(),
-            access.actor(),
-            &access.act(),
-            &access.reply(),
-        ),
-    }
+    let step = entry.seen();
+    put_step(printer, sink, number, &step);
 }
 
 /// Puts a line for each entry that is lent, numbered from 1, and answers how many there are. None is left then.

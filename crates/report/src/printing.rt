@@ -2,17 +2,18 @@
 
 ghost use Rattle.control_core.specs.Deciding.{IsShort};
 ghost use Rattle.hex.specs.Hex.{encode_lower};
+ghost use Rattle.journal_core.specs.Seen.{seen_reply};
 ghost use Rattle.report.specs.Printing.{piece_length, step_room, with_byte, with_bytes, Puts};
-ghost use Rattle.report.specs.Texts.{step_line};
+ghost use Rattle.report.specs.Texts.{seen_line};
 ghost use Rattle.std.specs.Prelude.{◌≡◌, ◌+◌, ◌*◌, ◌<◌, ◌≤◌, [], ◌∷◌, ◌++◌, IfSome, None, OnErr, OnOk, Some, decimal, length};
 
 use crate::hex_digits::write_hex;
 use crate::places::write_bytes;
 use crate::step_writing::write_step;
-use dcd_base::{Actor, Failed, Sink, write_all};
+use dcd_base::{Failed, Sink, write_all};
 use hex::encode_to_slice;
 use itoa::Buffer;
-use journal_core::{Act, Reply};
+use journal_core::StepSeen;
 use std::marker::Model;
 
 /// How many bytes a piece has; the last piece of a text may have fewer.
@@ -197,20 +198,20 @@ impl Printer {
 
     /// How many more bytes can wait.
     pub fn room(&self) -> usize
-        ensures { IfSome self.now (λ waits. length waits + result ≤ piece_length) }
+        ensures { IfSome self.now (λ waits. length waits + result ≡ piece_length) }
     {
         PIECE - self.len
     }
 
     /// Lets the line of a step wait.
     #[inline(always)]
-    pub fn store_step(&mut self, number: u64, line: u32, actor: Actor, act: &Act, reply: &Reply)
-        requires short { IsShort reply.now }
-        requires room { IfSome self.old (λ waits. length waits + step_room reply.now ≤ piece_length) }
-        ensures { self.new ≡ with_bytes (step_line number line actor act.now reply.now) self.old }
+    pub fn store_step(&mut self, number: u64, step: &StepSeen<'_>)
+        requires short { IsShort (seen_reply step.now.reply) }
+        requires room { IfSome self.old (λ waits. length waits + step_room (seen_reply step.now.reply) ≤ piece_length) }
+        ensures { self.new ≡ with_bytes (seen_line number step.now) self.old }
     {
         if !self.failed {
-            self.len = write_step(&mut self.buffer, self.len, number, line, actor, act, reply);
+            self.len = write_step(&mut self.buffer, self.len, number, step);
         }
     }
 

@@ -3,26 +3,27 @@
 //! Words are written as eight bytes and numbers as thirty-two, whatever their length: what stands behind the end of one is written over by the next.
 
 ghost use Rattle.control_core.specs.Deciding.{IsShort};
+ghost use Rattle.journal_core.specs.Seen.{seen_reply, seen_response};
 ghost use Rattle.journal_core.specs.declared.acts.Reply.{Reply};
 ghost use Rattle.report.specs.Printing.{IsWrittenAt, step_room};
-ghost use Rattle.report.specs.Texts.{act_name, actor_name, host_name, next_word, reply_words, rest_of_line, step_line};
+ghost use Rattle.report.specs.Texts.{actor_name, host_name, kind_name, next_word, reply_words, rest_of_line, seen_line};
 ghost use Rattle.std.specs.Prelude.{◌≡◌, ◌+◌, ◌*◌, ◌<◌, ◌≤◌, ◌++◌, ◌∷◌, [], decimal, length, take};
 
 use crate::hex_digits::write_hex;
-use cci_codec::{Response, response_head};
+use cci_codec::response_head;
 use dcd_base::{AccessFault, Actor};
 use itoa::write_digits;
-use journal_core::{Act, Reply};
+use journal_core::{ActKind, ReplySeen, ResponseSeen, StepSeen};
 use std::simd::prelude::*;
 
 /// How much room the line of a step with this reply is written in, in bytes. The line itself may be shorter.
 #[inline(always)]
-pub(crate) fn step_room(reply: &Reply) -> usize
-    requires { IsShort reply.now }
-    ensures { result ≡ step_room reply.now }
+pub(crate) fn step_room(reply: &ReplySeen<'_>) -> usize
+    requires { IsShort (seen_reply reply.now) }
+    ensures { result ≡ step_room (seen_reply reply.now) }
 {
     match reply {
-        Reply::Answer(response) => 96 + 2 * response.payload.as_slice().len(),
+        ReplySeen::Answer(response) => 96 + 2 * response.payload.len(),
         _ => 96,
     }
 }
@@ -187,30 +188,30 @@ fn write_actor(out: &mut [u8], at: usize, actor: Actor) -> usize
     }
 }
 
-/// Writes a space and the name of an act.
+/// Writes a space and the name of a kind of act.
 #[inline(always)]
-fn write_act(out: &mut [u8], at: usize, act: &Act) -> usize
+fn write_kind(out: &mut [u8], at: usize, kind: ActKind) -> usize
     requires { at + 8 ≤ length out.old }
     ensures end { result ≤ at + 4 }
-    ensures name { IsWrittenAt at out.old result out.new (next_word (act_name act.now)) }
+    ensures name { IsWrittenAt at out.old result out.new (next_word (kind_name kind)) }
 {
-    match act {
-        Act::Command(_) => write_word(out, at, u8x8::from_array(*b" cmd    "), 4),
-        Act::Load(_) => write_word(out, at, u8x8::from_array(*b" ld     "), 3),
-        Act::Store(_, _) => write_word(out, at, u8x8::from_array(*b" st     "), 3),
-        Act::Scrub(_) => write_word(out, at, u8x8::from_array(*b" sc     "), 3),
+    match kind {
+        ActKind::Command => write_word(out, at, u8x8::from_array(*b" cmd    "), 4),
+        ActKind::Load => write_word(out, at, u8x8::from_array(*b" ld     "), 3),
+        ActKind::Store => write_word(out, at, u8x8::from_array(*b" st     "), 3),
+        ActKind::Scrub => write_word(out, at, u8x8::from_array(*b" sc     "), 3),
     }
 }
 
 /// Writes a space, the digits of a response and the end of the line.
 #[inline(always)]
-fn write_response(out: &mut [u8], at: usize, response: &Response) -> usize
-    requires short { length response.now.payload ≤ 2048 }
-    requires room { at + 33 + 2 * length response.now.payload ≤ length out.old }
-    ensures end { result ≤ at + 26 + 2 * length response.now.payload }
-    ensures words { IsWrittenAt at out.old result out.new (rest_of_line (reply_words (Reply.Answer response.now))) }
+fn write_response(out: &mut [u8], at: usize, response: &ResponseSeen<'_>) -> usize
+    requires short { length response.now.payload.now ≤ 2048 }
+    requires room { at + 33 + 2 * length response.now.payload.now ≤ length out.old }
+    ensures end { result ≤ at + 26 + 2 * length response.now.payload.now }
+    ensures words { IsWrittenAt at out.old result out.new (rest_of_line (reply_words (Reply.Answer (seen_response response.now)))) }
 {
-    let payload = response.payload.as_slice();
+    let payload = response.payload;
     let head = response_head(
         response.tag,
         response.opcode,
@@ -267,40 +268,32 @@ fn write_scrubbed(out: &mut [u8], at: usize, count: u32) -> usize
 
 /// Writes a reply and the end of the line.
 #[inline(always)]
-fn write_reply(out: &mut [u8], at: usize, reply: &Reply) -> usize
-    requires short { IsShort reply.now }
-    requires room { at + step_room reply.now ≤ length out.old + 50 }
+fn write_reply(out: &mut [u8], at: usize, reply: &ReplySeen<'_>) -> usize
+    requires short { IsShort (seen_reply reply.now) }
+    requires room { at + step_room (seen_reply reply.now) ≤ length out.old + 50 }
     ensures end { result ≤ length out.old }
-    ensures words { IsWrittenAt at out.old result out.new (rest_of_line (reply_words reply.now)) }
+    ensures words { IsWrittenAt at out.old result out.new (rest_of_line (reply_words (seen_reply reply.now))) }
 {
     match reply {
-        Reply::Answer(response) => write_response(out, at, response),
-        Reply::Word(word) => write_loaded(out, at, *word),
-        Reply::Stored => write_word(out, at, u8x8::from_array(*b" ok\n    "), 4),
-        Reply::Refused(fault) => write_refused(out, at, *fault),
-        Reply::Scrubbed(count) => write_scrubbed(out, at, *count),
+        ReplySeen::Answer(response) => write_response(out, at, response),
+        ReplySeen::Word(word) => write_loaded(out, at, *word),
+        ReplySeen::Stored => write_word(out, at, u8x8::from_array(*b" ok\n    "), 4),
+        ReplySeen::Refused(fault) => write_refused(out, at, *fault),
+        ReplySeen::Scrubbed(count) => write_scrubbed(out, at, *count),
     }
 }
 
 /// Writes the line of a step at a place, behind what stands before it, and answers where it ends.
 #[inline(always)]
 #[tactic(auto, using(crate::proofs::Placed::written_then), unfolding(crate::specs::Texts::step_line))]
-pub(crate) fn write_step(
-    out: &mut [u8],
-    at: usize,
-    number: u64,
-    line: u32,
-    actor: Actor,
-    act: &Act,
-    reply: &Reply,
-) -> usize
-    requires short { IsShort reply.now }
-    requires room { at + step_room reply.now ≤ length out.old }
+pub(crate) fn write_step(out: &mut [u8], at: usize, number: u64, step: &StepSeen<'_>) -> usize
+    requires short { IsShort (seen_reply step.now.reply) }
+    requires room { at + step_room (seen_reply step.now.reply) ≤ length out.old }
     ensures end { result ≤ length out.old }
-    ensures line { IsWrittenAt at out.old result out.new (step_line number line actor act.now reply.now) }
+    ensures line { IsWrittenAt at out.old result out.new (seen_line number step.now) }
 {
-    let numbered = write_numbers(out, at, number, u64::from(line));
-    let named = write_actor(out, numbered, actor);
-    let told = write_act(out, named, act);
-    write_reply(out, told, reply)
+    let numbered = write_numbers(out, at, number, u64::from(step.line));
+    let named = write_actor(out, numbered, step.actor);
+    let told = write_kind(out, named, step.kind);
+    write_reply(out, told, &step.reply)
 }
