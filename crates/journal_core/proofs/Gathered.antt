@@ -57,6 +57,10 @@ pub no_bytes : (bytes : List ℕ) → (length bytes == 0) ≡ true → [] ≡ ef
 no_bytes [] none = sym (ap (effects_from []) (nothing_told no_slots))
 no_bytes (byte ∷ bytes) none = absurd (omega (arith, eqb-true (suc (length bytes)) 0 none))
 
+pub no_effects : (effects : List Effect) → (length effects == 0) ≡ true → effects_told (Some []) ≡ effects
+no_effects [] none = ap (effects_from []) (nothing_told no_slots)
+no_effects (e ∷ effects) none = absurd (omega (arith, eqb-true (suc (length effects)) 0 none))
+
 -- effects without extents are tokens alone
 pub alone_back : (waiting : List Extent) (tokens : List Token) → without_extents (effects_from waiting tokens) ≡ filter_map effect_alone tokens
 alone_back waiting [] = refl

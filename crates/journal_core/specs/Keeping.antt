@@ -1,5 +1,7 @@
 -- The entries of a control as they are kept.
-use Rattle.std.specs.Prelude.{◌≡◌, ◌≤◌, ◌<◌, ◌^◌, ℕ, ◌+◌, ◌++◌, List, [], ◌∷◌, Some, drop, length, take}
+use Rattle.std.specs.Prelude.{◌≡◌, ◌≤◌, ◌<◌, ◌^◌, ℕ, ◌+◌, ◌-◌, ◌++◌, List, [], ◌∷◌, Some, drop, length, take}
+use Rattle.std.specs.Global.{Vec}
+use Rattle.std.specs.Vec.{vec_capacity, vec_len}
 use Rattle.dcd_base.specs.declared.steps.Stamp.{Stamp}
 use Rattle.dcd_base.specs.declared.steps.Actor.{Actor}
 use Rattle.journal_core.specs.Merging.{Rising}
@@ -77,7 +79,13 @@ step_entry number step bytes = record {
 -- With these bytes the step is the next entry of what was asked and replied, wherever it comes.
 pub record Keeps (step : KeptStep) (pass line : ℕ) (actor : Actor) (act : Act) (replied : Reply × List ℕ) (bytes : List ℕ) : Type 0 where
   pub width : step.width ≡ length bytes
-  pub entry : (entries : List Entry) → step_entry (length entries + 1) step bytes ≡ next_entry entries pass line actor act (replied.0, effects_told (Some replied.1))
+  pub entry : (entries : List Entry) →
+      step_entry (length entries + 1) step bytes ≡ next_entry entries pass line actor act (replied.0, effects_told (Some replied.1))
+
+-- With these bytes the step is the entry, where that has the next stamp.
+pub record IsKeptOf (e : Entry) (step : KeptStep) (bytes : List ℕ) : Type 0 where
+  pub width : step.width ≡ length bytes
+  pub entry : (entries : List Entry) → e.stamp ≡ next_stamp entries → step_entry (length entries + 1) step bytes ≡ e
 
 -- how many bytes a kept one has, and the entry that it is with these
 abbrev pub width_of : Kept → ℕ
@@ -109,3 +117,10 @@ pub record Roomy : Type 0 where
   pub entries : List Entry
   pub spare : ℕ
   pub room : ℕ
+
+abbrev pub roomy_of : Vec Kept → Vec ℕ → Roomy
+roomy_of kept bytes = record {
+  entries = entries_of 0 kept.items bytes.items;
+  spare = vec_capacity kept - vec_len kept;
+  room = vec_capacity bytes - vec_len bytes;
+}

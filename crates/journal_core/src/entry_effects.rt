@@ -121,6 +121,9 @@ fn coded(alloc: Global, effects: &[Effect]) -> Result<Bytes, NoMemory>
 pub(crate) fn retold<'a>(coder: &'a mut Coder, effects: &[Effect]) -> Result<&'a [u8], NoMemory>
     ensures { IfOk result (λ told. effects_told (Some told.now) ≡ effects.now) }
 {
+    if effects.is_empty() {
+        return Ok(&[]);
+    }
     coder.restart();
     coder.put_effects(effects);
     match coder.written() {

@@ -26,13 +26,12 @@ pub(crate) struct KeptList {
 }
 
 impl Model for KeptList {
-    ghost use Rattle.journal_core.specs.Keeping.{Roomy, entries_of, widths};
-    ghost use Rattle.std.specs.Prelude.{◌≡◌, ◌-◌, length};
-    ghost use Rattle.std.specs.Vec.{vec_capacity, vec_len};
+    ghost use Rattle.journal_core.specs.Keeping.{Roomy, roomy_of, widths};
+    ghost use Rattle.std.specs.Prelude.{◌≡◌, length};
 
     ghost Value = { Roomy };
 
-    ghost view = { λ k. record { entries = entries_of 0 k.kept.items k.bytes.items; spare = vec_capacity k.kept - vec_len k.kept; room = vec_capacity k.bytes - vec_len k.bytes } };
+    ghost view = { λ k. roomy_of k.kept k.bytes };
 
     ghost invariant = { λ k. widths k.kept.items ≡ length k.bytes.items };
 }

@@ -1,6 +1,6 @@
 //! Commands and scrubs, kept small.
 
-ghost use Rattle.journal_core.specs.Keeping.{IsExchangeOf, Keeps, asked_of, kept_entry, next_stamp, parts_bytes, replied_of, step_entry, width_of};
+ghost use Rattle.journal_core.specs.Keeping.{IsExchangeOf, IsKeptOf, Keeps, asked_of, kept_entry, next_stamp, parts_bytes, replied_of, step_entry, width_of};
 ghost use Rattle.journal_core.specs.Lending.{lent_entry};
 ghost use Rattle.journal_core.specs.declared.entries.Entry.{Entry};
 ghost use Rattle.std.specs.Prelude.{◌≡◌, ◌+◌, ◌<◌, ◌^◌, ℕ, IfSome, List, length};
@@ -224,8 +224,7 @@ impl Kept {
 
 /// What is kept of an entry that can be kept small, and its parts.
 pub(crate) fn kept_small(entry: &Entry) -> Option<(KeptStep, Parts<'_>)>
-    ensures width { IfSome result (λ kept. kept.0.width ≡ length (parts_bytes kept.1)) }
-    ensures entry { IfSome result (λ kept. (entries : List Entry) → entry.now.stamp ≡ next_stamp entries → step_entry (length entries + 1) kept.0 (parts_bytes kept.1) ≡ entry.now) }
+    ensures { IfSome result (λ kept. IsKeptOf entry.now kept.0 (parts_bytes kept.1)) }
 {
     let parts = Parts::of(&entry.act, &entry.reply, entry.effects.told());
     match KeptStep::of(
