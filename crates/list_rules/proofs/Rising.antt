@@ -2,8 +2,8 @@
 use Rattle.std.proofs.Common.{◌≡◌, ℕ, ◌+◌, ◌<◌, ◌≤◌, Bool, true, false, inl, inr, All, List, [], ◌∷◌, Some, None, length, get_or, take, option_map, refl, sym, ap, subst, ◌∙◌, arith, lt-ltb}
 use Rattle.std.specs.List.{list_any, position, position_from, position_or_len}
 use Rattle.std.proofs.lemmas.Iterator.Adapters.{position_from-zero}
-use Rattle.std.specs.Prelude.{nat_le, nat_lt}
-use Rattle.std.proofs.lemmas.Bool.{and_left, and_parts, cases_Bool, le-ltb, leb-true}
+use Rattle.std.specs.Prelude.{nat_le}
+use Rattle.std.proofs.lemmas.Bool.{and_left, and_right, and_parts, cases_Bool, le-ltb, leb-true}
 use Rattle.std.proofs.lemmas.List.{get_or-take, take_more, length-take-le}
 use Rattle.std.proofs.lemmas.List.Elements.{All-push}
 use Rattle.std.proofs.lemmas.List.Folds.{list_any_at}
@@ -13,7 +13,7 @@ use Rattle.dcd_base.specs.declared.capacity.Extent.{Extent}
 use Rattle.dcd_codes.specs.declared.rules.Rule.{Rule}
 use Rattle.extent_list.specs.ExtentLists.{is_in, lies_in, overlaps}
 use Rattle.list_rules.specs.Listing.{overlapping}
-use Rattle.list_rules.specs.Orders.{AreRising}
+use Rattle.list_rules.specs.Orders.{AreApart, AreFalling, AreRising}
 
 -- all of the list end at an address or before it
 abbrev pub EndBy : ℕ → List Extent → Type 0
@@ -29,6 +29,20 @@ module _ (xs : List Extent) (i : ℕ) (d : Extent) (known : i < length xs) (end 
   pub ends_more : (next : ℕ) → next ≡ (get_or xs i d).start + (get_or xs i d).length → EndBy next (take (i + 1) xs)
   ends_more next is = subst (EndBy next) (sym (take_more xs i d known))
       (All-push (λ (x : Extent). x.start + x.length ≤ next) (take i xs) (get_or xs i d) (λ k e below. omega (arith, before k e below, from, is)) (omega (arith, is)))
+
+-- the same of a list by falling address, of which all begin at an address or behind it
+abbrev pub BeginFrom : ℕ → List Extent → Type 0
+BeginFrom from xs = All (λ (x : Extent). from ≤ x.start) xs
+
+module _ (xs : List Extent) (i : ℕ) (d : Extent) (known : i < length xs) (from : ℕ) (to : (get_or xs i d).start + (get_or xs i d).length ≤ from) (before : BeginFrom from (take i xs)) where
+  pub falling_more : AreFalling (take i xs) → AreFalling (take (i + 1) xs)
+  falling_more falling =
+      subst AreFalling (sym (take_more xs i d known))
+      (all_pairs_push (λ (x y : Extent). y.start + y.length ≤ x.start) (take i xs) (get_or xs i d) falling (λ k e below. omega (arith, before k e below, to)))
+
+  pub begins_more : (next : ℕ) → next ≡ (get_or xs i d).start → BeginFrom next (take (i + 1) xs)
+  begins_more next is = subst (BeginFrom next) (sym (take_more xs i d known))
+      (All-push (λ (x : Extent). next ≤ x.start) (take i xs) (get_or xs i d) (λ k e below. omega (arith, before k e below, to, is)) (omega (arith, is)))
 
 -- the first place where a test holds
 position_at : (p : Extent → Bool) (xs : List Extent) (i : ℕ) (d : Extent) → i < length xs → p (get_or xs i d) ≡ true → ((k : ℕ) → k < i → p (get_or xs k d) ≡ false) → position p xs ≡ Some i
@@ -52,16 +66,18 @@ only_owner owners x i d rising some known here = position_at (lies_in x) owners 
 ])
 
 -- no address twice
-pub apart : (xs : List Extent) (i : ℕ) (d : Extent) → AreRising xs → i < length xs → overlapping (take i xs) (get_or xs i d) ≡ None
-apart xs i d rising known =
+apart-by : (xs : List Extent) (i : ℕ) (d : Extent) → i < length xs → ((k : ℕ) → k < i → overlaps (get_or xs i d) (get_or xs k d) ≡ false) → overlapping (take i xs) (get_or xs i d) ≡ None
+apart-by xs i d known each =
     let x = get_or xs i d in
-    let none : position (overlaps x) (take i xs) ≡ None = position_nowhere (overlaps x) (take i xs) d (λ k below. apart-one k (omega (arith, below, length-take-le i xs (omega (arith, known))))) in
+    let none : position (overlaps x) (take i xs) ≡ None = position_nowhere (overlaps x) (take i xs) d (λ k below.
+    let less : k < i = omega (arith, below, length-take-le i xs (omega (arith, known))) in rw (get_or-take i xs k d less) (each k less)) in
     ap (option_map (λ j. Rule.Overlap (length (take i xs)) j)) none
-  where
-    apart-one : (k : ℕ) → k < i → overlaps (get_or xs i d) (get_or (take i xs) k d) ≡ false
-    apart-one k below =
-        rw (get_or-take i xs k d below)
-        (and_left (nat_lt (get_or xs i d).start ((get_or xs k d).start + (get_or xs k d).length)) (nat_lt (get_or xs k d).start ((get_or xs i d).start + (get_or xs i d).length)) (le-ltb _ _ (rising k i d below known)))
+
+pub rising_apart : (xs : List Extent) → AreRising xs → AreApart xs
+rising_apart xs rising i d known = apart-by xs i d known (λ k below. and_left _ _ (le-ltb _ _ (rising k i d below known)))
+
+pub falling_apart : (xs : List Extent) → AreFalling xs → AreApart xs
+falling_apart xs falling i d known = apart-by xs i d known (λ k below. and_right _ _ (le-ltb _ _ (falling k i d below known)))
 
 -- whether an extent lies in an owner, by the place of its first
 pub in_at : (owners : List Extent) (x : Extent) (i : ℕ) (d : Extent) → position (lies_in x) owners ≡ Some i → is_in owners x ≡ true

@@ -17,21 +17,21 @@ use region_config::Config;
 /// `missing`, where it lies in no owner; `Overlap` with the first of those before with which it shares an address;
 /// `NotWhole`, where its region is shareable and it is a part.
 ///
-/// Where the list `rises`, no extent of it shares an address with one before it. The owner is looked for at `near`
+/// Where it is known to be `apart`, it shares no address with one before it. The owner is looked for at `near`
 /// first, which then becomes its index.
 pub fn unfit(
     config: &Config,
     host: HostId,
     owners: &Owners,
     near: &mut usize,
-    rises: bool,
+    apart: bool,
     before: &[Extent],
     extent: &Extent,
     missing: Rule,
 ) -> Option<Rule>
     requires host { host < config.now.hosts }
     requires listed { length before.now < 2 ^ 32 }
-    requires apart { rises ≡ true → overlapping before.now extent.now ≡ None }
+    requires apart { apart ≡ true → overlapping before.now extent.now ≡ None }
     ensures { result ≡ (not (is_in owners.now extent.now) breaks missing
         or overlapping before.now extent.now
         or not_whole config.now host owners.now (length before.now) extent.now) }
@@ -40,20 +40,21 @@ pub fn unfit(
         Some(index) => index,
         None => return Some(missing),
     };
-    if let Some(rule) = sharing(rises, before, extent) {
+    if let Some(rule) = sharing(apart, before, extent) {
         return Some(rule);
     }
     let owner = &owners.as_slice()[index];
     part_rule(config, host, owner, before.len() as u32, extent)
 }
 
-/// The rule that an extent breaks which shares an address with one before it. Where the list `rises`, none does.
-pub fn sharing(rises: bool, before: &[Extent], extent: &Extent) -> Option<Rule>
+/// The rule that an extent breaks which shares an address with one before it. Where it is known to be
+/// `apart`, it does not.
+pub fn sharing(apart: bool, before: &[Extent], extent: &Extent) -> Option<Rule>
     requires listed { length before.now < 2 ^ 32 }
-    requires apart { rises ≡ true → overlapping before.now extent.now ≡ None }
+    requires apart { apart ≡ true → overlapping before.now extent.now ≡ None }
     ensures { result ≡ overlapping before.now extent.now }
 {
-    if rises {
+    if apart {
         return None;
     }
     shares_address(before, extent)

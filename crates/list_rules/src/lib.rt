@@ -15,7 +15,7 @@ mod tags;
 pub use fitting::{put_marked, sharing, unfit};
 pub use limits::{too_many_extents, too_many_listed};
 pub use lookup::Owners;
-pub use orders::is_rising;
+pub use orders::are_apart;
 pub use owners::{is_in, marked, not_whole, shares_address};
 pub use placing::{misplaced, region_at};
 pub use tags::incomplete;

@@ -12,7 +12,7 @@ use std::marker::Model;
 /// The extents in which those of a list have to lie.
 ///
 /// Contracts see the owners. Where they stand by rising address, an extent lies in one of them only, and the search
-/// for it begins near the last one that was found.
+/// for it begins beside the last one that was found.
 #[derive(Debug, Drop)]
 pub struct Owners<'a> {
     list: &'a [Extent],
@@ -76,7 +76,7 @@ impl<'a> Owners<'a> {
         ensures known { IfSome result (λ index. index < length self.now) }
     {
         if self.rise && extent.length > 0 {
-            if let Some(index) = owner_from(self.list, near, extent) {
+            if let Some(index) = owner_near(self.list, near, extent) {
                 return Some(index);
             }
         }
@@ -95,18 +95,28 @@ fn marked_by(extent: &Extent, owner: &Extent) -> Extent
     }
 }
 
-/// An owner in which the extent lies, from the index `near` on up to the first that begins behind it.
-fn owner_from(owners: &[Extent], near: usize, extent: &Extent) -> Option<usize>
+/// An owner in which the extent lies: beside the index `near`, or the last that begins where the extent does or before.
+fn owner_near(owners: &[Extent], near: usize, extent: &Extent) -> Option<usize>
     ensures known { IfSome result (λ index. index < length owners.now) }
     ensures owner { IfSome result (λ index. (d : Extent) → IsTrue (lies_in extent.now (slice_index_or owners.now index d))) }
 {
-    for index in near..owners.len() {
+    let to = near.saturating_add(2).min(owners.len());
+    for index in near.saturating_sub(1)..to {
         if lies_in(extent, &owners[index]) {
             return Some(index);
         }
-        if extent.start < owners[index].start {
-            return None;
-        }
+    }
+    last_begun(owners, extent)
+}
+
+/// The last owner that begins where the extent does or before, if the extent lies in it.
+fn last_begun(owners: &[Extent], extent: &Extent) -> Option<usize>
+    ensures known { IfSome result (λ index. index < length owners.now) }
+    ensures owner { IfSome result (λ index. (d : Extent) → IsTrue (lies_in extent.now (slice_index_or owners.now index d))) }
+{
+    let begun = owners.partition_point(|owner| owner.start <= extent.start);
+    if begun > 0 && lies_in(extent, &owners[begun - 1]) {
+        return Some(begun - 1);
     }
     None
 }

@@ -10,7 +10,7 @@ use crate::offers::Offers;
 use dcd_base::limits::LISTED_EXTENTS;
 use dcd_base::{Extent, HostId, NoMemory};
 use dcd_codes::Rule;
-use list_rules::{Owners, incomplete, is_rising, misplaced, region_at, too_many_extents, unfit};
+use list_rules::{Owners, are_apart, incomplete, misplaced, region_at, too_many_extents, unfit};
 use region_config::Config;
 
 /// The first rule of its row that a response breaks (CXL 3.1, 8.2.9.9.9.3): this list of a message behind the held one.
@@ -41,7 +41,7 @@ pub fn broken_rule(
     let mut whole = offers.held().copy()?;
     whole.extend_from_slice(list)?;
     let (offer, whole) = (offers.oldest(), whole.as_slice());
-    let (owners, rises) = (Owners::of(offer), is_rising(whole));
+    let (owners, apart) = (Owners::of(offer), are_apart(whole));
     let mut near = 0;
     for i in 0..whole.len() {
         if let Some(rule) = broken_answered_extent(
@@ -49,7 +49,7 @@ pub fn broken_rule(
             host,
             &owners,
             &mut near,
-            rises,
+            apart,
             &whole[..i],
             &whole[i],
         ) {
@@ -62,20 +62,20 @@ pub fn broken_rule(
     }
 }
 
-/// The first rule that an extent of the list breaks behind those before it, whose number is its index. Where the list
-/// `rises`, it shares no address with them; its owner is looked for at `near` first.
+/// The first rule that an extent of the list breaks behind those before it, whose number is its index. Where it
+/// is known to be `apart`, it shares no address with them; its owner is looked for at `near` first.
 fn broken_answered_extent(
     config: &Config,
     host: HostId,
     offer: &Owners,
     near: &mut usize,
-    rises: bool,
+    apart: bool,
     before: &[Extent],
     extent: &Extent,
 ) -> Option<Rule>
     requires host { host < config.now.hosts }
     requires listed { length before.now < 2 ^ 32 }
-    requires apart { rises ≡ true → overlapping before.now extent.now ≡ None }
+    requires apart { apart ≡ true → overlapping before.now extent.now ≡ None }
     ensures { result ≡ extent_rule config.now host offer.now before.now extent.now }
 {
     let index = before.len() as u32;
@@ -84,7 +84,7 @@ fn broken_answered_extent(
         return Some(rule);
     }
     let missing = Rule::NotOffered(index);
-    unfit(config, host, offer, near, rises, before, extent, missing)
+    unfit(config, host, offer, near, apart, before, extent, missing)
 }
 
 /// How many extents the offers behind the oldest have together.

@@ -18,21 +18,21 @@ pub(crate) enum Within {
     Region(RegionId),
 }
 
-/// The first rule that an extent of the list breaks behind those before it, whose number is its index. Where the list
-/// `rises`, it shares no address with them; its owner is looked for at `near` first.
+/// The first rule that an extent of the list breaks behind those before it, whose number is its index. Where it
+/// is known to be `apart`, it shares no address with them; its owner is looked for at `near` first.
 pub(crate) fn broken_leaving_extent(
     config: &Config,
     host: HostId,
     accepted: &Owners,
     near: &mut usize,
     bounds: &Within,
-    rises: bool,
+    apart: bool,
     before: &[Extent],
     extent: &Extent,
 ) -> Option<Rule>
     requires host { host < config.now.hosts }
     requires listed { length before.now < 2 ^ 32 }
-    requires apart { rises ≡ true → overlapping before.now extent.now ≡ None }
+    requires apart { apart ≡ true → overlapping before.now extent.now ≡ None }
     ensures { result ≡ leaving_rule config.now host accepted.now bounds.now before.now extent.now }
 {
     let index = before.len() as u32;
@@ -41,7 +41,7 @@ pub(crate) fn broken_leaving_extent(
         return Some(rule);
     }
     let missing = Rule::NotAccepted(index);
-    unfit(config, host, accepted, near, rises, before, extent, missing)
+    unfit(config, host, accepted, near, apart, before, extent, missing)
 }
 
 /// The region in which the extent has to lie: the one that the command names, or else the one that has its first address.

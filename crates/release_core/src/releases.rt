@@ -9,7 +9,7 @@ use crate::marking::marked_list;
 use dcd_base::{Extent, Extents, HostId, NoMemory};
 use dcd_codes::{Refusal, Rule};
 use extent_list::ExtentList;
-use list_rules::{Owners, incomplete, is_rising, too_many_listed};
+use list_rules::{Owners, are_apart, incomplete, too_many_listed};
 use region_config::Config;
 use std::alloc::Global;
 use std::marker::Model;
@@ -168,7 +168,7 @@ pub fn broken_rule(
     let _regions = config.regions();
     let (alloc, whole, owners) = (whole.allocator(), whole.as_slice(), accepted.as_slice());
     let bounds = Within::AnyRegion;
-    let (accepted_owners, rises) = (Owners::of(owners), is_rising(whole));
+    let (accepted_owners, apart) = (Owners::of(owners), are_apart(whole));
     let mut near = 0;
     for i in 0..whole.len() {
         if let Some(rule) = broken_leaving_extent(
@@ -177,7 +177,7 @@ pub fn broken_rule(
             &accepted_owners,
             &mut near,
             &bounds,
-            rises,
+            apart,
             &whole[..i],
             &whole[i],
         ) {

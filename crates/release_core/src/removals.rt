@@ -11,7 +11,7 @@ use crate::marking::marked_list;
 use dcd_base::{Extent, Extents, HostId, NoMemory, RegionId, Tag, is_no_tag};
 use dcd_codes::{Refusal, Rule};
 use extent_list::{ExtentList, has_extent_of};
-use list_rules::{Owners, incomplete, is_rising, too_many_listed};
+use list_rules::{Owners, are_apart, incomplete, too_many_listed};
 use region_config::Config;
 use std::alloc::Global;
 
@@ -53,7 +53,7 @@ pub fn removal(
     }
     let bounds = Within::Region(region);
     let (listed, owners) = (list.as_slice(), accepted.as_slice());
-    let (accepted_owners, rises) = (Owners::of(owners), is_rising(listed));
+    let (accepted_owners, apart) = (Owners::of(owners), are_apart(listed));
     let mut near = 0;
     for i in 0..listed.len() {
         if let Some(rule) = broken_leaving_extent(
@@ -62,7 +62,7 @@ pub fn removal(
             &accepted_owners,
             &mut near,
             &bounds,
-            rises,
+            apart,
             &listed[..i],
             &listed[i],
         ) {

@@ -2,7 +2,6 @@ use Rattle.std.proofs.Common.{◌≡◌, ◌+◌, ◌≤◌, ◌++◌, length, g
 use Rattle.dcd_base.specs.declared.capacity.Extent.{Extent}
 use Rattle.dcd_codes.specs.Rules.{each_in}
 use Rattle.dcd_codes.proofs.RuleSteps.{each_in_found, each_in_more}
-use Rattle.list_rules.proofs.Rising.{apart}
 use Rattle.offer_core.proofs.Missing.{no_extent}
 use Rattle.offer_core.proofs.Rows.{one_broken}
 use Rattle.offer_core.specs.Offerings.{lists_of}
@@ -29,4 +28,4 @@ loop-i-preserved c =
     each_in_more check c.as_slice-whole.result.now c.loop-i.i no_extent c.loop-i-test.true c.loop-i.invariant (same ∙ sym c.broken_answered_extent.ensures ∙ c.in_default.is)
 
 pub broken_answered_extent-requires-clause-apart : goal.broken_answered_extent-requires-clause-apart
-broken_answered_extent-requires-clause-apart c = λ yes. apart c.as_slice-whole.result.now c.loop-i.i no_extent (c.is_rising-rises.ensures yes) c.loop-i-test.true
+broken_answered_extent-requires-clause-apart c = λ yes. c.are_apart-apart.ensures yes c.loop-i.i no_extent c.loop-i-test.true

@@ -8,7 +8,6 @@ use Rattle.release_core.specs.Leaving.{leaving_rule}
 use Rattle.release_core.specs.Releases.{give_back_rule}
 use Rattle.release_core.specs.declared.leaving.Within.{Within}
 use Rattle.release_core.proofs.FreeToLeave.{all_can_leave}
-use Rattle.list_rules.proofs.Rising.{apart}
 use Rattle.release_core.proofs.Members.{no_extent}
 use Rattle.release_core.proofs.Rows.{release_broken, release_counted}
 use Rattle.release_core.proofs.releases.broken_rule.Goals as goal
@@ -55,4 +54,4 @@ returns c =
     (sym row ∙ ap (λ list. give_back_rule c.args.config.now c.args.host c.args.accepted.now.extents c.args.offered list c.args.more) is) c.count_rule.ensures
 
 pub broken_leaving_extent-requires-clause-apart : goal.broken_leaving_extent-requires-clause-apart
-broken_leaving_extent-requires-clause-apart c = λ yes. apart c.as_slice-whole.result.now c.loop-i.i no_extent (c.is_rising-rises.ensures yes) c.loop-i-test.true
+broken_leaving_extent-requires-clause-apart c = λ yes. c.are_apart-apart.ensures yes c.loop-i.i no_extent c.loop-i-test.true

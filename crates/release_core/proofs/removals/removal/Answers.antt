@@ -9,7 +9,6 @@ use Rattle.list_rules.specs.Listing.{too_many_listed}
 use Rattle.release_core.specs.Leaving.{leaving_rule}
 use Rattle.release_core.specs.declared.leaving.Within.{Within}
 use Rattle.release_core.proofs.FreeToLeave.{all_can_leave}
-use Rattle.list_rules.proofs.Rising.{apart}
 use Rattle.release_core.proofs.Members.{no_extent}
 use Rattle.release_core.proofs.Rows.{removal_broken}
 use Rattle.release_core.proofs.removals.removal.Goals as goal
@@ -44,4 +43,4 @@ count_rule-requires-clause-leaving c =
     all_can_leave c.args.config.now c.args.host c.args.accepted.now.extents (Within.Region c.args.region) listed c.regions.ensures.sound c.requires.host each
 
 pub broken_leaving_extent-requires-clause-apart : goal.broken_leaving_extent-requires-clause-apart
-broken_leaving_extent-requires-clause-apart c = λ yes. apart c.as_slice-listed.result.now c.loop-i.i no_extent (c.is_rising-rises.ensures yes) c.loop-i-test.true
+broken_leaving_extent-requires-clause-apart c = λ yes. c.are_apart-apart.ensures yes c.loop-i.i no_extent c.loop-i-test.true
