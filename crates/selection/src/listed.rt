@@ -12,7 +12,7 @@ use crate::blocks::are_free;
 use dcd_base::{Extent, Extents, HostId, RegionId, Run, Runs};
 use dcd_codes::{Refusal, Rule};
 use granule_map::GranuleMap;
-use list_rules::{is_rising, misplaced, sharing, too_many_listed};
+use list_rules::{are_apart, misplaced, sharing, too_many_listed};
 use region_config::Config;
 use std::alloc::Global;
 
@@ -47,10 +47,10 @@ pub fn prescriptive(
     // That runs are of one region and apart rests on what every configuration keeps.
     let _regions = config.regions();
     let listed = list.as_slice();
-    let rises = is_rising(listed);
+    let apart = are_apart(listed);
     let mut runs = Runs::with_capacity(alloc, listed.len())?;
     for i in 0..listed.len() {
-        match try_extent(map, config, host, region, rises, &listed[..i], &listed[i]) {
+        match try_extent(map, config, host, region, apart, &listed[..i], &listed[i]) {
             Ok(run) => runs.push(run)?,
             Err(rule) => return Err(Refusal::Broken(rule)),
         }
@@ -58,21 +58,21 @@ pub fn prescriptive(
     Ok(runs)
 }
 
-/// The run of an extent, or the first rule that it breaks behind those before it. Where the list `rises`, it shares no
-/// address with them.
+/// The run of an extent, or the first rule that it breaks behind those before it. Where it is known to be
+/// `apart`, it shares no address with them.
 fn try_extent(
     map: &GranuleMap,
     config: &Config,
     host: HostId,
     region: RegionId,
-    rises: bool,
+    apart: bool,
     before: &[Extent],
     extent: &Extent,
 ) -> Result<Run, Rule>
     requires host { host < config.now.hosts }
     requires granules { length map.now.states ≡ granule_total config.now }
     requires few { length before.now < 2 ^ 32 }
-    requires apart { rises ≡ true → overlapping before.now extent.now ≡ None }
+    requires apart { apart ≡ true → overlapping before.now extent.now ≡ None }
     ensures answer { TriesExtent config.now host map.now.states region before.now extent.now result }
     ensures run { IfOk result (λ run. run ≡ run_of config.now host extent.now) }
 {
@@ -86,7 +86,7 @@ fn try_extent(
     if !are_free(map, run.first.0, run.count) {
         return Err(Rule::NotFree(index));
     }
-    match sharing(rises, before, extent) {
+    match sharing(apart, before, extent) {
         Some(rule) => Err(rule),
         None => Ok(run),
     }

@@ -8,7 +8,6 @@ use Rattle.dcd_codes.specs.Rules.{each_in}
 use Rattle.dcd_codes.proofs.RuleSteps.{each_in_found, each_in_more}
 use Rattle.granule_map.specs.StateLists.{is_free_at}
 use Rattle.list_rules.specs.Listing.{too_many_listed}
-use Rattle.list_rules.proofs.Rising.{apart}
 use Rattle.media_map.specs.Places.{IsRun, run_of}
 use Rattle.selection.specs.Selections.{AreApart, are_free, free_extent_rule, listed_runs}
 use Rattle.selection.proofs.Prescribed.{extent_broken, kept_apart, kept_free, kept_runs}
@@ -67,4 +66,4 @@ returns-clause-are_free c =
     (kept_free c.args.config.now c.args.host c.regions-regions.ensures.sound c.requires.host c.args.region (is_free_at c.args.map.now.states) [] c.as_slice-listed.result.now (unbroken c))
 
 pub try_extent-requires-clause-apart : goal.try_extent-requires-clause-apart
-try_extent-requires-clause-apart c = λ yes. apart c.as_slice-listed.result.now c.loop-i.i no_extent (c.is_rising-rises.ensures yes) c.loop-i-test.true
+try_extent-requires-clause-apart c = λ yes. c.are_apart-apart.ensures yes c.loop-i.i no_extent c.loop-i-test.true
