@@ -1,8 +1,8 @@
 -- What a cut leaves: by the index of the extent that gives way, and what stays true of each extent.
 use Rattle.std.specs.List.{find, position_or_len}
-use Rattle.std.proofs.Common.{◌⊎◌, IfSome, slice_get, subst, inl, inr, ◌≡◌, ℕ, ◌+◌, ◌-◌, ◌^◌, ◌<◌, ◌≤◌, true, false, List, [], ◌∷◌, ◌++◌, Some, length, get_or, take, drop, refl, sym, ap, ◌∙◌, suc, zero, append_assoc, arith, length-append, length-drop}
+use Rattle.std.proofs.Common.{◌⊎◌, IfSome, slice_get, subst, inl, inr, ◌≡◌, ℕ, ◌+◌, ◌-◌, ◌^◌, ◌<◌, ◌≤◌, true, false, List, [], ◌∷◌, ◌++◌, Some, length, get_or, set, take, drop, refl, sym, ap, ◌∙◌, suc, zero, arith, length-append, length-drop}
 use Rattle.std.proofs.lemmas.Bool.{and_parts, leb-true}
-use Rattle.std.proofs.lemmas.List.{drop_at, length-take-le, take_at}
+use Rattle.std.proofs.lemmas.List.{drop-set, length-take-le, take-append-drop, take-set}
 use Rattle.std.proofs.lemmas.List.Folds.{find_at}
 use Rattle.std.proofs.lemmas.List.Quantifiers.{position-Some}
 use Rattle.std.proofs.lemmas.List.Sums.{position_or_len_is}
@@ -39,17 +39,13 @@ cut-at start bytes xs i x found is =
     let facts = position-Some (has_range start bytes) xs i x found in
     cut-first start bytes xs i x facts.0 facts.1 facts.2 ∙ ap (λ y. take i xs ++ (without y start bytes ++ drop (suc i) xs)) (sym is)
 
--- one item taken out, then the upper part and the lower part put in its place
-pub replaced : {X : Type 0} (xs bare one : List X) (i : ℕ) (lower upper : List X) → i < length xs → bare ≡ take i xs ++ drop (suc i) xs
-    → one ≡ take i bare ++ (upper ++ drop i bare) → take i one ++ (lower ++ drop i one) ≡ take i xs ++ (lower ++ upper ++ drop (suc i) xs)
-replaced xs bare one i lower upper known taken put =
-    let front : length (take i xs) ≡ i = length-take-le i xs (omega (arith, known)) in
-    let front_of_bare : take i bare ≡ take i xs = ap (take i) taken ∙ take_at (take i xs) (drop (suc i) xs) i front in
-    let rest_of_bare : drop i bare ≡ drop (suc i) xs = ap (drop i) taken ∙ drop_at (take i xs) (drop (suc i) xs) i front in
-    let is : one ≡ take i xs ++ (upper ++ drop (suc i) xs) = rw (← front_of_bare, ← rest_of_bare) put in
-    let front_of_one : take i one ≡ take i xs = ap (take i) is ∙ take_at (take i xs) _ i front in
-    let rest_of_one : drop i one ≡ upper ++ drop (suc i) xs = ap (drop i) is ∙ drop_at (take i xs) _ i front in
-    rw (front_of_one, rest_of_one, append_assoc) refl
+-- one item in place of another
+pub set_at : {X : Type 0} (xs : List X) (i : ℕ) (x : X) → i < length xs → set xs i x ≡ take i xs ++ (x ∷ drop (suc i) xs)
+set_at xs i x known =
+    let next : i + 1 ≡ suc i = omega arith in
+    sym (take-append-drop i (set xs i x))
+    ∙ ap (λ front. front ++ drop i (set xs i x)) (take-set xs i x)
+    ∙ ap (λ rest. take i xs ++ rest) (drop-set xs i x known ∙ ap (λ k. x ∷ drop k xs) next)
 
 -- where what remains above begins at an address, by the holder's index
 pub in_addresses_at : (start bytes : ℕ) (xs : List Extent) (i : ℕ) (x : Extent) → holder_of start bytes xs ≡ Some i → x ≡ get_or xs i x

@@ -3,7 +3,7 @@
 ghost use Rattle.extent_list.specs.ExtentLists.{cut, cut_all, holder_of, shares_range};
 ghost use Rattle.extent_list.specs.Rooms.{IsCutInAddresses};
 ghost use Rattle.std.specs.List.{list_any};
-ghost use Rattle.std.specs.Prelude.{◌≡◌, ◌==◌, ◌++◌, ◌∷◌, ◌+◌, ◌^◌, ◌<◌, ◌≤◌, [], All, IfErr, IfOk, IsSome, OnErr, OnOk, Some, drop, length, option_to_list, slice_get, take, vec_capacity, vec_len};
+ghost use Rattle.std.specs.Prelude.{◌≡◌, ◌==◌, ◌++◌, ◌∷◌, ◌+◌, ◌^◌, ◌<◌, ◌≤◌, [], All, IfErr, IfOk, IsSome, OnErr, OnOk, Some, drop, length, option_to_list, slice_get, suc, take, vec_capacity, vec_len};
 
 use crate::pieces::{count_of, has_range_in, lower_piece, shares_range_with, upper_piece};
 use dcd_base::{Extent, Extents, NoMemory};
@@ -210,16 +210,25 @@ impl ExtentList {
     }
 }
 
-/// Puts a piece, if there is one, in front of the extent at the index.
-fn put_piece(kept: &mut Vec<Extent>, index: usize, piece: Option<Extent>)
-    requires index { index ≤ vec_len kept.old }
+/// Puts the pieces in place of the extent at the index, the lower one first. Only where there are none or two, those
+/// behind are moved.
+fn put_pieces(kept: &mut Vec<Extent>, index: usize, lower: Option<Extent>, upper: Option<Extent>)
+    requires index { index < vec_len kept.old }
     requires spare { vec_len kept.old < vec_capacity kept.old }
-    ensures put { kept.new.items ≡ take index kept.old.items ++ (option_to_list piece ++ drop index kept.old.items) }
-    ensures len { vec_len kept.new ≡ vec_len kept.old + length (option_to_list piece) }
+    ensures put { kept.new.items ≡ take index kept.old.items ++ (option_to_list lower ++ option_to_list upper ++ drop (suc index) kept.old.items) }
+    ensures len { vec_len kept.new + 1 ≡ vec_len kept.old + length (option_to_list lower) + length (option_to_list upper) }
     ensures capacity { vec_capacity kept.old ≤ vec_capacity kept.new }
 {
-    if let Some(extent) = piece {
-        let _ = kept.insert(index, extent);
+    match (lower, upper) {
+        (None, None) => {
+            kept.remove(index);
+        }
+        (Some(piece), None) => kept[index] = piece,
+        (None, Some(piece)) => kept[index] = piece,
+        (Some(lower), Some(upper)) => {
+            kept[index] = upper;
+            let _ = kept.insert(index, lower);
+        }
     }
 }
 
@@ -248,8 +257,6 @@ fn replace_at(
     if len > most {
         return Err(TooMany(len));
     }
-    kept.remove(index);
-    put_piece(kept, index, upper);
-    put_piece(kept, index, lower);
+    put_pieces(kept, index, lower, upper);
     Ok(())
 }

@@ -1,5 +1,5 @@
 use Rattle.std.proofs.Common.{sym, ◌∙◌}
-use Rattle.extent_list.proofs.Cutting.{cut-at, holds_at, in_addresses_at, length-cut, replaced}
+use Rattle.extent_list.proofs.Cutting.{cut-at, holds_at, in_addresses_at, length-cut}
 use Rattle.extent_list.proofs.list.replace_at.Goals as goal
 
 pub upper_piece-upper-requires-clause-begins : goal.upper_piece-upper-requires-clause-begins
@@ -12,9 +12,7 @@ returns-then-len-most-clause-too_many c =
 
 pub returns-clause-cut : goal.returns-clause-cut
 returns-clause-cut c =
-    let holds = holds_at _ _ _ _ c.index.result.now c.requires.index c.index.ensures in
-    c.put_piece-2.ensures.put
-    ∙ replaced _ _ _ c.args.index _ _ holds.known c.remove.ensures.items c.put_piece.ensures.put
+    c.put_pieces.ensures.put
     ∙ rw (c.lower_piece-lower.ensures, c.upper_piece-upper.ensures) (sym (cut-at _ _ _ _ c.index.result.now c.requires.index c.index.ensures))
 
 pub upper_piece-upper-requires-clause-ends : goal.upper_piece-upper-requires-clause-ends
