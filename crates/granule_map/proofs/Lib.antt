@@ -2,6 +2,7 @@ pub mod AreaBlocks
 pub mod Changes
 pub mod Joining
 pub mod Marked
+pub mod NextOfLanes
 pub mod Ranges
 pub mod PartsReplaced
 pub mod RunSteps

@@ -6,9 +6,10 @@ ghost use Rattle.std.specs.Prelude.{◌≡◌, ◌+◌, ◌≤◌, count_by, dro
 
 use dcd_base::Run;
 use memchr::{memchr, memchr2};
+use std::simd::prelude::*;
 
-/// So many places are read one by one, before many are at a time: what is searched for is often near.
-const NEAR: usize = 8;
+/// So many places are read at once.
+const LANES: usize = 16;
 
 /// The lowest place from one on that has the mark, or the end where none below it has.
 pub(crate) fn next_with(marks: &[u8], mark: u8, from: usize, end: usize) -> usize
@@ -16,13 +17,29 @@ pub(crate) fn next_with(marks: &[u8], mark: u8, from: usize, end: usize) -> usiz
     requires within { end ≤ length marks.now }
     ensures { IsNext (λ k. is_byte mark (slice_index marks.now k)) from end result }
 {
-    let near = end.min(from + NEAR);
-    for place in from..near {
-        if marks[place] == mark {
-            return place;
-        }
+    if end - from < LANES {
+        return far_with(marks, mark, from, end);
     }
-    far_with(marks, mark, near, end)
+    let place = next_of_16(marks, mark, from);
+    if place < from + LANES {
+        return place;
+    }
+    far_with(marks, mark, place, end)
+}
+
+/// The lowest of 16 places from one on that has the mark, or the one behind them where none has.
+fn next_of_16(marks: &[u8], mark: u8, from: usize) -> usize
+    requires { from + 16 ≤ length marks.now }
+    ensures { IsNext (λ k. is_byte mark (slice_index marks.now k)) from (from + 16) result }
+{
+    let found = u8x16::from_slice(&marks[from..])
+        .simd_eq(u8x16::splat(mark))
+        .to_bitmask();
+    if found == 0 {
+        from + LANES
+    } else {
+        from + found.trailing_zeros() as usize
+    }
 }
 
 /// The same, many places at a time.
@@ -43,20 +60,14 @@ pub(crate) fn next_with_either(marks: &[u8], mark: u8, other: u8, from: usize, e
     requires within { end ≤ length marks.now }
     ensures { IsNext (λ k. is_byte2 mark other (slice_index marks.now k)) from end result }
 {
-    let near = end.min(from + NEAR);
-    for place in from..near {
-        if is_either(mark, other, marks[place]) {
-            return place;
-        }
+    if end - from < LANES {
+        return far_with_either(marks, mark, other, from, end);
     }
-    far_with_either(marks, mark, other, near, end)
-}
-
-/// Whether a mark is one of two.
-fn is_either(mark: u8, other: u8, found: u8) -> bool
-    ensures { result ≡ is_byte2 mark other found }
-{
-    found == mark || found == other
+    let place = next_of_16(marks, mark, from).min(next_of_16(marks, other, from));
+    if place < from + LANES {
+        return place;
+    }
+    far_with_either(marks, mark, other, place, end)
 }
 
 /// The lowest place from one on that has either of two marks, found many places at a time.
