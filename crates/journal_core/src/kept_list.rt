@@ -41,9 +41,21 @@ fn put_parts(bytes: &mut Vec<u8>, parts: &Parts<'_>)
     requires { vec_len bytes.old + length (parts_bytes parts.now) ≤ vec_capacity bytes.old }
     ensures put { bytes.new.items ≡ bytes.old.items ++ parts_bytes parts.now }
 {
-    let _ = bytes.extend_from_slice(parts.asked);
-    let _ = bytes.extend_from_slice(parts.replied);
-    let _ = bytes.extend_from_slice(parts.told);
+    put_part(bytes, parts.asked);
+    put_part(bytes, parts.replied);
+    put_part(bytes, parts.told);
+}
+
+/// Puts bytes behind the others, of which there are often none. It takes no memory.
+#[inline(always)]
+fn put_part(bytes: &mut Vec<u8>, part: &[u8])
+    requires { vec_len bytes.old + length part.now ≤ vec_capacity bytes.old }
+    ensures put { bytes.new.items ≡ bytes.old.items ++ part.now }
+    ensures room { vec_capacity bytes.old ≤ vec_capacity bytes.new }
+{
+    if !part.is_empty() {
+        let _ = bytes.extend_from_slice(part);
+    }
 }
 
 impl KeptList {
