@@ -5,6 +5,7 @@ ghost use Rattle.list_rules.specs.Listing.{too_many_extents};
 ghost use Rattle.release_core.specs.Leaving.{AllCanLeave, count_after};
 ghost use Rattle.std.specs.Prelude.{◌≡◌, ◌+◌, ◌^◌, ◌<◌, ◌≤◌, All, IfOk, length};
 
+use dcd_base::limits::EXTENTS;
 use dcd_base::{Extent, NoMemory};
 use dcd_codes::Rule;
 use extent_list::ExtentList;
@@ -12,7 +13,9 @@ use list_rules::too_many_extents;
 
 /// The rule that the host breaks which has too many extents once those of the list have left.
 ///
-/// A part out of the middle of an accepted extent leaves two in its place.
+/// A part out of the middle of an accepted extent leaves two in its place, so that each of the list makes at most one
+/// more.
+#[tactic(auto, using(crate::proofs::Lengths::length_cut_all))]
 pub(crate) fn count_rule(
     accepted: &ExtentList,
     offered: usize,
@@ -23,6 +26,9 @@ pub(crate) fn count_rule(
     requires leaving { AllCanLeave accepted.now.extents list.now }
     ensures { IfOk result (λ found. found ≡ too_many_extents (count_after accepted.now.extents offered list.now)) }
 {
+    if accepted.len() + list.len() + offered <= EXTENTS {
+        return Ok(None);
+    }
     let left = extents_left(accepted, list)?;
     Ok(too_many_extents(left + offered))
 }
