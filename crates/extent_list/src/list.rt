@@ -161,7 +161,10 @@ impl ExtentList {
         requires ends { All (λ x. x.start + x.length < 2 ^ 64) leaving.now }
         ensures { self.new.extents ≡ cut_all leaving.now self.old.extents }
     {
-        for extent in leaving {
+        let whole = whole_in_front(self.kept.as_slice(), leaving);
+        drop_front(&mut self.kept, whole);
+        let (_, rest) = leaving.split_at(whole);
+        for extent in rest {
             self.cut_where_held(extent);
         }
     }
@@ -207,6 +210,35 @@ impl ExtentList {
         ensures kept { OnErr result (out.new ≡ out.old) }
     {
         out.extend_from_slice(self.part(first, count))
+    }
+}
+
+/// How many of the extents that leave are the first of the list, whole and in order.
+fn whole_in_front(kept: &[Extent], leaving: &[Extent]) -> usize
+    ensures kept { result ≤ length kept.now }
+    ensures leaving { result ≤ length leaving.now }
+    ensures cut { cut_all leaving.now kept.now ≡ cut_all (drop result leaving.now) (drop result kept.now) }
+{
+    let most = kept.len().min(leaving.len());
+    for i in 0..most {
+        if kept[i].start != leaving[i].start || kept[i].length != leaving[i].length {
+            return i;
+        }
+    }
+    most
+}
+
+/// Lets so many extents go from the front.
+fn drop_front(kept: &mut Vec<Extent>, count: usize)
+    requires { count ≤ vec_len kept.old }
+    ensures items { kept.new.items ≡ drop count kept.old.items }
+    ensures len { vec_len kept.new + count ≡ vec_len kept.old }
+    ensures capacity { vec_capacity kept.new ≡ vec_capacity kept.old }
+{
+    let len = kept.len();
+    if count > 0 {
+        kept.copy_within(count..len, 0);
+        kept.truncate(len - count);
     }
 }
 

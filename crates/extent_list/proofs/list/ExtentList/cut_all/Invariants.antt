@@ -4,6 +4,6 @@ use Rattle.extent_list.proofs.list.ExtentList.cut_all.Given as goal
 
 abbrev pub invariant-loop-extent : goal.invariant-loop-extent
 invariant-loop-extent l = record {
-  cut : l.self.extents ≡ cut_all (take l.extent-index l.leaving) l.fn.self.extents;
-  room : length l.leaving ≤ l.self.spare + l.extent-index;
+  cut : l.self.extents ≡ cut_all (take l.extent-index l.rest) l.initial.self.extents;
+  room : length l.rest ≤ l.self.spare + l.extent-index;
 }
