@@ -14,7 +14,11 @@ use Rattle.journal_core.proofs.EachSteps.{Each-push}
 use Rattle.media_map.specs.Places.{locate}
 use Rattle.region_config.specs.Configurations.{Configuration}
 use Rattle.region_config.specs.Granules.{granule_total}
-use Rattle.device_rules.specs.Answers.{answer}
+use Rattle.fm_payloads.specs.ManagerPayloads.{manager_request}
+use Rattle.device_rules.specs.Answers.{answer, host_result_in, manager_result, reply_with}
+use Rattle.device_rules.specs.Views.{view_of}
+use Rattle.std.specs.declared.result.Result.{Result}
+use Rattle.std.specs.declared.result.Result.TheVariants.{Ok, Err}
 use Rattle.device_rules.specs.ChangedRuns.{AreChanges}
 use Rattle.device_rules.specs.Legal.{Meets, right_answer, word_by}
 use Rattle.device_state.specs.Updates.{IsUpdate}
@@ -26,7 +30,7 @@ use Rattle.control_core.specs.Steps.{MayStep, journal_entry}
 use Rattle.control_core.specs.declared.decided.Decided.{Decided}
 use Rattle.control_core.proofs.NextEntry.{next_meets}
 use Rattle.live_device.specs.Accesses.{AreMade, StoresAt, granted_place, store_said}
-use Rattle.live_device.specs.Lives.{CanTake, IsAlive, IsLife, Living, LivesOn, without_spare}
+use Rattle.live_device.specs.Lives.{CanTake, IsAlive, IsLife, IsReplyTo, Living, LivesOn, without_spare}
 use Rattle.live_device.proofs.Lasting.{state_stays, state_with_room}
 use Rattle.live_device.proofs.MemorySteps.{fresh_holders, holders_made, holders_stay, store_right, words_made, words_stored, written}
 
@@ -208,3 +212,24 @@ alive_on old now actor act allowed alive on =
       stamp = record { number = 0; count = 0 };
     } in
     record { life = alive.life ++ e ∷ []; leads = on alive.life alive.leads e refl refl (record { allowed = allowed; reply = refl; effects = refl }) }
+
+-- ---- what kind of reply it is
+
+by_result : {T E : Type 0} (P : Result T E → Type 0) → ((x : T) → P (Ok x)) → ((e : E) → P (Err e)) → (r : Result T E) → P r
+by_result P ok err (Ok x) = ok x
+by_result P ok err (Err e) = err e
+
+-- the answer to a command or a scrub is of its kind
+pub answer_kind : (c : Configuration) (before : List Entry) (actor : Actor) (act : Act) → MayStep c actor act → IsReplyTo act (answer c before actor act).0
+answer_kind c before (Actor.Host h) (Act.Command q) may = by_result (λ r. IsReplyTo (Act.Command q) (reply_with q r)) (λ o. tt) (λ rule. tt) (host_result_in c h (view_of c h before) q)
+answer_kind c before (Actor.Host h) (Act.Load d) may = absurd (never may.control)
+answer_kind c before (Actor.Host h) (Act.Store d value) may = absurd (never may.control)
+answer_kind c before (Actor.Host h) (Act.Scrub n) may = absurd (never may.fits)
+answer_kind c before Actor.Manager (Act.Command q) may = by_result (λ r. IsReplyTo (Act.Command q) (reply_with q r)) (λ o. tt) (λ rule. tt) (manager_result c before (manager_request q.opcode q.payload))
+answer_kind c before Actor.Manager (Act.Load d) may = absurd (never may.control)
+answer_kind c before Actor.Manager (Act.Store d value) may = absurd (never may.control)
+answer_kind c before Actor.Manager (Act.Scrub n) may = absurd (never may.fits)
+answer_kind c before Actor.Sanitizer (Act.Command q) may = absurd (never may.fits)
+answer_kind c before Actor.Sanitizer (Act.Load d) may = absurd (never may.control)
+answer_kind c before Actor.Sanitizer (Act.Store d value) may = absurd (never may.control)
+answer_kind c before Actor.Sanitizer (Act.Scrub n) may = tt

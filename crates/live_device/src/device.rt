@@ -135,11 +135,12 @@ impl LiveDevice {
         ensures too_long { IfErr result (IsTooLong self.old actor act.now most) }
         ensures kept { OnErr result (self.new ≡ self.old) }
     {
+        let decision = self.control.decide(&actor, act)?;
         let Decided {
             reply,
             effects,
             update,
-        } = self.control.decide(&actor, act)?;
+        } = decision.into_parts(self.control.allocator());
         let length = length_of(&reply);
         if length > most {
             return Err(StepFault::TooLong(length));
