@@ -2,40 +2,43 @@
 
 ghost use Rattle.device_rules.specs.Legal.{Legal};
 ghost use Rattle.journal_core.specs.Entries.{fits};
+ghost use Rattle.journal_core.specs.Lending.{lent_entry};
+ghost use Rattle.journal_core.specs.Merging.{Rising};
 ghost use Rattle.plan_rules.specs.PlanAlike.{replayed as taken_again, with_act_of};
 ghost use Rattle.std.specs.Prelude.{◌≡◌, [], IfOk, IsTrue, OnOk};
 
 use control_core::Control;
 use dcd_base::NoMemory;
-use journal_core::{Act, Entry};
+use journal_core::{Act, KeptEntries, Lender, Lent};
 use region_config::Config;
 use std::alloc::Global;
 
 /// Takes the act of an entry again, where it is a command or a scrub.
-fn again(control: &mut Control, entry: &Entry) -> Result<(), NoMemory>
-    requires { IsTrue (fits control.old.config.hosts entry.now.actor entry.now.act) }
+fn again(control: &mut Control, entry: &Lent<'_>) -> Result<(), NoMemory>
+    requires { IsTrue (fits control.old.config.hosts (lent_entry entry.now).actor (lent_entry entry.now).act) }
     ensures config { control.new.config ≡ control.old.config }
-    ensures entries { OnOk result (control.new.entries ≡ with_act_of control.old.config control.old.entries entry.now) }
+    ensures entries { OnOk result (control.new.entries ≡ with_act_of control.old.config control.old.entries (lent_entry entry.now)) }
 {
-    match &entry.act {
+    let act = entry.act()?;
+    match act {
         Act::Command(_) | Act::Scrub(_) => {
-            let act = entry.act.copy()?;
-            control.step(0, 0, entry.actor, act)?;
+            control.step(0, 0, entry.actor(), act)?;
             Ok(())
         }
         Act::Load(_) | Act::Store(_, _) => Ok(()),
     }
 }
 
-/// Takes the commands and scrubs of the entries again.
-fn take_all(control: &mut Control, entries: &[Entry]) -> Result<(), NoMemory>
-    requires legal { Legal control.old.config entries.now }
+/// Takes the commands and scrubs of the entries that are lent again. None is left then.
+fn take_all<J: Lender>(control: &mut Control, journal: &mut J) -> Result<(), NoMemory>
+    requires legal { Legal control.old.config (J.rest journal.old) }
     requires fresh { control.old.entries ≡ [] }
     ensures config { control.new.config ≡ control.old.config }
-    ensures entries { OnOk result (control.new.entries ≡ taken_again control.old.config entries.now) }
+    ensures entries { OnOk result (control.new.entries ≡ taken_again control.old.config (J.rest journal.old)) }
 {
-    for i in 0..entries.len() {
-        again(control, &entries[i])?;
+    while let Some(entry) = journal.peek() {
+        again(control, &entry)?;
+        journal.skip();
     }
     Ok(())
 }
@@ -44,13 +47,15 @@ fn take_all(control: &mut Control, entries: &[Entry]) -> Result<(), NoMemory>
 pub(crate) fn replayed(
     alloc: Global,
     config: &Config,
-    entries: &[Entry],
+    entries: &KeptEntries,
 ) -> Result<Control, NoMemory>
-    requires { Legal config.now entries.now }
+    requires legal { Legal config.now entries.now.entries }
+    requires rising { Rising entries.now.entries }
     ensures config { IfOk result (λ control. control.config ≡ config.now) }
-    ensures entries { IfOk result (λ control. control.entries ≡ taken_again config.now entries.now) }
+    ensures entries { IfOk result (λ control. control.entries ≡ taken_again config.now entries.now.entries) }
 {
     let mut control = Control::new(alloc, config.copy()?)?;
-    take_all(&mut control, entries)?;
+    let mut journal = entries.lend();
+    take_all(&mut control, &mut journal)?;
     Ok(control)
 }

@@ -3,6 +3,7 @@
 ghost use Rattle.control_core.specs.Steps.{MayStep};
 ghost use Rattle.dcd_base.specs.Words.{◌or◌};
 ghost use Rattle.device_rules.specs.Legal.{Legal};
+ghost use Rattle.journal_core.specs.Merging.{Rising};
 ghost use Rattle.plan_maker.specs.Trials.{IsTried, TriesMore};
 ghost use Rattle.plan_rules.specs.PlanAlike.{replayed as taken_again};
 ghost use Rattle.std.specs.Prelude.{◌≡◌, ◌∷◌, [], IfOk, OnOk, option_map};
@@ -11,7 +12,7 @@ use crate::replaying::replayed;
 use control_core::Control;
 use dcd_base::{NoMemory, Seq};
 use dcd_codes::Rule;
-use journal_core::Entry;
+use journal_core::KeptEntries;
 use plan_acts::PlanStep;
 use plan_rules::PlanFault;
 use region_config::Config;
@@ -41,10 +42,15 @@ fn first_refusal(refused: Option<PlanFault>, index: u64, broken: Option<Rule>) -
 
 impl Trial {
     /// Nothing is tried yet, on a fresh control with the commands and scrubs of the entries.
-    pub(crate) fn new(alloc: Global, config: &Config, entries: &[Entry]) -> Result<Trial, NoMemory>
-        requires { Legal config.now entries.now }
+    pub(crate) fn new(
+        alloc: Global,
+        config: &Config,
+        entries: &KeptEntries,
+    ) -> Result<Trial, NoMemory>
+        requires legal { Legal config.now entries.now.entries }
+        requires rising { Rising entries.now.entries }
         ensures config { IfOk result (λ trial. trial.control.config ≡ config.now) }
-        ensures tried { IfOk result (IsTried config.now (taken_again config.now entries.now) []) }
+        ensures tried { IfOk result (IsTried config.now (taken_again config.now entries.now.entries) []) }
     {
         let control = replayed(alloc, config, entries)?;
         Ok(Trial {
