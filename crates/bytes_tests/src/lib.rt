@@ -14,6 +14,8 @@ mod host_replies;
 #[cfg(test)]
 mod host_requests;
 #[cfg(test)]
+mod kept;
+#[cfg(test)]
 mod lists;
 #[cfg(test)]
 mod manager_replies;
