@@ -46,7 +46,7 @@ impl Coder {
     /// Begins anew, in the room of the bytes that were written.
     pub(crate) fn restart(&mut self)
         ensures slots { slots_in self.new.slots ≡ no_slots }
-        ensures bytes { self.new.bytes ≡ [] }
+        ensures bytes { self.new.bytes.items ≡ [] }
     {
         self.slots = [0; SLOTS];
         self.bytes.clear();
