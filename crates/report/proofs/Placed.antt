@@ -58,6 +58,24 @@ digits_step bytes old out at i x y some room ex ey before =
           ∙ sym (encode_lower-append (take i bytes) (slice_index bytes i ∷ [])) ∙ ap encode_lower (sym (take_more bytes i 0 some)));
     }
 
+-- those of fewer
+pub digits_less : (bytes : List ℕ) {old out : List ℕ} {at i : ℕ} (j : ℕ) → j ≤ i → i ≤ length bytes → at ≤ length old
+    → IsWrittenAt at old (at + 2 * i) out (encode_lower (take i bytes)) → IsWrittenAt at old (at + 2 * j) out (encode_lower (take j bytes))
+digits_less bytes {old} {out} {at} {i} j less some room before =
+    let text : List ℕ = encode_lower (take j bytes) in
+    let rest : List ℕ = encode_lower (drop j (take i bytes)) in
+    let parts : take i bytes ≡ take j bytes ++ drop j (take i bytes) =
+    sym (take-append-drop j (take i bytes)) ∙ ap (λ xs. xs ++ drop j (take i bytes)) (take-take j i bytes less) in
+    let whole : encode_lower (take i bytes) ≡ text ++ rest = ap encode_lower parts ∙ encode_lower-append (take j bytes) (drop j (take i bytes)) in
+    let long : length text ≡ 2 * j =
+    length-encode_with lower_digits (take j bytes) ∙ ap (λ k. 2 * k) (length-take-le j bytes (omega (arith, less, some))) in
+    let front : length (take at old) ≡ at = length-take-le at old room in
+    record {
+      front = sym (take-take (at + 2 * j) (at + 2 * i) out (omega (arith, less))) ∙ ap (take (at + 2 * j)) (before.front ∙ ap (λ xs. take at old ++ xs) whole)
+          ∙ ap (λ n. take (n + 2 * j) (take at old ++ (text ++ rest))) (sym front) ∙ take-append-add (take at old) (text ++ rest) (2 * j)
+          ∙ ap (λ xs. take at old ++ xs) (ap (λ n. take n (text ++ rest)) (sym long) ∙ take-append_seam text rest);
+    }
+
 -- those of all
 pub digits_all : (bytes : List ℕ) {old out : List ℕ} {at i : ℕ} → length bytes ≤ i → i ≤ length bytes → IsWrittenAt at old (at + 2 * i) out (encode_lower (take i bytes))
     → IsWrittenAt at old (at + 2 * length bytes) out (encode_lower bytes)
@@ -76,6 +94,16 @@ digits_both bytes {old} {mid} {out} {rest} {at} {i} some behind first next =
     sym (encode_lower-append (take i bytes) rest) ∙ ap encode_lower (ap (λ xs. take i bytes ++ xs) behind ∙ take-append-drop i bytes) in
     subst (λ n. IsWrittenAt at old n out (encode_lower bytes)) end (written_as (written_then first next) whole)
 
+-- those of the last, of which the first stand there already
+pub digits_last : (n : ℕ) {lanes : List ℕ} (bytes old out : List ℕ) (at i : ℕ) → n ≤ length bytes → length bytes < i + n → i ≤ length bytes
+    → at + 2 * length bytes ≤ length out → at ≤ length old → lanes ≡ encode_lower (chunk (length bytes - n) n bytes)
+    → IsWrittenAt at old (at + 2 * i) out (encode_lower (take i bytes))
+    → IsWrittenAt at old (at + 2 * length bytes) (put_chunk (at + 2 * (length bytes - n)) out lanes) (encode_lower bytes)
+digits_last n {lanes} bytes old out at i some left within room front is before =
+    let j : ℕ = length bytes - n in
+    digits_all bytes (omega (arith, some)) (omega (arith, some))
+    (digits_more n bytes old out at j (omega (arith, some)) room is (digits_less bytes j (omega (arith, left)) within front before))
+
 -- ---- words, of which the first bytes count
 
 -- a byte behind what stands there
@@ -92,6 +120,12 @@ written_front out lanes at count some room =
       front = sym (take-take (at + count) (at + length lanes) (put_chunk at out lanes) (omega (arith, some))) ∙ ap (take (at + count)) whole
           ∙ ap (λ n. take (n + count) (take at out ++ lanes)) (sym long) ∙ take-append-add (take at out) lanes count;
     }
+
+-- the digits of the front of what a vector holds
+pub front_digits : (front rest : List ℕ) (count : ℕ) → 2 * length front ≡ count → take count (encode_lower (front ++ rest)) ≡ encode_lower front
+front_digits front rest count long =
+    ap (take count) (encode_lower-append front rest) ∙ ap (λ n. take n (encode_lower front ++ encode_lower rest)) (sym long ∙ sym (length-encode_with lower_digits front))
+    ∙ take-append_seam (encode_lower front) (encode_lower rest)
 
 -- a text at the front of what a vector holds that was read from a place of a buffer
 pub front_is : (buffer text rest : List ℕ) (start left count : ℕ) → drop start buffer ≡ text ++ rest → count ≡ length text → count ≤ 32 → 32 ≤ left

@@ -9,7 +9,8 @@ use Rattle.dcd_base.specs.declared.steps.LogId.{LogId}
 use Rattle.dcd_base.specs.declared.failures.AccessFault.{AccessFault}
 use Rattle.event_records.specs.declared.events.Event.{Event}
 use Rattle.event_records.specs.Records.{record_bytes}
-use Rattle.cci_codec.specs.Messages.{response_bytes}
+use Rattle.cci_codec.specs.Messages.{response_bytes, response_head_fields}
+use Rattle.field_bytes.specs.Layouts.{spelling}
 use Rattle.region_config.specs.Configurations.{Configuration}
 use Rattle.region_config.specs.Granules.{hosts_of}
 use Rattle.journal_core.specs.declared.acts.Act.{Act}
@@ -19,6 +20,7 @@ use Rattle.journal_core.specs.declared.entries.Entry.{Entry}
 use Rattle.journal_core.specs.Entries.{effects}
 use Rattle.journal_core.specs.Seen.{kind_of, seen_reply}
 use Rattle.journal_core.specs.declared.seen.ActKind.{ActKind}
+use Rattle.journal_core.specs.declared.seen.ResponseSeen.{ResponseSeen}
 use Rattle.journal_core.specs.declared.seen.StepSeen.{StepSeen}
 use Rattle.device_rules.specs.Counts.{dirty_count, extent_count, free_count, granules_held, missed_of, records_of}
 
@@ -75,6 +77,10 @@ step_line n line actor kind reply = line_of (decimal n ∷ decimal line ∷ acto
 -- the line of a step that is lent
 abbrev pub seen_line : ℕ → StepSeen → List ℕ
 seen_line n step = step_line n step.line step.actor step.kind (seen_reply step.reply)
+
+-- the header of a response that is lent
+abbrev pub seen_head : ResponseSeen → List ℕ
+seen_head response = spelling (response_head_fields response.tag response.opcode response.code (length response.payload.now))
 
 -- the line of an entry, and its number
 unfoldable pub entry_line : ℕ × Entry → List ℕ

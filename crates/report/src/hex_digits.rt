@@ -14,12 +14,31 @@ pub(crate) fn write_hex(out: &mut [u8], at: usize, bytes: &[u8])
     requires { at + 2 * length bytes.now ≤ length out.old }
     ensures { IsWrittenAt at out.old (at + 2 * length bytes.now) out.new (encode_lower bytes.now) }
 {
-    let sixteens = write_sixteens(out, at, bytes);
-    let (_, rest) = bytes.split_at(sixteens);
-    write_short(out, at + 2 * sixteens, rest);
+    if bytes.len() < 16 {
+        write_short(out, at, bytes);
+    } else {
+        write_long(out, at, bytes);
+    }
 }
 
-/// Writes the digits of bytes, of which there are mostly fewer than sixteen.
+/// Writes the digits of at least sixteen bytes. Where some are left behind the sixteens, those of the last sixteen are
+/// written, of which the first stand there already.
+#[inline(always)]
+fn write_long(out: &mut [u8], at: usize, bytes: &[u8])
+    requires least { 16 ≤ length bytes.now }
+    requires room { at + 2 * length bytes.now ≤ length out.old }
+    ensures { IsWrittenAt at out.old (at + 2 * length bytes.now) out.new (encode_lower bytes.now) }
+{
+    let done = write_sixteens(out, at, bytes);
+    if done < bytes.len() {
+        let last = bytes.len() - 16;
+        digits_of_sixteen(u8x16::from_slice(&bytes[last..])).copy_to_slice(
+            &mut out[at + 2 * last..],
+        );
+    }
+}
+
+/// Writes the digits of bytes, fewer than sixteen.
 #[inline(always)]
 fn write_short(out: &mut [u8], at: usize, bytes: &[u8])
     requires { at + 2 * length bytes.now ≤ length out.old }
@@ -46,6 +65,7 @@ fn write_shorter(out: &mut [u8], at: usize, bytes: &[u8])
 fn write_sixteens(out: &mut [u8], at: usize, bytes: &[u8]) -> usize
     requires { at + 2 * length bytes.now ≤ length out.old }
     ensures count { result ≤ length bytes.now }
+    ensures left { length bytes.now < result + 16 }
     ensures digits { IsWrittenAt at out.old (at + 2 * result) out.new (encode_lower (take result bytes.now)) }
 {
     let mut i = 0;
@@ -100,7 +120,7 @@ fn write_ones(out: &mut [u8], at: usize, bytes: &[u8])
 
 /// The digits of sixteen bytes.
 #[inline(always)]
-fn digits_of_sixteen(bytes: u8x16) -> u8x32
+pub(crate) fn digits_of_sixteen(bytes: u8x16) -> u8x32
     ensures { result ≡ encode_lower bytes }
 {
     let numbers = (bytes / u8x16::splat(16)).shuffle(

@@ -9,6 +9,7 @@ mod places;
 mod printing;
 mod refusals;
 mod rendering;
+mod response_heads;
 mod state_lines;
 mod step_writing;
 mod words;

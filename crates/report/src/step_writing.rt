@@ -3,14 +3,15 @@
 //! Words are written as eight bytes and numbers as thirty-two, whatever their length: what stands behind the end of one is written over by the next.
 
 ghost use Rattle.control_core.specs.Deciding.{IsShort};
+ghost use Rattle.hex.specs.Hex.{encode_lower};
 ghost use Rattle.journal_core.specs.Seen.{seen_reply, seen_response};
 ghost use Rattle.journal_core.specs.declared.acts.Reply.{Reply};
 ghost use Rattle.report.specs.Printing.{IsWrittenAt, step_room};
-ghost use Rattle.report.specs.Texts.{actor_name, host_name, kind_name, next_word, reply_words, rest_of_line, seen_line};
+ghost use Rattle.report.specs.Texts.{actor_name, host_name, kind_name, next_word, reply_words, rest_of_line, seen_head, seen_line};
 ghost use Rattle.std.specs.Prelude.{◌≡◌, ◌+◌, ◌*◌, ◌<◌, ◌≤◌, ◌++◌, ◌∷◌, [], decimal, length, take};
 
-use crate::hex_digits::write_hex;
-use cci_codec::response_head;
+use crate::hex_digits::{digits_of_sixteen, write_hex};
+use crate::response_heads::wide_head;
 use dcd_base::{AccessFault, Actor};
 use itoa::write_digits;
 use journal_core::{ActKind, ReplySeen, ResponseSeen, StepSeen};
@@ -203,6 +204,18 @@ fn write_kind(out: &mut [u8], at: usize, kind: ActKind) -> usize
     }
 }
 
+/// Writes the digits of the header of a response.
+#[inline(always)]
+fn write_head(out: &mut [u8], at: usize, response: &ResponseSeen<'_>)
+    requires short { length response.now.payload.now ≤ 2048 }
+    requires room { at + 32 ≤ length out.old }
+    ensures { IsWrittenAt at out.old (at + 24) out.new (encode_lower (seen_head response.now)) }
+{
+    let length = response.payload.len() as u64;
+    let head = wide_head(response.tag, response.opcode, response.code, length);
+    write_numeral(out, at, digits_of_sixteen(head), 24);
+}
+
 /// Writes a space, the digits of a response and the end of the line.
 #[inline(always)]
 fn write_response(out: &mut [u8], at: usize, response: &ResponseSeen<'_>) -> usize
@@ -212,14 +225,8 @@ fn write_response(out: &mut [u8], at: usize, response: &ResponseSeen<'_>) -> usi
     ensures words { IsWrittenAt at out.old result out.new (rest_of_line (reply_words (Reply.Answer (seen_response response.now)))) }
 {
     let payload = response.payload;
-    let head = response_head(
-        response.tag,
-        response.opcode,
-        response.code,
-        payload.len() as u32,
-    );
     write_byte(out, at, b' ');
-    write_hex(out, at + 1, head.as_slice());
+    write_head(out, at + 1, response);
     write_hex(out, at + 25, payload);
     write_byte(out, at + 25 + 2 * payload.len(), b'\n');
     at + 26 + 2 * payload.len()
