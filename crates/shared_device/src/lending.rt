@@ -9,7 +9,7 @@ ghost use Rattle.shared_device.specs.declared.pass.Pass.{Pass};
 ghost use Rattle.std.specs.Prelude.{◌≡◌, ◌+◌, ◌^◌, ◌<◌, ◌≤◌, List, flat_map, length, ℕ};
 
 use control_core::Control;
-use journal_core::{Accesses, Entry, WholeOfShards, whole_of_shards};
+use journal_core::{Accesses, KeptEntries, WholeOfShards, whole_of_shards};
 
 /// How many loads and stores the lists have.
 fn count_all(lists: &[Accesses]) -> u64
@@ -25,9 +25,9 @@ fn count_all(lists: &[Accesses]) -> u64
 }
 
 /// How many entries there are.
-fn count_entries(control: &[Entry], lists: &[Accesses]) -> u64
+fn count_entries(control: &KeptEntries, lists: &[Accesses]) -> u64
     requires { length lists.now ≤ 16 }
-    ensures { result ≡ length (merged control.now lists.now) }
+    ensures { result ≡ length (merged control.now.entries lists.now) }
 {
     control.len() as u64 + count_all(lists)
 }
