@@ -3,6 +3,8 @@
 ghost use Rattle.dcd_base.specs.declared.failures.AccessFault.{AccessFault};
 ghost use Rattle.explainer.specs.Explanations.{access_refusal, entries_explained, entry_explained, line_explained, reply_explained, script_frame, step_explained};
 ghost use Rattle.journal_core.specs.Lending.{lent_entry};
+ghost use Rattle.journal_core.specs.Seen.{seen_reply};
+ghost use Rattle.journal_core.specs.declared.acts.Reply.{Reply};
 ghost use Rattle.reply_words.specs.PartWords.{detail, labelled};
 ghost use Rattle.script_codec.specs.Scripts.{are_lanes, is_sound_line};
 ghost use Rattle.script_codec.specs.Writing.{IsWritable, has_short_message};
@@ -11,7 +13,7 @@ ghost use Rattle.text_printing.specs.Printing.{printed_words};
 ghost use Rattle.text_words.specs.Words.{line_text};
 
 use dcd_base::{AccessFault, Bytes, NoMemory};
-use journal_core::{Lender, Lent, Reply};
+use journal_core::{Lender, Lent, ReplySeen};
 use reply_words::{put_answer, put_labelled, put_labelled_size};
 use script_codec::{Line, Script};
 use std::alloc::Global;
@@ -59,22 +61,17 @@ fn put_zeroed(count: u32, out: &mut Bytes) -> Result<(), NoMemory>
 }
 
 /// Appends a reply.
-fn put_reply(reply: &Reply, out: &mut Bytes) -> Result<(), NoMemory>
-    ensures { OnOk result (out.new ≡ out.old ++ reply_explained reply.now) }
+fn put_reply(reply: &ReplySeen<'_>, out: &mut Bytes) -> Result<(), NoMemory>
+    ensures { OnOk result (out.new ≡ out.old ++ reply_explained (seen_reply reply.now)) }
 {
     match reply {
-        Reply::Answer(response) => {
-            put_answer(
-                response.opcode,
-                response.code,
-                response.payload.as_slice(),
-                out,
-            )
+        ReplySeen::Answer(response) => {
+            put_answer(response.opcode, response.code, response.payload, out)
         }
-        Reply::Word(word) => put_word(*word, out),
-        Reply::Stored => put_words(b"stored", out),
-        Reply::Refused(fault) => put_words(refusal_of(*fault), out),
-        Reply::Scrubbed(count) => put_zeroed(*count, out),
+        ReplySeen::Word(word) => put_word(*word, out),
+        ReplySeen::Stored => put_words(b"stored", out),
+        ReplySeen::Refused(fault) => put_words(refusal_of(*fault), out),
+        ReplySeen::Scrubbed(count) => put_zeroed(*count, out),
     }
 }
 
@@ -125,11 +122,11 @@ fn put_step(
     alloc: Global,
     script: &Script,
     number: u32,
-    reply: &Reply,
+    reply: &ReplySeen<'_>,
     out: &mut Bytes,
 ) -> Result<(), NoMemory>
     requires { IsWritable script.now }
-    ensures { OnOk result (out.new ≡ out.old ++ step_explained script.now number reply.now) }
+    ensures { OnOk result (out.new ≡ out.old ++ step_explained script.now number (seen_reply reply.now)) }
 {
     put_number(number, out)?;
     out.extend_from_slice(b"  ")?;
@@ -147,10 +144,8 @@ fn put_entry(
     requires { IsWritable script.now }
     ensures { OnOk result (out.new ≡ out.old ++ entry_explained script.now (lent_entry entry.now)) }
 {
-    match entry {
-        Lent::Full(entry) => put_step(alloc, script, entry.line, &entry.reply, out),
-        Lent::Small(access) => put_step(alloc, script, access.line(), &access.reply(), out),
-    }
+    let step = entry.seen();
+    put_step(alloc, script, step.line, &step.reply, out)
 }
 
 /// Appends the entries that are lent. None is left then.

@@ -37,12 +37,18 @@ fn row_of(entry: &Entry) -> Row {
     (entry.pass, entry.line, told_by(&entry.reply), stamp)
 }
 
+/// A copy of an entry. Where memory is wanted it is made once more.
+fn copy_of(entry: &Lent<'_>) -> Option<Entry> {
+    match entry.copy() {
+        Ok(copy) => Some(copy),
+        Err(NoMemory) => entry.copy().ok(),
+    }
+}
+
 /// The row of the next entry.
 fn next_row<J: Lender>(journal: &J) -> Option<Row> {
-    match journal.peek()? {
-        Lent::Full(entry) => Some(row_of(entry)),
-        Lent::Small(access) => Some(row_of(&access.entry())),
-    }
+    let entry = copy_of(&journal.peek()?)?;
+    Some(row_of(&entry))
 }
 
 /// The first entry that is not that of its row; an entry behind the rows is none.
