@@ -2,10 +2,8 @@
 use Rattle.std.proofs.Common.{◌≡◌, ℕ, ◌+◌, ◌-◌, ◌<◌, Bool, true, false, List, [], ◌∷◌, ◌++◌, Some, None, length, get_or, take, refl, sym, ap, subst, ◌∙◌, arith, length-append}
 use Rattle.std.specs.Prelude.{IsTrue, if◌then◌else◌, slice_get}
 use Rattle.std.specs.List.{AllByRecursion}
-use Rattle.std.proofs.Math.Seq.{get_or-append_seam}
 use Rattle.std.proofs.lemmas.Bool.{false≢true}
 use Rattle.std.proofs.lemmas.List.{take_more}
-use Rattle.std.proofs.lemmas.Option.{none-some, same_Some, slice_get-get_or}
 use Rattle.dcd_base.specs.declared.steps.Actor.{Actor}
 use Rattle.journal_core.specs.Entries.{effects, fits, is_control}
 use Rattle.journal_core.specs.Tokens.{without_extents}
@@ -50,28 +48,6 @@ spelled_alone (Effect.Block r size ∷ all) spelled = (tt, spelled_alone all spe
 pub entry_more : (journal : List Entry) (i : ℕ) (e : Entry) → i < length journal → e ≡ get_or journal i e → AreSpelled (take i journal) → AreSpelledIn e.effects → AreSpelled (take (i + 1) journal)
 entry_more journal i e within is front new =
     subst AreSpelled (sym (take_more journal i e within ∙ ap (λ (x : Entry). take i journal ++ x ∷ []) (sym is))) (spelled-push (take i journal) e front new)
-
--- ---- the last entry
-
--- the last of some entries is found at the end of them
-last_found : (before : List Entry) (e : Entry) → slice_get (before ++ e ∷ []) (length (before ++ e ∷ []) - 1) ≡ Some e
-last_found before e =
-    let xs : List Entry = before ++ e ∷ [] in
-    let at : length (before ++ e ∷ []) - 1 ≡ length before = omega (arith, length-append before (e ∷ [])) in
-    ap (slice_get (before ++ e ∷ [])) at
-    ∙ slice_get-get_or (before ++ e ∷ []) (length before) e (omega (arith, length-append before (e ∷ [])))
-    ∙ ap Some (get_or-append_seam before e [] e)
-
-found_in : (entries before : List Entry) (e : Entry) → entries ≡ before ++ e ∷ [] → slice_get entries (length entries - 1) ≡ Some e
-found_in entries before e is = ap (λ (xs : List Entry). slice_get xs (length xs - 1)) is ∙ last_found before e
-
--- so it is the one that was found
-pub last_is : (entries before : List Entry) (x e : Entry) → Some x ≡ slice_get entries (length entries - 1) → entries ≡ before ++ e ∷ [] → x ≡ e
-last_is entries before x e found is = same_Some x e (found ∙ found_in entries before e is)
-
--- and there is one
-pub last_none : (entries before : List Entry) (e : Entry) → None ≡ slice_get entries (length entries - 1) → entries ≡ before ++ e ∷ [] → ⊥
-last_none entries before e none is = none-some e (none ∙ found_in entries before e is)
 
 -- ---- the last entry of a journal, by the last of its commands and scrubs
 

@@ -7,7 +7,7 @@ ghost use Rattle.std.specs.Prelude.{◌≡◌, ◌++◌, ◌∷◌, [], List};
 
 use device_plain::Device;
 use event_records::law_event_is_spelled;
-use journal_core::{Effect, Entry, EntryEffects};
+use journal_core::{Effect, Entry, EntryEffects, KeptEntries, WithoutExtents};
 
 /// The bytes of each record that went into a log are its one spelling.
 pub(crate) fn are_spelled(journal: &[Entry])
@@ -22,7 +22,14 @@ pub(crate) fn are_spelled(journal: &[Entry])
 fn effects_are_spelled(effects: &EntryEffects)
     ensures { AreSpelledIn effects.now }
 {
-    let mut left = effects.without_extents();
+    left_are_spelled(effects.without_extents());
+}
+
+/// So are those of effects that are lent one after another.
+fn left_are_spelled(effects: WithoutExtents<'_>)
+    ensures { AreSpelledIn effects.entry }
+{
+    let mut left = effects;
     while let Some(effect) = left.next() {
         is_spelled(&effect);
     }
@@ -39,11 +46,11 @@ fn is_spelled(effect: &Effect)
 }
 
 /// The records that the last of these entries put into logs are spelled as they are read.
-fn last_is_spelled(entries: &[Entry])
-    ensures { (before : List Entry) (e : Entry) → entries.now ≡ before ++ e ∷ [] → AreSpelledIn e.effects }
+fn last_is_spelled(entries: &KeptEntries)
+    ensures { (before : List Entry) (e : Entry) → entries.now.entries ≡ before ++ e ∷ [] → AreSpelledIn e.effects }
 {
     match entries.last() {
-        Some(entry) => effects_are_spelled(&entry.effects),
+        Some(entry) => left_are_spelled(entry.effects_without_extents()),
         None => (),
     }
 }

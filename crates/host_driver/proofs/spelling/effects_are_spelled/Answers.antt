@@ -1,13 +1,7 @@
-use Rattle.std.proofs.Common.{subst, sym}
+use Rattle.std.proofs.Common.{subst}
 use Rattle.host_driver.specs.Spelling.{AreSpelledIn}
 use Rattle.host_driver.proofs.Spelled.{spelled_alone}
 use Rattle.host_driver.proofs.spelling.effects_are_spelled.Goals as goal
 
-pub loop-effect-init : goal.loop-effect-init
-loop-effect-init c = λ spelled. spelled_alone c.args.effects.now (subst AreSpelledIn c.without_extents-left.ensures spelled)
-
-pub loop-effect-preserved : goal.loop-effect-preserved
-loop-effect-preserved c = λ spelled. c.loop-effect.invariant (subst AreSpelledIn (sym c.in-Some.ensures) (c.is_spelled.ensures, spelled))
-
 pub returns : goal.returns
-returns c = c.loop-effect.invariant (subst AreSpelledIn (sym c.in_default.ensures) tt)
+returns c = spelled_alone c.args.effects.now (subst AreSpelledIn c.without_extents.ensures c.left_are_spelled.ensures)
