@@ -167,10 +167,10 @@ impl Control {
         ensures changes { IfOk result (AreChangesOf self.old.config self.old.entries actor act.now) }
         ensures inside { IfOk result (λ changes. All (LiesIn (granule_total self.old.config)) changes) }
     {
-        let none = Effects::new(self.live.alloc);
-        let changes = self.changes_by(&actor, act, &none)?;
+        let alloc = self.live.allocator();
+        let none = Effects::new(alloc);
         self.entries.append(pass, line, actor, act, reply, &none)?;
-        Ok(changes)
+        Ok(Changes::new(alloc))
     }
 
     /// Takes a step that may change something, which is decided.
