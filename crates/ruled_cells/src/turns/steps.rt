@@ -71,7 +71,7 @@ pub fn try_take<X, V, K, P: Protocol<X, V, K>, M: Outcome<X, V>>(
 }
 
 /// How often a turn that is another's is looked at again before other threads are let run.
-const LOOKS: u32 = 200;
+const LOOKS: u32 = 20;
 
 /// How often they are let run before a sleep: to be woken costs more than most turns take.
 const YIELDS: u32 = 100;
