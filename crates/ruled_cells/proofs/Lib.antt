@@ -3,6 +3,7 @@ pub mod TurnSteps
 pub mod TurnPlays
 pub mod TurnCalls
 pub mod TurnSeats
+pub mod TurnsApart
 pub mod Order
 pub mod RuleSteps
 pub mod Weights

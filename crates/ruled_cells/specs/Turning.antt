@@ -1,10 +1,11 @@
 -- Cells that are taken in turns: what ties the words, the slots and the views to the values, and what each step tells.
--- Word k is the turn of cell k, 0 or the number of a seat plus 1. The word after the turns is the user's.
+-- Word k is the turn of cell k, 0 or the number of a seat plus 1. The word after the turns is the user's. They stand apart in the table: word k is its word 8 * k.
 -- The value of a cell is the one at home, or the one that was taken.
-use Rattle.std.specs.Prelude.{◌≡◌, ◌≢◌, ℕ, ◌+◌, ◌^◌, ◌<◌, ◌≤◌, true, false, List, [], ◌∷◌, ◌++◌, map, length, replicate, slice_index, slice_set, Option, Some, None}
+use Rattle.std.specs.Prelude.{◌≡◌, ◌≢◌, ℕ, ◌+◌, ◌*◌, ◌/◌, ◌^◌, ◌<◌, ◌≤◌, true, false, List, [], ◌∷◌, ◌++◌, map, length, replicate, slice_index, slice_set, Option, Some, None}
 use mathlib.Core.Option.{some}
 use mathlib.Core.Option as maybe
 use lib.ListN.{get_elem?}
+use Rattle.atomic_table.specs.Seated.{TableId}
 use Rattle.atomic_table.specs.Table.{State, Me, Step, rest}
 use Rattle.ruled_cells.specs.declared.turns.seat_state.SeatState.{SeatState}
 
@@ -38,7 +39,7 @@ pub record Knows {X V : Type 0} (n seats : ℕ) (words : List ℕ) (vals : List 
 abbrev pub client : {X V : Type 0} → SeatState X V → V
 client d = d.client
 
--- the rule of the table
+-- the rule, for the words side by side
 pub record Tied {X V : Type 0} (n seats : ℕ) (holds : List ℕ → List X → List V → Type 0) (s : State (Option X) (SeatState X V)) : Type 0 where
   pub vals : List X
   pub wide : length s.words ≡ n + 1
@@ -50,6 +51,27 @@ pub record Tied {X V : Type 0} (n seats : ℕ) (holds : List ℕ → List X → 
   pub owned : (k : ℕ) → k < n → slice_index s.words k ≢ 0 → (j : ℕ) × (d : SeatState X V) × (x : X) × (slice_index s.words k ≡ j + 1) × (get_elem? s.views j ≡ some d) × (d.live ≡ true) × HasTurn d.taken k x
   pub each : (j : ℕ) (d : SeatState X V) → get_elem? s.views j ≡ some d → d.live ≡ true → Knows n seats s.words vals s.homes s.views j d
   pub kept : holds s.words vals (map client s.views)
+
+-- ---- the words in the table, a line of the cache apart
+
+-- what the table has at every eighth place are these words
+pub record IsApart (n : ℕ) (table words : List ℕ) : Type 0 where
+  pub wide : length table ≡ 8 * n + 1
+  pub at : (k : ℕ) → k < n + 1 → slice_index table (8 * k) ≡ slice_index words k
+
+-- the rule of the table
+pub record TiedApart {X V : Type 0} (n seats : ℕ) (holds : List ℕ → List X → List V → Type 0) (s : State (Option X) (SeatState X V)) : Type 0 where
+  pub words : List ℕ
+  pub apart : IsApart n s.words words
+  pub tied : Tied n seats holds record { words = words; homes = s.homes; views = s.views }
+
+-- the table has room for a turn of each slot and for the user's word, and the numbers of its words do not overflow
+abbrev pub HasWords : TableId → Type 0
+HasWords t = (t.words ≡ 8 * t.slots + 1) × (t.slots < 2 ^ 60)
+
+-- a step of the table, at the place that its word has side by side with the others
+abbrev pub in_row : {S : Type 0} → Step S → Step S
+in_row st = record st { word = st.word / 8 }
 
 -- ---- what a user owes for each kind of step
 
@@ -203,4 +225,4 @@ pub record Settled {X V : Type 0} (holds : List ℕ → List X → List V → Ty
 
 -- no seat but d is left
 abbrev pub SettledBy : {X V : Type 0} → (List ℕ → List X → List V → Type 0) → ℕ → SeatState X V → List ℕ → List (Option X) → Type 0
-SettledBy holds n d words slots = Settled holds n d.among d.number d.client words slots
+SettledBy holds n d table slots = (words : List ℕ) × IsApart n table words × Settled holds n d.among d.number d.client words slots

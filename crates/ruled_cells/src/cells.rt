@@ -1,6 +1,7 @@
 //! The cells.
 
 ghost use Rattle.std.specs.Prelude.{◌≡◌, ◌+◌};
+ghost use Rattle.ruled_cells.specs.Turning.{HasWords};
 
 use crate::about::SeatView;
 use crate::cell_value::{CellValue, OpeningValues};
@@ -15,5 +16,5 @@ pub struct Cells<F: Chief, S: Member> {
     pub(crate) table: Store<CellValue<F, S>, SeatView, OpeningValues<F, S>, Ruling<F, S>>,
     pub(crate) row: u32,
     pub(crate) sleepers: Sleepers,
-    ghost sized: { (table.shared.table_id.words ≡ table.shared.table_id.slots + 1) × (table.shared.table_id.slots ≡ row + 1) },
+    ghost sized: { HasWords table.shared.table_id × (table.shared.table_id.slots ≡ row + 1) },
 }

@@ -6,7 +6,7 @@ ghost use Rattle.ruled_cells.specs.Making.{IsFilling, IsMaker};
 ghost use Rattle.ruled_cells.specs.Ruling.{names};
 ghost use Rattle.ruled_cells.specs.declared.seat.Seat.{Seat};
 ghost use Rattle.ruled_cells.specs.Telling.{MayOpen};
-ghost use Rattle.ruled_cells.specs.Turning.{HasTurn, NoTurn};
+ghost use Rattle.ruled_cells.specs.Turning.{HasTurn, HasWords, NoTurn};
 ghost use Rattle.ruled_cells.specs.declared.cell_value.CellValue.TheVariants.{First};
 ghost use Rattle.ruled_cells.specs.Reads.{about_of};
 
@@ -33,7 +33,7 @@ fn fill<F: Chief, S: Member>(
     mut rest: Vec<S>,
 )
     requires board { token.old.table_id ≡ shelf.now.table_id }
-    requires shelf { (length rest.items + 1 ≡ shelf.now.table_id.slots) × (shelf.now.table_id.words ≡ shelf.now.table_id.slots + 1) }
+    requires shelf { (length rest.items + 1 ≡ shelf.now.table_id.slots) × HasWords shelf.now.table_id }
     requires maker { IsMaker shelf.now.key.seats 1 (about_of F.reads shelf.now.key.first) token.old.me }
     requires sound { F.reads.sound first }
     requires first { HasTurn token.old.me.0.taken 0 (First first) }

@@ -1,6 +1,6 @@
 //! Cells that are taken in turns, under a rule of their user.
 //!
-//! Word k of the table is the turn of cell k: 0, or the number of the seat that has it plus 1. One more word is
+//! Each cell has a word of the table, its turn: 0, or the number of the seat that has it plus 1. One more word is
 //! the user's. A value is at home in its slot, or it was taken by the seat that has the turn.
 mod plays;
 mod protocol;
@@ -8,6 +8,7 @@ mod seat_state;
 mod seats;
 mod sleepers;
 mod steps;
+mod words;
 
 pub(crate) use protocol::{Admission, Board, Marking, Merging, Outcome, Protocol, Token, Turns};
 pub(crate) use seat_state::SeatState;

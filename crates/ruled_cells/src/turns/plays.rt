@@ -1,5 +1,5 @@
 //! The steps on the table, each with what it tells.
-ghost use Rattle.ruled_cells.specs.Turning.{enrolled, given_back, gone, joint, laid_back, marks_seat, newcomer, picked_up, tried};
+ghost use Rattle.ruled_cells.specs.Turning.{enrolled, given_back, gone, in_row, joint, laid_back, marks_seat, newcomer, picked_up, tried};
 
 use crate::turns::protocol::{Admission, Marking, Merging, Outcome};
 use crate::turns::seat_state::SeatState;
@@ -12,7 +12,7 @@ pub struct Try<M> {
 }
 
 impl<X, V, M: Outcome<X, V>> Play<Option<X>, SeatState<X, V>> for Try<M> {
-    ghost then = { tried M.then };
+    ghost then = { λ st. tried M.then (in_row st) };
 }
 
 /// Lays an emptied slot back.
@@ -26,7 +26,7 @@ impl<X, V> Play<Option<X>, SeatState<X, V>> for Lay {
 pub struct Pick;
 
 impl<X, V> Play<Option<X>, SeatState<X, V>> for Pick {
-    ghost then = { picked_up };
+    ghost then = { λ st. picked_up (in_row st) };
 }
 
 /// Lays a filled slot back and frees its turn.
@@ -35,7 +35,7 @@ pub struct Give<M> {
 }
 
 impl<X, V, M: Outcome<X, V>> Play<Option<X>, SeatState<X, V>> for Give<M> {
-    ghost then = { given_back M.then };
+    ghost then = { λ st. given_back M.then (in_row st) };
 }
 
 /// Sets the user's word.

@@ -52,9 +52,9 @@ pub struct Turns<P> {
 
 impl<X, V, K, P: Protocol<X, V, K>> TableRule<Option<X>, SeatState<X, V>, K> for Turns<P> {
     ghost use Rattle.std.specs.Prelude.{length};
-    ghost use Rattle.ruled_cells.specs.Turning.{Tied, opener};
+    ghost use Rattle.ruled_cells.specs.Turning.{TiedApart, opener};
 
-    ghost holds = { λ key. Tied (length (P.given key)) (P.seats key) (P.holds key) };
+    ghost holds = { λ key. TiedApart (length (P.given key)) (P.seats key) (P.holds key) };
 
     ghost first = { λ key. opener (P.seats key) (P.given key) (P.first key) };
 }

@@ -1,24 +1,26 @@
 //! Making the cells, their seats, and taking all of it apart again.
-ghost use Rattle.std.specs.Prelude.{◌≡◌, ◌≢◌, ℕ, ◌+◌, ◌^◌, ◌<◌, [], true, length, replicate, slice_set, IfOk};
+ghost use Rattle.std.specs.Prelude.{◌≡◌, ◌≢◌, ℕ, ◌+◌, ◌*◌, ◌^◌, ◌<◌, [], true, length, replicate, slice_set, IfOk};
 ghost use Rattle.core.specs.Mem.Slots.{slots_items, slots_len, IsFull};
-ghost use Rattle.ruled_cells.specs.Turning.{Admits, HoldsAtFirst, IsIn, MergesSeats, NoTurn, SettledBy, enrolled, joint, newcomer, opener};
+ghost use Rattle.ruled_cells.specs.Turning.{Admits, HasWords, HoldsAtFirst, IsIn, MergesSeats, NoTurn, SettledBy, enrolled, joint, newcomer, opener};
 
 use crate::turns::plays::{Absorb, Enroll};
 use crate::turns::protocol::{Admission, Board, Merging, Protocol, Token, Turns};
 use crate::turns::seat_state::SeatState;
+use crate::turns::words::word_of;
 use atomic_table::{Closed, Table};
 use dcd_base::NoMemory;
 use std::alloc::Global;
 
 pub type Store<X, V, K, P> = Table<Option<X>, SeatState<X, V>, K, Turns<P>, Global>;
 
-/// The words at first: all turns are seat 0's, and the user's word is 0.
+/// The words at first: all turns are seat 0's, and the user's word is 0. What stands between them is never used.
 fn first_words(alloc: Global, cells: usize) -> Result<Vec<u64>, NoMemory>
-    requires { cells < 2 ^ 62 }
-    ensures { IfOk result (λ words. words.items ≡ slice_set (replicate (cells + 1) 1) cells 0) }
+    requires { cells < 2 ^ 60 }
+    ensures { IfOk result (λ words. words.items ≡ slice_set (replicate (8 * cells + 1) 1) (8 * cells) 0) }
 {
-    let mut words = Vec::from_elem(alloc, 1u64, cells + 1)?;
-    words[cells] = 0;
+    let last = word_of(cells);
+    let mut words = Vec::from_elem(alloc, 1u64, last + 1)?;
+    words[last] = 0;
     Ok(words)
 }
 
@@ -28,10 +30,10 @@ pub fn open<X, V, K, P: Protocol<X, V, K>>(
     cells: usize,
     about: &K,
 ) -> Result<(Store<X, V, K, P>, Token<X, V>), NoMemory>
-    requires cells { (cells ≡ length (P.given about.now)) × (cells < 2 ^ 62) }
+    requires cells { (cells ≡ length (P.given about.now)) × (cells < 2 ^ 60) }
     requires seats { (0 < P.seats about.now) × (P.seats about.now < 2 ^ 32) }
     requires rule { HoldsAtFirst (P.holds about.now) cells (P.given about.now) (P.first about.now) }
-    ensures words { IfOk result (λ made. made.0.shared.table_id.words ≡ cells + 1) }
+    ensures words { IfOk result (λ made. made.0.shared.table_id.words ≡ 8 * cells + 1) }
     ensures slots { IfOk result (λ made. made.0.shared.table_id.slots ≡ cells) }
     ensures table { IfOk result (λ made. made.1.table_id ≡ made.0.shared.table_id) }
     ensures seat { IfOk result (λ made. made.1.me ≡ (opener (P.seats about.now) (P.given about.now) (P.first about.now), [])) }
@@ -46,7 +48,7 @@ pub fn enroll<X, V, K, P: Protocol<X, V, K>, M: Admission<V>>(
     board: &Board<X, V, K, P>,
     seat: &mut Token<X, V>,
 ) -> Token<X, V>
-    requires board { (seat.old.table_id ≡ board.now.table_id) × (board.now.table_id.words ≡ board.now.table_id.slots + 1) }
+    requires board { (seat.old.table_id ≡ board.now.table_id) × HasWords board.now.table_id }
     requires makes { (seat.old.me.0.live ≡ true) × (seat.old.me.0.makes ≡ true) × (seat.old.me.0.made < seat.old.me.0.among) }
     requires rule { Admits (P.holds board.now.key) seat.old.me.0.client M.new }
     ensures kept { (seat.new.table_id ≡ seat.old.table_id) × (seat.new.id ≡ seat.old.id) × (seat.new.me ≡ (enrolled seat.old.me.0, seat.old.me.1)) }
@@ -61,7 +63,7 @@ pub fn absorb<X, V, K, P: Protocol<X, V, K>, M: Merging<V>>(
     seat: &mut Token<X, V>,
     other: Token<X, V>,
 )
-    requires board { (seat.old.table_id ≡ board.now.table_id) × (other.table_id ≡ board.now.table_id) × (board.now.table_id.words ≡ board.now.table_id.slots + 1) }
+    requires board { (seat.old.table_id ≡ board.now.table_id) × (other.table_id ≡ board.now.table_id) × HasWords board.now.table_id }
     requires live { (seat.old.me.0.live ≡ true) × (other.me.0.live ≡ true) × (other.me.1 ≡ []) }
     requires no_turn { (k : ℕ) → NoTurn other.me.0.taken k }
     requires rule { MergesSeats (P.holds board.now.key) seat.old.me.0 other.me.0 M.both M.spent }
@@ -75,7 +77,7 @@ pub fn close<X, V, K, P: Protocol<X, V, K>>(
     store: Store<X, V, K, P>,
     seat: Token<X, V>,
 ) -> Closed<Option<X>, Global>
-    requires board { (seat.table_id ≡ store.shared.table_id) × (store.shared.table_id.words ≡ store.shared.table_id.slots + 1) }
+    requires board { (seat.table_id ≡ store.shared.table_id) × HasWords store.shared.table_id }
     requires live { seat.me.0.live ≡ true }
     requires no_turn { (k : ℕ) → NoTurn seat.me.0.taken k }
     requires alone { (i : ℕ) → i < seat.me.0.among → i ≢ seat.me.0.number → IsIn i seat.me.0.joined }

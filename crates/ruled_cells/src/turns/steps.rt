@@ -1,12 +1,13 @@
 //! Taking a turn, giving it back, and setting the user's word.
 ghost use Rattle.std.specs.Prelude.{◌≡◌, ◌+◌, ◌<◌, [], ◌∷◌, IfErr, IfOk, None, Some};
-ghost use Rattle.ruled_cells.specs.Turning.{GivesFrom, HasTurn, IsGiven, IsMissed, IsMoving, IsResting, HasTaken, IsTakenInTheEnd, Marks, NoTurn, TakesTurn, marks_seat, moving_at, still, tried};
+ghost use Rattle.ruled_cells.specs.Turning.{GivesFrom, HasTurn, HasWords, IsGiven, IsMissed, IsMoving, IsResting, HasTaken, IsTakenInTheEnd, Marks, NoTurn, TakesTurn, marks_seat, moving_at, still, tried};
 ghost use Rattle.atomic_table.specs.Table.{step};
 ghost use mathlib.Core.Option.{none};
 
 use crate::turns::plays::{Give, Lay, Mark, Pick, Try};
 use crate::turns::protocol::{Board, Marking, Outcome, Protocol, Token};
 use crate::turns::sleepers::Sleepers;
+use crate::turns::words::word_of;
 use std::hint::spin_loop;
 use std::sync::Wait;
 use std::thread::yield_now;
@@ -18,14 +19,14 @@ fn attempt<X, V, K, P: Protocol<X, V, K>, M: Outcome<X, V>>(
     number: u32,
     cell: usize,
 ) -> u64
-    requires board { (seat.old.table_id ≡ board.now.table_id) × (cell < board.now.table_id.slots) × (board.now.table_id.words ≡ board.now.table_id.slots + 1) }
+    requires board { (seat.old.table_id ≡ board.now.table_id) × (cell < board.now.table_id.slots) × HasWords board.now.table_id }
     requires resting { IsResting number seat.old.me }
     requires no_turn { NoTurn seat.old.me.0.taken cell }
     requires rule { TakesTurn (P.holds board.now.key) board.now.table_id.slots number seat.old.me.0.taken seat.old.me.0.client cell M.then }
     ensures board { (seat.new.table_id ≡ seat.old.table_id) × (seat.new.id ≡ seat.old.id) }
     ensures tried { tried M.then (step board.now.table_id.slots cell 0 (number + 1) none) seat.old.me result seat.new.me }
 {
-    board.compare_exchange::<Try<M>>(seat, cell, 0, u64::from(number) + 1)
+    board.compare_exchange::<Try<M>>(seat, word_of(cell), 0, u64::from(number) + 1)
 }
 
 /// Takes the value out of the slot, and lays the slot back.
@@ -34,7 +35,7 @@ fn lift<X, V, K, P: Protocol<X, V, K>>(
     seat: &mut Token<X, V>,
     cell: usize,
 ) -> X
-    requires board { (seat.old.table_id ≡ board.now.table_id) × (cell < board.now.table_id.slots) × (board.now.table_id.words ≡ board.now.table_id.slots + 1) }
+    requires board { (seat.old.table_id ≡ board.now.table_id) × (cell < board.now.table_id.slots) × HasWords board.now.table_id }
     requires moving { (x : X) × IsMoving cell (Some x) seat.old.me }
     ensures board { (seat.new.table_id ≡ seat.old.table_id) × (seat.new.id ≡ seat.old.id) }
     ensures value { seat.old.me.1 ≡ (cell, Some result) ∷ [] }
@@ -43,7 +44,7 @@ fn lift<X, V, K, P: Protocol<X, V, K>>(
     let Some(value) = board.exchange(seat, cell, None) else {
         unreachable!()
     };
-    board.load::<Lay>(seat, cell);
+    board.load::<Lay>(seat, word_of(cell));
     value
 }
 
@@ -54,7 +55,7 @@ pub fn try_take<X, V, K, P: Protocol<X, V, K>, M: Outcome<X, V>>(
     number: u32,
     cell: usize,
 ) -> Result<X, u32>
-    requires board { (seat.old.table_id ≡ board.now.table_id) × (cell < board.now.table_id.slots) × (board.now.table_id.words ≡ board.now.table_id.slots + 1) }
+    requires board { (seat.old.table_id ≡ board.now.table_id) × (cell < board.now.table_id.slots) × HasWords board.now.table_id }
     requires resting { IsResting number seat.old.me }
     requires no_turn { NoTurn seat.old.me.0.taken cell }
     requires rule { TakesTurn (P.holds board.now.key) board.now.table_id.slots number seat.old.me.0.taken seat.old.me.0.client cell M.then }
@@ -78,10 +79,10 @@ const YIELDS: u32 = 100;
 
 /// Looks at a turn again until it is given back, or so many times.
 fn look_again<X, V, K, P: Protocol<X, V, K>>(board: &Board<X, V, K, P>, cell: usize) -> bool
-    requires { (cell < board.now.table_id.slots) × (board.now.table_id.words ≡ board.now.table_id.slots + 1) }
+    requires { (cell < board.now.table_id.slots) × HasWords board.now.table_id }
 {
     for _ in 0..LOOKS {
-        if board.peek(cell) == 0 {
+        if board.peek(word_of(cell)) == 0 {
             return true;
         }
         spin_loop();
@@ -91,11 +92,11 @@ fn look_again<X, V, K, P: Protocol<X, V, K>>(board: &Board<X, V, K, P>, cell: us
 
 /// Lets other threads run until a turn is given back, or so many times.
 fn yield_for<X, V, K, P: Protocol<X, V, K>>(board: &Board<X, V, K, P>, cell: usize) -> bool
-    requires { (cell < board.now.table_id.slots) × (board.now.table_id.words ≡ board.now.table_id.slots + 1) }
+    requires { (cell < board.now.table_id.slots) × HasWords board.now.table_id }
 {
     for _ in 0..YIELDS {
         yield_now();
-        if board.peek(cell) == 0 {
+        if board.peek(word_of(cell)) == 0 {
             return true;
         }
     }
@@ -110,10 +111,10 @@ fn sleep<X, V, K, P: Protocol<X, V, K>, R: Wait>(
     cell: usize,
     word: u32,
 )
-    requires { (cell < board.now.table_id.slots) × (board.now.table_id.words ≡ board.now.table_id.slots + 1) }
+    requires { (cell < board.now.table_id.slots) × HasWords board.now.table_id }
 {
     sleepers.come(cell);
-    board.park(rt, cell, word);
+    board.park(rt, word_of(cell), word);
     sleepers.leave(cell);
 }
 
@@ -125,7 +126,7 @@ fn rest<X, V, K, P: Protocol<X, V, K>, R: Wait>(
     cell: usize,
     word: u32,
 )
-    requires { (cell < board.now.table_id.slots) × (board.now.table_id.words ≡ board.now.table_id.slots + 1) }
+    requires { (cell < board.now.table_id.slots) × HasWords board.now.table_id }
 {
     if !look_again(board, cell) && !yield_for(board, cell) {
         sleep(rt, board, sleepers, cell, word);
@@ -141,7 +142,7 @@ pub fn take<X, V, K, P: Protocol<X, V, K>, M: Outcome<X, V>, R: Wait>(
     number: u32,
     cell: usize,
 ) -> X
-    requires board { (seat.old.table_id ≡ board.now.table_id) × (cell < board.now.table_id.slots) × (board.now.table_id.words ≡ board.now.table_id.slots + 1) }
+    requires board { (seat.old.table_id ≡ board.now.table_id) × (cell < board.now.table_id.slots) × HasWords board.now.table_id }
     requires resting { IsResting number seat.old.me }
     requires no_turn { NoTurn seat.old.me.0.taken cell }
     requires rule { TakesTurn (P.holds board.now.key) board.now.table_id.slots number seat.old.me.0.taken seat.old.me.0.client cell M.then }
@@ -159,6 +160,22 @@ pub fn take<X, V, K, P: Protocol<X, V, K>, M: Outcome<X, V>, R: Wait>(
     unreachable!()
 }
 
+/// Picks up the empty slot of a cell.
+fn pick<X, V, K, P: Protocol<X, V, K>>(
+    board: &Board<X, V, K, P>,
+    seat: &mut Token<X, V>,
+    number: u32,
+    cell: usize,
+)
+    requires board { (seat.old.table_id ≡ board.now.table_id) × (cell < board.now.table_id.slots) × HasWords board.now.table_id }
+    requires resting { IsResting number seat.old.me }
+    requires turn { (x : X) × HasTurn seat.old.me.0.taken cell x }
+    ensures board { (seat.new.table_id ≡ seat.old.table_id) × (seat.new.id ≡ seat.old.id) }
+    ensures moving { seat.new.me ≡ (moving_at cell seat.old.me.0, (cell, None) ∷ seat.old.me.1) }
+{
+    board.load::<Pick>(seat, word_of(cell));
+}
+
 /// Picks up the empty slot of a cell, and puts the value in.
 fn fill<X, V, K, P: Protocol<X, V, K>>(
     board: &Board<X, V, K, P>,
@@ -167,23 +184,23 @@ fn fill<X, V, K, P: Protocol<X, V, K>>(
     cell: usize,
     value: X,
 )
-    requires board { (seat.old.table_id ≡ board.now.table_id) × (cell < board.now.table_id.slots) × (board.now.table_id.words ≡ board.now.table_id.slots + 1) }
+    requires board { (seat.old.table_id ≡ board.now.table_id) × (cell < board.now.table_id.slots) × HasWords board.now.table_id }
     requires resting { IsResting number seat.old.me }
     requires turn { (x : X) × HasTurn seat.old.me.0.taken cell x }
     ensures board { (seat.new.table_id ≡ seat.old.table_id) × (seat.new.id ≡ seat.old.id) }
     ensures moving { seat.new.me ≡ (moving_at cell seat.old.me.0, (cell, Some value) ∷ []) }
 {
-    board.load::<Pick>(seat, cell);
+    pick(board, seat, number, cell);
     let empty = board.exchange(seat, cell, Some(value));
     let None = empty else { unreachable!() };
 }
 
 /// Wakes one that sleeps for the turn, if one says so.
 fn wake<X, V, K, P: Protocol<X, V, K>>(board: &Board<X, V, K, P>, sleepers: &Sleepers, cell: usize)
-    requires { (cell < board.now.table_id.slots) × (board.now.table_id.words ≡ board.now.table_id.slots + 1) }
+    requires { (cell < board.now.table_id.slots) × HasWords board.now.table_id }
 {
     if sleepers.are_there(cell) {
-        board.wake_one(cell);
+        board.wake_one(word_of(cell));
     }
 }
 
@@ -196,30 +213,30 @@ pub fn give<X, V, K, P: Protocol<X, V, K>, M: Outcome<X, V>>(
     cell: usize,
     value: X,
 )
-    requires board { (seat.old.table_id ≡ board.now.table_id) × (cell < board.now.table_id.slots) × (board.now.table_id.words ≡ board.now.table_id.slots + 1) }
+    requires board { (seat.old.table_id ≡ board.now.table_id) × (cell < board.now.table_id.slots) × HasWords board.now.table_id }
     requires resting { IsResting number seat.old.me }
     requires rule { GivesFrom (P.holds board.now.key) board.now.table_id.slots number seat.old.me.0 cell value M.then }
     ensures board { (seat.new.table_id ≡ seat.old.table_id) × (seat.new.id ≡ seat.old.id) }
     ensures given { IsGiven M.then cell seat.old.me value seat.new.me }
 {
     fill(board, seat, number, cell, value);
-    board.store::<Give<M>>(seat, cell, 0);
+    board.store::<Give<M>>(seat, word_of(cell), 0);
     wake(board, sleepers, cell);
 }
 
-/// Sets the user's word, which stands behind the turns.
+/// Sets the user's word, which stands behind the turns of so many cells.
 pub fn mark<X, V, K, P: Protocol<X, V, K>, M: Marking<V>>(
     board: &Board<X, V, K, P>,
     seat: &mut Token<X, V>,
     number: u32,
-    word: usize,
+    cells: usize,
     value: u64,
 )
-    requires board { (seat.old.table_id ≡ board.now.table_id) × (word ≡ board.now.table_id.slots) × (board.now.table_id.words ≡ board.now.table_id.slots + 1) }
+    requires board { (seat.old.table_id ≡ board.now.table_id) × (cells ≡ board.now.table_id.slots) × HasWords board.now.table_id }
     requires resting { IsResting number seat.old.me }
     requires rule { Marks (P.holds board.now.key) board.now.table_id.slots number seat.old.me.0.taken seat.old.me.0.client value M.then }
     ensures board { (seat.new.table_id ≡ seat.old.table_id) × (seat.new.id ≡ seat.old.id) }
-    ensures marked { marks_seat M.then (step board.now.table_id.slots word value 0 none) seat.old.me value seat.new.me }
+    ensures marked { marks_seat M.then (step board.now.table_id.slots cells value 0 none) seat.old.me value seat.new.me }
 {
-    board.store::<Mark<M>>(seat, word, value);
+    board.store::<Mark<M>>(seat, word_of(cells), value);
 }
