@@ -1,3 +1,4 @@
+pub mod ApartLists
 pub mod Cutting
 pub mod Front
 pub mod Holding

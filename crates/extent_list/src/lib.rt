@@ -7,8 +7,10 @@
 
 mod list;
 mod pieces;
+mod standing;
 mod tags;
 
 pub use list::{ExtentList, TooMany};
 pub use pieces::{has_range_in, shares_range_with};
+pub use standing::stand_apart;
 pub use tags::{has_extent_of, same_tag};

@@ -1,11 +1,14 @@
 //! The list, and the calls that change it.
 
-ghost use Rattle.extent_list.specs.ExtentLists.{cut, cut_all, holder_of, shares_range};
+ghost use Rattle.dcd_base.specs.declared.capacity.Extent.{Extent};
+ghost use Rattle.extent_list.specs.Apart.{StandApart};
+ghost use Rattle.extent_list.specs.ExtentLists.{cut, cut_all, has_range, holder_of, shares_range};
 ghost use Rattle.extent_list.specs.Rooms.{IsCutInAddresses};
 ghost use Rattle.std.specs.List.{list_any};
-ghost use Rattle.std.specs.Prelude.{◌≡◌, ◌==◌, ◌++◌, ◌∷◌, ◌+◌, ◌^◌, ◌<◌, ◌≤◌, [], All, IfErr, IfOk, IsSome, OnErr, OnOk, Some, drop, length, option_to_list, slice_get, suc, take, vec_capacity, vec_len};
+ghost use Rattle.std.specs.Prelude.{◌≡◌, ◌==◌, ◌++◌, ◌∷◌, ◌+◌, ◌^◌, ◌<◌, ◌≤◌, [], All, IfErr, IfOk, IfSome, IsSome, IsTrue, OnErr, OnOk, Some, drop, length, option_to_list, slice_get, slice_index_or, suc, take, true, vec_capacity, vec_len};
 
 use crate::pieces::{count_of, has_range_in, lower_piece, shares_range_with, upper_piece};
+use crate::standing::stand_apart;
 use dcd_base::{Extent, Extents, NoMemory};
 use std::alloc::Global;
 use std::error::Error;
@@ -164,21 +167,40 @@ impl ExtentList {
         let whole = whole_in_front(self.kept.as_slice(), leaving);
         drop_front(&mut self.kept, whole);
         let (_, rest) = leaving.split_at(whole);
-        for extent in rest {
-            self.cut_where_held(extent);
+        self.cut_each(rest);
+    }
+
+    /// Cuts these extents out one after another, each looked for beside the last one at first.
+    fn cut_each(&mut self, leaving: &[Extent])
+        requires spare { length leaving.now ≤ self.old.spare }
+        requires ends { All (λ x. x.start + x.length < 2 ^ 64) leaving.now }
+        ensures { self.new.extents ≡ cut_all leaving.now self.old.extents }
+    {
+        if leaving.is_empty() {
+            return;
+        }
+        let apart = stand_apart(self.kept.as_slice());
+        let mut near = 0;
+        for extent in leaving {
+            self.cut_where_held(extent, apart, &mut near);
         }
     }
 
     /// Cuts an extent out where it lies in one of the list.
-    fn cut_where_held(&mut self, extent: &Extent)
+    ///
+    /// Where the list is known to stand `apart`, that one is looked for at `near` first, which then becomes its index.
+    fn cut_where_held(&mut self, extent: &Extent, apart: bool, near: &mut usize)
         requires spare { 0 < self.old.spare }
         requires ends { extent.now.start + extent.now.length < 2 ^ 64 }
+        requires apart { apart ≡ true → StandApart self.old.extents }
         ensures cut { self.new.extents ≡ cut extent.now.start extent.now.length self.old.extents }
         ensures spare { self.old.spare ≤ self.new.spare + 1 }
+        ensures apart { apart ≡ true → StandApart self.new.extents }
     {
-        match self.holder_of(extent.start, extent.length) {
+        match self.holder_from(extent, apart, *near) {
             None => (),
             Some(index) => {
+                *near = index;
                 match replace_at(
                     &mut self.kept,
                     index,
@@ -191,6 +213,21 @@ impl ExtentList {
                 }
             }
         }
+    }
+
+    /// The index of the first extent of the list in which this one lies.
+    ///
+    /// Where the list is known to stand `apart`, it is looked for beside the index `near` first.
+    fn holder_from(&self, extent: &Extent, apart: bool, near: usize) -> Option<usize>
+        requires { apart ≡ true → StandApart self.now.extents }
+        ensures { result ≡ holder_of extent.now.start extent.now.length self.now.extents }
+    {
+        if apart && extent.length > 0 {
+            if let Some(index) = holder_beside(self.as_slice(), near, extent) {
+                return Some(index);
+            }
+        }
+        self.holder_of(extent.start, extent.length)
     }
 
     /// The extents from the index `first` on, without copying: `count` of them, or all where there are fewer.
@@ -226,6 +263,20 @@ fn whole_in_front(kept: &[Extent], leaving: &[Extent]) -> usize
         }
     }
     most
+}
+
+/// An extent of the list in which this one lies, at the index `near` or beside it.
+fn holder_beside(kept: &[Extent], near: usize, extent: &Extent) -> Option<usize>
+    ensures known { IfSome result (λ index. index < length kept.now) }
+    ensures holder { IfSome result (λ index. (d : Extent) → IsTrue (has_range extent.now.start extent.now.length (slice_index_or kept.now index d))) }
+{
+    let to = near.saturating_add(2).min(kept.len());
+    for index in near.saturating_sub(1)..to {
+        if has_range_in(&kept[index], extent.start, extent.length) {
+            return Some(index);
+        }
+    }
+    None
 }
 
 /// Lets so many extents go from the front.

@@ -1,0 +1,11 @@
+use Rattle.std.proofs.Common.{◌≡◌, ◌+◌, ◌≤◌, length, take, true}
+use Rattle.extent_list.specs.Apart.{StandApart}
+use Rattle.extent_list.specs.ExtentLists.{cut_all}
+use Rattle.extent_list.proofs.list.ExtentList.cut_each.Given as goal
+
+abbrev pub invariant-loop-extent : goal.invariant-loop-extent
+invariant-loop-extent l = record {
+  cut : l.self.extents ≡ cut_all (take l.extent-index l.leaving) l.initial.self.extents;
+  room : length l.leaving ≤ l.self.spare + l.extent-index;
+  apart : l.apart ≡ true → StandApart l.self.extents;
+}

@@ -1,0 +1,36 @@
+use Rattle.std.proofs.Common.{◌≡◌, ◌+◌, arith, get_or, inr, rules, subst}
+use Rattle.std.proofs.lemmas.List.{take_all}
+use Rattle.extent_list.specs.Apart.{StandApart}
+use Rattle.extent_list.proofs.ApartLists.{above_apart, below_apart, below_high, lie_more, no_extent}
+use Rattle.extent_list.proofs.standing.stand_apart.Goals as goal
+use Rattle.extent_list.proofs.standing.stand_apart.Goals.{then-high-extent, else-high-extent+then-end-low}
+
+pub loop-extent-preserved : goal.loop-extent-preserved
+loop-extent-preserved c =
+    let xs = c.args.list.now in
+    let i = c.loop-extent.extent-index in
+    let known = c.loop-extent-test.true in
+    let low = c.loop-extent.low in
+    let high = c.loop-extent.high in
+    let inside = c.loop-extent.invariant.inside in
+    let before = c.loop-extent.invariant.apart in
+    let long : c.in-Some.end ≡ (get_or c.args.list.now c.loop-extent.extent-index no_extent).start + (get_or c.args.list.now c.loop-extent.extent-index no_extent).length = search rules in
+    elim c.if-high-extent.branch [
+      | then-high-extent w ↦ record {
+        apart = above_apart xs i no_extent known low high inside w.if-high-extent.true before;
+        inside = lie_more xs i no_extent known low high inside c.if-high-extent.low c.if-high-extent.high
+            (omega (arith, w.low-is, w.min-low.ensures)) (omega (arith, w.high-is, long, w.if-high-extent.true)) (omega (arith, w.low-is, w.min-low.ensures)) (omega (arith, w.high-is, long));
+        order = inr (omega (arith, w.high-is, w.low-is, w.min-low.ensures, long));
+      }
+      | else-high-extent+then-end-low w ↦
+          let ends = below_high low high (get_or xs i no_extent).start c.loop-extent.invariant.order w.if-high-extent.false in
+          record {
+            apart = below_apart xs i no_extent known low high inside (omega (arith, w.if-end-low.true, long)) before;
+            inside = lie_more xs i no_extent known low high inside c.if-high-extent.low c.if-high-extent.high
+                (omega (arith, w.low-is, w.if-end-low.true, long)) (omega (arith, w.high-is)) (omega (arith, w.low-is)) (omega (arith, w.high-is, long, w.if-end-low.true, ends));
+            order = inr (omega (arith, w.high-is, w.low-is, w.if-end-low.true, long, ends));
+          }
+    ]
+
+pub returns : goal.returns
+returns c = λ yes. subst StandApart (take_all c.loop-extent.extent-index c.args.list.now (omega (arith, c.loop-extent-test.false))) c.loop-extent.invariant.apart
