@@ -1,5 +1,5 @@
+pub mod Apart
 pub mod EachTag
 pub mod FirstOwner
 pub mod OneByOne
-pub mod Rising
 pub mod Shares

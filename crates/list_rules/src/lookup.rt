@@ -4,31 +4,31 @@ ghost use Rattle.extent_list.specs.ExtentLists.{lies_in, marked};
 ghost use Rattle.std.specs.Prelude.{◌≡◌, ◌<◌, IfSome, IsTrue, length, position, slice_index_or};
 ghost use Rattle.dcd_base.specs.declared.capacity.Extent.{Extent};
 
-use crate::orders::is_rising;
 use crate::owners::{first_owner, lies_in};
 use dcd_base::Extent;
+use extent_list::stand_apart;
 use std::marker::Model;
 
 /// The extents in which those of a list have to lie.
 ///
-/// Contracts see the owners. Where they stand by rising address, an extent lies in one of them only, and the search
+/// Contracts see the owners. Where no two have an address in common, an extent lies in one of them only, and the search
 /// for it begins beside the last one that was found.
 #[derive(Debug, Drop)]
 pub struct Owners<'a> {
     list: &'a [Extent],
-    rise: bool,
+    apart: bool,
 }
 
 impl<'a> Model for Owners<'a> {
     ghost use Rattle.dcd_base.specs.declared.capacity.Extent.{Extent};
-    ghost use Rattle.list_rules.specs.Orders.{AreRising};
+    ghost use Rattle.extent_list.specs.Apart.{StandApart};
     ghost use Rattle.std.specs.Prelude.{◌≡◌, List, true};
 
     ghost Value = { List Extent };
 
     ghost view = { λ o. o.list.now };
 
-    ghost invariant = { λ o. o.rise ≡ true → AreRising o.list.now };
+    ghost invariant = { λ o. o.apart ≡ true → StandApart o.list.now };
 }
 
 impl<'a> Owners<'a> {
@@ -36,8 +36,8 @@ impl<'a> Owners<'a> {
     pub fn of(list: &'a [Extent]) -> Owners<'a>
         ensures { result ≡ list.now }
     {
-        let rise = is_rising(list);
-        Owners { list, rise }
+        let apart = stand_apart(list);
+        Owners { list, apart }
     }
 
     /// The owners in order.
@@ -75,7 +75,7 @@ impl<'a> Owners<'a> {
         ensures value { result ≡ position (lies_in extent.now) self.now }
         ensures known { IfSome result (λ index. index < length self.now) }
     {
-        if self.rise && extent.length > 0 {
+        if self.apart && extent.length > 0 {
             if let Some(index) = owner_near(self.list, near, extent) {
                 return Some(index);
             }
@@ -95,7 +95,8 @@ fn marked_by(extent: &Extent, owner: &Extent) -> Extent
     }
 }
 
-/// An owner in which the extent lies: beside the index `near`, or the last that begins where the extent does or before.
+/// An owner in which the extent lies: beside the index `near`, or else where it stands in owners by rising or by falling
+/// address.
 fn owner_near(owners: &[Extent], near: usize, extent: &Extent) -> Option<usize>
     ensures known { IfSome result (λ index. index < length owners.now) }
     ensures owner { IfSome result (λ index. (d : Extent) → IsTrue (lies_in extent.now (slice_index_or owners.now index d))) }
@@ -106,10 +107,14 @@ fn owner_near(owners: &[Extent], near: usize, extent: &Extent) -> Option<usize>
             return Some(index);
         }
     }
-    last_begun(owners, extent)
+    match last_begun(owners, extent) {
+        Some(index) => Some(index),
+        None => first_begun(owners, extent),
+    }
 }
 
-/// The last owner that begins where the extent does or before, if the extent lies in it.
+/// The last owner that begins where the extent does or before, if the extent lies in it. It is looked for as in owners
+/// by rising address.
 fn last_begun(owners: &[Extent], extent: &Extent) -> Option<usize>
     ensures known { IfSome result (λ index. index < length owners.now) }
     ensures owner { IfSome result (λ index. (d : Extent) → IsTrue (lies_in extent.now (slice_index_or owners.now index d))) }
@@ -117,6 +122,19 @@ fn last_begun(owners: &[Extent], extent: &Extent) -> Option<usize>
     let begun = owners.partition_point(|owner| owner.start <= extent.start);
     if begun > 0 && lies_in(extent, &owners[begun - 1]) {
         return Some(begun - 1);
+    }
+    None
+}
+
+/// The first owner that begins where the extent does or before, if the extent lies in it. It is looked for as in owners
+/// by falling address.
+fn first_begun(owners: &[Extent], extent: &Extent) -> Option<usize>
+    ensures known { IfSome result (λ index. index < length owners.now) }
+    ensures owner { IfSome result (λ index. (d : Extent) → IsTrue (lies_in extent.now (slice_index_or owners.now index d))) }
+{
+    let begun = owners.partition_point(|owner| extent.start < owner.start);
+    if begun < owners.len() && lies_in(extent, &owners[begun]) {
+        return Some(begun);
     }
     None
 }

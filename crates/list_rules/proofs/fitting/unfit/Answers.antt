@@ -7,7 +7,7 @@ use Rattle.extent_list.specs.ExtentLists.{owner_of}
 use Rattle.list_rules.specs.Listing.{is_shareable_at, not_whole}
 use Rattle.list_rules.proofs.FirstOwner.{no_extent, owner_at}
 use Rattle.list_rules.proofs.OneByOne.{row_missing, row_overlap, row_part}
-use Rattle.list_rules.proofs.Rising.{in_at, in_none}
+use Rattle.list_rules.proofs.Apart.{in_at, in_none}
 use Rattle.list_rules.proofs.fitting.unfit.Goals as goal
 
 pub returns-in-None : goal.returns-in-None
