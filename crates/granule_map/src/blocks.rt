@@ -10,9 +10,20 @@ use dcd_base::Run;
 
 /// Free blocks that lie together: the first, and how many.
 #[derive(Clone, Copy, Debug)]
-pub(crate) struct FreeBlocks {
-    pub(crate) first: u32,
-    pub(crate) count: u32,
+pub struct FreeBlocks {
+    pub first: u32,
+    pub count: u32,
+}
+
+impl GranuleMap {
+    /// The next free blocks of the area from one on, as many as lie together; None exactly where none is free from
+    /// there on.
+    pub fn next_free_blocks(&self, area: Run, per_block: u32, from: u32) -> Option<FreeBlocks>
+        requires { IsArea self.now.states area per_block }
+        ensures { NextStretch (is_block_free self.now.states area per_block) (block_count area per_block) from result }
+    {
+        next_blocks(self, &area, per_block, from)
+    }
 }
 
 /// The lowest free block from one on; None exactly where none is free from there on.

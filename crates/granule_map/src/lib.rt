@@ -10,6 +10,7 @@ mod marks;
 mod replacing;
 mod states;
 
+pub use blocks::FreeBlocks;
 pub use map::GranuleMap;
 pub use replacing::Replaced;
 pub use states::GranuleState;
