@@ -1,5 +1,5 @@
 -- The words of a device's granules, and who holds each granule.
-use Rattle.std.specs.Prelude.{◌≡◌, ◌==◌, ◌&&◌, ℕ, List, [], if◌then◌else◌, slice_index, slice_index_or, unwrap_or}
+use Rattle.std.specs.Prelude.{◌≡◌, ◌==◌, ◌&&◌, ℕ, nat_le, nat_lt, List, [], if◌then◌else◌, slice_index, slice_index_or, unwrap_or}
 use Rattle.std.specs.BTreeMap.{is_at}
 use Rattle.std.specs.Map.{lookup}
 use Rattle.std.specs.Ordering.{nat_cmp}
@@ -40,3 +40,8 @@ Zeroes old new run = (g w : ℕ) → word_in new g w ≡ (if has_granule run g t
 -- Each granule of the run has these holders, and each other granule has those that it had.
 abbrev pub SetsHolders : Media → Media → Run → ℕ → Type 0
 SetsHolders old new run holders = (g : ℕ) → holders_in new g ≡ (if has_granule run g then holders else holders_in old g)
+
+-- Each place from `first` to before `end` has these holders, and each other place has those that it had.
+abbrev pub SetsHeld : List ℕ → List ℕ → ℕ → ℕ → ℕ → Type 0
+SetsHeld old new first end holders =
+    (g : ℕ) → slice_index new g ≡ (if nat_le first g && nat_lt g end then holders else slice_index old g)

@@ -1,11 +1,11 @@
 //! Words and holders, granule by granule.
 
-ghost use Rattle.granule_mem.specs.Contents.{IsFresh, SetsHolders, Stores, Zeroes, holders_in, word_in};
-ghost use Rattle.std.specs.Prelude.{◌≡◌, ◌+◌, ◌<◌, ◌≤◌, [], IfOk, OnErr, OnOk, length, map, replicate};
+ghost use Rattle.granule_mem.specs.Contents.{IsFresh, SetsHeld, SetsHolders, Stores, Zeroes, holders_in, word_in};
+ghost use Rattle.std.specs.Prelude.{◌≡◌, ◌+◌, ◌<◌, ◌≤◌, [], IfOk, OnErr, OnOk, length, replicate};
 
+use crate::words::Words;
 use dcd_base::{Granule, NoMemory, Run};
 use std::alloc::Global;
-use std::collections::BTreeMap;
 use std::marker::Model;
 
 /// The words and the holders of granules 0, 1, 2 and so on.
@@ -14,17 +14,17 @@ use std::marker::Model;
 /// A granule or a run that is handed in is of the memory.
 #[derive(Debug, Drop)]
 pub struct Memory {
-    stored: Vec<BTreeMap<u64, u64>>,
+    stored: Vec<Words>,
     held: Vec<u16>,
 }
 
 impl Model for Memory {
     ghost use Rattle.granule_mem.specs.Contents.{Media};
-    ghost use Rattle.std.specs.Prelude.{◌≡◌, length, map};
+    ghost use Rattle.std.specs.Prelude.{◌≡◌, length};
 
     ghost Value = { Media };
 
-    ghost view = { λ m. record { words = map (λ words. words.entries) m.stored.items; holders = m.held.items } };
+    ghost view = { λ m. record { words = m.stored.items; holders = m.held.items } };
 
     ghost invariant = { λ m. length m.stored.items ≡ length m.held.items };
 }
@@ -46,10 +46,7 @@ impl Memory {
         requires { granule < length self.now.holders }
         ensures { result ≡ word_in self.now granule word }
     {
-        self.stored[granule.0 as usize]
-            .get(&word)
-            .copied()
-            .unwrap_or(0)
+        self.stored[granule.0 as usize].get(word)
     }
 
     /// Stores a word. All other words stay, of this granule too, and so do all holders; without memory all stays.
@@ -60,8 +57,7 @@ impl Memory {
         ensures kept { OnErr result (self.new ≡ self.old) }
     {
         let stored = &mut self.stored[granule.0 as usize];
-        stored.insert(word, value)?;
-        Ok(())
+        stored.put(word, value)
     }
 
     /// Makes each word of the run's granules 0. All other words and all holders stay. Takes no memory.
@@ -92,19 +88,29 @@ impl Memory {
         ensures words { self.new.words ≡ self.old.words }
     {
         let first = run.first.0 as usize;
-        for granule in first..first + run.count as usize {
-            self.held[granule] = holders;
-        }
+        set_held(&mut self.held, first, first + run.count as usize, holders);
+    }
+}
+
+/// Sets the holders of the granules from `first` to before `end`.
+fn set_held(held: &mut [u16], first: usize, end: usize, holders: u16)
+    requires order { first ≤ end }
+    requires within { end ≤ length held.old }
+    ensures length { length held.new ≡ length held.old }
+    ensures holders { SetsHeld held.old held.new first end holders }
+{
+    for granule in first..end {
+        held[granule] = holders;
     }
 }
 
 /// So many granules of which no word is stored.
-fn nothing_stored(alloc: Global, granules: u32) -> Result<Vec<BTreeMap<u64, u64>>, NoMemory>
-    ensures { IfOk result (λ stored. map (λ words. words.entries) stored.items ≡ replicate granules []) }
+fn nothing_stored(alloc: Global, granules: u32) -> Result<Vec<Words>, NoMemory>
+    ensures { IfOk result (λ stored. stored.items ≡ replicate granules []) }
 {
     let mut stored = Vec::with_capacity(alloc, granules as usize)?;
     for _ in 0..granules {
-        stored.push(BTreeMap::new(alloc))?;
+        stored.push(Words::new(alloc))?;
     }
     Ok(stored)
 }

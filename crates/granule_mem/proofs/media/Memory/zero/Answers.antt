@@ -1,5 +1,5 @@
 use Rattle.std.proofs.Common.{◌<◌, [], ap, ◌∙◌, cond, eqb, get_or, length, rules}
-use Rattle.granule_mem.proofs.Steps.{entries_of, run_more, word_after_set}
+use Rattle.granule_mem.proofs.Steps.{run_more, word_after_set}
 use Rattle.granule_mem.specs.Contents.{word_among, word_in}
 use Rattle.granule_mem.proofs.media.Memory.zero.Goals as goal
 
@@ -10,7 +10,7 @@ loop-granule-preserved c =
     let known : c.loop-granule.granule < length c.loop-granule.self-inside.stored.items = search rules in
     record {
       words = λ g w. word_after_set maps i c.clear.new.self g w known
-          ∙ ap (λ es. cond (eqb i g) (word_among es w) (word_among (get_or (entries_of maps) g []) w)) c.clear.ensures.empty
+          ∙ ap (λ es. cond (eqb i g) (word_among es w) (word_among (get_or maps g []) w)) c.clear.ensures
           ∙ run_more _ i g 0 _ (word_in c.args.self.now g w) c.loop-granule.auto.granule (c.loop-granule.invariant.words g w);
       holders = search rules;
       granules = search rules;
