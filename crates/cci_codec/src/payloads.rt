@@ -10,8 +10,11 @@ use std::marker::Model;
 /// How many bytes lie in the value itself.
 const INLINE: usize = 14;
 
+/// How many bytes one block has: those that place one extent.
+const BLOCK: usize = 72;
+
 /// The input payload of a request, in bytes. Up to 14 bytes lie in the value itself, as those of nearly all requests do,
-/// and more on the heap.
+/// and more on the heap, up to 72 in one block.
 ///
 /// Contracts see the bytes.
 #[derive(Debug, Drop)]
@@ -37,10 +40,33 @@ impl Payload {
         ensures short { OnErr result (14 < length bytes.now) }
     {
         if bytes.len() > INLINE {
-            let bytes = Bytes::from_slice(alloc, bytes)?;
-            return Payload::apart(alloc, bytes);
+            return Payload::on_heap(alloc, bytes);
         }
         Ok(Payload::inline(bytes))
+    }
+
+    /// These bytes on the heap.
+    #[inline(never)]
+    fn on_heap(alloc: Global, bytes: &[u8]) -> Result<Payload, NoMemory>
+        ensures { IfOk result (λ payload. payload ≡ bytes.now) }
+    {
+        if bytes.len() > BLOCK {
+            return Payload::apart(alloc, Bytes::from_slice(alloc, bytes)?);
+        }
+        Payload::block(alloc, bytes)
+    }
+
+    /// So few bytes in one block.
+    fn block(alloc: Global, bytes: &[u8]) -> Result<Payload, NoMemory>
+        requires { length bytes.now < 73 }
+        ensures { IfOk result (λ payload. payload ≡ bytes.now) }
+    {
+        let mut all = [0u8; 72];
+        let (front, _) = all.split_at_mut(bytes.len());
+        front.copy_from_slice(bytes);
+        Ok(Payload {
+            held: Held::Block(bytes.len() as u8, alloc, Boxed::new(alloc, all)?),
+        })
     }
 
     /// The bytes on the heap.
@@ -74,6 +100,10 @@ impl Payload {
                 let (front, _) = bytes.split_at(usize::from(*count));
                 front
             }
+            Held::Block(count, _, bytes) => {
+                let (front, _) = bytes.get().split_at(usize::from(*count));
+                front
+            }
             Held::Apart(bytes) => bytes.get().as_slice(),
         }
     }
@@ -85,6 +115,9 @@ impl Payload {
         match &self.held {
             Held::Inline(count, bytes) => Ok(Payload {
                 held: Held::Inline(*count, *bytes),
+            }),
+            Held::Block(count, alloc, bytes) => Ok(Payload {
+                held: Held::Block(*count, *alloc, Boxed::new(*alloc, *bytes.get())?),
             }),
             Held::Apart(bytes) => {
                 let bytes = bytes.get();
