@@ -6,8 +6,9 @@ use Rattle.std.proofs.Common.{arith}
 use Rattle.std.proofs.lemmas.List.Elements.{All-append, All-cons, All-head, All-tail, All-weaker}
 use Rattle.std.proofs.lemmas.List.Sums.{fold-append}
 use Rattle.dcd_base.specs.declared.steps.Stamp.{Stamp}
+use Rattle.journal_core.specs.declared.both.Side.{Side}
 use Rattle.journal_core.specs.declared.entries.Entry.{Entry}
-use Rattle.journal_core.specs.Lending.{AreNext, first_entry, first_stamp, goes_first}
+use Rattle.journal_core.specs.Lending.{IsNext, first_entry, first_stamp, goes_first}
 use Rattle.journal_core.specs.Merging.{Rising, in_order, insert_entry, is_later}
 use Rattle.journal_core.proofs.Lists.{rising_drop, rising_head, rising_tail}
 use Rattle.journal_core.proofs.Merges.{in_order-length, in_order-rising}
@@ -114,33 +115,41 @@ next_of_second (x ∷ xs) (y ∷ ys) up up' goes =
 
 -- ---- the same of two that lend
 
-module _ (xs ys : List Entry) (a b : Option Stamp) (next : AreNext xs ys a b) where
+first_goes : (b : Bool) → cond b Side.First Side.Second ≡ Side.First → b ≡ true
+first_goes true e = refl
+first_goes false e = cc
+
+second_goes : (b : Bool) → cond b Side.First Side.Second ≡ Side.Second → b ≡ false
+second_goes true e = cc
+second_goes false e = refl
+
+module _ (xs ys : List Entry) (a b : Option Stamp) (s : Side) (known : IsNext xs ys a b s) where
   goes_is : (r : Bool) → goes_first a b ≡ r → goes_first (first_stamp xs) (first_stamp ys) ≡ r
-  goes_is r is = sym (λ i. goes_first (next.first_is i) (next.second_is i)) ∙ is
+  goes_is r is = sym (λ i. goes_first (known.next.first_is i) (known.next.second_is i)) ∙ is
 
-  pub if_first : goes_first a b ≡ true → IsNextOf (in_order (xs ++ ys)) xs (in_order (drop 1 xs ++ ys))
-  if_first goes = next_of_first xs ys next.first_rises next.second_rises (goes_is true goes)
+  pub if_first : s ≡ Side.First → IsNextOf (in_order (xs ++ ys)) xs (in_order (drop 1 xs ++ ys))
+  if_first is = next_of_first xs ys known.next.first_rises known.next.second_rises (goes_is true (first_goes (goes_first a b) (sym known.side_is ∙ is)))
 
-  pub if_second : goes_first a b ≡ false → IsNextOf (in_order (xs ++ ys)) ys (in_order (xs ++ drop 1 ys))
-  if_second goes = next_of_second xs ys next.first_rises next.second_rises (goes_is false goes)
+  pub if_second : s ≡ Side.Second → IsNextOf (in_order (xs ++ ys)) ys (in_order (xs ++ drop 1 ys))
+  if_second is = next_of_second xs ys known.next.first_rises known.next.second_rises (goes_is false (second_goes (goes_first a b) (sym known.side_is ∙ is)))
 
-  pub stamp_of_first : goes_first a b ≡ true → a ≡ first_stamp (in_order (xs ++ ys))
-  stamp_of_first goes = next.first_is ∙ (if_first goes).stamp
+  pub stamp_of_first : s ≡ Side.First → a ≡ first_stamp (in_order (xs ++ ys))
+  stamp_of_first is = known.next.first_is ∙ (if_first is).stamp
 
-  pub stamp_of_second : goes_first a b ≡ false → b ≡ first_stamp (in_order (xs ++ ys))
-  stamp_of_second goes = next.second_is ∙ (if_second goes).stamp
+  pub stamp_of_second : s ≡ Side.Second → b ≡ first_stamp (in_order (xs ++ ys))
+  stamp_of_second is = known.next.second_is ∙ (if_second is).stamp
 
-  pub peek_first : goes_first a b ≡ true → (e : Option Entry) → e ≡ first_entry xs → e ≡ first_entry (in_order (xs ++ ys))
-  peek_first goes e is = is ∙ (if_first goes).head
+  pub peek_first : s ≡ Side.First → (e : Option Entry) → e ≡ first_entry xs → e ≡ first_entry (in_order (xs ++ ys))
+  peek_first is e e_is = e_is ∙ (if_first is).head
 
-  pub peek_second : goes_first a b ≡ false → (e : Option Entry) → e ≡ first_entry ys → e ≡ first_entry (in_order (xs ++ ys))
-  peek_second goes e is = is ∙ (if_second goes).head
+  pub peek_second : s ≡ Side.Second → (e : Option Entry) → e ≡ first_entry ys → e ≡ first_entry (in_order (xs ++ ys))
+  peek_second is e e_is = e_is ∙ (if_second is).head
 
-  pub skip_first : goes_first a b ≡ true → (left : List Entry) → left ≡ drop 1 xs → in_order (left ++ ys) ≡ drop 1 (in_order (xs ++ ys))
-  skip_first goes left is = ap (λ zs. in_order (zs ++ ys)) is ∙ (if_first goes).tail
+  pub skip_first : s ≡ Side.First → (left : List Entry) → left ≡ drop 1 xs → in_order (left ++ ys) ≡ drop 1 (in_order (xs ++ ys))
+  skip_first is left left_is = ap (λ zs. in_order (zs ++ ys)) left_is ∙ (if_first is).tail
 
-  pub skip_second : goes_first a b ≡ false → (left : List Entry) → left ≡ drop 1 ys → in_order (xs ++ left) ≡ drop 1 (in_order (xs ++ ys))
-  skip_second goes left is = ap (λ zs. in_order (xs ++ zs)) is ∙ (if_second goes).tail
+  pub skip_second : s ≡ Side.Second → (left : List Entry) → left ≡ drop 1 ys → in_order (xs ++ left) ≡ drop 1 (in_order (xs ++ ys))
+  skip_second is left left_is = ap (λ zs. in_order (xs ++ zs)) left_is ∙ (if_second is).tail
 
 pub length_of_both : (xs ys : List Entry) → length (in_order (xs ++ ys)) ≡ length xs + length ys
 length_of_both xs ys = in_order-length (xs ++ ys) ∙ length-append xs ys

@@ -1,8 +1,9 @@
 -- Entries that are lent one after another.
-use Rattle.std.specs.Prelude.{◌≡◌, ℕ, Bool, true, false, not, All, List, [], ◌∷◌, Option, Some, None, drop, flat_map, take}
+use Rattle.std.specs.Prelude.{◌≡◌, ℕ, Bool, true, false, not, All, List, [], ◌∷◌, Option, Some, None, drop, flat_map, if◌then◌else◌, take}
 use Rattle.dcd_base.specs.declared.steps.Stamp.{Stamp}
 use Rattle.journal_core.specs.Keeping.{step_entry}
 use Rattle.journal_core.specs.Merging.{Rising, is_later}
+use Rattle.journal_core.specs.declared.both.Side.{Side}
 use Rattle.journal_core.specs.declared.entries.Entry.{Entry}
 use Rattle.journal_core.specs.declared.lending.Lent.{Lent}
 
@@ -38,6 +39,15 @@ pub record AreNext (xs ys : List Entry) (first second : Option Stamp) : Type 0 w
   pub second_is : second ≡ first_stamp ys
   pub first_rises : Rising xs
   pub second_rises : Rising ys
+
+-- the side that goes first
+abbrev pub next_side : Option Stamp → Option Stamp → Side
+next_side first second = if goes_first first second then Side.First else Side.Second
+
+-- And this side goes first.
+pub record IsNext (xs ys : List Entry) (first second : Option Stamp) (side : Side) : Type 0 where
+  pub next : AreNext xs ys first second
+  pub side_is : side ≡ next_side first second
 
 -- ---- many lists
 

@@ -1,5 +1,6 @@
 //! Entries that two lend, as if one did.
 
+ghost use Rattle.journal_core.specs.Lending.{next_side};
 ghost use Rattle.journal_core.specs.Merging.{in_order};
 ghost use Rattle.std.specs.Prelude.{◌≡◌, ◌++◌};
 
@@ -7,10 +8,29 @@ use crate::lending::{Lender, Lent, goes_first};
 use dcd_base::Stamp;
 use std::marker::Model;
 
+/// Which of the two has the next entry.
+#[derive(Clone, Copy, Debug, PartialEq, Eq)]
+pub(crate) enum Side {
+    First,
+    Second,
+}
+
+/// The side that goes first, by the stamps of the next entries.
+#[inline]
+fn next_side(first: Option<Stamp>, second: Option<Stamp>) -> Side
+    ensures { result ≡ next_side first second }
+{
+    if goes_first(first, second) {
+        Side::First
+    } else {
+        Side::Second
+    }
+}
+
 /// The entries of two that lend, by rising stamps; of equal stamps those of the first come first.
 ///
-/// Contracts see those that are still to come, in this order. The next one is found by one comparison, so one of many that
-/// are put together in pairs is found by as many as there are pairs above it.
+/// Contracts see those that are still to come, in this order. The next one is found by one comparison, when the one before it
+/// is skipped, so one of many that are put together in pairs is found by as many as there are pairs above it.
 #[derive(Drop)]
 pub struct Both<A: Lender, B: Lender> {
     first: A,
@@ -18,10 +38,12 @@ pub struct Both<A: Lender, B: Lender> {
     /// The stamps of their next entries.
     stamp_of_first: Option<Stamp>,
     stamp_of_second: Option<Stamp>,
+    /// Which of them goes first.
+    next: Side,
 }
 
 impl<A: Lender, B: Lender> Model for Both<A, B> {
-    ghost use Rattle.journal_core.specs.Lending.{AreNext};
+    ghost use Rattle.journal_core.specs.Lending.{IsNext};
     ghost use Rattle.journal_core.specs.Merging.{in_order};
     ghost use Rattle.journal_core.specs.declared.entries.Entry.{Entry};
     ghost use Rattle.std.specs.Prelude.{◌++◌, List};
@@ -30,7 +52,7 @@ impl<A: Lender, B: Lender> Model for Both<A, B> {
 
     ghost view = { λ b. in_order (A.rest b.first ++ B.rest b.second) };
 
-    ghost invariant = { λ b. AreNext (A.rest b.first) (B.rest b.second) b.stamp_of_first b.stamp_of_second };
+    ghost invariant = { λ b. IsNext (A.rest b.first) (B.rest b.second) b.stamp_of_first b.stamp_of_second b.next };
 }
 
 impl<A: Lender, B: Lender> Both<A, B> {
@@ -45,6 +67,7 @@ impl<A: Lender, B: Lender> Both<A, B> {
             second,
             stamp_of_first,
             stamp_of_second,
+            next: next_side(stamp_of_first, stamp_of_second),
         }
     }
 }
@@ -55,32 +78,35 @@ impl<A: Lender, B: Lender> Lender for Both<A, B> {
     #[inline]
     #[tactic(auto, using(crate::proofs::Pairs::stamp_of_first, crate::proofs::Pairs::stamp_of_second, crate::proofs::Pairs::both_rise))]
     fn stamp(&self) -> Option<Stamp> {
-        if goes_first(self.stamp_of_first, self.stamp_of_second) {
-            self.stamp_of_first
-        } else {
-            self.stamp_of_second
+        match self.next {
+            Side::First => self.stamp_of_first,
+            Side::Second => self.stamp_of_second,
         }
     }
 
     #[inline]
     #[tactic(auto, using(crate::proofs::Pairs::peek_first, crate::proofs::Pairs::peek_second))]
     fn peek(&self) -> Option<Lent<'_>> {
-        if goes_first(self.stamp_of_first, self.stamp_of_second) {
-            self.first.peek()
-        } else {
-            self.second.peek()
+        match self.next {
+            Side::First => self.first.peek(),
+            Side::Second => self.second.peek(),
         }
     }
 
     #[inline]
     #[tactic(auto, using(crate::proofs::Pairs::skip_first, crate::proofs::Pairs::skip_second))]
     fn skip(&mut self) {
-        if goes_first(self.stamp_of_first, self.stamp_of_second) {
-            self.first.skip();
-            self.stamp_of_first = self.first.stamp();
-        } else {
-            self.second.skip();
-            self.stamp_of_second = self.second.stamp();
+        match self.next {
+            Side::First => {
+                self.first.skip();
+                self.stamp_of_first = self.first.stamp();
+                self.next = next_side(self.stamp_of_first, self.stamp_of_second);
+            }
+            Side::Second => {
+                self.second.skip();
+                self.stamp_of_second = self.second.stamp();
+                self.next = next_side(self.stamp_of_first, self.stamp_of_second);
+            }
         }
     }
 
