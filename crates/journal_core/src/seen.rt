@@ -18,14 +18,14 @@ pub enum ActKind {
 /// A response (CXL 3.1, 7.6.3) whose payload is lent.
 #[derive(Clone, Copy, Debug)]
 pub struct ResponseSeen<'a> {
+    /// The output payload.
+    pub payload: &'a [u8],
     /// The message tag of the request.
     pub tag: u8,
     /// The opcode of the request.
     pub opcode: u16,
     /// The return code; 0 is Success.
     pub code: u16,
-    /// The output payload.
-    pub payload: &'a [u8],
 }
 
 /// A reply whose payload is lent.
