@@ -4,7 +4,7 @@ use Rattle.std.specs.Int.{bit_at, trailing_zeros, w64, to_le_bytes}
 use Rattle.std.specs.Int.Bits.{bit_xor}
 use Rattle.std.proofs.lemmas.Nat.{mod-pow-add, shr-shr, xor_lt}
 use Rattle.std.proofs.lemmas.Bool.{cases_lt}
-use Rattle.std.proofs.lemmas.Nat.Bits.{bit_at-lt, bit_at-suc, bit_at-trailing_zeros, bit_at_above, bit_at_lowest, bit_at_xor}
+use Rattle.std.proofs.lemmas.Nat.Bits.{bit_at-lt, bit_at-suc, bit_at-trailing_zeros, bit_at-zero, bit_at_above, bit_at_lowest, bit_at_xor}
 use Rattle.std.proofs.Math.Nat.{div-le_self}
 
 -- a byte of a number
@@ -66,3 +66,33 @@ lowest_difference a b from small small' le some =
       | inl lt ↦ lt
       | inr le ↦ absurd (omega (arith, set, bit_at_above x 64 i fits le))
     ]
+
+-- ---- what is left of the difference of two numbers, from a byte on
+
+-- from the first one on it is all
+pub all_of : (n : ℕ) → n ≡ n / 2 ^ (8 * 0)
+all_of n = omega arith
+
+module _ (a b place rest : ℕ) (is : rest ≡ bit_xor a b / 2 ^ (8 * place)) where
+  -- behind so many bytes and one more
+  pub difference_behind : (d : ℕ) → rest / 2 ^ (8 * d) / 2 ^ 8 ≡ bit_xor a b / 2 ^ (8 * (place + d + 1))
+  difference_behind d =
+      let sum : 8 * place + 8 * d + 8 ≡ 8 * (place + d + 1) = omega arith in
+      ap (λ x. x / 2 ^ (8 * d) / 2 ^ 8) is
+      ∙ ap (λ x. x / 2 ^ 8) (shr-shr (bit_xor a b) (8 * place) (8 * d))
+      ∙ shr-shr (bit_xor a b) (8 * place + 8 * d) 8
+      ∙ ap (λ x. bit_xor a b / 2 ^ x) sum
+
+  -- where it is some, the next byte that differs is one of the eight
+  pub next_difference : a < 2 ^ 64 → b < 2 ^ 64 → place ≤ 8 → rest ≢ 0 → (place + trailing_zeros w64 rest / 8 < 8) × ((k : ℕ) → place ≤ k → k < place + trailing_zeros w64 rest / 8 → get_or (to_le_bytes w64 a) k 0 ≡ get_or (to_le_bytes w64 b) k 0)
+  next_difference small small' le some =
+      let d = lowest_difference a b place small small' le (λ e. some (is ∙ e)) in
+      rw is (
+        omega (arith, d.0),
+        λ k from below. bytes_alike a b place _ d.1 k from below (omega (arith, below, d.0)),
+      )
+
+  -- where it is none, all bytes are alike
+  pub no_difference : rest ≡ 0 → (k : ℕ) → place ≤ k → k < 8 → get_or (to_le_bytes w64 a) k 0 ≡ get_or (to_le_bytes w64 b) k 0
+  no_difference none k from below =
+      bytes_alike a b place 64 (λ i lt. ap (λ n. bit_at n i) (sym is ∙ none) ∙ bit_at-zero i) k from (omega (arith, below)) below

@@ -7,7 +7,6 @@ ghost use Rattle.journal_core.specs.Tokens.{token_of, tokens_of};
 ghost use Rattle.journal_core.specs.declared.tokens.Token.{Token};
 ghost use Rattle.std.specs.Prelude.{◌≡◌, ℕ, ◌+◌, ◌*◌, ◌%◌, ◌<◌, ◌≤◌, ◌^◌, [], ◌∷◌, IfSome, IsFalse, IsTrue, flat_map, map, true, vec_capacity, vec_len};
 
-use crate::alike_bytes::alike_until;
 use crate::outcome::{Effect, HeldKind};
 use crate::slots::{
     ANSWER, BLOCK, CLEARED, COUNT, EVENT_HOST, EVENT_KIND, EXTENTS_LEFT, FIRST, FLAG, HANDLE, HOLD,
@@ -95,10 +94,15 @@ impl Coder {
     {
         let told = self.slots[slot];
         let wanted = number.to_le_bytes();
-        let mut place = alike_until(told, number, 0);
-        while place < 8 {
+        let mut place = 0;
+        // The bits that differ, from the byte at the place on.
+        let mut differing = told ^ number;
+        while differing != 0 {
+            let alike = differing.trailing_zeros() as usize / 8;
+            place += alike;
             self.push_change(slot, place, wanted[place]);
-            place = alike_until(told, number, place + 1);
+            place += 1;
+            differing = differing >> (8 * alike) >> 8;
         }
     }
 
@@ -116,8 +120,28 @@ impl Coder {
         has_room
     }
 
-    /// Writes the bytes by which a number differs from that in the slot, and puts it there.
-    fn change(&mut self, slot: usize, number: u64)
+    /// Whether there is room for the bytes by which two numbers can differ.
+    fn has_room(&self) -> bool
+        ensures { IsTrue result → vec_len self.now.bytes + 16 ≤ vec_capacity self.now.bytes }
+    {
+        self.bytes.len() + CHANGE <= self.bytes.capacity()
+    }
+
+    /// Writes the bytes by which a number differs from that in the slot, and puts it there. There is room for them.
+    fn change_in_room(&mut self, slot: usize, number: u64)
+        requires slot { slot < 16 }
+        requires room { vec_len self.old.bytes + 16 ≤ vec_capacity self.old.bytes }
+        ensures slots { slots_in self.new.slots ≡ with_slot (slots_in self.old.slots) slot number }
+        ensures coded { Codes self.old self.new [] }
+    {
+        self.push_changes(slot, number);
+        self.slots[slot] = number;
+    }
+
+    /// Writes the bytes by which a number differs from that in the slot, and puts it there, once there is room for them.
+    #[cold]
+    #[inline(never)]
+    fn change_in_more_room(&mut self, slot: usize, number: u64)
         requires { slot < 16 }
         ensures slots { slots_in self.new.slots ≡ with_slot (slots_in self.old.slots) slot number }
         ensures coded { Codes self.old self.new [] }
@@ -126,6 +150,20 @@ impl Coder {
             self.push_changes(slot, number);
         }
         self.slots[slot] = number;
+    }
+
+    /// Writes the bytes by which a number differs from that in the slot, and puts it there.
+    #[inline(never)]
+    fn change(&mut self, slot: usize, number: u64)
+        requires { slot < 16 }
+        ensures slots { slots_in self.new.slots ≡ with_slot (slots_in self.old.slots) slot number }
+        ensures coded { Codes self.old self.new [] }
+    {
+        if self.has_room() {
+            self.change_in_room(slot, number);
+        } else {
+            self.change_in_more_room(slot, number);
+        }
     }
 
     /// Puts a number into a slot, and writes what that changes.
@@ -203,7 +241,8 @@ impl Coder {
         ensures coded { Codes self.old self.new [] }
         ensures back { (slots : ℕ → ℕ) → slotted_extent (telling_extent slots extent.now) ≡ extent.now }
     {
-        self.put(START, extent.start);
+        // It is seldom that of the extent before.
+        self.change(START, extent.start);
         self.put(LENGTH, extent.length);
         self.put_tag(&extent.tag);
         self.put(SEQUENCE, u64::from(extent.sequence));

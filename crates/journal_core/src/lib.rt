@@ -5,7 +5,6 @@
 #![tactic(auto)]
 
 mod acts;
-mod alike_bytes;
 mod both;
 mod coding;
 mod copying;
