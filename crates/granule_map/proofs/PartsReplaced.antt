@@ -1,5 +1,5 @@
 -- A run of a list whose items are replaced one after another, and what they were.
-use Rattle.std.proofs.Common.{◌≡◌, ℕ, ◌+◌, ◌-◌, ◌<◌, ◌≤◌, Bool, true, false, cond, List, [], ◌∷◌, ◌++◌, length, get_or, set, take, drop, replicate, ap, sym, ◌∙◌, arith, append-nil, append_assoc, length-append, length-drop}
+use Rattle.std.proofs.Common.{◌≡◌, ℕ, zero, suc, ◌+◌, ◌-◌, ◌<◌, ◌≤◌, Bool, true, false, cond, List, [], ◌∷◌, ◌++◌, length, get_or, set, take, drop, replicate, refl, ap, sym, ◌∙◌, arith, append-nil, append_assoc, length-append, length-drop}
 use Rattle.std.specs.Prelude.{count_by}
 use Rattle.std.proofs.Math.Seq.{set-append_seam}
 use Rattle.std.proofs.Math.Nat.{add-zero}
@@ -45,6 +45,31 @@ counted_more p xs first i within =
     ap (count_by p) (take_more (drop first xs) i 0 (omega (arith, length-drop first xs, within)))
     ∙ sum_by-append (λ m. cond (p m) 1 0) (take i (drop first xs)) (get_or (drop first xs) i 0 ∷ [])
     ∙ ap (λ n. count_by p (take i (drop first xs)) + n) (sum_by-cons (λ m. cond (p m) 1 0) (get_or (drop first xs) i 0) [] ∙ add-zero _ ∙ ap (λ m. cond (p m) 1 0) (get_or-drop first xs i 0))
+
+nothing_if : (b : Bool) → ◌≡◌ {A = ℕ} (cond b 0 0) 0
+nothing_if true = refl
+nothing_if false = refl
+
+one_more_if : (b : Bool) (n : ℕ) → cond b n 0 + cond b 1 0 ≡ cond b (suc n) 0
+one_more_if true n = omega arith
+one_more_if false n = refl
+
+-- as many items more as lie together and are alike
+pub counted_alike : (p : ℕ → Bool) (xs : List ℕ) (first i n was : ℕ) → first + i + n ≤ length xs → ((k : ℕ) → first + i ≤ k → k < first + i + n → get_or xs k 0 ≡ was)
+    → count_by p (take (i + n) (drop first xs)) ≡ count_by p (take i (drop first xs)) + cond (p was) n 0
+counted_alike p xs first i zero was within alike =
+    let none : i + 0 ≡ i = omega arith in
+    ap (λ m. count_by p (take m (drop first xs))) none ∙ omega (arith, nothing_if (p was))
+counted_alike p xs first i (suc n) was within alike =
+    let here : get_or xs (first + (i + n)) 0 ≡ was = alike (first + (i + n)) (omega arith) (omega arith) in
+    let place : i + suc n ≡ i + n + 1 = omega arith in
+    let rest = counted_alike p xs first i n was (omega (arith, within)) (λ k low high. alike k low (omega (arith, high))) in
+    let last = counted_more p xs first (i + n) (omega (arith, within)) ∙ ap (λ m. count_by p (take (i + n) (drop first xs)) + cond (p m) 1 0) here in
+    ap (λ m. count_by p (take m (drop first xs))) place ∙ omega (arith, rest, last, one_more_if (p was) n)
+
+pub most_if : (b : Bool) (n : ℕ) → cond b n 0 ≤ n
+most_if true n = omega arith
+most_if false n = omega arith
 
 pub one_at_most : (b : Bool) → cond b 1 0 ≤ 1
 one_at_most true = omega arith

@@ -301,8 +301,23 @@ fn fill_states(states: &mut [GranuleState], run: &Run, state: &GranuleState)
     requires { run.now.first + run.now.count ≤ length states.old }
     ensures { states.new ≡ with_run states.old run.now state.now }
 {
+    match state {
+        GranuleState::Free => write_states(states, run, &GranuleState::Free),
+        GranuleState::Dirty => write_states(states, run, &GranuleState::Dirty),
+        _ => write_states(states, run, state),
+    }
+}
+
+/// Writes this state at each granule of the run. A state that is known where this is called has no host or tag to be written.
+#[inline(always)]
+fn write_states(states: &mut [GranuleState], run: &Run, state: &GranuleState)
+    requires { run.now.first + run.now.count ≤ length states.old }
+    ensures { states.new ≡ with_run states.old run.now state.now }
+{
     let first = run.first.0 as usize;
-    states[first..first + run.count as usize].fill(*state);
+    for i in 0..run.count as usize {
+        states[first + i] = *state;
+    }
 }
 
 /// Makes one state this one.

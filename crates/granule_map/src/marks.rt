@@ -2,7 +2,7 @@
 
 ghost use Rattle.granule_map.specs.Stretches.{IsNext};
 ghost use Rattle.memchr.specs.Find.{is_byte, is_byte2};
-ghost use Rattle.std.specs.Prelude.{◌≡◌, ◌+◌, ◌≤◌, count_by, drop, length, slice_index, take};
+ghost use Rattle.std.specs.Prelude.{◌≡◌, ◌+◌, ◌<◌, ◌≤◌, ℕ, IsTrue, count_by, drop, length, slice_index, take};
 
 use dcd_base::Run;
 use memchr::{memchr, memchr2};
@@ -80,6 +80,39 @@ fn far_with_either(marks: &[u8], mark: u8, other: u8, from: usize, end: usize) -
         Some(place) => from + place,
         None => end,
     }
+}
+
+/// The first place from one on, but not that one itself, that has another mark, or the end where none below it has.
+pub(crate) fn alike_from(marks: &[u8], mark: u8, from: usize, end: usize) -> usize
+    requires below { from < end }
+    requires within { end ≤ length marks.now }
+    requires here { slice_index marks.now from ≡ mark }
+    ensures later { from < result }
+    ensures within { result ≤ end }
+    ensures alike { (k : ℕ) → from ≤ k → k < result → slice_index marks.now k ≡ mark }
+{
+    let mut next = from;
+    while end - next >= LANES && are_alike(marks, mark, next) {
+        next += LANES;
+    }
+    for place in next.max(from + 1)..end {
+        if marks[place] != mark {
+            return place;
+        }
+    }
+    end
+}
+
+/// Whether each of 16 places from one on has the mark.
+#[inline(always)]
+fn are_alike(marks: &[u8], mark: u8, from: usize) -> bool
+    requires { from + 16 ≤ length marks.now }
+    ensures { IsTrue result → (k : ℕ) → from ≤ k → k < from + 16 → slice_index marks.now k ≡ mark }
+{
+    u8x16::from_slice(&marks[from..])
+        .simd_ne(u8x16::splat(mark))
+        .to_bitmask()
+        == 0
 }
 
 /// How many places of the run have the mark.
