@@ -115,6 +115,9 @@ impl GranuleTable {
         ensures same { (g : ℕ) → g < length self.now.states → has_granule result g ≡ has_granule run.now g }
     {
         let len = self.len();
+        if run.first.0 <= len && run.count <= len - run.first.0 {
+            return *run;
+        }
         let first = run.first.0.min(len);
         let end = run.first.0.saturating_add(run.count).min(len);
         run_between(first, end)
