@@ -3,7 +3,8 @@ use Rattle.std.specs.Prelude.{◌≡◌, ℕ, ◌<◌, ◌&&◌, Bool, not, nat_
 use Rattle.dcd_base.specs.declared.media.Run.{Run}
 use Rattle.region_config.specs.Configurations.{Configuration}
 use Rattle.region_config.specs.Granules.{granule_total}
-use Rattle.table_laws.specs.GranuleCells.{is_sanitizing_run, is_shareable_run, cell_after, cell_over}
+use Rattle.region_config.specs.declared.region_spec.RegionSpec.{RegionSpec}
+use Rattle.table_laws.specs.GranuleCells.{is_shareable_run, cell_after, cell_over}
 use Rattle.granule_table.specs.Tables.{Cell, CellTable, cell_at, soiled, given}
 use Rattle.dcd_base.specs.declared.ids.HostId.{HostId}
 use Rattle.granule_map.specs.declared.states.GranuleState.{GranuleState}
@@ -21,12 +22,12 @@ abbrev pub is_private : Configuration → Run → Bool
 is_private c run = nat_lt run.first (granule_total c) && not (is_shareable_run c run)
 
 -- what is taken has to be zeroed where its region sanitizes
-abbrev pub soiled_by_taking : Configuration → Run → Cell → Cell
-soiled_by_taking c run cell = if is_sanitizing_run c run then soiled cell else cell
+abbrev pub soiled_by_taking : RegionSpec → Cell → Cell
+soiled_by_taking r cell = if r.sanitize then soiled cell else cell
 
 -- what is taken is held, unless hosts can share it
-abbrev pub held_by_taking : Configuration → HostId → Run → Cell → Cell
-held_by_taking c h run cell = if is_shareable_run c run then cell else given (GranuleState.Held h) cell
+abbrev pub held_by_taking : RegionSpec → HostId → Cell → Cell
+held_by_taking r h cell = if r.shareable then cell else given (GranuleState.Held h) cell
 
 -- The granules are changed by an effect, or by more of them, from the offers and the runs of open tags that are kept.
 abbrev pub CellsAfter : Configuration → Effect → State → CellTable → Type 0

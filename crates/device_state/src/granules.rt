@@ -159,26 +159,25 @@ fn take_known(granules: &mut GranuleTable, config: &Config, host: HostId, run: &
     requires known { run.now.first < granule_total config.now }
     ensures { AreChanged (in_run run.now (taken config.now host run.now)) granules.old granules.new }
 {
-    soil_taken(granules, config, run);
-    hold_taken(granules, config, host, run);
+    let region = region_of(config, run);
+    soil_taken(granules, &region, run);
+    hold_taken(granules, &region, host, run);
 }
 
 /// What is taken has to be zeroed where its region sanitizes.
-fn soil_taken(granules: &mut GranuleTable, config: &Config, run: &Run)
-    requires { run.now.first < granule_total config.now }
-    ensures { AreChanged (in_run run.now (soiled_by_taking config.now run.now)) granules.old granules.new }
+fn soil_taken(granules: &mut GranuleTable, region: &RegionSpec, run: &Run)
+    ensures { AreChanged (in_run run.now (soiled_by_taking region.now)) granules.old granules.new }
 {
-    if region_of(config, run).sanitize {
+    if region.sanitize {
         granules.soil(*run);
     }
 }
 
 /// What is taken is held, unless hosts can share it.
-fn hold_taken(granules: &mut GranuleTable, config: &Config, host: HostId, run: &Run)
-    requires { run.now.first < granule_total config.now }
-    ensures { AreChanged (in_run run.now (held_by_taking config.now host run.now)) granules.old granules.new }
+fn hold_taken(granules: &mut GranuleTable, region: &RegionSpec, host: HostId, run: &Run)
+    ensures { AreChanged (in_run run.now (held_by_taking region.now host)) granules.old granules.new }
 {
-    if !region_of(config, run).shareable {
+    if !region.shareable {
         granules.give(*run, GranuleState::Held(host));
     }
 }

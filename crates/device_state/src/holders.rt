@@ -1,9 +1,10 @@
 //! Who holds each granule.
 
 ghost use Rattle.device_state.specs.Entered.{bits_set, held_in};
-ghost use Rattle.std.specs.Prelude.{◌≡◌, ◌<◌, ◌≤◌, IfOk, if◌then◌else◌, length, replicate, slice_index_or, ℕ};
+ghost use Rattle.std.specs.Prelude.{◌≡◌, ◌==◌, ◌<◌, ◌≤◌, IfOk, false, if◌then◌else◌, length, replicate, slice_index_or, ℕ};
 ghost use Rattle.dcd_base.specs.Hosts.{with_host, without_host};
 
+use crate::alike::held_so_up_to;
 use dcd_base::{Granule, HostId, NoMemory, Run, host_bits};
 use std::alloc::Global;
 use std::marker::Model;
@@ -42,6 +43,24 @@ impl Holders {
         }
     }
 
+    /// The number of the first granule behind one that has other holders, or the end. Nobody holds one past the last.
+    pub fn run_end(&self, at: u32, end: u32) -> u32
+        requires { at < end }
+        ensures later { at < result }
+        ensures within { result ≤ end }
+        ensures same { (g : ℕ) → at ≤ g → g < result → slice_index_or self.now g 0 ≡ slice_index_or self.now at 0 }
+        ensures other { result < end → (slice_index_or self.now result 0 == slice_index_or self.now at 0) ≡ false }
+    {
+        let bits = self.at(Granule(at));
+        let alike = held_so_up_to(self.bits.as_slice(), bits, at, end);
+        for next in alike.max(at + 1)..end {
+            if self.at(Granule(next)) != bits {
+                return next;
+            }
+        }
+        end
+    }
+
     /// The host holds the granules of the run from now on, or holds them no longer.
     pub fn set(&mut self, host: HostId, run: Run, held: bool)
         requires { host < 16 }
@@ -61,8 +80,20 @@ impl Holders {
         ensures granules { length self.new ≡ length self.old }
         ensures each { (g : ℕ) → slice_index_or self.new g 0 ≡ bits_set first end host held self.old g }
     {
-        for granule in first..end {
-            self.bits[granule] = host_bits::set(self.bits[granule], host, held);
-        }
+        set_bits(self.bits.as_mut_slice(), first, end, host, held);
+    }
+}
+
+/// The host is in the sets from the first up to the one before the end, or is in them no longer. The sets lie in one slice,
+/// so that many are changed at a time.
+fn set_bits(bits: &mut [u16], first: usize, end: usize, host: HostId, held: bool)
+    requires rising { first ≤ end }
+    requires within { end ≤ length bits.old }
+    requires host { host < 16 }
+    ensures granules { length bits.new ≡ length bits.old }
+    ensures each { (g : ℕ) → slice_index_or bits.new g 0 ≡ bits_set first end host held bits.old g }
+{
+    for granule in first..end {
+        bits[granule] = host_bits::set(bits[granule], host, held);
     }
 }

@@ -5,6 +5,7 @@
 //! and puts its update in place, without memory.
 #![tactic(auto)]
 
+mod alike;
 mod entering;
 mod granules;
 mod holders;
