@@ -1,15 +1,15 @@
 -- Lists of extents that stand apart: one extent more, a cut, and the only extent that has a range.
-use Rattle.std.proofs.Common.{◌≡◌, ◌⊎◌, ℕ, ◌+◌, ◌-◌, ◌<◌, ◌≤◌, true, inl, inr, All, List, [], ◌∷◌, ◌++◌, Some, length, get_or, take, refl, sym, subst, suc, zero, arith, lt-ltb, append_assoc}
+use Rattle.std.proofs.Common.{◌≡◌, ◌⊎◌, ℕ, ◌+◌, ◌-◌, ◌<◌, ◌≤◌, true, inl, inr, All, List, [], ◌∷◌, ◌++◌, Some, length, get_or, take, refl, sym, subst, suc, zero, min, ◌^◌, ◌∙◌, arith, lt-ltb, append_assoc}
 use Rattle.std.specs.List.{position_or_len}
 use Rattle.std.specs.Prelude.{nat_lt}
-use Rattle.std.proofs.lemmas.Bool.{and_parts, cases_Bool, leb-true, ltb-true}
+use Rattle.std.proofs.lemmas.Bool.{and_parts, cases_Bool, cases_lt, leb-true, ltb-true}
 use Rattle.std.proofs.lemmas.List.{take_more}
 use Rattle.std.proofs.lemmas.List.Elements.{All-append, All-cons, All-head, All-nil, All-push, All-tail}
 use Rattle.std.proofs.lemmas.List.Kept.{AllPairs-cons}
 use Rattle.std.proofs.lemmas.List.Quantifiers.{all_pairs_push}
 use Rattle.std.proofs.lemmas.List.Sums.{position_or_len_is}
 use Rattle.dcd_base.specs.declared.capacity.Extent.{Extent}
-use Rattle.extent_list.specs.Apart.{IsBelow, StandApart}
+use Rattle.extent_list.specs.Apart.{AreFalling, AreRising, IsBelow, StandApart}
 use Rattle.extent_list.specs.ExtentLists.{cut, has_range, holder_of, piece}
 
 -- what an index past the end reads
@@ -131,3 +131,38 @@ only_holder start bytes xs i d apart some known here =
 pub below_high : (low high start : ℕ) → (high ≡ 0) ⊎ (low ≤ high) → start < high → low ≤ high
 below_high low high start (inl none) below = absurd (omega (arith, none, below))
 below_high low high start (inr some) below = some
+
+-- the end of the others is that of one of them, and so is the place where they begin
+abbrev pub EndsAt : List Extent → ℕ → ℕ → Type 0
+EndsAt xs i high = (high ≡ 0) ⊎ ((k : ℕ) × (k < i) × (high ≡ (get_or xs k no_extent).start + (get_or xs k no_extent).length))
+
+abbrev pub BeginsAt : List Extent → ℕ → ℕ → Type 0
+BeginsAt xs i low = (low ≡ 2 ^ 64 - 1) ⊎ ((k : ℕ) × (k < i) × (low ≡ (get_or xs k no_extent).start))
+
+pub ends_more : (xs : List Extent) (i high next : ℕ) → next ≡ high → EndsAt xs i high → EndsAt xs (i + 1) next
+ends_more xs i high next same (inl none) = inl (omega (arith, same, none))
+ends_more xs i high next same (inr one) = inr (one.0, omega (arith, one.1), same ∙ one.2)
+
+pub ends_new : (xs : List Extent) (i next : ℕ) → next ≡ (get_or xs i no_extent).start + (get_or xs i no_extent).length → EndsAt xs (i + 1) next
+ends_new xs i next is = inr (i, omega arith, is)
+
+pub begins_more : (xs : List Extent) (i low next : ℕ) → next ≡ low → BeginsAt xs i low → BeginsAt xs (i + 1) next
+begins_more xs i low next same (inl none) = inl (omega (arith, same, none))
+begins_more xs i low next same (inr one) = inr (one.0, omega (arith, one.1), same ∙ one.2)
+
+pub begins_new : (xs : List Extent) (i next : ℕ) → next ≡ (get_or xs i no_extent).start → BeginsAt xs (i + 1) next
+begins_new xs i next is = inr (i, omega arith, is)
+
+pub begins_min : (xs : List Extent) (i low next : ℕ) → next ≡ min low (get_or xs i no_extent).start → BeginsAt xs i low → BeginsAt xs (i + 1) next
+begins_min xs i low next is before = elim (cases_lt low (get_or xs i no_extent).start) [
+  | inl less ↦ begins_more xs i low next (omega (arith, is, less)) before
+  | inr from ↦ begins_new xs i next (omega (arith, is, from))
+]
+
+-- in a list by rising or by falling address the next one lies above the others or below them
+pub stands_so : (xs : List Extent) (i low high : ℕ) → i < length xs → EndsAt xs i high → BeginsAt xs i low → All (λ (x : Extent). x.start + x.length < 2 ^ 64) xs
+    → (get_or xs i no_extent).start < high → low < (get_or xs i no_extent).start + (get_or xs i no_extent).length → AreRising xs ⊎ AreFalling xs → ⊥
+stands_so xs i low high known (inl none) begins ends below above (inl rising) = omega (arith, none, below)
+stands_so xs i low high known (inr one) begins ends below above (inl rising) = omega (arith, one.2, below, rising one.0 i no_extent one.1 known)
+stands_so xs i low high known top (inl none) ends below above (inr falling) = omega (arith, none, above, ends i no_extent known)
+stands_so xs i low high known top (inr one) ends below above (inr falling) = omega (arith, one.2, above, falling one.0 i no_extent one.1 known)

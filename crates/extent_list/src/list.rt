@@ -176,10 +176,7 @@ impl ExtentList {
         requires ends { All (λ x. x.start + x.length < 2 ^ 64) leaving.now }
         ensures { self.new.extents ≡ cut_all leaving.now self.old.extents }
     {
-        if leaving.is_empty() {
-            return;
-        }
-        let apart = stand_apart(self.kept.as_slice());
+        let apart = leaving.len() > 1 && stand_apart(self.kept.as_slice());
         let mut near = 0;
         for extent in leaving {
             self.cut_where_held(extent, apart, &mut near);

@@ -1,7 +1,7 @@
 //! Extents that have no address in common.
 
-ghost use Rattle.extent_list.specs.Apart.{StandApart};
-ghost use Rattle.std.specs.Prelude.{◌≡◌, true};
+ghost use Rattle.extent_list.specs.Apart.{AreFalling, AreRising, StandApart};
+ghost use Rattle.std.specs.Prelude.{◌≡◌, ◌+◌, ◌^◌, ◌<◌, ◌⊎◌, All, true};
 
 use dcd_base::Extent;
 
@@ -11,7 +11,8 @@ use dcd_base::Extent;
 /// Lists in another order may stand apart too, and one in which an extent ends behind the last address of 64 bits is
 /// not known to.
 pub fn stand_apart(list: &[Extent]) -> bool
-    ensures { result ≡ true → StandApart list.now }
+    ensures apart { result ≡ true → StandApart list.now }
+    ensures known { AreRising list.now ⊎ AreFalling list.now → All (λ x. x.start + x.length < 2 ^ 64) list.now → result ≡ true }
 {
     let mut low = u64::MAX;
     let mut high = 0;

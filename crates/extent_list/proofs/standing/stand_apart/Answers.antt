@@ -1,7 +1,7 @@
-use Rattle.std.proofs.Common.{◌≡◌, ◌+◌, arith, get_or, inr, rules, subst}
+use Rattle.std.proofs.Common.{◌≡◌, ◌+◌, arith, get_or, inr, rules, subst, ◌∙◌}
 use Rattle.std.proofs.lemmas.List.{take_all}
 use Rattle.extent_list.specs.Apart.{StandApart}
-use Rattle.extent_list.proofs.ApartLists.{above_apart, below_apart, below_high, lie_more, no_extent}
+use Rattle.extent_list.proofs.ApartLists.{above_apart, begins_min, begins_new, below_apart, below_high, ends_more, ends_new, lie_more, no_extent}
 use Rattle.extent_list.proofs.standing.stand_apart.Goals as goal
 use Rattle.extent_list.proofs.standing.stand_apart.Goals.{then-high-extent, else-high-extent+then-end-low}
 
@@ -20,6 +20,8 @@ loop-extent-preserved c =
         apart = above_apart xs i no_extent known low high inside w.if-high-extent.true before;
         inside = lie_more xs i no_extent known low high inside c.if-high-extent.low c.if-high-extent.high
             (omega (arith, w.low-is, w.min-low.ensures)) (omega (arith, w.high-is, long, w.if-high-extent.true)) (omega (arith, w.low-is, w.min-low.ensures)) (omega (arith, w.high-is, long));
+        ends = ends_new xs i c.if-high-extent.high (w.high-is ∙ long);
+        begins = begins_min xs i low c.if-high-extent.low (w.low-is ∙ w.min-low.ensures) c.loop-extent.invariant.begins;
         order = inr (omega (arith, w.high-is, w.low-is, w.min-low.ensures, long));
       }
       | else-high-extent+then-end-low w ↦
@@ -28,9 +30,11 @@ loop-extent-preserved c =
             apart = below_apart xs i no_extent known low high inside (omega (arith, w.if-end-low.true, long)) before;
             inside = lie_more xs i no_extent known low high inside c.if-high-extent.low c.if-high-extent.high
                 (omega (arith, w.low-is, w.if-end-low.true, long)) (omega (arith, w.high-is)) (omega (arith, w.low-is)) (omega (arith, w.high-is, long, w.if-end-low.true, ends));
+            ends = ends_more xs i high c.if-high-extent.high w.high-is c.loop-extent.invariant.ends;
+            begins = begins_new xs i c.if-high-extent.low w.low-is;
             order = inr (omega (arith, w.high-is, w.low-is, w.if-end-low.true, long, ends));
           }
     ]
 
-pub returns : goal.returns
-returns c = λ yes. subst StandApart (take_all c.loop-extent.extent-index c.args.list.now (omega (arith, c.loop-extent-test.false))) c.loop-extent.invariant.apart
+pub returns-clause-apart : goal.returns-clause-apart
+returns-clause-apart c = λ yes. subst StandApart (take_all c.loop-extent.extent-index c.args.list.now (omega (arith, c.loop-extent-test.false))) c.loop-extent.invariant.apart
