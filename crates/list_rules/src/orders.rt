@@ -1,15 +1,17 @@
 //! Lists of extents by their addresses.
 
+ghost use Rattle.extent_list.specs.Apart.{AreFalling, AreRising};
 ghost use Rattle.list_rules.specs.Orders.{AreApart};
-ghost use Rattle.std.specs.Prelude.{◌≡◌, true};
+ghost use Rattle.std.specs.Prelude.{◌≡◌, ◌+◌, ◌^◌, ◌<◌, ◌⊎◌, All, true};
 
 use dcd_base::Extent;
 use extent_list::stand_apart;
 
 /// Whether the extents are known to share no address with one before them, as those of a list by rising or by falling
-/// address. Other lists may be such too.
+/// address in which each ends below 2^64. Other lists may be such too.
 pub fn are_apart(list: &[Extent]) -> bool
-    ensures { result ≡ true → AreApart list.now }
+    ensures apart { result ≡ true → AreApart list.now }
+    ensures known { AreRising list.now ⊎ AreFalling list.now → All (λ x. x.start + x.length < 2 ^ 64) list.now → result ≡ true }
 {
     stand_apart(list)
 }

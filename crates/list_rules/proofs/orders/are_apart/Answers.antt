@@ -1,5 +1,5 @@
 use Rattle.list_rules.proofs.Apart.{none_shared}
 use Rattle.list_rules.proofs.orders.are_apart.Goals as goal
 
-pub returns : goal.returns
-returns c = λ yes. none_shared c.args.list.now (c.stand_apart.ensures yes)
+pub returns-clause-apart : goal.returns-clause-apart
+returns-clause-apart c = λ yes. none_shared c.args.list.now (c.stand_apart.ensures.apart yes)
