@@ -61,6 +61,7 @@ NextRun test limit from most None = lowest_from test limit from most ≡ []
 NextRun test limit from most (Some blocks) =
     (joined always_together (lowest_from test limit from most) ≡ blocks ∷ joined always_together (lowest_from test limit (blocks.0 + blocks.1) (most - blocks.1)))
     × (from < blocks.0 + blocks.1) × (blocks.0 + blocks.1 ≤ limit) × (blocks.1 ≤ most)
+    × (length (lowest_from test limit from most) ≡ blocks.1 + length (lowest_from test limit (blocks.0 + blocks.1) (most - blocks.1)))
 
 -- Prescriptive: an extent that is misplaced in the region, has a granule that is not free, or shares an address with one before it.
 abbrev pub free_extent_rule : Configuration → HostId → (ℕ → Bool) → ℕ → List Extent → Extent → Option Rule

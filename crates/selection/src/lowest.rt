@@ -1,12 +1,15 @@
 //! The policy Free: the lowest free blocks, wherever they lie.
 
 ghost use Rattle.granule_map.specs.Blocks.{IsArea, block_count, free_block_count, is_block_free};
+ghost use Rattle.dcd_codes.specs.declared.refusals.Refusal.TheVariants.{Broken};
+ghost use Rattle.dcd_codes.specs.declared.rules.Rule.{Rule};
+ghost use Rattle.granule_map.specs.Choices.{lowest_from};
 ghost use Rattle.granule_map.specs.StateLists.{is_free_at};
 ghost use Rattle.selection.specs.Picks.{PicksLowest};
 ghost use Rattle.selection.specs.Selections.{AreApart, AreBetween, NextRun, are_free, free_runs};
 ghost use Rattle.std.specs.Prelude.{◌≡◌, ◌+◌, ◌<◌, IfOk, IsTrue, OnOk, [], length};
 
-use crate::blocks::{free_from, next_free, run_of_blocks};
+use crate::blocks::run_of_blocks;
 use dcd_base::{Granule, NoMemory, Run, Runs};
 use dcd_codes::{Refusal, Rule};
 use granule_map::GranuleMap;
@@ -32,16 +35,25 @@ pub fn free(
     ensures apart { IfOk result (λ runs. AreApart runs) }
     ensures are_free { IfOk result (λ runs. IsTrue (are_free (is_free_at map.now.states) runs)) }
 {
-    let have = count_free(map, &area, per_block);
-    if u64::from(have) < blocks {
-        return Err(Refusal::Broken(Rule::TooFewFree {
-            need: blocks,
-            have: u64::from(have),
-        }));
+    if blocks > u64::from(area.count / per_block) {
+        return Err(too_few(map, &area, per_block, blocks));
     }
     let mut runs = Runs::new(alloc);
-    find_lowest(map, &area, per_block, blocks as u32, &mut runs)?;
+    if find_lowest(map, &area, per_block, blocks as u32, &mut runs)? > 0 {
+        return Err(too_few(map, &area, per_block, blocks));
+    }
     Ok(runs)
+}
+
+/// The refusal of a request for more blocks than are free.
+fn too_few(map: &GranuleMap, area: &Run, per_block: u32, blocks: u64) -> Refusal
+    requires { IsArea map.now.states area.now per_block }
+    ensures { result ≡ Broken (Rule.TooFewFree blocks (free_block_count map.now.states area.now per_block)) }
+{
+    Refusal::Broken(Rule::TooFewFree {
+        need: blocks,
+        have: u64::from(count_free(map, area, per_block)),
+    })
 }
 
 /// How many blocks of the area are free.
@@ -52,17 +64,18 @@ fn count_free(map: &GranuleMap, area: &Run, per_block: u32) -> u32
     map.free_blocks(*area, per_block)
 }
 
-/// The runs of the lowest free blocks, so many or all that there are.
+/// The runs of the lowest free blocks, so many or all that there are, and how many blocks are wanting.
 fn find_lowest(
     map: &GranuleMap,
     area: &Run,
     per_block: u32,
     blocks: u32,
     runs: &mut Runs,
-) -> Result<(), NoMemory>
+) -> Result<u32, NoMemory>
     requires area { IsArea map.now.states area.now per_block }
     requires empty { runs.old ≡ [] }
-    ensures { OnOk result (runs.new ≡ free_runs (is_free_at map.now.states) area.now per_block blocks) }
+    ensures runs { OnOk result (runs.new ≡ free_runs (is_free_at map.now.states) area.now per_block blocks) }
+    ensures wanting { IfOk result (λ left. left + length (lowest_from (is_block_free map.now.states area.now per_block) (block_count area.now per_block) 0 blocks) ≡ blocks) }
 {
     let _granules = map.len();
     let mut at = 0;
@@ -72,7 +85,7 @@ fn find_lowest(
         at = first + count;
         left -= count;
     }
-    Ok(())
+    Ok(left)
 }
 
 /// The lowest run of free blocks from one on, at most so many of them, by its first block and its blocks.
@@ -89,14 +102,8 @@ fn next_run(
     if most == 0 {
         return None;
     }
-    match next_free(map, area, per_block, from) {
+    match map.next_free_blocks(*area, per_block, from) {
         None => None,
-        Some(first) => {
-            let behind = area.count / per_block - first;
-            Some((
-                first,
-                free_from(map, area, per_block, first, most.min(behind)),
-            ))
-        }
+        Some(blocks) => Some((blocks.first, most.min(blocks.count))),
     }
 }

@@ -28,4 +28,4 @@ loop-i-preserved c =
     each_in_more check c.as_slice-whole.result.now c.loop-i.i no_extent c.loop-i-test.true c.loop-i.invariant (same ∙ sym c.broken_answered_extent.ensures ∙ c.in_default.is)
 
 pub broken_answered_extent-requires-clause-apart : goal.broken_answered_extent-requires-clause-apart
-broken_answered_extent-requires-clause-apart c = λ yes. c.are_apart-apart.ensures yes c.loop-i.i no_extent c.loop-i-test.true
+broken_answered_extent-requires-clause-apart c = λ yes. c.are_apart-apart.ensures.apart yes c.loop-i.i no_extent c.loop-i-test.true

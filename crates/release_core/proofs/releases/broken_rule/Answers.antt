@@ -54,4 +54,4 @@ returns c =
     (sym row ∙ ap (λ list. give_back_rule c.args.config.now c.args.host c.args.accepted.now.extents c.args.offered list c.args.more) is) c.count_rule.ensures
 
 pub broken_leaving_extent-requires-clause-apart : goal.broken_leaving_extent-requires-clause-apart
-broken_leaving_extent-requires-clause-apart c = λ yes. c.are_apart-apart.ensures yes c.loop-i.i no_extent c.loop-i-test.true
+broken_leaving_extent-requires-clause-apart c = λ yes. c.are_apart-apart.ensures.apart yes c.loop-i.i no_extent c.loop-i-test.true

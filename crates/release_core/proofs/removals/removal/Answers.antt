@@ -43,4 +43,4 @@ count_rule-requires-clause-leaving c =
     all_can_leave c.args.config.now c.args.host c.args.accepted.now.extents (Within.Region c.args.region) listed c.regions.ensures.sound c.requires.host each
 
 pub broken_leaving_extent-requires-clause-apart : goal.broken_leaving_extent-requires-clause-apart
-broken_leaving_extent-requires-clause-apart c = λ yes. c.are_apart-apart.ensures yes c.loop-i.i no_extent c.loop-i-test.true
+broken_leaving_extent-requires-clause-apart c = λ yes. c.are_apart-apart.ensures.apart yes c.loop-i.i no_extent c.loop-i-test.true

@@ -66,4 +66,4 @@ returns-clause-are_free c =
     (kept_free c.args.config.now c.args.host c.regions-regions.ensures.sound c.requires.host c.args.region (is_free_at c.args.map.now.states) [] c.as_slice-listed.result.now (unbroken c))
 
 pub try_extent-requires-clause-apart : goal.try_extent-requires-clause-apart
-try_extent-requires-clause-apart c = λ yes. c.are_apart-apart.ensures yes c.loop-i.i no_extent c.loop-i-test.true
+try_extent-requires-clause-apart c = λ yes. c.are_apart-apart.ensures.apart yes c.loop-i.i no_extent c.loop-i-test.true
