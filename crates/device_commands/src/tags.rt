@@ -5,6 +5,7 @@ ghost use Rattle.extent_list.specs.ExtentLists.{tags_of};
 ghost use Rattle.std.specs.Prelude.{◌≡◌, ◌++◌, ◌∷◌, [], IfOk, OnOk, if◌then◌else◌};
 
 use dcd_base::{Extent, NoMemory, Seq, Tag};
+use extent_list::same_tag;
 use std::alloc::Global;
 
 /// Each tag of the extents once, in the order of first appearance; sixteen zero bytes too.
@@ -28,9 +29,12 @@ fn put_tag(tag: &Tag, tags: &mut Seq<Tag>) -> Result<(), NoMemory>
     tags.push(*tag)
 }
 
-/// Whether the tag is among those.
+/// Whether the tag is among those; the last one is looked at first.
 fn has_tag(tags: &[Tag], tag: &Tag) -> bool
     ensures { result ≡ has_tag tags.now tag.now }
 {
-    tags.iter().any(|other| *tag == *other)
+    match tags.last() {
+        Some(last) if same_tag(tag, last) => true,
+        _ => tags.iter().any(|other| same_tag(tag, other)),
+    }
 }
