@@ -38,11 +38,15 @@ generated_config = record {
 abbrev pub share : ℕ → ℕ → Extent
 share k h = record { start = (64 * h + 8 * (k % 8)) * big_block; length = 8 * big_block; tag = zero_tag; sequence = 0 }
 
+-- an actor's command, with the message tag 0
+abbrev pub sends : Actor → ℕ → List ℕ → Line
+sends actor opcode payload = Line.Do actor 0 (Act.Command (record { tag = 0; opcode = opcode; payload = payload }))
+
 abbrev pub host_sends : ℕ → HostRequest → Line
-host_sends h q = Line.Do (Actor.Host h) 0 (Act.Command (record { tag = 0; opcode = host_opcode q; payload = spelling (host_fields q) }))
+host_sends h q = sends (Actor.Host h) (host_opcode q) (spelling (host_fields q))
 
 abbrev pub manager_sends : FmRequest → Line
-manager_sends q = Line.Do Actor.Manager 0 (Act.Command (record { tag = 0; opcode = manager_opcode q; payload = spelling (manager_fields q) }))
+manager_sends q = sends Actor.Manager (manager_opcode q) (spelling (manager_fields q))
 
 -- the manager offers host h its extent, by policy 2
 unfoldable pub offer_line : ℕ → ℕ → Line

@@ -1,15 +1,13 @@
 //! The lines that are commands.
 
-ghost use Rattle.fm_payloads.specs.ManagerPayloads.{ManagerCountsFit, manager_opcode};
-ghost use Rattle.host_payloads.specs.HostPayloads.{HostCountsFit, host_opcode, lists_untagged};
-ghost use Rattle.script_gen.specs.Generated.{clear_line, give_back_line, host_sends, manager_sends, offer_line, take_line};
-ghost use Rattle.std.specs.Prelude.{◌≡◌, ◌<◌, IfOk, IsTrue};
+ghost use Rattle.dcd_base.specs.declared.steps.Actor.{Actor};
+ghost use Rattle.script_gen.specs.Generated.{clear_line, give_back_line, offer_line, sends, take_line};
+ghost use Rattle.std.specs.Prelude.{◌≡◌, ◌<◌, IfOk};
 
+use crate::payloads::{clearing_payload, listed_payload, placed_payload};
 use crate::settings::share;
 use cci_codec::{Payload, Request};
-use dcd_base::{Actor, Bytes, Extents, Handles, HostId, NoMemory, no_tag};
-use fm_payloads::FmRequest;
-use host_payloads::HostRequest;
+use dcd_base::{Actor, HostId, NoMemory};
 use journal_core::Act;
 use script_codec::Line;
 use std::alloc::Global;
@@ -28,45 +26,14 @@ const CAPACITY_LOG: u8 = 4;
 /// The policy by which an add names its extents.
 const PRESCRIPTIVE: u8 = 2;
 
-/// The line of a host's command, with the message tag 0. The opcode is the one of the request.
-fn host_line(
-    alloc: Global,
-    host: HostId,
-    opcode: u16,
-    request: &HostRequest,
-) -> Result<Line, NoMemory>
-    requires opcode { opcode ≡ host_opcode request.now }
-    requires counts { HostCountsFit request.now }
-    requires untagged { IsTrue (lists_untagged request.now) }
-    ensures { IfOk result (λ line. line ≡ host_sends host request.now) }
+/// The line of an actor's command, with the message tag 0.
+fn command_line(alloc: Global, actor: Actor, opcode: u16, payload: &[u8]) -> Result<Line, NoMemory>
+    ensures { IfOk result (λ line. line ≡ sends actor opcode payload.now) }
 {
-    let mut payload = Bytes::new(alloc);
-    host_payloads::encode(request, &mut payload)?;
     let tag = 0;
-    let payload = Payload::from_slice(alloc, payload.as_slice())?;
+    let payload = Payload::from_slice(alloc, payload)?;
     Ok(Line::Do {
-        actor: Actor::Host(host),
-        lane: 0,
-        act: Act::Command(Request {
-            tag,
-            opcode,
-            payload,
-        }),
-    })
-}
-
-/// The line of a command of the Fabric Manager, with the message tag 0. The opcode is the one of the request.
-fn manager_line(alloc: Global, opcode: u16, request: &FmRequest) -> Result<Line, NoMemory>
-    requires opcode { opcode ≡ manager_opcode request.now }
-    requires counts { ManagerCountsFit request.now }
-    ensures { IfOk result (λ line. line ≡ manager_sends request.now) }
-{
-    let mut payload = Bytes::new(alloc);
-    fm_payloads::encode(request, &mut payload)?;
-    let tag = 0;
-    let payload = Payload::from_slice(alloc, payload.as_slice())?;
-    Ok(Line::Do {
-        actor: Actor::Manager,
+        actor,
         lane: 0,
         act: Act::Command(Request {
             tag,
@@ -82,15 +49,8 @@ pub fn offer(alloc: Global, round: u16, host: HostId) -> Result<Line, NoMemory>
     requires { host < 4 }
     ensures { IfOk result (λ line. line ≡ offer_line round host) }
 {
-    let request = FmRequest::Add {
-        host: u16::from(host.0),
-        policy: PRESCRIPTIVE,
-        region: 0,
-        length: 0,
-        tag: no_tag(),
-        extents: Extents::from_slice(alloc, &[share(round, host)])?,
-    };
-    manager_line(alloc, ADD, &request)
+    let payload = placed_payload(u16::from(host.0), PRESCRIPTIVE, &share(round, host));
+    command_line(alloc, Actor::Manager, ADD, &payload)
 }
 
 /// The host takes its extent of the round.
@@ -99,11 +59,8 @@ pub fn take(alloc: Global, round: u16, host: HostId) -> Result<Line, NoMemory>
     requires { host < 4 }
     ensures { IfOk result (λ line. line ≡ take_line round host) }
 {
-    let request = HostRequest::AddResponse {
-        more: false,
-        extents: Extents::from_slice(alloc, &[share(round, host)])?,
-    };
-    host_line(alloc, host, ADD_RESPONSE, &request)
+    let payload = listed_payload(&share(round, host));
+    command_line(alloc, Actor::Host(host), ADD_RESPONSE, &payload)
 }
 
 /// The host clears the record of its offer. Its log has one record a round, so that handles go up by one.
@@ -112,12 +69,8 @@ pub fn clear(alloc: Global, round: u16, host: HostId) -> Result<Line, NoMemory>
     requires { round < 256 }
     ensures { IfOk result (λ line. line ≡ clear_line round host) }
 {
-    let request = HostRequest::ClearEvents {
-        log: CAPACITY_LOG,
-        all: false,
-        handles: Handles::from_slice(alloc, &[round + 1])?,
-    };
-    host_line(alloc, host, CLEAR_EVENTS, &request)
+    let payload = clearing_payload(CAPACITY_LOG, round + 1);
+    command_line(alloc, Actor::Host(host), CLEAR_EVENTS, &payload)
 }
 
 /// The host gives its extent of the round back.
@@ -126,9 +79,6 @@ pub fn give_back(alloc: Global, round: u16, host: HostId) -> Result<Line, NoMemo
     requires { host < 4 }
     ensures { IfOk result (λ line. line ≡ give_back_line round host) }
 {
-    let request = HostRequest::GiveBack {
-        more: false,
-        extents: Extents::from_slice(alloc, &[share(round, host)])?,
-    };
-    host_line(alloc, host, GIVE_BACK, &request)
+    let payload = listed_payload(&share(round, host));
+    command_line(alloc, Actor::Host(host), GIVE_BACK, &payload)
 }

@@ -9,6 +9,7 @@ mod by_rounds;
 mod commands;
 mod draws;
 mod generating;
+mod payloads;
 mod rounds;
 mod settings;
 mod uses;
