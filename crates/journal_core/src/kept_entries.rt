@@ -117,7 +117,9 @@ impl KeptEntries {
         }
     }
 
-    /// The same, of an entry that is not kept small.
+    /// The same, of an entry that is not kept small. It stands apart, so that one that is makes no room for what it needs.
+    #[cold]
+    #[inline(never)]
     fn append_apart(
         &mut self,
         pass: u32,
