@@ -8,7 +8,7 @@ ghost use Rattle.std.specs.Prelude.{◌≡◌, ◌↔◌, ◌+◌, ◌-◌, ◌<
 
 use crate::blocks::{count_free_blocks, free_from, longest_run_of, lowest_block, next_free};
 use crate::marks::{count_with, next_with, next_with_either};
-use crate::replacing::{Replaced, replace_marks};
+use crate::replacing::{Replaced, replace_both};
 use crate::states::{DIRTY, FREE, GranuleState, IN_USE, is_same_state};
 use dcd_base::{Granule, NoMemory, Run};
 use std::alloc::Global;
@@ -114,8 +114,13 @@ impl GranuleMap {
         ensures dirty { result.dirty ≡ count_by is_dirty_state (part_of self.old.states run) }
     {
         let mark = state.mark();
-        fill_states(self.granules.as_mut_slice(), &run, &state);
-        replace_marks(self.marks.as_mut_slice(), &run, mark)
+        replace_both(
+            self.granules.as_mut_slice(),
+            self.marks.as_mut_slice(),
+            &run,
+            &state,
+            mark,
+        )
     }
 
     /// Gives one granule of the map this state. Takes no memory where there is spare, and leaves the spare.
@@ -293,30 +298,6 @@ impl GranuleMap {
             from as usize,
             end as usize,
         ) as u32
-    }
-}
-
-/// Makes each state of the run this one.
-fn fill_states(states: &mut [GranuleState], run: &Run, state: &GranuleState)
-    requires { run.now.first + run.now.count ≤ length states.old }
-    ensures { states.new ≡ with_run states.old run.now state.now }
-{
-    match state {
-        GranuleState::Free => write_states(states, run, &GranuleState::Free),
-        GranuleState::Dirty => write_states(states, run, &GranuleState::Dirty),
-        _ => write_states(states, run, state),
-    }
-}
-
-/// Writes this state at each granule of the run. A state that is known where this is called has no host or tag to be written.
-#[inline(always)]
-fn write_states(states: &mut [GranuleState], run: &Run, state: &GranuleState)
-    requires { run.now.first + run.now.count ≤ length states.old }
-    ensures { states.new ≡ with_run states.old run.now state.now }
-{
-    let first = run.first.0 as usize;
-    for i in 0..run.count as usize {
-        states[first + i] = *state;
     }
 }
 

@@ -1,7 +1,7 @@
 use Rattle.std.proofs.Common.{◌+◌, ◌<◌, ◌∙◌, List, length, set, ap, rules}
 use Rattle.granule_map.proofs.PartsReplaced.{replaced_more}
 use Rattle.granule_map.specs.declared.states.GranuleState.{GranuleState}
-use Rattle.granule_map.proofs.map.write_states.Goals as goal
+use Rattle.granule_map.proofs.replacing.write_states.Goals as goal
 
 pub loop-i-preserved : goal.loop-i-preserved
 loop-i-preserved c =

@@ -1,0 +1,15 @@
+use Rattle.std.proofs.Common.{◌≡◌, ◌≤◌, drop, take}
+use Rattle.std.specs.Prelude.{count_by}
+use Rattle.memchr.specs.Find.{is_byte}
+use Rattle.granule_map.proofs.PartsReplaced.{replaced}
+use Rattle.granule_map.proofs.replacing.replace_few.Given as goal
+
+abbrev pub invariant-loop-i : goal.invariant-loop-i
+invariant-loop-i l = record {
+  states : l.states ≡ replaced l.first l.i l.state l.fn.states;
+  marks : l.marks ≡ replaced l.first l.i l.mark l.fn.marks;
+  free : l.free ≡ count_by (is_byte 0) (take l.i (drop l.first l.fn.marks));
+  dirty : l.dirty ≡ count_by (is_byte 1) (take l.i (drop l.first l.fn.marks));
+  free_few : l.free ≤ l.i;
+  dirty_few : l.dirty ≤ l.i;
+}
