@@ -67,11 +67,11 @@ impl Rounds {
         if self.round == ROUNDS {
             return Ok(None);
         }
-        let mut lines = Lines::from_vec(self.alloc, Vec::with_capacity(self.alloc, LINES)?);
+        let mut lines = Vec::with_capacity(self.alloc, LINES)?;
         let mut draws = self.draws.copy();
         put_round(self.round, &mut draws, &mut lines)?;
         self.draws = draws;
         self.round += 1;
-        Ok(Some(lines))
+        Ok(Some(Lines::from_vec(self.alloc, lines)))
     }
 }

@@ -20,10 +20,10 @@ const LINES: usize = 38_137;
 fn lines_of(alloc: Global, seed: u64) -> Result<Lines, NoMemory>
     ensures { IfOk result (λ lines. lines ≡ generated_lines seed) }
 {
-    let mut lines = Lines::from_vec(alloc, Vec::with_capacity(alloc, LINES)?);
+    let mut lines = Vec::with_capacity(alloc, LINES)?;
     let mut draws = Draws::new(seed);
     put_rounds(&mut draws, &mut lines)?;
-    Ok(lines)
+    Ok(Lines::from_vec(alloc, lines))
 }
 
 /// The script of a seed: version 1, one lane, 38,137 lines, of which 37,115 are no marks.

@@ -10,6 +10,7 @@ mod commands;
 mod draws;
 mod generating;
 mod payloads;
+mod putting;
 mod rounds;
 mod settings;
 mod uses;

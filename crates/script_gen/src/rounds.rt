@@ -7,11 +7,12 @@ ghost use Rattle.std.specs.Prelude.{◌≡◌, ◌++◌, [], ◌∷◌, ◌<◌,
 
 use crate::commands::{give_back, offer};
 use crate::draws::Draws;
+use crate::putting::put_line;
 use crate::settings::HOSTS;
 use crate::uses::put_uses;
 use dcd_base::{Actor, HostId, NoMemory};
 use journal_core::Act;
-use script_codec::{Line, Lines};
+use script_codec::Line;
 
 /// How many rounds there are.
 pub const ROUNDS: u16 = 256;
@@ -23,54 +24,57 @@ const LAST: u16 = 255;
 const ROUND_GRANULES: u16 = 32;
 
 /// A mark: all of the phase is done before the next begins.
-fn end_phase(lines: &mut Lines) -> Result<(), NoMemory>
-    ensures { OnOk result (lines.new ≡ lines.old ++ Line.Mark ∷ []) }
+fn end_phase(lines: &mut Vec<Line>) -> Result<(), NoMemory>
+    ensures { OnOk result (lines.new.items ≡ lines.old.items ++ Line.Mark ∷ []) }
 {
-    lines.push(Line::Mark)
+    put_line(lines, Line::Mark)
 }
 
 /// The Fabric Manager offers each host its extent.
-fn put_offers(round: u16, lines: &mut Lines) -> Result<(), NoMemory>
-    ensures { OnOk result (lines.new ≡ lines.old ++ offers_lines round) }
+fn put_offers(round: u16, lines: &mut Vec<Line>) -> Result<(), NoMemory>
+    ensures { OnOk result (lines.new.items ≡ lines.old.items ++ offers_lines round) }
 {
-    let alloc = lines.allocator();
+    let alloc = *lines.allocator();
     for host in 0..HOSTS {
-        lines.push(offer(alloc, round, HostId(host))?)?;
+        put_line(lines, offer(alloc, round, HostId(host))?)?;
     }
     Ok(())
 }
 
 /// Each host gives its extent back.
-fn put_give_backs(round: u16, lines: &mut Lines) -> Result<(), NoMemory>
-    ensures { OnOk result (lines.new ≡ lines.old ++ give_back_lines round) }
+fn put_give_backs(round: u16, lines: &mut Vec<Line>) -> Result<(), NoMemory>
+    ensures { OnOk result (lines.new.items ≡ lines.old.items ++ give_back_lines round) }
 {
-    let alloc = lines.allocator();
+    let alloc = *lines.allocator();
     for host in 0..HOSTS {
-        lines.push(give_back(alloc, round, HostId(host))?)?;
+        put_line(lines, give_back(alloc, round, HostId(host))?)?;
     }
     Ok(())
 }
 
 /// What the hosts give back is zeroed.
 #[tactic(auto, unfolding(crate::specs::Generated::end_lines))]
-fn put_end(round: u16, lines: &mut Lines) -> Result<(), NoMemory>
+fn put_end(round: u16, lines: &mut Vec<Line>) -> Result<(), NoMemory>
     requires { round < 255 }
-    ensures { OnOk result (lines.new ≡ lines.old ++ end_lines round) }
+    ensures { OnOk result (lines.new.items ≡ lines.old.items ++ end_lines round) }
 {
     put_give_backs(round, lines)?;
     end_phase(lines)?;
-    lines.push(Line::Do {
-        actor: Actor::Sanitizer,
-        lane: 0,
-        act: Act::Scrub(ROUND_GRANULES),
-    })?;
+    put_line(
+        lines,
+        Line::Do {
+            actor: Actor::Sanitizer,
+            lane: 0,
+            act: Act::Scrub(ROUND_GRANULES),
+        },
+    )?;
     end_phase(lines)
 }
 
 /// The end of a round; the last round has none.
 #[tactic(auto, unfolding(crate::specs::Generated::end_lines))]
-fn put_end_or_none(round: u16, lines: &mut Lines) -> Result<(), NoMemory>
-    ensures { OnOk result (lines.new ≡ lines.old ++ end_lines round) }
+fn put_end_or_none(round: u16, lines: &mut Vec<Line>) -> Result<(), NoMemory>
+    ensures { OnOk result (lines.new.items ≡ lines.old.items ++ end_lines round) }
 {
     if round < LAST {
         put_end(round, lines)
@@ -81,9 +85,9 @@ fn put_end_or_none(round: u16, lines: &mut Lines) -> Result<(), NoMemory>
 
 /// A round.
 #[tactic(auto, unfolding(crate::specs::Drawing::round_by))]
-pub fn put_round(round: u16, draws: &mut Draws, lines: &mut Lines) -> Result<(), NoMemory>
+pub fn put_round(round: u16, draws: &mut Draws, lines: &mut Vec<Line>) -> Result<(), NoMemory>
     requires { round < 256 }
-    ensures lines { OnOk result (lines.new ≡ lines.old ++ round_by round draws.old) }
+    ensures lines { OnOk result (lines.new.items ≡ lines.old.items ++ round_by round draws.old) }
     ensures draws { OnOk result (draws.new ≡ draws_after draws.old 128) }
 {
     put_offers(round, lines)?;
@@ -94,8 +98,8 @@ pub fn put_round(round: u16, draws: &mut Draws, lines: &mut Lines) -> Result<(),
 }
 
 /// All rounds.
-pub fn put_rounds(draws: &mut Draws, lines: &mut Lines) -> Result<(), NoMemory>
-    ensures { OnOk result (lines.new ≡ lines.old ++ rounds_by draws.old 256) }
+pub fn put_rounds(draws: &mut Draws, lines: &mut Vec<Line>) -> Result<(), NoMemory>
+    ensures { OnOk result (lines.new.items ≡ lines.old.items ++ rounds_by draws.old 256) }
 {
     for round in 0..ROUNDS {
         put_round(round, draws, lines)?;

@@ -8,10 +8,11 @@ ghost use Rattle.std.specs.Prelude.{◌≡◌, ◌++◌, ◌<◌, OnOk};
 
 use crate::commands::{clear, take};
 use crate::draws::Draws;
+use crate::putting::put_line;
 use crate::settings::{HOSTS, share};
 use dcd_base::{Actor, HostId, NoMemory};
 use journal_core::Act;
-use script_codec::{Line, Lines};
+use script_codec::Line;
 
 /// How many words a host stores and loads in a round.
 const WORDS: u8 = 16;
@@ -44,26 +45,26 @@ fn put_access(
     round: u16,
     host: HostId,
     draws: &mut Draws,
-    lines: &mut Lines,
+    lines: &mut Vec<Line>,
 ) -> Result<(), NoMemory>
     requires { host < 4 }
-    ensures lines { OnOk result (lines.new ≡ lines.old ++ access_by round host draws.old) }
+    ensures lines { OnOk result (lines.new.items ≡ lines.old.items ++ access_by round host draws.old) }
     ensures draws { OnOk result (draws.new ≡ draws_after draws.old 2) }
 {
     let dpa = place(round, host, draws.draw());
     let value = draws.draw();
-    lines.push(host_does(host, Act::Store(dpa, value)))?;
-    lines.push(host_does(host, Act::Load(dpa)))
+    put_line(lines, host_does(host, Act::Store(dpa, value)))?;
+    put_line(lines, host_does(host, Act::Load(dpa)))
 }
 
 fn put_accesses(
     round: u16,
     host: HostId,
     draws: &mut Draws,
-    lines: &mut Lines,
+    lines: &mut Vec<Line>,
 ) -> Result<(), NoMemory>
     requires { host < 4 }
-    ensures lines { OnOk result (lines.new ≡ lines.old ++ accesses_by round host draws.old 16) }
+    ensures lines { OnOk result (lines.new.items ≡ lines.old.items ++ accesses_by round host draws.old 16) }
     ensures draws { OnOk result (draws.new ≡ draws_after draws.old 32) }
 {
     for word in 0..WORDS {
@@ -74,22 +75,27 @@ fn put_accesses(
 
 /// The host takes its extent, clears the record, and stores and loads words.
 #[tactic(auto, unfolding(crate::specs::Drawing::use_by))]
-fn put_use(round: u16, host: HostId, draws: &mut Draws, lines: &mut Lines) -> Result<(), NoMemory>
+fn put_use(
+    round: u16,
+    host: HostId,
+    draws: &mut Draws,
+    lines: &mut Vec<Line>,
+) -> Result<(), NoMemory>
     requires host { host < 4 }
     requires round { round < 256 }
-    ensures lines { OnOk result (lines.new ≡ lines.old ++ use_by round host draws.old) }
+    ensures lines { OnOk result (lines.new.items ≡ lines.old.items ++ use_by round host draws.old) }
     ensures draws { OnOk result (draws.new ≡ draws_after draws.old 32) }
 {
-    let alloc = lines.allocator();
-    lines.push(take(alloc, round, host)?)?;
-    lines.push(clear(alloc, round, host)?)?;
+    let alloc = *lines.allocator();
+    put_line(lines, take(alloc, round, host)?)?;
+    put_line(lines, clear(alloc, round, host)?)?;
     put_accesses(round, host, draws, lines)
 }
 
 /// Each host does so.
-pub fn put_uses(round: u16, draws: &mut Draws, lines: &mut Lines) -> Result<(), NoMemory>
+pub fn put_uses(round: u16, draws: &mut Draws, lines: &mut Vec<Line>) -> Result<(), NoMemory>
     requires { round < 256 }
-    ensures lines { OnOk result (lines.new ≡ lines.old ++ uses_by round draws.old 4) }
+    ensures lines { OnOk result (lines.new.items ≡ lines.old.items ++ uses_by round draws.old 4) }
     ensures draws { OnOk result (draws.new ≡ draws_after draws.old 128) }
 {
     for host in 0..HOSTS {

@@ -5,7 +5,7 @@ use Rattle.script_gen.proofs.rounds.put_give_backs.Goals as goal
 
 pub loop-host-preserved : goal.loop-host-preserved
 loop-host-preserved c =
-    puts_one_more (give_back_line c.args.round) c.loop-host.host c.args.lines.now c.loop-host.lines c.push.new.self _ c.loop-host.invariant c.in_ok-give_back.ensures c.in_ok-push.ensures.pushed
+    puts_one_more (give_back_line c.args.round) c.loop-host.host c.args.lines.now.items c.loop-host.lines.items c.put_line.new.lines.items _ c.loop-host.invariant c.in_ok-give_back.ensures c.in_ok-put_line.ensures
 
 pub returns : goal.returns
 unfolding give_back_lines

@@ -5,7 +5,7 @@ use Rattle.script_gen.proofs.rounds.put_offers.Goals as goal
 
 pub loop-host-preserved : goal.loop-host-preserved
 loop-host-preserved c =
-    puts_one_more (offer_line c.args.round) c.loop-host.host c.args.lines.now c.loop-host.lines c.push.new.self _ c.loop-host.invariant c.in_ok-offer.ensures c.in_ok-push.ensures.pushed
+    puts_one_more (offer_line c.args.round) c.loop-host.host c.args.lines.now.items c.loop-host.lines.items c.put_line.new.lines.items _ c.loop-host.invariant c.in_ok-offer.ensures c.in_ok-put_line.ensures
 
 pub returns : goal.returns
 unfolding offers_lines

@@ -4,4 +4,4 @@ use Rattle.script_gen.specs.Generated.{offer_line}
 use Rattle.script_gen.proofs.rounds.put_offers.Given as goal
 
 abbrev pub invariant-loop-host : goal.invariant-loop-host
-invariant-loop-host l = l.lines ≡ l.fn.lines ++ map (offer_line l.round) (range_with_len 0 l.host)
+invariant-loop-host l = l.lines.items ≡ l.fn.lines.items ++ map (offer_line l.round) (range_with_len 0 l.host)

@@ -9,6 +9,6 @@ loop-round-init c = record { lines = sym (append-nil _); draws = refl }
 
 pub loop-round-preserved : goal.loop-round-preserved
 loop-round-preserved c = record {
-  lines = puts_more (λ k. round_by k (draws_after c.args.draws.now (128 * k))) c.loop-round.round c.args.lines.now c.loop-round.lines c.put_round.new.lines c.loop-round.invariant.lines (rw c.loop-round.invariant.draws at c.in_ok-put_round.ensures.lines);
+  lines = puts_more (λ k. round_by k (draws_after c.args.draws.now (128 * k))) c.loop-round.round c.args.lines.now.items c.loop-round.lines.items c.put_round.new.lines.items c.loop-round.invariant.lines (rw c.loop-round.invariant.draws at c.in_ok-put_round.ensures.lines);
   draws = draws_more c.args.draws.now 128 c.loop-round.round c.loop-round.draws c.put_round.new.draws c.loop-round.invariant.draws c.in_ok-put_round.ensures.draws;
 }

@@ -4,6 +4,6 @@ use Rattle.script_gen.proofs.rounds.put_rounds.Given as goal
 
 abbrev pub invariant-loop-round : goal.invariant-loop-round
 invariant-loop-round l = record {
-  lines : l.lines ≡ l.fn.lines ++ rounds_by l.fn.draws l.round;
+  lines : l.lines.items ≡ l.fn.lines.items ++ rounds_by l.fn.draws l.round;
   draws : l.draws ≡ draws_after l.fn.draws (128 * l.round);
 }

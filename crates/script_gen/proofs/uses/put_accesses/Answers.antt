@@ -9,6 +9,6 @@ loop-word-init c = record { lines = sym (append-nil _); draws = refl }
 
 pub loop-word-preserved : goal.loop-word-preserved
 loop-word-preserved c = record {
-  lines = puts_more (λ i. access_by c.args.round c.args.host (draws_after c.args.draws.now (2 * i))) c.loop-word.word c.args.lines.now c.loop-word.lines c.put_access.new.lines c.loop-word.invariant.lines (rw c.loop-word.invariant.draws at c.in_ok-put_access.ensures.lines);
+  lines = puts_more (λ i. access_by c.args.round c.args.host (draws_after c.args.draws.now (2 * i))) c.loop-word.word c.args.lines.now.items c.loop-word.lines.items c.put_access.new.lines.items c.loop-word.invariant.lines (rw c.loop-word.invariant.draws at c.in_ok-put_access.ensures.lines);
   draws = draws_more c.args.draws.now 2 c.loop-word.word c.loop-word.draws c.put_access.new.draws c.loop-word.invariant.draws c.in_ok-put_access.ensures.draws;
 }

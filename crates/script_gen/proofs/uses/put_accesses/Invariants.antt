@@ -4,6 +4,6 @@ use Rattle.script_gen.proofs.uses.put_accesses.Given as goal
 
 abbrev pub invariant-loop-word : goal.invariant-loop-word
 invariant-loop-word l = record {
-  lines : l.lines ≡ l.fn.lines ++ accesses_by l.round l.host l.fn.draws l.word;
+  lines : l.lines.items ≡ l.fn.lines.items ++ accesses_by l.round l.host l.fn.draws l.word;
   draws : l.draws ≡ draws_after l.fn.draws (2 * l.word);
 }

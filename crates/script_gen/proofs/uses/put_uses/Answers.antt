@@ -9,6 +9,6 @@ loop-host-init c = record { lines = sym (append-nil _); draws = refl }
 
 pub loop-host-preserved : goal.loop-host-preserved
 loop-host-preserved c = record {
-  lines = puts_more (λ h. use_by c.args.round h (draws_after c.args.draws.now (32 * h))) c.loop-host.host c.args.lines.now c.loop-host.lines c.put_use.new.lines c.loop-host.invariant.lines (rw c.loop-host.invariant.draws at c.in_ok-put_use.ensures.lines);
+  lines = puts_more (λ h. use_by c.args.round h (draws_after c.args.draws.now (32 * h))) c.loop-host.host c.args.lines.now.items c.loop-host.lines.items c.put_use.new.lines.items c.loop-host.invariant.lines (rw c.loop-host.invariant.draws at c.in_ok-put_use.ensures.lines);
   draws = draws_more c.args.draws.now 32 c.loop-host.host c.loop-host.draws c.put_use.new.draws c.loop-host.invariant.draws c.in_ok-put_use.ensures.draws;
 }
