@@ -13,6 +13,7 @@ mod encoding;
 mod placing;
 mod replies;
 mod requests;
+mod rooms;
 
 pub use decoding::decode;
 pub use encoding::encode;

@@ -4,9 +4,9 @@ ghost use Rattle.field_bytes.specs.Layouts.{u64_bytes};
 ghost use Rattle.fm_payloads.specs.ManagerPayloads.{info_head, info_payload, lists_head, regions_head, tag_bytes, tags_head, tags_payload};
 ghost use Rattle.std.specs.Prelude.{◌≡◌, ◌+◌, ◌*◌, ◌++◌, ◌≤◌, IfOk, OnErr, OnOk, flat_map, length, take};
 
+use crate::rooms::with_zeros;
 use dcd_base::{Bytes, NoMemory, TagView};
-use field_bytes::{put_flag, put_tag, put_u8, put_u16, put_u32, put_u64, put_zeros, zeros};
-use std::alloc::Global;
+use field_bytes::{put_flag, put_tag, put_u8, put_u16, put_u32, put_u64, put_zeros};
 
 /// Puts the first 24 bytes of the reply to Get DCD Info at the start: hosts, regions, the policies of adds and of
 /// releases, and how many granules there are, are free and are dirty.
@@ -48,22 +48,6 @@ fn fill_info(out: &mut [u8], hosts: u8, granules: u32, free: u32, dirty: u32, si
     put_sizes(out, 24, sizes);
 }
 
-fn info_payload(
-    alloc: Global,
-    hosts: u8,
-    granules: u32,
-    free: u32,
-    dirty: u32,
-    sizes: &[u64],
-) -> Result<Bytes, NoMemory>
-    requires { length sizes.now ≤ 8 }
-    ensures { IfOk result (λ bytes. bytes ≡ info_payload hosts granules free dirty sizes.now) }
-{
-    let mut payload = zeros(alloc, 24 + 8 * sizes.len())?;
-    fill_info(&mut payload, hosts, granules, free, dirty, sizes);
-    Ok(Bytes::from_vec(alloc, payload))
-}
-
 /// Appends the payload of the reply to Get DCD Info (profile): how many hosts and regions there are, the policies
 /// that 5604h (bits 0 to 3) and 5605h (bits 0 and 1) know, how many granules there are, are free and are dirty,
 /// and for each region, 1 to 8, the block sizes that it supports, bit n for 2^n bytes. Without memory `out` is as
@@ -82,8 +66,12 @@ pub fn write_info(
         (out.new ≡ out.old ++ info_payload hosts granules free dirty sizes.now) }
     ensures kept { OnErr result (out.new ≡ out.old) }
 {
-    let payload = info_payload(out.allocator(), hosts, granules, free, dirty, sizes)?;
-    out.append(payload)
+    let at = out.len();
+    let mut bytes = with_zeros(out, 24 + 8 * sizes.len())?;
+    let (_, rest) = bytes.split_at_mut(at);
+    fill_info(rest, hosts, granules, free, dirty, sizes);
+    *out = Bytes::from_vec(out.allocator(), bytes);
+    Ok(())
 }
 
 /// Fills the eight bytes before the regions.
@@ -197,15 +185,6 @@ fn fill_tags(out: &mut [u8], first: u32, total: u32, tags: &[TagView])
     put_tags(out, 16, tags);
 }
 
-fn tags_payload(alloc: Global, first: u32, total: u32, tags: &[TagView]) -> Result<Bytes, NoMemory>
-    requires { length tags.now ≤ 84 }
-    ensures { IfOk result (λ bytes. bytes ≡ tags_payload first total tags.now) }
-{
-    let mut payload = zeros(alloc, 16 + 24 * tags.len())?;
-    fill_tags(&mut payload, first, total, tags);
-    Ok(Bytes::from_vec(alloc, payload))
-}
-
 /// Appends the payload of the reply to List Tags (profile): the first index, how many tags follow, how many there
 /// are, and the tags asked for, at most 84. Without memory `out` is as it was.
 pub fn write_tags(first: u32, total: u32, tags: &[TagView], out: &mut Bytes) -> Result<(), NoMemory>
@@ -213,6 +192,10 @@ pub fn write_tags(first: u32, total: u32, tags: &[TagView], out: &mut Bytes) -> 
     ensures appended { OnOk result (out.new ≡ out.old ++ tags_payload first total tags.now) }
     ensures kept { OnErr result (out.new ≡ out.old) }
 {
-    let payload = tags_payload(out.allocator(), first, total, tags)?;
-    out.append(payload)
+    let at = out.len();
+    let mut bytes = with_zeros(out, 16 + 24 * tags.len())?;
+    let (_, rest) = bytes.split_at_mut(at);
+    fill_tags(rest, first, total, tags);
+    *out = Bytes::from_vec(out.allocator(), bytes);
+    Ok(())
 }

@@ -1,6 +1,6 @@
 -- A payload is read as a page exactly where it reads so, and as that one.
 use Rattle.std.proofs.Common.{◌≡◌, ℕ, ◌+◌, ◌-◌, ◌*◌, ◌/◌, ◌^◌, ◌<◌, ◌≤◌, List, [], ◌∷◌, ◌++◌, length, map, flat_map, drop, Result, Ok, Err, refl, sym, ap, subst, ◌∙◌, arith}
-use Rattle.std.specs.Prelude.{IfOk, OnOk}
+use Rattle.std.specs.Prelude.{IfOk}
 use Rattle.std.specs.List.{AllByRecursion}
 use Rattle.std.specs.Int.{w32}
 use Rattle.std.proofs.lemmas.List.{length-map}
@@ -69,7 +69,6 @@ page_spelled total generation xs = ap (λ rest. spelling (Number w32 (length xs)
 pub page_fits : (total generation : ℕ) (xs : List Extent) → total < 2 ^ 32 → generation < 2 ^ 32 → length xs ≤ 50 → AllByRecursion FitsExtent xs → AllByRecursion FitsField (page_fields total generation xs)
 page_fits total generation xs t g few fit = (omega (arith, few), (t, (g, (tt, extents_fit xs fit))))
 
-pub page_again : {E : Type 0} (r : Result (Unit {0}) E) (total generation : ℕ) (xs : List Extent) → AllByRecursion FitsField (page_fields total generation xs) → OnOk r (page_in (extents_payload total generation xs) ≡ Ok (record { total = total; generation = generation; extents = xs }))
+pub page_again : (total generation : ℕ) (xs : List Extent) → AllByRecursion FitsField (page_fields total generation xs) → page_in (extents_payload total generation xs) ≡ Ok (record { total = total; generation = generation; extents = xs })
 unfolding extents_payload
-page_again (Ok x) total generation xs fits = page_only (spelling (page_fields total generation xs)) (record { total = total; generation = generation; extents = xs }) (Agrees-spelled _ fits)
-page_again (Err e) total generation xs fits = tt
+page_again total generation xs fits = page_only (spelling (page_fields total generation xs)) (record { total = total; generation = generation; extents = xs }) (Agrees-spelled _ fits)

@@ -14,6 +14,7 @@ mod list_writing;
 mod pages;
 mod replies;
 mod requests;
+mod rooms;
 mod views;
 
 pub use decoding::decode;

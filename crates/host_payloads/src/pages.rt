@@ -8,9 +8,10 @@ ghost use Rattle.std.specs.List.{AllByRecursion};
 ghost use Rattle.std.specs.Prelude.{◌≡◌, ◌+◌, ◌*◌, ◌++◌, ◌≤◌, IfOk, OnErr, OnOk, length, take};
 
 use crate::counted::page_length;
+use crate::rooms::with_zeros;
 use dcd_base::{Bytes, Extent, Extents, NoMemory};
 use field_bytes::{
-    PayloadFault, expect_length, extents_of, put_extents, put_u32, put_zeros, u32_at, zeros,
+    PayloadFault, expect_length, extents_of, put_extents, put_u32, put_zeros, u32_at,
 };
 use std::alloc::Global;
 
@@ -76,21 +77,6 @@ fn fill_page(out: &mut [u8], total: u32, generation: u32, extents: &[Extent])
     put_extents(out, 16, extents);
 }
 
-fn page_payload(
-    alloc: Global,
-    total: u32,
-    generation: u32,
-    extents: &[Extent],
-) -> Result<Bytes, NoMemory>
-    requires { length extents.now ≤ 50 }
-    ensures spelled { IfOk result (λ bytes. bytes ≡ extents_payload total generation extents.now) }
-    ensures fits { OnOk result (AllByRecursion FitsField (page_fields total generation extents.now)) }
-{
-    let mut payload = zeros(alloc, 16 + 40 * extents.len())?;
-    fill_page(&mut payload, total, generation, extents);
-    Ok(Bytes::from_vec(alloc, payload))
-}
-
 /// Appends the payload of the reply to Get Dynamic Capacity Extent List: how many extents the list has, how often
 /// it changed, and the extents asked for, at most 50 (CXL 3.1, 8.2.9.9.9.2). Without memory `out` is as it was.
 pub fn write_extents(
@@ -105,6 +91,10 @@ pub fn write_extents(
     // What was appended is read as the page.
     ensures again { OnOk result (page_in (extents_payload total generation extents.now) ≡ Ok (page_of total generation extents.now)) }
 {
-    let payload = page_payload(out.allocator(), total, generation, extents)?;
-    out.append(payload)
+    let at = out.len();
+    let mut bytes = with_zeros(out, 16 + 40 * extents.len())?;
+    let (_, rest) = bytes.split_at_mut(at);
+    fill_page(rest, total, generation, extents);
+    *out = Bytes::from_vec(out.allocator(), bytes);
+    Ok(())
 }

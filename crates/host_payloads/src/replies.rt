@@ -5,11 +5,11 @@ ghost use Rattle.event_records.specs.Records.{record_bytes};
 ghost use Rattle.host_payloads.specs.HostPayloads.{configuration_head, configuration_payload, events_head, events_payload, region_bytes};
 ghost use Rattle.std.specs.Prelude.{◌≡◌, ◌==◌, ◌+◌, ◌*◌, ◌++◌, ◌≤◌, IfOk, OnErr, OnOk, flat_map, length, not, take};
 
+use crate::rooms::with_zeros;
 use crate::views::{Counts, RegionView, put_counts, put_region};
 use dcd_base::{Bytes, NoMemory};
 use event_records::{Event, put_record};
-use field_bytes::{put_byte, put_u8, put_u16, put_zeros, zeros};
-use std::alloc::Global;
+use field_bytes::{put_byte, put_u8, put_u16, put_zeros};
 
 /// The flags before the records: bit 0 where records were missed, bit 1 where more records follow later.
 fn event_flags(missed: u16, more: bool) -> u8
@@ -55,20 +55,6 @@ fn fill_events(out: &mut [u8], missed: u16, more: bool, events: &[Event])
     put_records(out, 32, events);
 }
 
-fn events_payload(
-    alloc: Global,
-    missed: u16,
-    more: bool,
-    events: &[Event],
-) -> Result<Bytes, NoMemory>
-    requires { length events.now ≤ 15 }
-    ensures { IfOk result (λ bytes. bytes ≡ events_payload missed more events.now) }
-{
-    let mut payload = zeros(alloc, 32 + 128 * events.len())?;
-    fill_events(&mut payload, missed, more, events);
-    Ok(Bytes::from_vec(alloc, payload))
-}
-
 /// Appends the payload of the reply to Get Event Records (CXL 3.1, 8.2.9.2.2): a flag where records were missed,
 /// a flag where the log has more than follow, how many were missed, and the records, at most 15.
 ///
@@ -83,8 +69,12 @@ pub fn write_events(
     ensures appended { OnOk result (out.new ≡ out.old ++ events_payload missed more events.now) }
     ensures kept { OnErr result (out.new ≡ out.old) }
 {
-    let payload = events_payload(out.allocator(), missed, more, events)?;
-    out.append(payload)
+    let at = out.len();
+    let mut bytes = with_zeros(out, 32 + 128 * events.len())?;
+    let (_, rest) = bytes.split_at_mut(at);
+    fill_events(rest, missed, more, events);
+    *out = Bytes::from_vec(out.allocator(), bytes);
+    Ok(())
 }
 
 /// Puts the eight bytes before the regions at the start.
@@ -121,20 +111,6 @@ fn fill_configuration(out: &mut [u8], total: u8, regions: &[RegionView], counts:
     put_counts(out, 8 + 40 * regions.len(), counts);
 }
 
-fn configuration_payload(
-    alloc: Global,
-    total: u8,
-    regions: &[RegionView],
-    counts: &Counts,
-) -> Result<Bytes, NoMemory>
-    requires { length regions.now ≤ 8 }
-    ensures { IfOk result (λ bytes. bytes ≡ configuration_payload total regions.now counts.now) }
-{
-    let mut payload = zeros(alloc, 24 + 40 * regions.len())?;
-    fill_configuration(&mut payload, total, regions, counts);
-    Ok(Bytes::from_vec(alloc, payload))
-}
-
 /// Appends the payload of the reply to Get Dynamic Capacity Configuration: how many regions the device has, the
 /// regions asked for, at most 8, and what the host may have (CXL 3.1, 8.2.9.9.9.1). Without memory `out` is as it
 /// was.
@@ -148,6 +124,10 @@ pub fn write_configuration(
     ensures appended { OnOk result (out.new ≡ out.old ++ configuration_payload total regions.now counts.now) }
     ensures kept { OnErr result (out.new ≡ out.old) }
 {
-    let payload = configuration_payload(out.allocator(), total, regions, counts)?;
-    out.append(payload)
+    let at = out.len();
+    let mut bytes = with_zeros(out, 24 + 40 * regions.len())?;
+    let (_, rest) = bytes.split_at_mut(at);
+    fill_configuration(rest, total, regions, counts);
+    *out = Bytes::from_vec(out.allocator(), bytes);
+    Ok(())
 }
