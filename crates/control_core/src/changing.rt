@@ -5,7 +5,7 @@ ghost use Rattle.control_core.specs.PutChanges.{IsRegionOrNone, NameNoOthers, Pu
 ghost use Rattle.device_rules.specs.ChangedRuns.{IsWithinRegion, IsSoundChange, LiesIn};
 ghost use Rattle.device_state.specs.Updates.{IsOfDevice};
 ghost use Rattle.region_config.specs.Granules.{granule_total};
-ghost use Rattle.std.specs.Prelude.{◌≡◌, ◌+◌, ◌-◌, ◌<◌, ◌≤◌, ◌^◌, All, IfOk, IsTrue, OnOk, Some, slice_index_or, ℕ};
+ghost use Rattle.std.specs.Prelude.{◌≡◌, ◌+◌, ◌<◌, ◌≤◌, All, IfOk, OnOk};
 
 use dcd_base::{Change, Changes, Granule, NoMemory, Run, host_bits};
 use device_state::{Holders, State};
@@ -48,26 +48,36 @@ fn put_all(
     ensures inside { IfOk result (λ changes. All (LiesIn (granule_total config.now)) changes) }
     ensures sound { IfOk result (λ changes. NameNoOthers config.now holders.now → All (IsSoundChange config.now) changes) }
 {
+    let granules = config.granules();
     let mut changes = Changes::new(alloc);
     let mut region = Run {
         first: Granule(0),
         count: 0,
     };
     for i in 0..effects.len() {
-        put_change(config, holders, &effects[i], &mut region, &mut changes)?;
+        put_change(
+            config,
+            granules,
+            holders,
+            &effects[i],
+            &mut region,
+            &mut changes,
+        )?;
     }
     Ok(changes)
 }
 
-/// Puts what one effect changes. The region is that of the last change, or has no granule.
+/// Puts what one effect changes, of a device of so many granules. The region is that of the last change, or has no granule.
 fn put_change(
     config: &Config,
+    granules: u32,
     holders: &Holders,
     effect: &Effect,
     region: &mut Run,
     changes: &mut Changes,
 ) -> Result<(), NoMemory>
     requires of_device { IsOfDevice config.now effect.now }
+    requires granules { granules ≡ granule_total config.now }
     requires region { IsRegionOrNone config.now region.old }
     ensures region { IsRegionOrNone config.now region.new }
     ensures put { OnOk result (PutOne (granule_total config.now) holders.now effect.now changes.old changes.new) }
@@ -75,7 +85,7 @@ fn put_change(
     ensures sound { OnOk result (StaySound config.now holders.now changes.old changes.new) }
 {
     match touched_run(effect) {
-        Some(run) => put_runs(config, holders, effect, &run, region, changes),
+        Some(run) => put_runs(config, granules, holders, effect, &run, region, changes),
         None => Ok(()),
     }
 }
@@ -96,6 +106,7 @@ fn touched_run(effect: &Effect) -> Option<Run>
 /// last of the device are left out.
 fn put_runs(
     config: &Config,
+    granules: u32,
     holders: &Holders,
     effect: &Effect,
     run: &Run,
@@ -103,19 +114,19 @@ fn put_runs(
     changes: &mut Changes,
 ) -> Result<(), NoMemory>
     requires of_device { IsOfDevice config.now effect.now }
+    requires granules { granules ≡ granule_total config.now }
     requires region { IsRegionOrNone config.now region.old }
     ensures region { IsRegionOrNone config.now region.new }
     ensures added { OnOk result (IsRunAdded (granule_total config.now) holders.now effect.now run.now changes.old changes.new) }
     ensures inside { OnOk result (StayInside (granule_total config.now) changes.old changes.new) }
     ensures sound { OnOk result (StaySound config.now holders.now changes.old changes.new) }
 {
-    let granules = config.granules();
     let end = run.first.0.saturating_add(run.count).min(granules);
     let mut at = run.first.0;
     while at < end {
         go_to_region(config, Granule(at), region);
         let most = end.min(region.first.0.saturating_add(region.count));
-        let next = run_end(holders, at, most);
+        let next = holders.run_end(at, most);
         changes.push(change_of(config, holders, effect, at, next))?;
         at = next;
     }
@@ -133,52 +144,6 @@ fn go_to_region(config: &Config, granule: Granule, region: &mut Run)
     if granule.0 < region.first.0 || granule.0 - region.first.0 >= region.count {
         *region = config.granules_of(config.region_of(granule));
     }
-}
-
-/// The number of the first granule behind one that others hold, or the end.
-fn run_end(holders: &Holders, at: u32, end: u32) -> u32
-    requires { at < end }
-    ensures later { at < result }
-    ensures within { result ≤ end }
-    ensures same { (g : ℕ) → at ≤ g → g < result → slice_index_or holders.now g 0 ≡ slice_index_or holders.now at 0 }
-{
-    let bits = holders.at(Granule(at));
-    for next in strides_end(holders, at + 1, end, bits)..end {
-        if holders.at(Granule(next)) != bits {
-            return next;
-        }
-    }
-    end
-}
-
-/// The number of the first granule behind those strides of four from one on that have these holders throughout.
-#[inline(always)]
-fn strides_end(holders: &Holders, first: u32, end: u32, bits: u16) -> u32
-    requires { first ≤ end }
-    ensures from { first ≤ result }
-    ensures within { result ≤ end }
-    ensures same { (g : ℕ) → first ≤ g → g < result → slice_index_or holders.now g 0 ≡ bits }
-{
-    let mut next = first;
-    while end - next >= 4 && are_four_held_so(holders, next, bits) {
-        next += 4;
-    }
-    next
-}
-
-/// Whether four granules from one on have these holders.
-#[inline(always)]
-fn are_four_held_so(holders: &Holders, first: u32, bits: u16) -> bool
-    requires { first + 3 < 2 ^ 32 }
-    ensures first { IsTrue result → slice_index_or holders.now first 0 ≡ bits }
-    ensures second { IsTrue result → slice_index_or holders.now (first + 1) 0 ≡ bits }
-    ensures third { IsTrue result → slice_index_or holders.now (first + 2) 0 ≡ bits }
-    ensures fourth { IsTrue result → slice_index_or holders.now (first + 3) 0 ≡ bits }
-{
-    holders.at(Granule(first + 3)) == bits
-        && holders.at(Granule(first + 2)) == bits
-        && holders.at(Granule(first + 1)) == bits
-        && holders.at(Granule(first)) == bits
 }
 
 /// The change of the granules from one up to the one before another, which all have the holders of the first.
