@@ -14,7 +14,7 @@ ghost use Rattle.std.specs.Prelude.{◌≡◌, ◌<◌, IfOk, Option};
 use crate::control::Control;
 use crate::live::LiveControl;
 use cci_codec::Request;
-use dcd_base::{Actor, HostId, NoMemory};
+use dcd_base::{Actor, Bytes, HostId, NoMemory};
 use dcd_codes::{Refusal, Rule};
 use device_commands::{
     AddRequest, Draft, RemoveRequest, add, add_reference, host_draft, quiet_draft, remove,
@@ -74,6 +74,7 @@ impl LiveControl {
             &part.lists,
             &part.log,
             request,
+            Bytes::new(self.alloc),
         ))
     }
 
@@ -140,7 +141,7 @@ fn manager_draft(
         }
         FmRequest::AddReference { tag } => add_reference(alloc, config, state, tag),
         FmRequest::RemoveReference { tag } => remove_reference(alloc, config, state, tag),
-        _ => quiet_draft(alloc, config, state, asked),
+        _ => quiet_draft(alloc, config, state, asked, Bytes::new(alloc)),
     }
 }
 

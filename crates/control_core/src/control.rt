@@ -16,12 +16,13 @@ use crate::decided::{Decided, Decision, DecisionContent};
 use crate::live::LiveControl;
 use crate::plan::Plan;
 use crate::planned::PlannedEntry;
-use dcd_base::{Actor, Boxed, Changes, NoMemory, Stamp};
+use dcd_base::{Actor, Boxed, Bytes, Changes, NoMemory, Stamp};
 use device_state::Update;
 use journal_core::{Act, Effects, Entry, EntryEffects, KeptEntries, Reply};
 use region_config::Config;
 use std::alloc::Global;
 use std::marker::Model;
+use std::mem::replace;
 
 /// The commands and scrubs of a device, in order, each with what it replied.
 ///
@@ -30,6 +31,8 @@ use std::marker::Model;
 pub struct Control {
     pub(crate) live: LiveControl,
     entries: KeptEntries,
+    /// The room in which the next reply is written, with bytes of no meaning.
+    room: Bytes,
 }
 
 impl Model for Control {
@@ -57,6 +60,7 @@ impl Control {
         Ok(Control {
             live: LiveControl::new(alloc, config)?,
             entries: KeptEntries::new(alloc),
+            room: Bytes::new(alloc),
         })
     }
 
@@ -143,9 +147,34 @@ impl Control {
         ensures changes { IfOk result (AreChangesOf self.old.config self.old.entries actor act) }
         ensures inside { IfOk result (λ changes. All (LiesIn (granule_total self.old.config)) changes) }
     {
-        match self.decide(&actor, &act)?.into_content() {
-            DecisionContent::Reply(reply) => self.take_reply(pass, line, actor, &act, &reply),
+        let room = self.take_room();
+        match self.decide(&actor, &act, room)?.into_content() {
+            DecisionContent::Reply(reply) => {
+                let changes = self.take_reply(pass, line, actor, &act, &reply)?;
+                self.keep_room(reply);
+                Ok(changes)
+            }
             DecisionContent::Step(decided) => self.take_step(pass, line, actor, &act, decided),
+        }
+    }
+
+    /// The room in which a reply can be written, which is gone then.
+    #[inline(always)]
+    fn take_room(&mut self) -> Bytes
+        ensures config { self.new.config ≡ self.old.config }
+        ensures entries { self.new.entries ≡ self.old.entries }
+    {
+        replace(&mut self.room, Bytes::new(self.live.alloc))
+    }
+
+    /// Keeps the payload of a reply that was entered, as the room for the next one.
+    #[inline(always)]
+    fn keep_room(&mut self, reply: Reply)
+        ensures config { self.new.config ≡ self.old.config }
+        ensures entries { self.new.entries ≡ self.old.entries }
+    {
+        if let Reply::Answer(response) = reply {
+            self.room = response.payload;
         }
     }
 
@@ -303,17 +332,20 @@ impl Control {
         ensures inside { IfOk result (λ plan. All (LiesIn (granule_total self.now.config)) plan.changes) }
         ensures update { IfOk result (λ plan. IsUpdate self.now.config self.now.entries plan.entry.effects plan.update) }
     {
-        let decided = self.decide(&actor, &act)?.into_parts(self.live.alloc);
+        let alloc = self.live.alloc;
+        let decided = self
+            .decide(&actor, &act, Bytes::new(alloc))?
+            .into_parts(alloc);
         self.plan(pass, line, actor, act, decided)
     }
 
-    /// What a step comes to.
+    /// What a step comes to, its reply written in the room.
     #[inline(always)]
-    fn decide(&self, actor: &Actor, act: &Act) -> Result<Decision, NoMemory>
+    fn decide(&self, actor: &Actor, act: &Act, room: Bytes) -> Result<Decision, NoMemory>
         requires { MayStep self.now.config actor.now act.now }
         ensures { IfOk result (λ d. IsDecidedBy self.now.config self.now.entries actor.now act.now d) }
     {
-        self.live.decide(actor, act)
+        self.live.decide(actor, act, room)
     }
 
     /// The runs whose holders these effects change or whose words they zero, which are the effects of the step.

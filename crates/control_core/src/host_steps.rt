@@ -16,10 +16,10 @@ use crate::ending::ending;
 use crate::fitting::part_fits;
 use crate::recording::{put_ends, put_records_of_logs};
 use cci_codec::Request;
-use dcd_base::{Boxed, HostId, NoMemory, Seq, Tag};
+use dcd_base::{Boxed, Bytes, HostId, NoMemory, Seq, Tag};
 use dcd_codes::{Code, Refusal, Rule};
 use device_commands::{
-    Content, Draft, DraftParts, LogRecords, answer, dropped, refused, told_change,
+    Content, Draft, DraftParts, LogRecords, answer, dropped, host_draft, refused, told_change,
 };
 use device_state::{NewLists, State, TagChange, Update};
 use host_lists::HostLists;
@@ -27,8 +27,39 @@ use journal_core::Effects;
 use region_config::Config;
 use std::alloc::Global;
 
+/// What a message of a host comes to. A reply that has a payload is written in the room.
+///
+/// It stands apart, as the steps of the others do, so that none makes room for what another needs.
+#[inline(never)]
+pub(crate) fn host_step(
+    alloc: Global,
+    config: &Config,
+    state: &State,
+    host: HostId,
+    request: &Request,
+    room: Bytes,
+) -> Result<Decision, NoMemory>
+    requires host { host < config.now.hosts }
+    requires reached { IsReached config.now state.now }
+    ensures { IfOk result (IsDecided config.now state.now (Actor.Host host) (Act.Command request.now)) }
+{
+    let part = state.part(host);
+    let drafted = host_draft(
+        alloc,
+        config,
+        &state.present,
+        host,
+        &part.lists,
+        &part.log,
+        request,
+        room,
+    );
+    host_recorded(alloc, config, state, host, request, drafted)
+}
+
 /// What a message of a host comes to, where it is drafted so or breaks this rule first.
-pub(crate) fn host_recorded(
+#[inline(always)]
+fn host_recorded(
     alloc: Global,
     config: &Config,
     state: &State,

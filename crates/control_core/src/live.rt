@@ -10,11 +10,10 @@ ghost use Rattle.std.specs.Prelude.{◌≡◌, ◌+◌, ◌<◌, ◌≤◌, [], 
 
 use crate::changing::changes_of;
 use crate::decided::Decision;
-use crate::host_steps::host_recorded;
-use crate::manager_steps::{manager_command, manager_recorded};
+use crate::host_steps::host_step;
+use crate::manager_steps::manager_step;
 use crate::scrub_steps::scrub_step;
-use dcd_base::{Actor, Changes, NoMemory};
-use device_commands::host_draft;
+use dcd_base::{Actor, Bytes, Changes, NoMemory};
 use device_state::{State, Update};
 use journal_core::{Act, Effect, Effects};
 use region_config::Config;
@@ -71,35 +70,23 @@ impl LiveControl {
         self.alloc
     }
 
-    /// What a command or a scrub that fits its actor comes to.
+    /// What a command or a scrub that fits its actor comes to. A reply that has a payload is written in the room, whatever
+    /// bytes it holds.
     #[inline(always)]
-    pub fn decide(&self, actor: &Actor, act: &Act) -> Result<Decision, NoMemory>
+    pub fn decide(&self, actor: &Actor, act: &Act, room: Bytes) -> Result<Decision, NoMemory>
         requires { MayStep self.now.config actor.now act.now }
         ensures { IfOk result (λ d. ByEveryPast self.now (λ past. IsDecidedBy self.now.config past actor.now act.now d)) }
     {
         match actor {
             Actor::Host(host) => match act {
                 Act::Command(request) => {
-                    let (config, state) = (&self.config, &self.state);
-                    let part = state.part(*host);
-                    let drafted = host_draft(
-                        self.alloc,
-                        config,
-                        &state.present,
-                        *host,
-                        &part.lists,
-                        &part.log,
-                        request,
-                    );
-                    host_recorded(self.alloc, config, state, *host, request, drafted)
+                    host_step(self.alloc, &self.config, &self.state, *host, request, room)
                 }
                 _ => unreachable!(),
             },
             Actor::Manager => match act {
                 Act::Command(request) => {
-                    let (config, state) = (&self.config, &self.state);
-                    let managed = manager_command(self.alloc, config, state, request);
-                    manager_recorded(self.alloc, config, state, request, managed)
+                    manager_step(self.alloc, &self.config, &self.state, request, room)
                 }
                 _ => unreachable!(),
             },

@@ -23,7 +23,7 @@ use crate::fitting::request_fits;
 use crate::host_steps::recorded;
 use crate::recording::{put_ends, put_records_of_logs};
 use cci_codec::Request;
-use dcd_base::{Boxed, HostId, NoMemory, RegionId, Seq, Tag};
+use dcd_base::{Boxed, Bytes, Extents, HostId, NoMemory, RegionId, Seq, Tag};
 use dcd_codes::{Code, Refusal, Rule};
 use device_commands::{
     AddRequest, Content, Draft, DraftParts, RemoveRequest, add, add_reference, answer,
@@ -35,8 +35,25 @@ use host_lists::HostLists;
 use region_config::Config;
 use std::alloc::Global;
 
+/// What a message of the manager comes to. A reply that has a payload is written in the room.
+#[inline(never)]
+pub(crate) fn manager_step(
+    alloc: Global,
+    config: &Config,
+    state: &State,
+    request: &Request,
+    room: Bytes,
+) -> Result<Decision, NoMemory>
+    requires reached { IsReached config.now state.now }
+    ensures { IfOk result (IsDecided config.now state.now Actor.Manager (Act.Command request.now)) }
+{
+    let managed = manager_command(alloc, config, state, request, room);
+    manager_recorded(alloc, config, state, request, managed)
+}
+
 /// What a message of the manager comes to, where it comes to this or breaks this rule first.
-pub(crate) fn manager_recorded(
+#[inline(always)]
+fn manager_recorded(
     alloc: Global,
     config: &Config,
     state: &State,
@@ -54,12 +71,15 @@ pub(crate) fn manager_recorded(
     }
 }
 
-/// What a message of the manager comes to, or the first rule that it breaks.
-pub(crate) fn manager_command(
+/// What a message of the manager comes to, or the first rule that it breaks. A reply that has a payload is written in the
+/// room. Those that change extents or tags stand apart, so that one that only reads makes no room for what they need.
+#[inline(always)]
+fn manager_command(
     alloc: Global,
     config: &Config,
     state: &State,
     request: &Request,
+    room: Bytes,
 ) -> Result<Decision, Refusal>
     requires reached { IsReached config.now state.now }
     ensures { Manages config.now state.now request.now result }
@@ -82,13 +102,7 @@ pub(crate) fn manager_command(
                 length,
                 tag,
             };
-            match add(alloc, config, state, &offer, &extents) {
-                Ok(draft) => {
-                    let parts = draft.into_parts(alloc);
-                    Ok(added(alloc, config, state, request, &offer, parts)?)
-                }
-                Err(refusal) => Err(refusal),
-            }
+            decide_add(alloc, config, state, request, &offer, &extents)
         }
         Ok(
             FmRequest::Remove {
@@ -107,10 +121,7 @@ pub(crate) fn manager_command(
                 length,
                 tag,
             };
-            match remove(alloc, config, state, &removal, &extents) {
-                Ok(draft) => Ok(recorded(alloc, state, HostId(host as u8), request, draft)?),
-                Err(refusal) => Err(refusal),
-            }
+            decide_remove(alloc, config, state, request, &removal, &extents)
         }
         Ok(FmRequest::AddReference { tag }) => decide_add_reference(
             alloc, config, state, request, &tag,
@@ -118,7 +129,7 @@ pub(crate) fn manager_command(
         Ok(FmRequest::RemoveReference { tag }) => decide_remove_reference(
             alloc, config, state, request, &tag,
         ),
-        Ok(asked) => decide_quiet(alloc, config, state, request, &asked),
+        Ok(asked) => decide_quiet(alloc, config, state, request, &asked, room),
         Err(PayloadFault::UnknownOpcode(opcode)) => {
             Err(Refusal::Broken(Rule::UnknownOpcode(opcode)))
         }
@@ -129,6 +140,52 @@ pub(crate) fn manager_command(
     }
 }
 
+/// What a 5604h comes to.
+#[inline(never)]
+fn decide_add(
+    alloc: Global,
+    config: &Config,
+    state: &State,
+    request: &Request,
+    offer: &AddRequest,
+    extents: &Extents,
+) -> Result<Decision, Refusal>
+    requires reached { IsReached config.now state.now }
+    requires asked { manager_request request.now.opcode request.now.payload ≡ Ok (FmRequest.Add offer.now.host offer.now.policy offer.now.region offer.now.length offer.now.tag extents.now) }
+    ensures { Manages config.now state.now request.now result }
+{
+    match add(alloc, config, state, offer, extents) {
+        Ok(draft) => {
+            let parts = draft.into_parts(alloc);
+            Ok(added(alloc, config, state, request, offer, parts)?)
+        }
+        Err(refusal) => Err(refusal),
+    }
+}
+
+/// What a 5605h comes to.
+#[inline(never)]
+fn decide_remove(
+    alloc: Global,
+    config: &Config,
+    state: &State,
+    request: &Request,
+    removal: &RemoveRequest,
+    extents: &Extents,
+) -> Result<Decision, Refusal>
+    requires reached { IsReached config.now state.now }
+    requires asked { manager_request request.now.opcode request.now.payload ≡ Ok (FmRequest.Remove removal.now.host removal.now.flags removal.now.region removal.now.length removal.now.tag extents.now) }
+    ensures { Manages config.now state.now request.now result }
+{
+    match remove(alloc, config, state, removal, extents) {
+        Ok(draft) => {
+            let host = HostId(removal.host as u8);
+            Ok(recorded(alloc, state, host, request, draft)?)
+        }
+        Err(refusal) => Err(refusal),
+    }
+}
+
 /// What a request comes to that changes no extents and no tags.
 fn decide_quiet(
     alloc: Global,
@@ -136,6 +193,7 @@ fn decide_quiet(
     state: &State,
     request: &Request,
     asked: &FmRequest,
+    room: Bytes,
 ) -> Result<Decision, Refusal>
     requires reached { IsReached config.now state.now }
     requires asked { manager_request request.now.opcode request.now.payload ≡ Ok asked.now }
@@ -144,7 +202,7 @@ fn decide_quiet(
     ensures { Manages config.now state.now request.now result }
 {
     request_fits(state, asked);
-    match quiet_draft(alloc, config, state, asked) {
+    match quiet_draft(alloc, config, state, asked, room) {
         Ok(draft) => Ok(read(alloc, state, request, draft)?),
         Err(refusal) => Err(refusal),
     }
@@ -179,6 +237,7 @@ fn entered_boxed(
 }
 
 /// What a 5606h comes to.
+#[inline(never)]
 fn decide_add_reference(
     alloc: Global,
     config: &Config,
@@ -200,6 +259,7 @@ fn decide_add_reference(
 }
 
 /// What a 5607h comes to: the reference is taken away, by which the tag may end.
+#[inline(never)]
 fn decide_remove_reference(
     alloc: Global,
     config: &Config,

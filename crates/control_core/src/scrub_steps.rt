@@ -15,6 +15,7 @@ use region_config::Config;
 use std::alloc::Global;
 
 /// What a scrub of so many granules at most comes to.
+#[inline(never)]
 pub(crate) fn scrub_step(
     alloc: Global,
     config: &Config,

@@ -23,6 +23,7 @@ use std::alloc::Global;
 ///
 /// The first broken rule comes: `NoSuchLog` where the number is 5 or more; where all are to go, `NotOverflowed` where
 /// none was missed; else `UnknownHandle` or `OlderLeft` for the first handle that is not the record's in its place.
+#[inline(never)]
 pub fn clear_events(
     alloc: Global,
     id: LogId,

@@ -11,6 +11,7 @@ ghost use Rattle.std.specs.Prelude.{◌≡◌, ◌≤◌, IfOk, length, map};
 ghost use Rattle.tag_refs.specs.Tables.{tag_view};
 
 use crate::draft::Draft;
+use crate::rooms::emptied;
 use dcd_base::limits::PAGE_TAGS;
 use dcd_base::{Bytes, NoMemory, Seq, TagView};
 use dcd_codes::{Refusal, Rule};
@@ -28,6 +29,7 @@ pub(crate) fn list_tags(
     state: &State,
     first: u32,
     count: u32,
+    room: Bytes,
 ) -> Result<Draft, Refusal>
     requires reached { IsReached config.now state.now }
     ensures { ManagerAnswers config.now state.now (FmRequest.ListTags first count) result }
@@ -42,7 +44,7 @@ pub(crate) fn list_tags(
         first as usize,
         count.min(PAGE_TAGS) as usize,
     )?;
-    let mut payload = Bytes::new(alloc);
+    let mut payload = emptied(room);
     write_tags(first, total, views.as_slice(), &mut payload)?;
     Ok(Draft::only(payload))
 }

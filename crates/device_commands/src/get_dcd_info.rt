@@ -6,24 +6,25 @@
 ghost use Rattle.device_commands.specs.ManagerMessages.{ManagerAnswers};
 ghost use Rattle.device_state.specs.StateAfter.{IsReached};
 ghost use Rattle.fm_payloads.specs.declared.requests.FmRequest.{FmRequest};
-ghost use Rattle.std.specs.Prelude.{◌≡◌, ◌≤◌, IfOk, length, map};
+ghost use Rattle.std.specs.Prelude.{◌≡◌, ◌≤◌, length, map};
 
 use crate::draft::Draft;
-use dcd_base::{Bytes, NoMemory, RegionId, Seq};
+use crate::few::Few;
+use crate::rooms::emptied;
+use dcd_base::{Bytes, RegionId};
 use dcd_codes::Refusal;
 use device_state::State;
 use fm_payloads::write_info;
 use region_config::Config;
-use std::alloc::Global;
 
 /// How many hosts and granules there are, how many granules are free and dirty, and the block sizes that each region
-/// supports (profile). It breaks no rule.
-pub(crate) fn get_info(alloc: Global, config: &Config, state: &State) -> Result<Draft, Refusal>
+/// supports (profile). It breaks no rule. The reply is written in the room.
+pub(crate) fn get_info(config: &Config, state: &State, room: Bytes) -> Result<Draft, Refusal>
     requires reached { IsReached config.now state.now }
     ensures { ManagerAnswers config.now state.now FmRequest.GetInfo result }
 {
-    let sizes = sizes_of(alloc, config)?;
-    let mut payload = Bytes::new(alloc);
+    let sizes = sizes_of(config);
+    let mut payload = emptied(room);
     let (free, dirty) = (state.granules.free(), state.granules.dirty());
     write_info(
         config.hosts(),
@@ -37,14 +38,13 @@ pub(crate) fn get_info(alloc: Global, config: &Config, state: &State) -> Result<
 }
 
 /// The mask of the block sizes of each region.
-fn sizes_of(alloc: Global, config: &Config) -> Result<Seq<u64>, NoMemory>
-    ensures sizes { IfOk result (λ sizes. sizes ≡ map (λ spec. spec.sizes) config.now.regions) }
-    ensures some { IfOk result (λ sizes. 1 ≤ length sizes) }
-    ensures few { IfOk result (λ sizes. length sizes ≤ 8) }
+fn sizes_of(config: &Config) -> Few<u64>
+    ensures sizes { result ≡ map (λ spec. spec.sizes) config.now.regions }
+    ensures some { 1 ≤ length result }
 {
-    let mut sizes = Seq::with_capacity(alloc, usize::from(config.regions()))?;
+    let mut sizes = Few::new(0);
     for region in 0..config.regions() {
-        sizes.push(config.region(RegionId(region)).sizes)?;
+        sizes.push(config.region(RegionId(region)).sizes);
     }
-    Ok(sizes)
+    sizes
 }

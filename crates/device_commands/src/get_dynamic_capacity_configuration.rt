@@ -10,24 +10,24 @@ ghost use Rattle.std.specs.Prelude.{◌≡◌, ◌<◌, ◌≤◌, IfOk, None};
 
 use crate::draft::Draft;
 use crate::pages::{Flags, host_counts, regions_seen};
+use crate::rooms::emptied;
 use dcd_base::{Bytes, HostId};
 use dcd_codes::{Refusal, Rule};
 use host_lists::HostLists;
 use host_payloads::write_configuration;
 use region_config::Config;
-use std::alloc::Global;
 
 /// At most `count` regions from `first` on, as the host sees them, and what the host may have (CXL 3.1, 8.2.9.9.9.1).
 ///
 /// `NoSuchRegion` comes exactly where the first number is at or past the number of regions. The configuration is the
-/// one with the present blocks.
+/// one with the present blocks. The reply is written in the room.
 pub fn get_configuration(
-    alloc: Global,
     present: &Config,
     host: HostId,
     lists: &HostLists,
     count: u8,
     first: u8,
+    room: Bytes,
 ) -> Result<Draft, Refusal>
     requires host { host < present.now.hosts }
     requires few { extent_total lists.now ≤ 64 }
@@ -37,9 +37,9 @@ pub fn get_configuration(
     if first >= present.regions() {
         return Err(Refusal::Broken(Rule::NoSuchRegion(first)));
     }
-    let views = regions_seen(alloc, present, host, Flags::OfHost, count, first)?;
+    let views = regions_seen(present, host, Flags::OfHost, count, first);
     let counts = host_counts(lists);
-    let mut payload = Bytes::new(alloc);
+    let mut payload = emptied(room);
     write_configuration(present.regions(), views.as_slice(), &counts, &mut payload)?;
     Ok(Draft::only(payload))
 }

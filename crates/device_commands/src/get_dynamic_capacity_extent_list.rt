@@ -10,20 +10,16 @@ ghost use Rattle.std.specs.Prelude.{◌≡◌, ◌≤◌, IfOk, None};
 
 use crate::draft::Draft;
 use crate::pages::extents_page;
+use crate::rooms::emptied;
 use dcd_base::Bytes;
 use dcd_codes::{Refusal, Rule};
 use host_lists::HostLists;
 use host_payloads::write_extents;
-use std::alloc::Global;
 
 /// At most `count` accepted extents from `first` on, 50 at most, with how many there are and how often the list
-/// changed (CXL 3.1, 8.2.9.9.9.2). `PastEnd` comes exactly where the first index is above their number.
-pub fn get_extents(
-    alloc: Global,
-    lists: &HostLists,
-    count: u32,
-    first: u32,
-) -> Result<Draft, Refusal>
+/// changed (CXL 3.1, 8.2.9.9.9.2). `PastEnd` comes exactly where the first index is above their number. The reply is written
+/// in the room.
+pub fn get_extents(lists: &HostLists, count: u32, first: u32, room: Bytes) -> Result<Draft, Refusal>
     requires { extent_total lists.now ≤ 64 }
     ensures drafts { AnswersExtents lists.now count first result }
     ensures no_lists { IfOk result (λ draft. draft.lists ≡ None) }
@@ -33,7 +29,7 @@ pub fn get_extents(
         return Err(Refusal::Broken(Rule::PastEnd { first, total }));
     }
     let extents = extents_page(lists, count, first);
-    let mut payload = Bytes::new(alloc);
+    let mut payload = emptied(room);
     write_extents(total, lists.generation(), extents, &mut payload)?;
     Ok(Draft::only(payload))
 }

@@ -9,6 +9,7 @@ ghost use Rattle.host_payloads.specs.HostPayloads.{events_payload};
 ghost use Rattle.std.specs.Prelude.{◌≡◌, ◌≤◌, IfOk, None, [], length, nat_lt, take, false};
 
 use crate::draft::Draft;
+use crate::rooms::emptied;
 use dcd_base::limits::REPLY_RECORDS;
 use dcd_base::{Bytes, LogId, NoMemory, Seq};
 use dcd_codes::{Refusal, Rule};
@@ -24,8 +25,8 @@ pub(crate) const LOGS: u8 = 5;
 pub(crate) const DYNAMIC_CAPACITY: u8 = 4;
 
 /// The oldest records of the log, 15 at most; nothing of a log whose number is below that of dynamic capacity.
-/// `NoSuchLog` comes exactly where the number is 5 or more.
-pub fn get_events(alloc: Global, number: u8, log: &EventLog) -> Result<Draft, Refusal>
+/// `NoSuchLog` comes exactly where the number is 5 or more. The reply is written in the room.
+pub fn get_events(alloc: Global, number: u8, log: &EventLog, room: Bytes) -> Result<Draft, Refusal>
     ensures drafts { AnswersEvents number log.now result }
     ensures no_lists { IfOk result (λ draft. draft.lists ≡ None) }
 {
@@ -33,28 +34,28 @@ pub fn get_events(alloc: Global, number: u8, log: &EventLog) -> Result<Draft, Re
         return Err(Refusal::Broken(Rule::NoSuchLog(number)));
     }
     let payload = if number == DYNAMIC_CAPACITY {
-        oldest_events(alloc, log)?
+        oldest_events(alloc, log, room)?
     } else {
-        no_events(alloc)?
+        no_events(room)?
     };
     Ok(Draft::only(payload))
 }
 
 /// The payload of an empty log.
-fn no_events(alloc: Global) -> Result<Bytes, NoMemory>
+fn no_events(room: Bytes) -> Result<Bytes, NoMemory>
     ensures { IfOk result (λ payload. payload ≡ events_payload 0 false []) }
 {
-    let mut payload = Bytes::new(alloc);
+    let mut payload = emptied(room);
     write_events(0, false, &[], &mut payload)?;
     Ok(payload)
 }
 
 /// The payload of the oldest records.
-fn oldest_events(alloc: Global, log: &EventLog) -> Result<Bytes, NoMemory>
+fn oldest_events(alloc: Global, log: &EventLog, room: Bytes) -> Result<Bytes, NoMemory>
     ensures { IfOk result (λ payload. payload ≡ events_payload log.now.missed (nat_lt 15 (length log.now.records)) (take 15 log.now.records)) }
 {
     let events = oldest(alloc, log)?;
-    let mut payload = Bytes::new(alloc);
+    let mut payload = emptied(room);
     let more = log.len() as usize > REPLY_RECORDS;
     write_events(log.missed(), more, events.as_slice(), &mut payload)?;
     Ok(payload)

@@ -13,25 +13,25 @@ ghost use Rattle.std.specs.Prelude.{◌≡◌, ◌++◌, ◌<◌, ◌≤◌, IfO
 
 use crate::draft::Draft;
 use crate::pages::{Flags, host_counts, regions_seen};
+use crate::rooms::emptied_for;
 use dcd_base::{Bytes, HostId, NoMemory};
 use dcd_codes::{Refusal, Rule};
 use device_state::State;
 use fm_payloads::regions_head;
 use host_payloads::{RegionView, counts_bytes, region_bytes};
 use region_config::Config;
-use std::alloc::Global;
 
 /// At most `count` regions of the host from `first` on, and what the host may have (profile).
 ///
 /// The first broken rule comes: `NoSuchHost`; `NoSuchRegion` where the first number is at or past the number of
 /// regions.
 pub(crate) fn get_regions(
-    alloc: Global,
     config: &Config,
     state: &State,
     host: u16,
     count: u8,
     first: u8,
+    room: Bytes,
 ) -> Result<Draft, Refusal>
     requires reached { IsReached config.now state.now }
     ensures { ManagerAnswers config.now state.now (FmRequest.GetRegions host count first) result }
@@ -42,16 +42,16 @@ pub(crate) fn get_regions(
     if first >= state.present.regions() {
         return Err(Refusal::Broken(Rule::NoSuchRegion(first)));
     }
-    Ok(Draft::only(payload_of(alloc, state, host, count, first)?))
+    Ok(Draft::only(payload_of(state, host, count, first, room)?))
 }
 
 /// The payload of the reply.
 fn payload_of(
-    alloc: Global,
     state: &State,
     host: u16,
     count: u8,
     first: u8,
+    room: Bytes,
 ) -> Result<Bytes, NoMemory>
     requires byte { host < 256 }
     requires host { host < state.now.present.hosts }
@@ -60,12 +60,13 @@ fn payload_of(
     ensures { IfOk result (IsRegionsReply state.now host count first) }
 {
     let id = HostId(host as u8);
-    let views = regions_seen(alloc, &state.present, id, Flags::OfManager, count, first)?;
+    let seen = regions_seen(&state.present, id, Flags::OfManager, count, first);
+    let views = seen.as_slice();
     let counts = host_counts(&state.part(id).lists);
-    let mut payload = Bytes::with_capacity(alloc, 24 + 40 * views.len())?;
+    let mut payload = emptied_for(room, 24 + 40 * views.len())?;
     let head = regions_head(host, state.present.regions(), views.len() as u8);
     payload.extend_from_slice(&head)?;
-    put_regions(views.as_slice(), &mut payload)?;
+    put_regions(views, &mut payload)?;
     payload.extend_from_slice(&counts_bytes(&counts))?;
     Ok(payload)
 }

@@ -13,7 +13,7 @@ use crate::get_dynamic_capacity_extent_list::get_extents;
 use crate::get_event_records::get_events;
 use crate::release_dynamic_capacity::give_back;
 use cci_codec::Request;
-use dcd_base::{HostId, LogId, NoMemory};
+use dcd_base::{Bytes, HostId, LogId, NoMemory};
 use dcd_codes::{Refusal, Rule};
 use event_log::EventLog;
 use host_lists::HostLists;
@@ -24,7 +24,8 @@ use std::alloc::Global;
 /// The draft of a message of the host, or the first rule that it breaks.
 ///
 /// `config` is the configuration that the device was made with, `present` the one with the present blocks; `lists` and
-/// `log` are what the device keeps of the host. The lists that are drafted have 64 extents at most, as these have.
+/// `log` are what the device keeps of the host. The lists that are drafted have 64 extents at most, as these have. A reply
+/// that has a payload is written in the room, whatever bytes it holds.
 pub fn host_draft(
     alloc: Global,
     config: &Config,
@@ -33,6 +34,7 @@ pub fn host_draft(
     lists: &HostLists,
     log: &EventLog,
     request: &Request,
+    room: Bytes,
 ) -> Result<Draft, Refusal>
     requires host { host < config.now.hosts }
     requires hosts { present.now.hosts ≡ config.now.hosts }
@@ -41,7 +43,7 @@ pub fn host_draft(
     ensures few { IfOk result (λ draft. IfSome draft.lists (λ new. extent_total new ≤ 64)) }
 {
     match decode(alloc, request.opcode, request.payload.as_slice()) {
-        Ok(HostRequest::GetEvents { log: number }) => get_events(alloc, number, log),
+        Ok(HostRequest::GetEvents { log: number }) => get_events(alloc, number, log, room),
         Ok(
             HostRequest::ClearEvents {
                 log: number,
@@ -50,9 +52,9 @@ pub fn host_draft(
             },
         ) => clear_events(alloc, LogId::Host(host), number, log, all, &handles),
         Ok(HostRequest::GetConfiguration { count, first }) => {
-            get_configuration(alloc, present, host, lists, count, first)
+            get_configuration(present, host, lists, count, first, room)
         }
-        Ok(HostRequest::GetExtents { count, first }) => get_extents(alloc, lists, count, first),
+        Ok(HostRequest::GetExtents { count, first }) => get_extents(lists, count, first, room),
         Ok(HostRequest::AddResponse { more, extents }) => {
             add_response(alloc, config, present, host, lists, more, &extents)
         }

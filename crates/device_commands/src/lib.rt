@@ -14,6 +14,7 @@ mod draft;
 mod dynamic_capacity_add_reference;
 mod dynamic_capacity_list_tags;
 mod dynamic_capacity_remove_reference;
+mod few;
 mod get_dc_region_extent_lists;
 mod get_dcd_info;
 mod get_dynamic_capacity_configuration;

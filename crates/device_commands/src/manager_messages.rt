@@ -13,19 +13,21 @@ use crate::get_dcd_info::get_info;
 use crate::get_event_records::get_events;
 use crate::get_host_dc_region_configuration::get_regions;
 use crate::set_dc_region_configuration::set_region;
-use dcd_base::LogId;
+use dcd_base::{Bytes, LogId};
 use dcd_codes::Refusal;
 use device_state::State;
 use fm_payloads::FmRequest;
 use region_config::Config;
 use std::alloc::Global;
 
-/// The draft of a request that changes no extents and no tags, or the first rule that it breaks.
+/// The draft of a request that changes no extents and no tags, or the first rule that it breaks. A reply that has a payload is
+/// written in the room, whatever bytes it holds.
 pub fn quiet_draft(
     alloc: Global,
     config: &Config,
     state: &State,
     asked: &FmRequest,
+    room: Bytes,
 ) -> Result<Draft, Refusal>
     requires reached { IsReached config.now state.now }
     requires few { FewCleared asked.now }
@@ -33,13 +35,13 @@ pub fn quiet_draft(
     ensures { ManagerAnswers config.now state.now asked.now result }
 {
     match asked {
-        FmRequest::GetEvents { log } => get_events(alloc, *log, &state.manager),
+        FmRequest::GetEvents { log } => get_events(alloc, *log, &state.manager, room),
         FmRequest::ClearEvents { log, all, handles } => {
             clear_events(alloc, LogId::Manager, *log, &state.manager, *all, handles)
         }
-        FmRequest::GetInfo => get_info(alloc, config, state),
+        FmRequest::GetInfo => get_info(config, state, room),
         FmRequest::GetRegions { host, count, first } => {
-            get_regions(alloc, config, state, *host, *count, *first)
+            get_regions(config, state, *host, *count, *first, room)
         }
         FmRequest::SetRegion {
             region,
@@ -47,9 +49,11 @@ pub fn quiet_draft(
             block,
         } => set_region(alloc, config, state, *region, *sanitize, *block),
         FmRequest::GetExtentLists { host, count, first } => {
-            get_extent_lists(alloc, config, state, *host, *count, *first)
+            get_extent_lists(config, state, *host, *count, *first, room)
         }
-        FmRequest::ListTags { first, count } => list_tags(alloc, config, state, *first, *count),
+        FmRequest::ListTags { first, count } => list_tags(
+            alloc, config, state, *first, *count, room,
+        ),
         _ => unreachable!(),
     }
 }

@@ -8,14 +8,24 @@ ghost use Rattle.host_lists.specs.Lists.{extent_total};
 ghost use Rattle.host_payloads.specs.declared.views.RegionView.{RegionView};
 ghost use Rattle.region_config.specs.Granules.{with_blocks};
 ghost use Rattle.region_config.specs.Configurations.{Configuration};
-ghost use Rattle.std.specs.Prelude.{◌≡◌, ◌<◌, ◌≤◌, IfOk, length, min};
+ghost use Rattle.std.specs.Prelude.{◌≡◌, ◌<◌, ◌≤◌, length, min};
 
+use crate::few::Few;
 use dcd_base::limits::{EXTENTS, PAGE_EXTENTS, TAGS};
-use dcd_base::{Extent, HostId, NoMemory, RegionId, Seq};
+use dcd_base::{Extent, HostId, RegionId};
 use host_lists::HostLists;
 use host_payloads::{Counts, RegionView};
 use region_config::{Config, RegionSpec};
-use std::alloc::Global;
+
+/// What stands in the place of a region that is not shown.
+const NO_REGION: RegionView = RegionView {
+    base: 0,
+    decode_units: 0,
+    length: 0,
+    block: 0,
+    handle: 0,
+    flags: 0,
+};
 
 /// Which flags of a region are shown.
 #[derive(Clone, Copy, Debug, PartialEq, Eq)]
@@ -56,24 +66,22 @@ fn region_seen(present: &Config, host: HostId, flags: Flags, region: RegionId) -
 
 /// Up to `count` regions from the first on, as they are shown. The configuration is the one with the present blocks.
 pub fn regions_seen(
-    alloc: Global,
     present: &Config,
     host: HostId,
     flags: Flags,
     count: u8,
     first: u8,
-) -> Result<Seq<RegionView>, NoMemory>
+) -> Few<RegionView>
     requires { host < present.now.hosts }
-    ensures seen { IfOk result (AreSeen present.now host flags count first) }
-    ensures few { IfOk result (λ views. length views ≤ 8) }
+    ensures { AreSeen present.now host flags count first result }
 {
     let regions = present.regions();
     let end = first.saturating_add(count).min(regions).max(first);
-    let mut views = Seq::new(alloc);
+    let mut views = Few::new(NO_REGION);
     for region in first..end {
-        views.push(region_seen(present, host, flags, RegionId(region)))?;
+        views.push(region_seen(present, host, flags, RegionId(region)));
     }
-    Ok(views)
+    views
 }
 
 /// What a host with these lists may have, and what is left of it.

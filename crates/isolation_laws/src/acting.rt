@@ -12,7 +12,7 @@ use crate::alone::Alone;
 use crate::items::SoloReply;
 use crate::words_alone::{clear_words, has_byte, store_word, word_at};
 use cci_codec::Request;
-use dcd_base::{AccessFault, HostId, LogId, NoMemory};
+use dcd_base::{AccessFault, Bytes, HostId, LogId, NoMemory};
 use dcd_codes::{Code, Refusal};
 use device_commands::{Draft, DraftParts, answer, host_draft, refused};
 use device_state::change_log_named;
@@ -71,6 +71,7 @@ impl Alone {
             &self.lists,
             &self.log,
             request,
+            Bytes::new(alloc),
         ) {
             Ok(draft) => Ok(self.put_in_place(alloc, host, request, draft)),
             Err(Refusal::Broken(rule)) => {

@@ -13,7 +13,7 @@ use crate::accesses::{granted, loaded, refused_by, store_at, stored, word_at};
 use crate::faults::StepFault;
 use crate::making::make_all;
 use control_core::{Decided, LiveControl};
-use dcd_base::{Actor, HostId, NoMemory};
+use dcd_base::{Actor, Bytes, HostId, NoMemory};
 use device_state::Update;
 use granule_mem::Memory;
 use journal_core::{Act, Effects, Reply};
@@ -135,7 +135,8 @@ impl LiveDevice {
         ensures too_long { IfErr result (IsTooLong self.old actor act.now most) }
         ensures kept { OnErr result (self.new ≡ self.old) }
     {
-        let decision = self.control.decide(&actor, act)?;
+        let room = Bytes::new(self.control.allocator());
+        let decision = self.control.decide(&actor, act, room)?;
         let Decided {
             reply,
             effects,

@@ -16,12 +16,12 @@ pub returns-clause-drafts : goal.returns-clause-drafts
 returns-clause-drafts c = λ cfg v is lists.
     let regions = ap (λ (p : Configuration). length p.regions) is ∙ regions_same cfg v.block in
     let total = c.regions-2.ensures.value ∙ regions in
-    let views = c.as_slice.ensures ∙ c.in_ok-views.ensures.seen cfg v is in
+    let views = c.as_slice.ensures.value ∙ c.regions_seen-views.ensures cfg v is in
     let counts = c.host_counts-counts.ensures v lists in (
       region_known cfg c.args.first (omega (arith, regions, c.if-first-regions.false, c.regions.ensures.value)),
       record {
         payload = ap (λ (d : DraftParts). d.payload) c.only.ensures ∙ c.in_ok-write_configuration.ensures.appended
-            ∙ ap (λ front. front ++ configuration_payload c.regions-2.result c.as_slice.result.now c.host_counts-counts.result) c.new-payload.ensures
+            ∙ ap (λ front. front ++ configuration_payload c.regions-2.result c.as_slice.result.now c.host_counts-counts.result) c.emptied-payload.ensures
             ∙ (λ i. configuration_payload (total i) (views i) (counts i));
         changes = ap (λ (d : DraftParts). d.changes) c.only.ensures;
         tags = ap (λ (d : DraftParts). d.tags) c.only.ensures;

@@ -16,9 +16,9 @@ pub returns : goal.returns
 returns c d v is lists =
     let rs : List ℕ = page c.args.first c.args.count (regions_of d) in
     let seen : ℕ → RegionView = region_seen d c.args.host v manager_flags in
-    let views : c.as_slice.result.now ≡ map seen rs = c.as_slice.ensures ∙ c.in_ok-views.ensures.seen d v is in
+    let views : c.as_slice-views.result.now ≡ map seen rs = c.as_slice-views.ensures.value ∙ c.regions_seen-seen.ensures d v is in
     let regions : c.regions.result ≡ length d.regions = c.regions.ensures.value ∙ ap (λ (e : Configuration). length e.regions) is ∙ blocks_long d v.block in
-    let many : c.len-2.result ≡ length rs = c.len-2.ensures ∙ ap length (c.in_ok-views.ensures.seen d v is) ∙ length-map rs seen in
+    let many : length c.as_slice-views.result.now ≡ length rs = ap length views ∙ length-map rs seen in
     let counts : c.counts_bytes.result ≡ counts_bytes (host_counts v) =
     c.counts_bytes.ensures ∙ ap counts_bytes (c.host_counts-counts.ensures v (ap (λ (p : HostPart). p.lists) c.part.ensures ∙ lists)) in
     let head : c.extend_from_slice.new.self ≡ regions_head c.args.host (length d.regions) (length rs) =

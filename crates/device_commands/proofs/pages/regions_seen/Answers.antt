@@ -14,15 +14,15 @@ loop-region-preserved c =
     let from : c.args.first ≤ c.loop-region.region = omega (arith, c.loop-region.auto.region) in
     record {
       seen = λ cfg v is. (let f : ℕ → RegionView = region_seen cfg c.args.host v (flags_shown c.args.flags) in
-          c.in_ok-push.ensures.pushed
+          c.push.ensures
           ∙ ap (λ xs. xs ++ c.region_seen.result ∷ []) (c.loop-region.invariant.seen cfg v is)
           ∙ ap (λ view. map f (range_with_len c.args.first (c.loop-region.region - c.args.first)) ++ view ∷ []) (c.region_seen.ensures cfg v is)
           ∙ sym (page_more f c.args.first c.loop-region.region from));
-      few = ap length c.in_ok-push.ensures.pushed ∙ omega (arith, length_push c.loop-region.views c.region_seen.result, c.loop-region.invariant.few, from);
+      few = ap length c.push.ensures ∙ omega (arith, length_push c.loop-region.views c.region_seen.result, c.loop-region.invariant.few, from);
     }
 
-pub returns-clause-seen : goal.returns-clause-seen
-returns-clause-seen c = λ cfg v is.
+pub returns : goal.returns
+returns c = λ cfg v is.
     let f : ℕ → RegionView = region_seen cfg c.args.host v (flags_shown c.args.flags) in
     let first_end : c.args.first ≤ c.max-end.result = omega (arith, c.max-end.ensures) in
     let at_end : c.loop-region.region ≡ c.max-end.result = omega (arith, c.loop-region-test.false, c.loop-region.auto.region-end first_end) in
