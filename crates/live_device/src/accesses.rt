@@ -15,6 +15,7 @@ use media_map::locate;
 use region_config::Config;
 
 /// The place of the host's address, where the host holds it, or why there is none.
+#[inline(always)]
 #[tactic(auto, using(crate::proofs::MadeChanges::word_inside))]
 pub fn granted(
     config: &Config,
