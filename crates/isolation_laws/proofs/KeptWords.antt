@@ -7,7 +7,7 @@ use Rattle.std.specs.Ordering.{nat_cmp}
 use Rattle.std.proofs.lemmas.Bool.{eqb-true}
 use Rattle.std.proofs.lemmas.Map.Entries.{lookup-filter-keys}
 use Rattle.granule_mem.specs.Contents.{word_among}
-use Rattle.granule_mem.proofs.Steps.{is_at_number}
+use Rattle.granule_mem.proofs.Few.{is_at_number}
 
 -- the word at an address, where the words at some addresses are let go
 pub word_filter : (gone : ℕ → Bool) (stored : List (ℕ × ℕ)) (d : ℕ) → word_among (filter (λ e. not (gone e.0)) stored) d ≡ (if gone d then 0 else word_among stored d)
