@@ -13,7 +13,6 @@ mod encoding;
 mod placing;
 mod replies;
 mod requests;
-mod rooms;
 
 pub use decoding::decode;
 pub use encoding::encode;

@@ -14,7 +14,6 @@ mod list_writing;
 mod pages;
 mod replies;
 mod requests;
-mod rooms;
 mod views;
 
 pub use decoding::decode;

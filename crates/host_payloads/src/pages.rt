@@ -8,10 +8,9 @@ ghost use Rattle.std.specs.List.{AllByRecursion};
 ghost use Rattle.std.specs.Prelude.{◌≡◌, ◌+◌, ◌*◌, ◌++◌, ◌≤◌, IfOk, OnErr, OnOk, length, take};
 
 use crate::counted::page_length;
-use crate::rooms::with_zeros;
 use dcd_base::{Bytes, Extent, Extents, NoMemory};
 use field_bytes::{
-    PayloadFault, expect_length, extents_of, put_extents, put_u32, put_zeros, u32_at,
+    PayloadFault, expect_length, extents_of, put_extents, put_u32, put_zeros, u32_at, with_zeros,
 };
 use std::alloc::Global;
 

@@ -8,7 +8,7 @@ use std::mem::replace;
 /// The bytes of `out` and so many zero bytes behind them, into which fields are put, in the room of `out`. It is empty then;
 /// without memory it is as it was.
 #[inline]
-pub(crate) fn with_zeros(out: &mut Bytes, count: usize) -> Result<Vec<u8>, NoMemory>
+pub fn with_zeros(out: &mut Bytes, count: usize) -> Result<Vec<u8>, NoMemory>
     ensures front { IfOk result (λ bytes. take (length out.old) bytes.items ≡ out.old) }
     ensures len { IfOk result (λ bytes. vec_len bytes ≡ length out.old + count) }
     ensures kept { OnErr result (out.new ≡ out.old) }
