@@ -1,5 +1,7 @@
 //! Where the lines of a script begin.
 
+ghost use Rattle.std.specs.Prelude.{◌<◌, length};
+
 use std::alloc::Global;
 
 /// The places of the lines of a script, noted while its bytes go by. The bytes between are not looked at, and no fault
@@ -53,6 +55,7 @@ impl LineStarts {
     /// Lets the bytes that come next go by.
     pub(crate) fn pass(&mut self, piece: &[u8]) {
         for _ in 0..piece.len() {
+            self.note_whole(piece);
             match piece.get(self.next.saturating_sub(self.passed) as usize) {
                 Some(byte) => self.look_at(*byte),
                 None => break,
@@ -60,6 +63,32 @@ impl LineStarts {
         }
         let count = u32::try_from(piece.len()).unwrap_or(u32::MAX);
         self.passed = self.passed.saturating_add(count);
+    }
+
+    /// Notes line after line, as long as the bytes that say how long the next one is lie in the piece.
+    fn note_whole(&mut self, piece: &[u8]) {
+        if self.byte != LengthByte::Kind {
+            return;
+        }
+        let mut at = self.next.saturating_sub(self.passed) as usize;
+        for _ in 0..piece.len() {
+            match line_length(piece, at) {
+                Some(length) => {
+                    self.note();
+                    self.next = self.next.saturating_add(length);
+                    at = at.saturating_add(length as usize);
+                }
+                None => break,
+            }
+        }
+    }
+
+    /// Notes that a line begins at the next place.
+    #[inline(always)]
+    fn note(&mut self) {
+        if self.starts.push(self.next).is_err() {
+            self.lost = true;
+        }
     }
 
     /// The number of the line that has the place, from 1. A place where the next line was to begin is that line's. `None`
@@ -104,9 +133,7 @@ impl LineStarts {
         if kind == 0 {
             return (u32::MAX, LengthByte::Nothing);
         }
-        if self.starts.push(self.next).is_err() {
-            self.lost = true;
-        }
+        self.note();
         match kind {
             1 => (2, LengthByte::Low),
             2 => (10, LengthByte::Kind),
@@ -116,6 +143,29 @@ impl LineStarts {
             _ => (u32::MAX, LengthByte::Nothing),
         }
     }
+}
+
+/// How long the line is whose kind is at the place, where the bytes that say so lie in the piece.
+#[inline(always)]
+fn line_length(piece: &[u8], at: usize) -> Option<u32> {
+    match piece.get(at)? {
+        1 => command_length(piece, at),
+        2 => Some(10),
+        3 => Some(18),
+        4 => Some(3),
+        5 => Some(1),
+        _ => None,
+    }
+}
+
+/// How long the command is whose kind is at the place, where the length of its message lies in the piece.
+#[inline(always)]
+fn command_length(piece: &[u8], at: usize) -> Option<u32>
+    requires { at < length piece.now }
+{
+    let low = piece.get(at + 2)?;
+    let high = piece.get(at + 3)?;
+    Some(4 + u32::from(*low) + 256 * u32::from(*high))
 }
 
 /// How far it is from the number of regions, at 9, to the first line: 6 bytes, the regions of 40 bytes, and their bases.
