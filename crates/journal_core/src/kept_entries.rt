@@ -117,6 +117,50 @@ impl KeptEntries {
         }
     }
 
+    /// Puts the entry of a step without effects behind the others, with the next stamp. Without memory the entries are as
+    /// before.
+    pub fn append_quiet(
+        &mut self,
+        pass: u32,
+        line: u32,
+        actor: Actor,
+        act: &Act,
+        reply: &Reply,
+    ) -> Result<(), NoMemory>
+        ensures appended { OnOk result (self.new.entries ≡ self.old.entries ++ next_entry self.old.entries pass line actor act.now (reply.now, []) ∷ []) }
+        ensures kept { OnErr result (self.new.entries ≡ self.old.entries) }
+    {
+        self.list.reserve_place()?;
+        let parts = Parts::of(act, reply, retold(&mut self.coder, &[])?);
+        match KeptStep::of(pass, line, actor, act, reply, &parts) {
+            Some(step) => {
+                self.list.reserve_bytes(step.width as usize)?;
+                self.list.put_step(step, &parts);
+                Ok(())
+            }
+            None => self.append_quiet_apart(pass, line, actor, act, reply),
+        }
+    }
+
+    /// The same, of an entry that is not kept small.
+    #[cold]
+    #[inline(never)]
+    fn append_quiet_apart(
+        &mut self,
+        pass: u32,
+        line: u32,
+        actor: Actor,
+        act: &Act,
+        reply: &Reply,
+    ) -> Result<(), NoMemory>
+        requires room { 0 < self.old.spare }
+        ensures appended { OnOk result (self.new.entries ≡ self.old.entries ++ next_entry self.old.entries pass line actor act.now (reply.now, []) ∷ []) }
+        ensures kept { OnErr result (self.new.entries ≡ self.old.entries) }
+    {
+        let none = Effects::new(self.list.allocator());
+        self.append_apart(pass, line, actor, act, reply, &none)
+    }
+
     /// The same, of an entry that is not kept small. It stands apart, so that one that is makes no room for what it needs.
     #[cold]
     #[inline(never)]

@@ -71,6 +71,11 @@ impl KeptList {
         }
     }
 
+    /// The allocator.
+    pub(crate) fn allocator(&self) -> Global {
+        self.alloc
+    }
+
     /// How many entries there are.
     pub(crate) fn len(&self) -> usize
         ensures count { result ≡ length self.now.entries }
