@@ -1,6 +1,7 @@
 pub mod AreaBlocks
 pub mod Changes
 pub mod Joining
+pub mod Kept
 pub mod Marked
 pub mod NextOfLanes
 pub mod Ranges

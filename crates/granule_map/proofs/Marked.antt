@@ -1,11 +1,11 @@
 -- What the marks of granules say of their states.
-use Rattle.std.proofs.Common.{cond, [], ◌∷◌, ◌≡◌, ℕ, zero, suc, ◌∷◌, ◌+◌, ◌-◌, ◌<◌, ◌≤◌, Bool, false, not, List, ◌++◌, length, length-drop, length-set, set, map, get_or, take, drop, replicate, refl, ap, sym, subst, ◌∙◌, arith}
+use Rattle.std.proofs.Common.{cond, [], ◌∷◌, ◌≡◌, ℕ, zero, suc, ◌∷◌, ◌+◌, ◌-◌, ◌<◌, ◌≤◌, Bool, false, not, List, ◌++◌, length, length-drop, map, get_or, take, drop, replicate, refl, ap, sym, subst, ◌∙◌, arith}
 use Rattle.dcd_base.specs.declared.media.Run.{Run}
 use Rattle.std.proofs.lemmas.Bool.{false_from_ne_true}
-use Rattle.std.proofs.lemmas.List.{drop-map, get_or-drop, get_or-map, get_or-take, length-take-le, map-append, map-set, take-map}
+use Rattle.std.proofs.lemmas.List.{drop-map, get_or-drop, get_or-map, get_or-take, length-take-le, map-append, take-map}
 use Rattle.std.proofs.lemmas.List.Sums.{sum_by-cons}
 use Rattle.std.specs.Prelude.{count_by}
-use Rattle.memchr.specs.Find.{Nowhere, Passes, is_byte, is_byte2}
+use Rattle.memchr.specs.Find.{Nowhere, Passes, is_byte}
 use Rattle.granule_map.specs.StateLists.{AreMarked, is_dirty_at, is_dirty_state, is_free_at, is_free_state, mark_of, part_of, with_run}
 use Rattle.granule_map.specs.Stretches.{IsNext, fails}
 use Rattle.granule_map.specs.declared.states.GranuleState.{GranuleState}
@@ -60,26 +60,12 @@ free_mark (Held h) = refl
 free_mark (Tagged t) = refl
 free_mark Dirty = refl
 
-taken_mark : (s : GranuleState) → is_byte2 1 2 (mark_of s) ≡ not (is_free_state s)
-taken_mark Free = refl
-taken_mark (Reserved h) = refl
-taken_mark (Held h) = refl
-taken_mark (Tagged t) = refl
-taken_mark Dirty = refl
-
-dirty_mark : (s : GranuleState) → is_byte 1 (mark_of s) ≡ is_dirty_state s
+dirty_mark : (s : GranuleState) → is_byte 4 (mark_of s) ≡ is_dirty_state s
 dirty_mark Free = refl
 dirty_mark (Reserved h) = refl
 dirty_mark (Held h) = refl
 dirty_mark (Tagged t) = refl
 dirty_mark Dirty = refl
-
-clean_mark : (s : GranuleState) → is_byte2 0 2 (mark_of s) ≡ not (is_dirty_state s)
-clean_mark Free = refl
-clean_mark (Reserved h) = refl
-clean_mark (Held h) = refl
-clean_mark (Tagged t) = refl
-clean_mark Dirty = refl
 
 module _ (states seen : List GranuleState) (marks read : List ℕ) (kept : AreMarked states marks) (same : states ≡ seen) (read_is : read ≡ marks) (from end k : ℕ) (within : end ≤ length seen) where
   mark_at : (d : GranuleState) (g : ℕ) → g < end → get_or read g 0 ≡ mark_of (get_or seen g d)
@@ -91,14 +77,14 @@ module _ (states seen : List GranuleState) (marks read : List ℕ) (kept : AreMa
   pub free_next : IsNext (λ j. is_byte 0 (get_or read j 0)) from end k → IsNext (is_free_at seen) from end k
   free_next next = next_same (λ j. is_byte 0 (get_or read j 0)) (is_free_at seen) from end k (λ j high. ap (is_byte 0) (mark_at Dirty j high) ∙ free_mark (get_or seen j Dirty)) next
 
-  pub taken_next : IsNext (λ j. is_byte2 1 2 (get_or read j 0)) from end k → IsNext (fails (is_free_at seen)) from end k
-  taken_next next = next_same (λ j. is_byte2 1 2 (get_or read j 0)) (fails (is_free_at seen)) from end k (λ j high. ap (is_byte2 1 2) (mark_at Dirty j high) ∙ taken_mark (get_or seen j Dirty)) next
+  pub taken_next : IsNext (fails (λ j. is_byte 0 (get_or read j 0))) from end k → IsNext (fails (is_free_at seen)) from end k
+  taken_next next = next_same (fails (λ j. is_byte 0 (get_or read j 0))) (fails (is_free_at seen)) from end k (λ j high. ap not (ap (is_byte 0) (mark_at Dirty j high) ∙ free_mark (get_or seen j Dirty))) next
 
-  pub dirty_next : IsNext (λ j. is_byte 1 (get_or read j 0)) from end k → IsNext (is_dirty_at seen) from end k
-  dirty_next next = next_same (λ j. is_byte 1 (get_or read j 0)) (is_dirty_at seen) from end k (λ j high. ap (is_byte 1) (mark_at Free j high) ∙ dirty_mark (get_or seen j Free)) next
+  pub dirty_next : IsNext (λ j. is_byte 4 (get_or read j 0)) from end k → IsNext (is_dirty_at seen) from end k
+  dirty_next next = next_same (λ j. is_byte 4 (get_or read j 0)) (is_dirty_at seen) from end k (λ j high. ap (is_byte 4) (mark_at Free j high) ∙ dirty_mark (get_or seen j Free)) next
 
-  pub clean_next : IsNext (λ j. is_byte2 0 2 (get_or read j 0)) from end k → IsNext (fails (is_dirty_at seen)) from end k
-  clean_next next = next_same (λ j. is_byte2 0 2 (get_or read j 0)) (fails (is_dirty_at seen)) from end k (λ j high. ap (is_byte2 0 2) (mark_at Free j high) ∙ clean_mark (get_or seen j Free)) next
+  pub clean_next : IsNext (fails (λ j. is_byte 4 (get_or read j 0))) from end k → IsNext (fails (is_dirty_at seen)) from end k
+  clean_next next = next_same (fails (λ j. is_byte 4 (get_or read j 0))) (fails (is_dirty_at seen)) from end k (λ j high. ap not (ap (is_byte 4) (mark_at Free j high) ∙ dirty_mark (get_or seen j Free))) next
 
 -- marks of a list that has one state throughout, and of one with a new state in a run
 pub marks_of_one : (n : ℕ) (s : GranuleState) → replicate n (mark_of s) ≡ map mark_of (replicate n s)
@@ -126,14 +112,6 @@ still_marked states new marks new_marks run s kept new_is long marks_are = recor
       ∙ marks_with_run states run s ∙ ap (map mark_of) (sym new_is);
 }
 
--- what a change of one granule leaves of both
-pub marked_one : (states new : List GranuleState) (marks new_marks : List ℕ) (g : ℕ) (s : GranuleState) → AreMarked states marks → new ≡ set states g s
-    → new_marks ≡ set marks g (mark_of s) → AreMarked new new_marks
-marked_one states new marks new_marks g s kept new_is marks_are = record {
-  few = omega (arith, ap (λ (ss : List GranuleState). length ss) new_is, length-set states g s, kept.few);
-  marked = marks_are ∙ ap (λ (ms : List ℕ). set ms g (mark_of s)) kept.marked ∙ sym (map-set mark_of states g s) ∙ ap (map mark_of) (sym new_is);
-}
-
 -- a count of marks is one of states
 module _ (t : ℕ → Bool) (q : GranuleState → Bool) (agree : (s : GranuleState) → t (mark_of s) ≡ q s) where
   counts_agree : (states : List GranuleState) → count_by t (map mark_of states) ≡ count_by q states
@@ -154,7 +132,7 @@ module _ (states seen : List GranuleState) (marks read : List ℕ) (kept : AreMa
       ap (λ (ms : List ℕ). count_by (is_byte 0) (take run.count (drop run.first ms))) (read_is ∙ kept.marked) ∙ counted_in (is_byte 0) is_free_state free_mark states run
       ∙ ap (λ (ss : List GranuleState). count_by is_free_state (part_of ss run)) same
 
-  pub dirty_counted : count_by (is_byte 1) (take run.count (drop run.first read)) ≡ count_by is_dirty_state (part_of seen run)
+  pub dirty_counted : count_by (is_byte 4) (take run.count (drop run.first read)) ≡ count_by is_dirty_state (part_of seen run)
   dirty_counted =
-      ap (λ (ms : List ℕ). count_by (is_byte 1) (take run.count (drop run.first ms))) (read_is ∙ kept.marked) ∙ counted_in (is_byte 1) is_dirty_state dirty_mark states run
+      ap (λ (ms : List ℕ). count_by (is_byte 4) (take run.count (drop run.first ms))) (read_is ∙ kept.marked) ∙ counted_in (is_byte 4) is_dirty_state dirty_mark states run
       ∙ ap (λ (ss : List GranuleState). count_by is_dirty_state (part_of ss run)) same

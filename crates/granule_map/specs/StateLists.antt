@@ -1,7 +1,8 @@
 -- The states of a device's granules, as a list by number.
-use Rattle.std.specs.Prelude.{◌≡◌, ◌^◌, ◌<◌, map, ℕ, ◌+◌, Bool, true, false, ◌==◌, List, ◌++◌, take, drop, replicate, count_by, slice_index_or, find, Option, length, ◌-◌}
+use Rattle.std.specs.Prelude.{◌≡◌, ◌^◌, ◌<◌, map, ℕ, ◌+◌, Bool, true, false, ◌==◌, List, ◌++◌, take, drop, replicate, count_by, slice_index_or, find, Option, length, ◌-◌, if◌then◌else◌}
 use Rattle.std.specs.List.{range_with_len}
 use Rattle.dcd_base.specs.Words.{same_tag}
+use Rattle.dcd_base.specs.declared.capacity.Tag.{Tag}
 use Rattle.dcd_base.specs.declared.media.Run.{Run}
 use Rattle.granule_map.specs.declared.states.GranuleState.{GranuleState}
 
@@ -34,11 +35,28 @@ is_free_at states g = is_free_state (slice_index_or states g GranuleState.Dirty)
 abbrev pub is_dirty_at : List GranuleState → ℕ → Bool
 is_dirty_at states g = is_dirty_state (slice_index_or states g GranuleState.Free)
 
--- a mark for each state: 0 says free, 1 dirty, 2 that somebody has the granule
+-- a mark for each state: 0 says free, 1 that it is offered to a host, 2 that a host holds it, 3 that a tag has it, 4 dirty
 abbrev pub mark_of : GranuleState → ℕ
 mark_of GranuleState.Free = 0
-mark_of GranuleState.Dirty = 1
-mark_of state = 2
+mark_of (GranuleState.Reserved h) = 1
+mark_of (GranuleState.Held h) = 2
+mark_of (GranuleState.Tagged t) = 3
+mark_of GranuleState.Dirty = 4
+
+-- the number of the host that a state names, or 0
+abbrev pub host_of : GranuleState → ℕ
+host_of (GranuleState.Reserved h) = h
+host_of (GranuleState.Held h) = h
+host_of state = 0
+
+-- the state by its mark, which says whether the host or the tag counts
+abbrev pub told : ℕ → ℕ → Tag → GranuleState
+told mark host tag =
+    if mark == 0 then GranuleState.Free else
+    if mark == 1 then GranuleState.Reserved host else
+    if mark == 2 then GranuleState.Held host else
+    if mark == 3 then GranuleState.Tagged tag else
+    GranuleState.Dirty
 
 -- fewer than 2 ^ 32 states, and the mark of each
 pub record AreMarked (states : List GranuleState) (marks : List ℕ) : Type 0 where

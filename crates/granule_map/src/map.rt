@@ -7,37 +7,39 @@ ghost use Rattle.std.specs.List.{find, list_all, prefix_len, range_with_len};
 ghost use Rattle.std.specs.Prelude.{◌≡◌, ◌↔◌, ◌+◌, ◌-◌, ◌<◌, ◌≤◌, IfOk, IsNone, OnErr, OnOk, Some, length, replicate, slice_get, slice_set, count_by, ◌++◌, take, drop};
 
 use crate::blocks::{count_free_blocks, free_from, longest_run_of, lowest_block, next_free};
-use crate::marks::{count_with, next_with, next_with_either};
-use crate::replacing::{Replaced, replace_both};
-use crate::states::{DIRTY, FREE, GranuleState, IN_USE, is_same_state};
-use dcd_base::{Granule, NoMemory, Run};
+use crate::marks::{count_with, next_other, next_with};
+use crate::replacing::{Replaced, replace_both, write_tag};
+use crate::states::{DIRTY, FREE, GranuleState, is_same_state, told};
+use dcd_base::{Granule, NoMemory, Run, Tag};
 use std::alloc::Global;
 use std::marker::Model;
 
 /// The states of granules 0, 1, 2 and so on.
 ///
-/// Contracts see the list of states and its spare: where there is some, `set_run` takes no memory. A state is kept for
+/// Contracts see the list of states and its spare: where there is some, `set_run` takes no memory. A place is kept for
 /// each granule, so there is always spare; `reserve` and the spare are there for callers that rest on no such thing.
 ///
-/// Beside its state each granule has a mark, a byte that says free, dirty or in use. Searches read the marks alone,
-/// many at a time, so what a question costs goes by the runs that it passes and not by the granules in them.
+/// A state is kept as a mark, a byte that says what it is, beside the host and the tag that it may name. Searches read the
+/// marks alone, many at a time, so what a question costs goes by the runs that it passes and not by the granules in them.
 #[derive(Debug, Drop)]
 pub struct GranuleMap {
     alloc: Global,
-    granules: Vec<GranuleState>,
     marks: Vec<u8>,
+    hosts: Vec<u8>,
+    tags: Vec<Tag>,
 }
 
 impl Model for GranuleMap {
-    ghost use Rattle.granule_map.specs.StateLists.{AreMarked, States};
+    ghost use Rattle.granule_map.specs.StateLists.{States};
+    ghost use Rattle.granule_map.specs.Told.{AreKept, states_of};
     ghost use Rattle.std.specs.Prelude.{◌^◌, ◌-◌};
 
     ghost Value = { States };
 
-    // One state is kept for each granule, so a change takes no memory and there is spare for any number of them.
-    ghost view = { λ map. record { states = map.granules.items; spare = 2 ^ 64 - 1 } };
+    // A place is kept for each granule, so a change takes no memory and there is spare for any number of them.
+    ghost view = { λ map. record { states = states_of map.marks.items map.hosts.items map.tags.items; spare = 2 ^ 64 - 1 } };
 
-    ghost invariant = { λ map. AreMarked map.granules.items map.marks.items };
+    ghost invariant = { λ map. AreKept map.marks.items map.hosts.items map.tags.items };
 }
 
 impl GranuleMap {
@@ -48,8 +50,9 @@ impl GranuleMap {
     {
         Ok(GranuleMap {
             alloc,
-            granules: vec![in alloc; GranuleState::Free; count as usize]?,
             marks: vec![in alloc; FREE; count as usize]?,
+            hosts: vec![in alloc; 0u8; count as usize]?,
+            tags: vec![in alloc; Tag([0; 16]); count as usize]?,
         })
     }
 
@@ -59,8 +62,9 @@ impl GranuleMap {
     {
         Ok(GranuleMap {
             alloc: self.alloc,
-            granules: Vec::from_slice(self.alloc, self.granules.as_slice())?,
             marks: Vec::from_slice(self.alloc, self.marks.as_slice())?,
+            hosts: Vec::from_slice(self.alloc, self.hosts.as_slice())?,
+            tags: Vec::from_slice(self.alloc, self.tags.as_slice())?,
         })
     }
 
@@ -71,8 +75,8 @@ impl GranuleMap {
         ensures spare { self.old.spare ≤ self.new.spare }
         ensures kept { OnErr result (self.new ≡ self.old) }
     {
-        // Each granule has a place for its state already, so no change wants memory, however many come.
-        let _granules = &self.granules;
+        // Each granule has its place already, so no change wants memory, however many come.
+        let _marks = &self.marks;
         let _changes = n;
         Ok(())
     }
@@ -81,7 +85,7 @@ impl GranuleMap {
     pub fn len(&self) -> u32
         ensures { result ≡ length self.now.states }
     {
-        self.granules.len() as u32
+        self.marks.len() as u32
     }
 
     /// The state of a granule of the map.
@@ -89,7 +93,8 @@ impl GranuleMap {
         requires { granule < length self.now.states }
         ensures { slice_get self.now.states granule ≡ Some result }
     {
-        self.granules[granule.0 as usize]
+        let place = granule.0 as usize;
+        told(self.marks[place], self.hosts[place], &self.tags[place])
     }
 
     /// Gives each granule of the run this state. Takes no memory where there is spare, and leaves the spare.
@@ -104,6 +109,7 @@ impl GranuleMap {
     }
 
     /// Gives each granule of the run this state, as `set_run` does, and counts those that were free and dirty before.
+    #[inline(always)]
     pub fn replace_run(&mut self, run: Run, state: GranuleState) -> Replaced
         requires spare { 0 < self.old.spare }
         requires within { run.first + run.count ≤ length self.old.states }
@@ -113,13 +119,13 @@ impl GranuleMap {
         ensures free { result.free ≡ count_by is_free_state (part_of self.old.states run) }
         ensures dirty { result.dirty ≡ count_by is_dirty_state (part_of self.old.states run) }
     {
-        let mark = state.mark();
+        write_tag(self.tags.as_mut_slice(), &run, &state);
         replace_both(
-            self.granules.as_mut_slice(),
             self.marks.as_mut_slice(),
+            self.hosts.as_mut_slice(),
             &run,
-            &state,
-            mark,
+            state.mark(),
+            state.host(),
         )
     }
 
@@ -130,9 +136,11 @@ impl GranuleMap {
         ensures states { self.new.states ≡ slice_set self.old.states granule state }
         ensures spare { self.old.spare ≤ self.new.spare }
     {
-        let mark = state.mark();
-        set_state(self.granules.as_mut_slice(), &granule, &state);
-        set_mark(self.marks.as_mut_slice(), &granule, mark);
+        let run = Run {
+            first: granule,
+            count: 1,
+        };
+        let _replaced = self.replace_run(run, state);
     }
 
     /// How many blocks of the area are free: blocks of `per_block` granules, from its first granule on.
@@ -200,10 +208,13 @@ impl GranuleMap {
     pub fn count(&self, state: GranuleState) -> u32
         ensures { result ≡ count_of self.now.states state }
     {
-        self.granules
-            .iter()
-            .filter(|granule| is_same_state(&state, granule))
-            .count() as u32
+        let mut count = 0;
+        for granule in 0..self.len() {
+            if is_same_state(&state, &self.at(Granule(granule))) {
+                count += 1;
+            }
+        }
+        count
     }
 
     /// How many granules of the run are free.
@@ -265,13 +276,7 @@ impl GranuleMap {
         ensures { IsNext (fails (is_free_at self.now.states)) from end result }
     {
         let _granules = self.len();
-        next_with_either(
-            self.marks.as_slice(),
-            DIRTY,
-            IN_USE,
-            from as usize,
-            end as usize,
-        ) as u32
+        next_other(self.marks.as_slice(), FREE, from as usize, end as usize) as u32
     }
 
     /// The lowest dirty granule from one on, or the end where none below it is dirty.
@@ -291,28 +296,6 @@ impl GranuleMap {
         ensures { IsNext (fails (is_dirty_at self.now.states)) from end result }
     {
         let _granules = self.len();
-        next_with_either(
-            self.marks.as_slice(),
-            FREE,
-            IN_USE,
-            from as usize,
-            end as usize,
-        ) as u32
+        next_other(self.marks.as_slice(), DIRTY, from as usize, end as usize) as u32
     }
-}
-
-/// Makes one state this one.
-fn set_state(states: &mut [GranuleState], granule: &Granule, state: &GranuleState)
-    requires { granule.now < length states.old }
-    ensures { states.new ≡ slice_set states.old granule.now state.now }
-{
-    states[granule.0 as usize] = *state;
-}
-
-/// Makes one mark this one.
-fn set_mark(marks: &mut [u8], granule: &Granule, mark: u8)
-    requires { granule.now < length marks.old }
-    ensures { marks.new ≡ slice_set marks.old granule.now mark }
-{
-    marks[granule.0 as usize] = mark;
 }

@@ -1,11 +1,11 @@
 //! Granules by their marks: a byte for each, searched many at a time.
 
-ghost use Rattle.granule_map.specs.Stretches.{IsNext};
-ghost use Rattle.memchr.specs.Find.{is_byte, is_byte2};
+ghost use Rattle.granule_map.specs.Stretches.{IsNext, fails};
+ghost use Rattle.memchr.specs.Find.{is_byte};
 ghost use Rattle.std.specs.Prelude.{◌≡◌, ◌+◌, ◌<◌, ◌≤◌, ℕ, IsTrue, count_by, drop, length, slice_index, take};
 
 use dcd_base::Run;
-use memchr::{memchr, memchr2};
+use memchr::memchr;
 use std::simd::prelude::*;
 
 /// So many places are read at once.
@@ -54,32 +54,51 @@ fn far_with(marks: &[u8], mark: u8, from: usize, end: usize) -> usize
     }
 }
 
-/// The lowest place from one on that has either of two marks, or the end where none below it has.
-pub(crate) fn next_with_either(marks: &[u8], mark: u8, other: u8, from: usize, end: usize) -> usize
+/// The lowest place from one on that has another mark than this one, or the end where none below it has.
+pub(crate) fn next_other(marks: &[u8], mark: u8, from: usize, end: usize) -> usize
     requires ordered { from ≤ end }
     requires within { end ≤ length marks.now }
-    ensures { IsNext (λ k. is_byte2 mark other (slice_index marks.now k)) from end result }
+    ensures { IsNext (fails (λ k. is_byte mark (slice_index marks.now k))) from end result }
 {
-    if end - from < LANES {
-        return far_with_either(marks, mark, other, from, end);
+    let mut next = from;
+    while end - next >= LANES {
+        let place = other_of_16(marks, mark, next);
+        if place < next + LANES {
+            return place;
+        }
+        next = place;
     }
-    let place = next_of_16(marks, mark, from).min(next_of_16(marks, other, from));
-    if place < from + LANES {
-        return place;
-    }
-    far_with_either(marks, mark, other, place, end)
+    near_other(marks, mark, next, end)
 }
 
-/// The lowest place from one on that has either of two marks, found many places at a time.
-fn far_with_either(marks: &[u8], mark: u8, other: u8, from: usize, end: usize) -> usize
+/// The lowest of 16 places from one on that has another mark than this one, or the one behind them where none has.
+#[inline(always)]
+fn other_of_16(marks: &[u8], mark: u8, from: usize) -> usize
+    requires { from + 16 ≤ length marks.now }
+    ensures { IsNext (fails (λ k. is_byte mark (slice_index marks.now k))) from (from + 16) result }
+{
+    let found = u8x16::from_slice(&marks[from..])
+        .simd_ne(u8x16::splat(mark))
+        .to_bitmask();
+    if found == 0 {
+        from + LANES
+    } else {
+        from + found.trailing_zeros() as usize
+    }
+}
+
+/// The lowest place from one on that has another mark, looked for one by one.
+fn near_other(marks: &[u8], mark: u8, from: usize, end: usize) -> usize
     requires ordered { from ≤ end }
     requires within { end ≤ length marks.now }
-    ensures { IsNext (λ k. is_byte2 mark other (slice_index marks.now k)) from end result }
+    ensures { IsNext (fails (λ k. is_byte mark (slice_index marks.now k))) from end result }
 {
-    match memchr2(mark, other, &marks[from..end]) {
-        Some(place) => from + place,
-        None => end,
+    for place in from..end {
+        if marks[place] != mark {
+            return place;
+        }
     }
+    end
 }
 
 /// The first place from one on, but not that one itself, that has another mark, or the end where none below it has.

@@ -1,12 +1,12 @@
 //! A run that is given another state, and what it was before.
 
-ghost use Rattle.granule_map.specs.StateLists.{with_run};
+ghost use Rattle.granule_map.specs.Told.{tags_with, with_item};
 ghost use Rattle.memchr.specs.Find.{is_byte};
-ghost use Rattle.std.specs.Prelude.{◌≡◌, ◌+◌, ◌≤◌, ◌++◌, count_by, drop, if◌then◌else◌, length, replicate, take};
+ghost use Rattle.std.specs.Prelude.{◌≡◌, ◌+◌, ◌≤◌, count_by, drop, if◌then◌else◌, length, take};
 
 use crate::marks::alike_from;
 use crate::states::{DIRTY, FREE, GranuleState};
-use dcd_base::Run;
+use dcd_base::{Run, Tag};
 
 /// How many granules of a run were free, and how many dirty.
 #[derive(Clone, Copy, Debug)]
@@ -18,40 +18,35 @@ pub struct Replaced {
 /// So many granules are changed one by one. More are changed many at a time, which costs more to begin.
 const FEW: u32 = 8;
 
-/// Makes each state of the run this one and each mark the one given, and counts the marks that were there.
+/// Makes each mark and each host of the run the ones given, and counts the marks that were there.
+#[inline(always)]
 pub(crate) fn replace_both(
-    states: &mut [GranuleState],
     marks: &mut [u8],
+    hosts: &mut [u8],
     run: &Run,
-    state: &GranuleState,
     mark: u8,
+    host: u8,
 ) -> Replaced
-    requires states { run.now.first + run.now.count ≤ length states.old }
     requires marks { run.now.first + run.now.count ≤ length marks.old }
-    ensures states { states.new ≡ with_run states.old run.now state.now }
-    ensures marks { marks.new ≡ take run.now.first marks.old ++ replicate run.now.count mark ++ drop (run.now.first + run.now.count) marks.old }
+    requires hosts { run.now.first + run.now.count ≤ length hosts.old }
+    ensures marks { marks.new ≡ with_item run.now mark marks.old }
+    ensures hosts { hosts.new ≡ with_item run.now host hosts.old }
     ensures free { result.free ≡ count_by (is_byte FREE) (take run.now.count (drop run.now.first marks.old)) }
     ensures dirty { result.dirty ≡ count_by (is_byte DIRTY) (take run.now.count (drop run.now.first marks.old)) }
 {
     if run.count <= FEW {
-        return replace_few(states, marks, run, state, mark);
+        return replace_few(marks, hosts, run, mark, host);
     }
-    fill_states(states, run, state);
-    replace_marks(marks, run, mark)
+    replace_many(marks, hosts, run, mark, host)
 }
 
 /// The same, one by one.
-fn replace_few(
-    states: &mut [GranuleState],
-    marks: &mut [u8],
-    run: &Run,
-    state: &GranuleState,
-    mark: u8,
-) -> Replaced
-    requires states { run.now.first + run.now.count ≤ length states.old }
+#[inline(always)]
+fn replace_few(marks: &mut [u8], hosts: &mut [u8], run: &Run, mark: u8, host: u8) -> Replaced
     requires marks { run.now.first + run.now.count ≤ length marks.old }
-    ensures states { states.new ≡ with_run states.old run.now state.now }
-    ensures marks { marks.new ≡ take run.now.first marks.old ++ replicate run.now.count mark ++ drop (run.now.first + run.now.count) marks.old }
+    requires hosts { run.now.first + run.now.count ≤ length hosts.old }
+    ensures marks { marks.new ≡ with_item run.now mark marks.old }
+    ensures hosts { hosts.new ≡ with_item run.now host hosts.old }
     ensures free { result.free ≡ count_by (is_byte FREE) (take run.now.count (drop run.now.first marks.old)) }
     ensures dirty { result.dirty ≡ count_by (is_byte DIRTY) (take run.now.count (drop run.now.first marks.old)) }
 {
@@ -62,44 +57,58 @@ fn replace_few(
         free += all_if(FREE, was, 1);
         dirty += all_if(DIRTY, was, 1);
         marks[first + i] = mark;
-        states[first + i] = *state;
+        hosts[first + i] = host;
     }
     Replaced { free, dirty }
 }
 
-/// Makes each state of the run this one.
-fn fill_states(states: &mut [GranuleState], run: &Run, state: &GranuleState)
-    requires { run.now.first + run.now.count ≤ length states.old }
-    ensures { states.new ≡ with_run states.old run.now state.now }
+/// The same, many at a time.
+#[inline(never)]
+fn replace_many(marks: &mut [u8], hosts: &mut [u8], run: &Run, mark: u8, host: u8) -> Replaced
+    requires marks { run.now.first + run.now.count ≤ length marks.old }
+    requires hosts { run.now.first + run.now.count ≤ length hosts.old }
+    ensures marks { marks.new ≡ with_item run.now mark marks.old }
+    ensures hosts { hosts.new ≡ with_item run.now host hosts.old }
+    ensures free { result.free ≡ count_by (is_byte FREE) (take run.now.count (drop run.now.first marks.old)) }
+    ensures dirty { result.dirty ≡ count_by (is_byte DIRTY) (take run.now.count (drop run.now.first marks.old)) }
+{
+    fill_bytes(hosts, run, host);
+    replace_marks(marks, run, mark)
+}
+
+/// Makes the tag of each granule of the run the one that the state names, where it names one.
+#[inline(always)]
+pub(crate) fn write_tag(tags: &mut [Tag], run: &Run, state: &GranuleState)
+    requires { run.now.first + run.now.count ≤ length tags.old }
+    ensures { tags.new ≡ tags_with run.now state.now tags.old }
 {
     match state {
-        GranuleState::Free => write_states(states, run, &GranuleState::Free),
-        GranuleState::Dirty => write_states(states, run, &GranuleState::Dirty),
-        _ => write_states(states, run, state),
+        GranuleState::Tagged(tag) => fill_tags(tags, run, tag),
+        _ => (),
     }
 }
 
-/// Writes this state at each granule of the run. A state that is known where this is called has no host or tag to be written.
-#[inline(always)]
-fn write_states(states: &mut [GranuleState], run: &Run, state: &GranuleState)
-    requires { run.now.first + run.now.count ≤ length states.old }
-    ensures { states.new ≡ with_run states.old run.now state.now }
+/// Makes each tag of the run this one.
+#[inline(never)]
+fn fill_tags(tags: &mut [Tag], run: &Run, tag: &Tag)
+    requires { run.now.first + run.now.count ≤ length tags.old }
+    ensures { tags.new ≡ with_item run.now tag.now tags.old }
 {
     let first = run.first.0 as usize;
     for i in 0..run.count as usize {
-        states[first + i] = *state;
+        tags[first + i] = *tag;
     }
 }
 
 /// Makes each mark of the run this one, and counts those that were there.
 fn replace_marks(marks: &mut [u8], run: &Run, mark: u8) -> Replaced
     requires { run.now.first + run.now.count ≤ length marks.old }
-    ensures marks { marks.new ≡ take run.now.first marks.old ++ replicate run.now.count mark ++ drop (run.now.first + run.now.count) marks.old }
+    ensures marks { marks.new ≡ with_item run.now mark marks.old }
     ensures free { result.free ≡ count_by (is_byte FREE) (take run.now.count (drop run.now.first marks.old)) }
     ensures dirty { result.dirty ≡ count_by (is_byte DIRTY) (take run.now.count (drop run.now.first marks.old)) }
 {
     let replaced = counts_of(marks, run);
-    fill_marks(marks, run, mark);
+    fill_bytes(marks, run, mark);
     replaced
 }
 
@@ -124,15 +133,15 @@ fn counts_of(marks: &[u8], run: &Run) -> Replaced
     Replaced { free, dirty }
 }
 
-/// Makes each mark of the run this one.
-fn fill_marks(marks: &mut [u8], run: &Run, mark: u8)
-    requires { run.now.first + run.now.count ≤ length marks.old }
-    ensures { marks.new ≡ take run.now.first marks.old ++ replicate run.now.count mark ++ drop (run.now.first + run.now.count) marks.old }
+/// Makes each byte of the run this one.
+fn fill_bytes(bytes: &mut [u8], run: &Run, byte: u8)
+    requires { run.now.first + run.now.count ≤ length bytes.old }
+    ensures { bytes.new ≡ with_item run.now byte bytes.old }
 {
     let first = run.first.0 as usize;
     let many = run.count as usize;
     for i in 0..many {
-        marks[first + i] = mark;
+        bytes[first + i] = byte;
     }
 }
 

@@ -1,16 +1,20 @@
 //! What a granule is at a time.
 
-ghost use Rattle.granule_map.specs.StateLists.{is_dirty_state, is_free_state, mark_of, same_state};
+ghost use Rattle.granule_map.specs.StateLists.{host_of, is_dirty_state, is_free_state, mark_of, same_state, told};
 ghost use Rattle.std.specs.Prelude.{◌≡◌};
 
 use dcd_base::{HostId, Tag};
 
 /// The mark of a granule that may be offered.
 pub(crate) const FREE: u8 = 0;
+/// The mark of one that is offered to a host.
+pub(crate) const RESERVED: u8 = 1;
+/// The mark of one that a host holds.
+pub(crate) const HELD: u8 = 2;
+/// The mark of one that belongs to a tag.
+pub(crate) const TAGGED: u8 = 3;
 /// The mark of one that has to be zeroed before it is free.
-pub(crate) const DIRTY: u8 = 1;
-/// The mark of one that somebody has.
-pub(crate) const IN_USE: u8 = 2;
+pub(crate) const DIRTY: u8 = 4;
 
 /// The state of a granule.
 #[derive(Clone, Copy, Debug, PartialEq, Eq)]
@@ -48,9 +52,35 @@ impl GranuleState {
     {
         match self {
             GranuleState::Free => FREE,
+            GranuleState::Reserved(_) => RESERVED,
+            GranuleState::Held(_) => HELD,
+            GranuleState::Tagged(_) => TAGGED,
             GranuleState::Dirty => DIRTY,
-            _ => IN_USE,
         }
+    }
+
+    /// The number of the host that it names, or 0 where it names none.
+    pub(crate) fn host(&self) -> u8
+        ensures { result ≡ host_of self.now }
+    {
+        match self {
+            GranuleState::Reserved(host) => host.0,
+            GranuleState::Held(host) => host.0,
+            _ => 0,
+        }
+    }
+}
+
+/// The state of a granule by its mark, which says whether its host or its tag counts.
+pub(crate) fn told(mark: u8, host: u8, tag: &Tag) -> GranuleState
+    ensures { result ≡ told mark host tag.now }
+{
+    match mark {
+        FREE => GranuleState::Free,
+        RESERVED => GranuleState::Reserved(HostId(host)),
+        HELD => GranuleState::Held(HostId(host)),
+        TAGGED => GranuleState::Tagged(*tag),
+        _ => GranuleState::Dirty,
     }
 }
 

@@ -25,7 +25,7 @@ loop-at-preserved c =
       low = omega (arith, low, later);
       high = within;
       free = omega (arith, c.loop-at.invariant.free, c.all_if-free.ensures, counted (is_byte 0));
-      dirty = omega (arith, c.loop-at.invariant.dirty, c.all_if-dirty.ensures, counted (is_byte 1));
+      dirty = omega (arith, c.loop-at.invariant.dirty, c.all_if-dirty.ensures, counted (is_byte 4));
       free_few = omega (arith, c.loop-at.invariant.free_few, c.all_if-free.ensures, most_if (is_byte 0 was) (next - at), low, later);
-      dirty_few = omega (arith, c.loop-at.invariant.dirty_few, c.all_if-dirty.ensures, most_if (is_byte 1 was) (next - at), low, later);
+      dirty_few = omega (arith, c.loop-at.invariant.dirty_few, c.all_if-dirty.ensures, most_if (is_byte 4 was) (next - at), low, later);
     }

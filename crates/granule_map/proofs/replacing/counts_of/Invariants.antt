@@ -8,7 +8,7 @@ invariant-loop-at l = record {
   low : l.first ≤ l.at;
   high : l.at ≤ l.end;
   free : l.free ≡ count_by (is_byte 0) (take (l.at - l.first) (drop l.first l.marks));
-  dirty : l.dirty ≡ count_by (is_byte 1) (take (l.at - l.first) (drop l.first l.marks));
+  dirty : l.dirty ≡ count_by (is_byte 4) (take (l.at - l.first) (drop l.first l.marks));
   free_few : l.free ≤ l.at - l.first;
   dirty_few : l.dirty ≤ l.at - l.first;
 }

@@ -6,10 +6,10 @@ use Rattle.granule_map.proofs.replacing.replace_few.Given as goal
 
 abbrev pub invariant-loop-i : goal.invariant-loop-i
 invariant-loop-i l = record {
-  states : l.states ≡ replaced l.first l.i l.state l.fn.states;
   marks : l.marks ≡ replaced l.first l.i l.mark l.fn.marks;
+  hosts : l.hosts ≡ replaced l.first l.i l.host l.fn.hosts;
   free : l.free ≡ count_by (is_byte 0) (take l.i (drop l.first l.fn.marks));
-  dirty : l.dirty ≡ count_by (is_byte 1) (take l.i (drop l.first l.fn.marks));
+  dirty : l.dirty ≡ count_by (is_byte 4) (take l.i (drop l.first l.fn.marks));
   free_few : l.free ≤ l.i;
   dirty_few : l.dirty ≤ l.i;
 }

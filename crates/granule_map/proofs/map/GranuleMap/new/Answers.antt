@@ -1,15 +1,26 @@
-use Rattle.std.proofs.Common.{◌≡◌, ◌∙◌, List, length, map, replicate, ap, sym, arith, rules}
-use Rattle.std.proofs.lemmas.List.{length-replicate}
-use Rattle.granule_map.specs.StateLists.{mark_of}
-use Rattle.granule_map.specs.declared.states.GranuleState.{GranuleState}
-use Rattle.granule_map.proofs.Marked.{marks_of_one}
+use Rattle.std.proofs.Common.{◌≡◌, ◌∙◌, List, ℕ, replicate, ap, sym, subst, rules}
+use Rattle.dcd_base.specs.Words.{zero_tag}
+use Rattle.dcd_base.specs.declared.capacity.Tag.{Tag}
+use Rattle.granule_map.specs.Told.{AreKept, states_of}
+use Rattle.granule_map.proofs.Kept.{all_free, free_kept}
 use Rattle.granule_map.proofs.map.GranuleMap.new.Goals as goal
 
 pub invariant_of-result : goal.invariant_of-result
 invariant_of-result c =
-    let states : c.in_ok-vec.field-0.items ≡ replicate c.args.count GranuleState.Free = search rules in
-    let marks : c.in_ok-vec-2.field-0.items ≡ replicate c.args.count 0 = search rules in
-    record {
-      few = omega (arith, ap (λ (states : List GranuleState). length states) states, length-replicate c.args.count GranuleState.Free, c.ranges.count.fits);
-      marked = marks ∙ marks_of_one c.args.count GranuleState.Free ∙ ap (map mark_of) (sym states);
-    }
+    let marks : c.in_ok-vec.field-0.items ≡ replicate c.args.count 0 = search rules in
+    let hosts : c.in_ok-vec-2.field-0.items ≡ replicate c.args.count 0 = search rules in
+    let tags : c.in_ok-vec-3.field-0.items ≡ replicate c.args.count zero_tag = search rules in
+    subst (λ (ms : List ℕ). AreKept ms c.in_ok-vec-2.field-0.items c.in_ok-vec-3.field-0.items) (sym marks)
+    (subst (λ (hs : List ℕ). AreKept (replicate c.args.count 0) hs c.in_ok-vec-3.field-0.items) (sym hosts)
+    (subst (λ (ts : List Tag). AreKept (replicate c.args.count 0) (replicate c.args.count 0) ts) (sym tags)
+    (free_kept c.args.count c.ranges.count.fits)))
+
+pub returns-clause-states : goal.returns-clause-states
+returns-clause-states c =
+    let marks : c.in_ok-vec.field-0.items ≡ replicate c.args.count 0 = search rules in
+    let hosts : c.in_ok-vec-2.field-0.items ≡ replicate c.args.count 0 = search rules in
+    let tags : c.in_ok-vec-3.field-0.items ≡ replicate c.args.count zero_tag = search rules in
+    ap (λ (ms : List ℕ). states_of ms c.in_ok-vec-2.field-0.items c.in_ok-vec-3.field-0.items) marks
+    ∙ ap (λ (hs : List ℕ). states_of (replicate c.args.count 0) hs c.in_ok-vec-3.field-0.items) hosts
+    ∙ ap (λ (ts : List Tag). states_of (replicate c.args.count 0) (replicate c.args.count 0) ts) tags
+    ∙ all_free c.args.count

@@ -1,6 +1,6 @@
 use Rattle.std.proofs.Common.{◌≡◌}
 use Rattle.granule_map.proofs.PartsReplaced.{replaced}
-use Rattle.granule_map.proofs.replacing.fill_marks.Given as goal
+use Rattle.granule_map.proofs.replacing.fill_tags.Given as goal
 
 abbrev pub invariant-loop-i : goal.invariant-loop-i
-invariant-loop-i l = l.marks ≡ replaced l.first l.i l.mark l.fn.marks
+invariant-loop-i l = l.tags ≡ replaced l.first l.i l.tag l.fn.tags
