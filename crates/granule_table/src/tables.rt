@@ -123,7 +123,8 @@ impl GranuleTable {
         run_between(first, end)
     }
 
-    /// Gives each granule of a run of the table this state.
+    /// Gives each granule of a run of the table this state. A state that is known where this is called costs no test.
+    #[inline(always)]
     fn set_states(&mut self, run: &Run, state: &GranuleState)
         requires { run.now.first + run.now.count ≤ length self.old.states }
         ensures changed { IsChanged (given state.now) run.now self.old self.new }
