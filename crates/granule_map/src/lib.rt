@@ -12,5 +12,6 @@ mod states;
 
 pub use blocks::FreeBlocks;
 pub use map::GranuleMap;
+pub use marks::alike_from;
 pub use replacing::Replaced;
 pub use states::GranuleState;

@@ -102,7 +102,7 @@ fn near_other(marks: &[u8], mark: u8, from: usize, end: usize) -> usize
 }
 
 /// The first place from one on, but not that one itself, that has another mark, or the end where none below it has.
-pub(crate) fn alike_from(marks: &[u8], mark: u8, from: usize, end: usize) -> usize
+pub fn alike_from(marks: &[u8], mark: u8, from: usize, end: usize) -> usize
     requires below { from < end }
     requires within { end ≤ length marks.now }
     requires here { slice_index marks.now from ≡ mark }
