@@ -1,10 +1,10 @@
 -- What holds of the counts that the table keeps.
-use Rattle.std.specs.Prelude.{◌≡◌, ℕ, ◌<◌, ◌^◌, Bool, List, length}
+use Rattle.std.specs.Prelude.{◌≡◌, ℕ, ◌<◌, ◌^◌, List, length}
 use Rattle.granule_map.specs.StateLists.{States, count_of}
 use Rattle.granule_map.specs.declared.states.GranuleState.{GranuleState}
 
 -- Each granule has both of its marks, there is memory for changes, and the counts are those of the states.
-pub record IsCountOf (map : States) (unclean : List Bool) (free dirty : ℕ) : Type 0 where
+pub record IsCountOf (map : States) (unclean : List ℕ) (free dirty : ℕ) : Type 0 where
   pub each : length unclean ≡ length map.states
   pub few : length map.states < 2 ^ 32
   pub spare : 0 < map.spare

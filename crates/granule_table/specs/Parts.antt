@@ -1,5 +1,5 @@
 -- A change of adjacent granules at once.
-use Rattle.std.specs.Prelude.{ℕ, ◌+◌, ◌-◌, Bool, List, ◌++◌, take, drop, replicate}
+use Rattle.std.specs.Prelude.{ℕ, ◌+◌, ◌-◌, Bool, ◌==◌, List, ◌++◌, map, take, drop, replicate}
 use Rattle.dcd_base.specs.declared.media.Run.{Run}
 use Rattle.granule_table.specs.Tables.{Cell}
 
@@ -14,3 +14,7 @@ with_part run x xs = take run.first xs ++ replicate run.count x ++ drop (run.fir
 -- a granule has to be zeroed before it is free, or has not
 abbrev pub marked_unclean : Bool → Cell → Cell
 marked_unclean unclean cell = record cell { unclean = unclean }
+
+-- flags that are kept as numbers: 1 says true
+unfoldable pub flags_in : List ℕ → List Bool
+flags_in bytes = map (λ n. n == 1) bytes

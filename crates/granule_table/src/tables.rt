@@ -2,31 +2,33 @@
 
 ghost use Rattle.granule_map.specs.StateLists.{count_of};
 ghost use Rattle.dcd_base.specs.Words.{has_granule};
-ghost use Rattle.granule_table.specs.Parts.{between, marked_unclean, with_part};
+ghost use Rattle.granule_table.specs.Parts.{between, flags_in, marked_unclean, with_part};
 ghost use Rattle.granule_table.specs.Tables.{IsChanged, given, settled, soiled, zeroed};
 ghost use Rattle.std.specs.Prelude.{◌≡◌, ◌+◌, ◌^◌, ◌<◌, ◌≤◌, ℕ, IfOk, false, true, length, replicate, slice_index_or, if◌then◌else◌};
 
 use dcd_base::{Granule, NoMemory, Run};
-use granule_map::{GranuleMap, GranuleState};
+use granule_map::{GranuleMap, GranuleState, alike_from};
 use std::alloc::Global;
 use std::marker::Model;
 
-/// The state of each granule, whether it has to be zeroed before it is free, and how many are free and dirty.
+/// The state of each granule, whether it has to be zeroed before it is free, and how many are free and dirty. The flags are
+/// kept as bytes, 1 for true, so that many of them are read at a time.
 #[derive(Drop)]
 pub struct GranuleTable {
     map: GranuleMap,
-    unclean: Vec<bool>,
+    unclean: Vec<u8>,
     free: u32,
     dirty: u32,
 }
 
 impl Model for GranuleTable {
     ghost use Rattle.granule_table.specs.Counts.{IsCountOf};
+    ghost use Rattle.granule_table.specs.Parts.{flags_in};
     ghost use Rattle.granule_table.specs.Tables.{CellTable};
 
     ghost Value = { CellTable };
 
-    ghost view = { λ table. record { states = table.map.states; unclean = table.unclean.items } };
+    ghost view = { λ table. record { states = table.map.states; unclean = flags_in table.unclean.items } };
 
     ghost invariant = { λ table. IsCountOf table.map table.unclean.items table.free table.dirty };
 }
@@ -40,7 +42,7 @@ impl GranuleTable {
         let map = GranuleMap::new(alloc, granules)?;
         Ok(GranuleTable {
             map,
-            unclean: vec![in alloc; false; granules as usize]?,
+            unclean: vec![in alloc; 0u8; granules as usize]?,
             free: granules,
             dirty: 0,
         })
@@ -77,6 +79,7 @@ impl GranuleTable {
     }
 
     /// Gives each granule of the run this state. Whether it has to be zeroed stays.
+    #[inline(always)]
     pub fn give(&mut self, run: Run, state: GranuleState)
         ensures { IsChanged (given state) run self.old self.new }
     {
@@ -145,7 +148,7 @@ impl GranuleTable {
         ensures changed { IsChanged (marked_unclean unclean) run.now self.old self.new }
         ensures states { self.new.states ≡ self.old.states }
     {
-        fill_flags(self.unclean.as_mut_slice(), run, unclean);
+        fill_bytes(self.unclean.as_mut_slice(), run, byte_of(unclean));
     }
 
     /// Settles the granules of a run of the table, those that are alike at a time.
@@ -158,7 +161,7 @@ impl GranuleTable {
         let end = end_of(run);
         let mut at = first;
         while at < end {
-            let unclean = self.unclean[at as usize];
+            let unclean = is_set(self.unclean.as_slice(), at as usize);
             let alike = like_from(
                 self.unclean.as_slice(),
                 unclean,
@@ -223,28 +226,40 @@ fn recounted(count: u32, was: u32, is: u32) -> u32
     count - was + is
 }
 
-/// The first place from one on, but not that one itself, that has another flag, or the end where none below it has.
-fn like_from(flags: &[bool], flag: bool, from: usize, end: usize) -> usize
-    requires below { from < end }
-    requires within { end ≤ length flags.now }
-    requires here { slice_index_or flags.now from true ≡ flag }
-    ensures later { from < result }
-    ensures within { result ≤ end }
-    ensures alike { (k : ℕ) → from ≤ k → k < result → slice_index_or flags.now k true ≡ flag }
+/// The byte that a flag is kept as.
+fn byte_of(flag: bool) -> u8
+    ensures { result ≡ (if flag then 1 else 0) }
 {
-    for place in from + 1..end {
-        if flags[place] != flag {
-            return place;
-        }
-    }
-    end
+    if flag { 1 } else { 0 }
 }
 
-/// Makes each flag of the run this one.
-fn fill_flags(flags: &mut [bool], run: &Run, flag: bool)
-    requires { run.now.first + run.now.count ≤ length flags.old }
-    ensures { flags.new ≡ with_part run.now flag flags.old }
+/// The flag of a place.
+fn is_set(flags: &[u8], place: usize) -> bool
+    requires { place < length flags.now }
+    ensures { slice_index_or (flags_in flags.now) place true ≡ result }
+{
+    flags[place] == 1
+}
+
+/// The first place from one on, but not that one itself, that has another flag, or the end where none below it has.
+fn like_from(flags: &[u8], flag: bool, from: usize, end: usize) -> usize
+    requires below { from < end }
+    requires within { end ≤ length flags.now }
+    requires here { slice_index_or (flags_in flags.now) from true ≡ flag }
+    ensures later { from < result }
+    ensures within { result ≤ end }
+    ensures alike { (k : ℕ) → from ≤ k → k < result → slice_index_or (flags_in flags.now) k true ≡ flag }
+{
+    // The flag is the one at the first place.
+    let _flag = flag;
+    alike_from(flags, flags[from], from, end)
+}
+
+/// Makes each byte of the run this one.
+fn fill_bytes(bytes: &mut [u8], run: &Run, byte: u8)
+    requires { run.now.first + run.now.count ≤ length bytes.old }
+    ensures { bytes.new ≡ with_part run.now byte bytes.old }
 {
     let first = run.first.0 as usize;
-    flags[first..first + run.count as usize].fill(flag);
+    bytes[first..first + run.count as usize].fill(byte);
 }

@@ -1,6 +1,7 @@
 use Rattle.std.proofs.Common.{◌≡◌, ◌+◌, ◌≤◌, ◌∙◌, List, length, refl, subst, cond, ap, sym, arith, rules}
 use Rattle.granule_map.specs.StateLists.{is_free_state, is_dirty_state, with_run}
 use Rattle.granule_map.specs.declared.states.GranuleState.{GranuleState}
+use Rattle.granule_table.specs.Parts.{flags_in}
 use Rattle.granule_table.specs.Tables.{CellTable, IsChanged, given}
 use Rattle.granule_table.proofs.Counting.{recounts_dirty, recounts_free}
 use Rattle.granule_table.proofs.Ranges.{states_changed}
@@ -51,8 +52,8 @@ invariant_of-self c =
 
 pub returns-clause-changed : goal.returns-clause-changed
 returns-clause-changed c =
-    let old : CellTable = record { states = c.self.inside.map.states; unclean = c.self.inside.unclean.items } in
-    let new : CellTable = record { states = c.replace_run-was.new.self.states; unclean = c.self.inside.unclean.items } in
+    let old : CellTable = record { states = c.self.inside.map.states; unclean = flags_in c.self.inside.unclean.items } in
+    let new : CellTable = record { states = c.replace_run-was.new.self.states; unclean = flags_in c.self.inside.unclean.items } in
     let within : c.args.run.now.first + c.args.run.now.count ≤ length c.self.inside.map.states =
     subst (λ (t : CellTable). c.args.run.now.first + c.args.run.now.count ≤ length t.states) (sym c.self.view_is) c.requires in
     subst (λ (t : CellTable). IsChanged (given c.args.state.now) c.args.run.now t new) c.self.view_is
