@@ -7,6 +7,7 @@ pub mod Keeping
 pub mod OfDevice
 pub mod PresentBlocks
 pub mod RecordSteps
+pub mod RegionFound
 pub mod Rooms
 pub mod Stages
 pub mod TagChanges

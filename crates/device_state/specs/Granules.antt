@@ -1,8 +1,8 @@
 -- What the device keeps of its granules, changed granule by granule.
-use Rattle.std.specs.Prelude.{◌≡◌, ℕ, ◌<◌, ◌&&◌, Bool, not, nat_lt, if◌then◌else◌, length, List}
+use Rattle.std.specs.Prelude.{◌≡◌, ℕ, ◌<◌, ◌&&◌, Bool, true, not, nat_lt, if◌then◌else◌, length, List, Option, Some, None}
 use Rattle.dcd_base.specs.declared.media.Run.{Run}
 use Rattle.region_config.specs.Configurations.{Configuration}
-use Rattle.region_config.specs.Granules.{granule_total}
+use Rattle.region_config.specs.Granules.{granule_total, region_of, region_spec}
 use Rattle.region_config.specs.declared.region_spec.RegionSpec.{RegionSpec}
 use Rattle.table_laws.specs.GranuleCells.{is_shareable_run, cell_after, cell_over}
 use Rattle.granule_table.specs.Tables.{Cell, CellTable, cell_at, soiled, given}
@@ -28,6 +28,17 @@ soiled_by_taking r cell = if r.sanitize then soiled cell else cell
 -- what is taken is held, unless hosts can share it
 abbrev pub held_by_taking : RegionSpec → HostId → Cell → Cell
 held_by_taking r h cell = if r.shareable then cell else given (GranuleState.Held h) cell
+
+-- what the host makes of a granule that it takes in a region
+abbrev pub taken_in : RegionSpec → HostId → Cell → Cell
+taken_in r h cell = record {
+  state = if r.shareable then cell.state else GranuleState.Held h;
+  unclean = if r.sanitize then true else cell.unclean;
+}
+
+-- the region of a granule, where it is one of the device
+abbrev pub region_found : Configuration → ℕ → Option RegionSpec
+region_found c g = if nat_lt g (granule_total c) then Some (region_spec c (region_of c g)) else None
 
 -- The granules are changed by an effect, or by more of them, from the offers and the runs of open tags that are kept.
 abbrev pub CellsAfter : Configuration → Effect → State → CellTable → Type 0

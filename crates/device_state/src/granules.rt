@@ -1,16 +1,16 @@
 //! What an effect makes of the granules.
 
-ghost use Rattle.device_state.specs.Granules.{CellsAfter, held_by_taking, AreChanged, is_private, soiled_by_taking};
+ghost use Rattle.device_state.specs.Granules.{CellsAfter, held_by_taking, AreChanged, is_private, region_found, soiled_by_taking, taken_in};
 ghost use Rattle.device_state.specs.Entered.{oldest_in};
 ghost use Rattle.device_state.specs.Updates.{IsOfDevice};
 ghost use Rattle.table_laws.specs.GranuleCells.{ended_run, in_run, is_shareable_run, left, offered_extent, offered_run, soiled_run, taken, unoffered_extent};
 ghost use Rattle.offer_core.specs.Offerings.{oldest_of};
 ghost use Rattle.region_config.specs.Granules.{granule_total, region_of, region_spec};
-ghost use Rattle.std.specs.Prelude.{◌≡◌, ◌↔◌, ◌<◌, IsTrue, Some, fold, if◌then◌else◌, length, slice_index_or};
+ghost use Rattle.std.specs.Prelude.{◌≡◌, ◌<◌, Some, fold, if◌then◌else◌, length, slice_index_or};
 
 use crate::parts::HostPart;
 use crate::state::State;
-use dcd_base::{Extent, HostId, Run, Tag};
+use dcd_base::{Extent, HostId, RegionId, Run, Tag};
 use granule_map::GranuleState;
 use granule_table::GranuleTable;
 use journal_core::Effect;
@@ -63,18 +63,29 @@ fn region_of(config: &Config, run: &Run) -> RegionSpec
     config.region(config.region_of(run.first))
 }
 
-/// Whether the first granule is one of the device.
-fn is_known(config: &Config, run: &Run) -> bool
-    ensures { IsTrue result ↔ (run.now.first < granule_total config.now) }
+/// The region of a run; None exactly where its first granule is none of the device.
+fn region_with(config: &Config, run: &Run) -> Option<RegionSpec>
+    ensures { result ≡ region_found config.now run.now.first }
 {
-    run.first.0 < config.granules()
+    let mut end = 0;
+    for number in 0..config.regions() {
+        let region = RegionId(number);
+        end += config.region(region).length / config.granule_size(region);
+        if u64::from(run.first.0) < end {
+            return Some(config.region(region));
+        }
+    }
+    None
 }
 
 /// Whether the first granule is one of the device, in a region that hosts cannot share.
 fn is_private(config: &Config, run: &Run) -> bool
     ensures { result ≡ is_private config.now run.now }
 {
-    run.first.0 < config.granules() && !region_of(config, run).shareable
+    match region_with(config, run) {
+        Some(region) => !region.shareable,
+        None => false,
+    }
 }
 
 /// The extents are offered to the host: to it alone, or under their tag where hosts can share them.
@@ -148,20 +159,18 @@ fn take(granules: &mut GranuleTable, config: &Config, host: HostId, run: &Run)
     requires { length granules.old.states ≡ granule_total config.now }
     ensures { AreChanged (in_run run.now (taken config.now host run.now)) granules.old granules.new }
 {
-    if is_known(config, run) {
-        take_known(granules, config, host, run);
+    match region_with(config, run) {
+        Some(region) => take_in(granules, &region, host, run),
+        None => (),
     }
 }
 
-/// The host takes a run whose first granule is one of the device.
-fn take_known(granules: &mut GranuleTable, config: &Config, host: HostId, run: &Run)
-    requires granules { length granules.old.states ≡ granule_total config.now }
-    requires known { run.now.first < granule_total config.now }
-    ensures { AreChanged (in_run run.now (taken config.now host run.now)) granules.old granules.new }
+/// The host takes a run of the region.
+fn take_in(granules: &mut GranuleTable, region: &RegionSpec, host: HostId, run: &Run)
+    ensures { AreChanged (in_run run.now (taken_in region.now host)) granules.old granules.new }
 {
-    let region = region_of(config, run);
-    soil_taken(granules, &region, run);
-    hold_taken(granules, &region, host, run);
+    soil_taken(granules, region, run);
+    hold_taken(granules, region, host, run);
 }
 
 /// What is taken has to be zeroed where its region sanitizes.
