@@ -1,5 +1,6 @@
 -- What a coder has written.
-use Rattle.std.specs.Prelude.{◌≡◌, ℕ, ◌++◌, List, None, IsFalse}
+use Rattle.std.specs.Prelude.{◌≡◌, ℕ, ◌<◌, ◌++◌, List, None, IsFalse, slice_index}
+use Rattle.std.specs.Int.{w64, to_le_bytes}
 use Rattle.journal_core.specs.declared.coding.Coder.{Coder}
 use Rattle.journal_core.specs.declared.tokens.Token.{Token}
 use Rattle.journal_core.specs.Slots.{slots_in}
@@ -23,3 +24,9 @@ Codes old new tokens = CodesTo old new (slots_in new.slots) tokens
 pub record AddsBytes (old new : Coder) (added : List ℕ) : Type 0 where
   pub slots : new.slots ≡ old.slots
   pub appended : IsFalse new.failed → IsFalse old.failed × (new.bytes.items ≡ old.bytes.items ++ added)
+
+-- Two numbers have the same bytes before this one of their eight and behind it.
+pub record IsOnlyDifference (told number place : ℕ) : Type 0 where
+  pub known : place < 8
+  pub before : (k : ℕ) → k < place → slice_index (to_le_bytes w64 told) k ≡ slice_index (to_le_bytes w64 number) k
+  pub behind : (k : ℕ) → place < k → k < 8 → slice_index (to_le_bytes w64 told) k ≡ slice_index (to_le_bytes w64 number) k

@@ -1,7 +1,7 @@
 //! Effects to bytes.
 
 ghost use Rattle.event_records.specs.Records.{kind_number};
-ghost use Rattle.journal_core.specs.Coding.{AddsBytes, Codes, CodesTo};
+ghost use Rattle.journal_core.specs.Coding.{AddsBytes, Codes, CodesTo, IsOnlyDifference};
 ghost use Rattle.journal_core.specs.Slots.{FitsWhat, no_slots, number_of_held, number_of_log, slots_in, slotted_event, slotted_extent, slotted_held, slotted_log, slotted_run, slotted_tag, telling_event, telling_extent, telling_flag, telling_held, telling_host, telling_log, telling_run, telling_tag, telling_what, with_slot};
 ghost use Rattle.journal_core.specs.Tokens.{token_of, tokens_of};
 ghost use Rattle.journal_core.specs.declared.tokens.Token.{Token};
@@ -127,21 +127,47 @@ impl Coder {
         self.bytes.len() + CHANGE <= self.bytes.capacity()
     }
 
-    /// Writes the bytes by which a number differs from that in the slot, and puts it there. There is room for them.
-    fn change_in_room(&mut self, slot: usize, number: u64)
+    /// The place of the one byte by which a number differs from that in the slot, if there is room for it.
+    fn only_change(&self, slot: usize, number: u64) -> Option<usize>
+        requires { slot < 16 }
+        ensures room { IfSome result (λ place. vec_len self.now.bytes + 16 ≤ vec_capacity self.now.bytes) }
+        ensures only { IfSome result (IsOnlyDifference (slots_in self.now.slots slot) number) }
+    {
+        if self.has_room() {
+            only_difference(self.slots[slot], number)
+        } else {
+            None
+        }
+    }
+
+    /// Writes the one byte by which a number differs from that in the slot. There is room for it.
+    fn push_only_change(&mut self, slot: usize, place: usize, number: u64)
         requires slot { slot < 16 }
         requires room { vec_len self.old.bytes + 16 ≤ vec_capacity self.old.bytes }
+        requires only { IsOnlyDifference (slots_in self.old.slots slot) number place }
+        ensures slots { self.new.slots ≡ self.old.slots }
+        ensures coded { CodesTo self.old self.new (with_slot (slots_in self.old.slots) slot number) [] }
+    {
+        // A slot has 64 bits.
+        let _told = self.slots[slot];
+        self.push_change(slot, place, number.to_le_bytes()[place]);
+    }
+
+    /// Writes the one byte by which a number differs from that in the slot, and puts the number there. There is room for it.
+    fn change_byte(&mut self, slot: usize, place: usize, number: u64)
+        requires slot { slot < 16 }
+        requires room { vec_len self.old.bytes + 16 ≤ vec_capacity self.old.bytes }
+        requires only { IsOnlyDifference (slots_in self.old.slots slot) number place }
         ensures slots { slots_in self.new.slots ≡ with_slot (slots_in self.old.slots) slot number }
         ensures coded { Codes self.old self.new [] }
     {
-        self.push_changes(slot, number);
+        self.push_only_change(slot, place, number);
         self.slots[slot] = number;
     }
 
     /// Writes the bytes by which a number differs from that in the slot, and puts it there, once there is room for them.
-    #[cold]
     #[inline(never)]
-    fn change_in_more_room(&mut self, slot: usize, number: u64)
+    fn change_bytes(&mut self, slot: usize, number: u64)
         requires { slot < 16 }
         ensures slots { slots_in self.new.slots ≡ with_slot (slots_in self.old.slots) slot number }
         ensures coded { Codes self.old self.new [] }
@@ -152,17 +178,16 @@ impl Coder {
         self.slots[slot] = number;
     }
 
-    /// Writes the bytes by which a number differs from that in the slot, and puts it there.
+    /// Writes the bytes by which a number differs from that in the slot, and puts it there. Most often it is one byte.
     #[inline(never)]
     fn change(&mut self, slot: usize, number: u64)
         requires { slot < 16 }
         ensures slots { slots_in self.new.slots ≡ with_slot (slots_in self.old.slots) slot number }
         ensures coded { Codes self.old self.new [] }
     {
-        if self.has_room() {
-            self.change_in_room(slot, number);
-        } else {
-            self.change_in_more_room(slot, number);
+        match self.only_change(slot, number) {
+            Some(place) => self.change_byte(slot, place, number),
+            None => self.change_bytes(slot, number),
         }
     }
 
@@ -175,6 +200,18 @@ impl Coder {
     {
         if self.slots[slot] != number {
             self.change(slot, number);
+        }
+    }
+
+    /// Puts a number into a slot that is alike or differs in most bytes, and writes what that changes.
+    #[inline(always)]
+    fn put_wide(&mut self, slot: usize, number: u64)
+        requires { slot < 16 }
+        ensures slots { slots_in self.new.slots ≡ with_slot (slots_in self.old.slots) slot number }
+        ensures coded { Codes self.old self.new [] }
+    {
+        if self.slots[slot] != number {
+            self.change_bytes(slot, number);
         }
     }
 
@@ -232,8 +269,8 @@ impl Coder {
         ensures back { (slots : ℕ → ℕ) → slotted_tag (telling_tag slots tag.now) ≡ tag.now }
     {
         are_bytes(&tag.0);
-        self.put(TAG_LOW, u64_at(&tag.0, 0));
-        self.put(TAG_HIGH, u64_at(&tag.0, 8));
+        self.put_wide(TAG_LOW, u64_at(&tag.0, 0));
+        self.put_wide(TAG_HIGH, u64_at(&tag.0, 8));
     }
 
     fn put_extent(&mut self, extent: &Extent)
@@ -458,6 +495,21 @@ impl Coder {
             self.put_effect(effect);
         }
     }
+}
+
+/// The place of the one byte in which two numbers differ, the lowest byte first.
+fn only_difference(told: u64, number: u64) -> Option<usize>
+    ensures { IfSome result (IsOnlyDifference told number) }
+{
+    let differing = told ^ number;
+    if differing == 0 {
+        return None;
+    }
+    let place = differing.trailing_zeros() as usize / 8;
+    if differing >> (8 * place) >> 8 != 0 {
+        return None;
+    }
+    Some(place)
 }
 
 /// The number of a log in its slot.
