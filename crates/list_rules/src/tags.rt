@@ -35,8 +35,12 @@ pub fn incomplete(
     if !has_shareable(config) {
         return Ok(None);
     }
+    let among = Owners::of(owners);
+    if are_all_shared(config, host, &among, list) {
+        return Ok(None);
+    }
     let mut shared = Extents::new(alloc);
-    find_shared(config, host, &Owners::of(owners), list, &mut shared)?;
+    find_shared(config, host, &among, list, &mut shared)?;
     Ok(some_left(owners, shared.as_slice()))
 }
 
@@ -50,6 +54,28 @@ fn has_shareable(config: &Config) -> bool
         }
     }
     false
+}
+
+/// Whether there are as many listed extents as owners, each in a shareable region, and each with the tag of the owner at its
+/// index.
+fn are_all_shared(config: &Config, host: HostId, owners: &Owners, list: &[Extent]) -> bool
+    requires { host < config.now.hosts }
+    ensures { result ≡ true → HaveSameTags owners.now (shared_of config.now host owners.now list.now) }
+{
+    let tagged = owners.as_slice();
+    if tagged.len() != list.len() {
+        return false;
+    }
+    let mut near = 0;
+    for i in 0..list.len() {
+        if !is_shareable_at(config, host, &list[i]) {
+            return false;
+        }
+        if !same_tag(&tagged[i].tag, &owners.marked(&list[i], &mut near).tag) {
+            return false;
+        }
+    }
+    true
 }
 
 /// The listed extents of shareable regions, each with the tag of the one in which it lies.
