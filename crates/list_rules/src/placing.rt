@@ -3,7 +3,7 @@
 ghost use Rattle.list_rules.specs.Listing.{is_aligned, lies_in_region, misplaced};
 ghost use Rattle.media_map.specs.Places.{region_at};
 ghost use Rattle.region_config.specs.Granules.{region_spec};
-ghost use Rattle.std.specs.Prelude.{◌≡◌, ◌<◌, IsTrue, length};
+ghost use Rattle.std.specs.Prelude.{◌≡◌, ◌==◌, ◌%◌, ◌<◌, IsTrue, length};
 
 use dcd_base::{Extent, HostId, RegionId};
 use dcd_codes::Rule;
@@ -82,7 +82,19 @@ fn is_aligned(config: &Config, host: HostId, region: RegionId, extent: &Extent) 
 {
     let base = config.base(host, region);
     let block = block_of(config, region);
-    (extent.start - base) % block == 0 && extent.length % block == 0
+    is_multiple(extent.start - base, block) && is_multiple(extent.length, block)
+}
+
+/// Whether a number is a multiple of a block, which is mostly a power of two and then needs no division.
+fn is_multiple(number: u64, block: u64) -> bool
+    requires { 0 < block }
+    ensures { result ≡ (number % block == 0) }
+{
+    let zeros = block.trailing_zeros();
+    if block == 1 << zeros {
+        return number >> zeros << zeros == number;
+    }
+    number % block == 0
 }
 
 /// The region's block in bytes, which is never 0.
