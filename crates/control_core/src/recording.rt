@@ -4,7 +4,7 @@ ghost use Rattle.control_core.specs.Recording.{AreToldBehind, IsToldBehind, next
 ghost use Rattle.device_state.specs.Updates.{IsOfLog};
 ghost use Rattle.device_commands.specs.declared.log_records.LogRecords.{LogRecords};
 ghost use Rattle.journal_core.specs.declared.outcome.Effect.{Effect};
-ghost use Rattle.std.specs.Prelude.{◌≡◌, ◌++◌, ◌-◌, All, OnOk, length, map};
+ghost use Rattle.std.specs.Prelude.{◌≡◌, ◌++◌, ◌-◌, ◌<◌, [], ◌∷◌, All, OnOk, length, map, vec_capacity, vec_len};
 
 use dcd_base::{LogId, NoMemory, Seq, Tag};
 use device_commands::LogRecords;
@@ -71,7 +71,7 @@ fn put_records(
     let mut next = log.next_handle();
     let mut room = log.room();
     for i in 0..events.len() {
-        items.push_reserved(record_of(id, next, room, &events[i]));
+        put_record(&mut items, id, next, room, &events[i]);
         next = next_behind(next, room);
         room = room.saturating_sub(1);
     }
@@ -79,20 +79,23 @@ fn put_records(
     Ok(())
 }
 
-/// A record for a log with this next handle and so much room.
-fn record_of(id: &LogId, next: u16, room: u32, event: &Event) -> Effect
-    ensures { result ≡ record_by id.now next room event.now }
+/// Puts a record for a log with this next handle and so much room. There is memory for it.
+#[inline(always)]
+fn put_record(items: &mut Vec<Effect>, id: &LogId, next: u16, room: u32, event: &Event)
+    requires { vec_len items.old < vec_capacity items.old }
+    ensures items { items.new.items ≡ items.old.items ++ record_by id.now next room event.now ∷ [] }
+    ensures capacity { vec_capacity items.new ≡ vec_capacity items.old }
 {
     if room == 0 {
-        Effect::Missed(*id)
+        items.push_reserved(Effect::Missed(*id));
     } else {
-        Effect::Logged(
+        items.push_reserved(Effect::Logged(
             *id,
             Event {
                 handle: next,
                 ..*event
             },
-        )
+        ));
     }
 }
 
