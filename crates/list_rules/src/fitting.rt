@@ -86,7 +86,7 @@ fn part_rule(
 pub fn put_marked(owners: &Owners, list: &[Extent], out: &mut Extents) -> Result<(), NoMemory>
     ensures { OnOk result (out.new ≡ out.old ++ map (marked owners.now) list.now) }
 {
-    let mut near = 0;
+    let mut near = owners.start(list);
     for extent in list {
         out.push(owners.marked(extent, &mut near))?;
     }

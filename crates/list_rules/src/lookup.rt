@@ -1,7 +1,7 @@
 //! Owners, and the search for those of one listed extent after another.
 
 ghost use Rattle.extent_list.specs.ExtentLists.{lies_in, marked};
-ghost use Rattle.std.specs.Prelude.{◌≡◌, ◌<◌, IfSome, IsTrue, Some, length, position, slice_index_or, true};
+ghost use Rattle.std.specs.Prelude.{◌≡◌, ◌<◌, IfSome, IsTrue, Some, length, position, slice_index_or};
 ghost use Rattle.dcd_base.specs.declared.capacity.Extent.{Extent};
 
 use crate::owners::{first_owner, lies_in};
@@ -49,12 +49,11 @@ impl<'a> Owners<'a> {
 
     /// The index of the first owner in which the extent lies. It is looked for beside `near` first, which then becomes that
     /// index.
-    #[inline(always)]
     pub(crate) fn index_of(&self, extent: &Extent, near: &mut usize) -> Option<usize>
         ensures value { result ≡ position (lies_in extent.now) self.now }
         ensures known { IfSome result (λ index. index < length self.now) }
     {
-        match self.beside(extent, *near) {
+        match self.before(extent, *near) {
             Some(index) => {
                 *near = index;
                 Some(index)
@@ -63,13 +62,24 @@ impl<'a> Owners<'a> {
         }
     }
 
+    /// Where the search for the extents of a list begins: behind the owner in which the first one lies.
+    pub(crate) fn start(&self, list: &[Extent]) -> usize {
+        let mut near = 0;
+        if let Some(extent) = list.first() {
+            if let Some(index) = self.index_anywhere(extent, &mut near) {
+                return index.wrapping_add(1);
+            }
+        }
+        near
+    }
+
     /// The index of the first owner in which the extent lies, which `near` becomes.
     #[inline(never)]
     fn index_anywhere(&self, extent: &Extent, near: &mut usize) -> Option<usize>
         ensures value { result ≡ position (lies_in extent.now) self.now }
         ensures known { IfSome result (λ index. index < length self.now) }
     {
-        let found = self.search(extent);
+        let found = self.search(extent, *near);
         if let Some(index) = found {
             *near = index;
         }
@@ -86,26 +96,27 @@ impl<'a> Owners<'a> {
         }
     }
 
-    /// The index of the owner in which the extent lies, if that is beside the index `near` and the first one.
-    fn beside(&self, extent: &Extent, near: usize) -> Option<usize>
+    /// The index of the first owner in which the extent lies, if that is the one before the index `near`. Those of a host's
+    /// extents fall most often.
+    fn before(&self, extent: &Extent, near: usize) -> Option<usize>
         ensures value { IfSome result (λ index. position (lies_in extent.now) self.now ≡ Some index) }
         ensures known { IfSome result (λ index. index < length self.now) }
     {
         if self.apart && extent.length > 0 {
-            if let Some(index) = owner_beside(self.list, near, extent) {
+            if let Some(index) = owner_at(self.list, near.wrapping_sub(1), extent) {
                 return Some(index);
             }
         }
         None
     }
 
-    /// The index of the first owner in which the extent lies.
-    fn search(&self, extent: &Extent) -> Option<usize>
+    /// The index of the first owner in which the extent lies, looked for behind `near` first.
+    fn search(&self, extent: &Extent, near: usize) -> Option<usize>
         ensures value { result ≡ position (lies_in extent.now) self.now }
         ensures known { IfSome result (λ index. index < length self.now) }
     {
         if self.apart && extent.length > 0 {
-            if let Some(index) = owner_in_order(self.list, extent) {
+            if let Some(index) = owner_near(self.list, near, extent) {
                 return Some(index);
             }
         }
@@ -124,42 +135,29 @@ fn marked_by(extent: &Extent, owner: &Extent) -> Extent
     }
 }
 
-/// An owner in which the extent lies, of that at the index `near` and the two beside it. The lists of a host fall most
-/// often, so the one before it comes first.
-fn owner_beside(owners: &[Extent], near: usize, extent: &Extent) -> Option<usize>
+/// The index, if there is an owner at it in which the extent lies.
+fn owner_at(owners: &[Extent], index: usize, extent: &Extent) -> Option<usize>
     ensures known { IfSome result (λ index. index < length owners.now) }
     ensures owner { IfSome result (λ index. (d : Extent) → IsTrue (lies_in extent.now (slice_index_or owners.now index d))) }
 {
-    let before = near.wrapping_sub(1);
-    if has_at(owners, before, extent) {
-        return Some(before);
-    }
-    let behind = near.wrapping_add(1);
-    if has_at(owners, behind, extent) {
-        return Some(behind);
-    }
-    if has_at(owners, near, extent) {
-        return Some(near);
+    if index < owners.len() && lies_in(extent, &owners[index]) {
+        return Some(index);
     }
     None
 }
 
-/// Whether there is an owner at the index and the extent lies in it.
-fn has_at(owners: &[Extent], index: usize, extent: &Extent) -> bool
-    ensures known { result ≡ true → index < length owners.now }
-    ensures owner { result ≡ true → (d : Extent) → IsTrue (lies_in extent.now (slice_index_or owners.now index d)) }
-{
-    if index < owners.len() {
-        return lies_in(extent, &owners[index]);
-    }
-    false
-}
-
-/// An owner in which the extent lies, where it stands in owners by rising or by falling address.
-fn owner_in_order(owners: &[Extent], extent: &Extent) -> Option<usize>
+/// An owner in which the extent lies: behind the index `near` or at it, or else where it stands in owners by rising or by
+/// falling address.
+fn owner_near(owners: &[Extent], near: usize, extent: &Extent) -> Option<usize>
     ensures known { IfSome result (λ index. index < length owners.now) }
     ensures owner { IfSome result (λ index. (d : Extent) → IsTrue (lies_in extent.now (slice_index_or owners.now index d))) }
 {
+    if let Some(index) = owner_at(owners, near.wrapping_add(1), extent) {
+        return Some(index);
+    }
+    if let Some(index) = owner_at(owners, near, extent) {
+        return Some(index);
+    }
     match last_begun(owners, extent) {
         Some(index) => Some(index),
         None => first_begun(owners, extent),

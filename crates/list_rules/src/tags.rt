@@ -66,7 +66,7 @@ fn are_all_shared(config: &Config, host: HostId, owners: &Owners, list: &[Extent
     if tagged.len() != list.len() {
         return false;
     }
-    let mut near = 0;
+    let mut near = owners.start(list);
     for i in 0..list.len() {
         if !is_shareable_at(config, host, &list[i]) {
             return false;
@@ -91,7 +91,7 @@ fn find_shared(
     ensures shared { OnOk result (shared.new ≡ shared_of config.now host owners.now list.now) }
     ensures few { OnOk result (length shared.new ≤ length list.now) }
 {
-    let mut near = 0;
+    let mut near = owners.start(list);
     for extent in list {
         if is_shareable_at(config, host, extent) {
             shared.push(owners.marked(extent, &mut near))?;

@@ -2,7 +2,7 @@ use Rattle.std.proofs.Common.{ap, sym, ◌∙◌, position}
 use Rattle.extent_list.specs.ExtentLists.{lies_in}
 use Rattle.list_rules.proofs.FirstOwner.{no_extent}
 use Rattle.list_rules.proofs.Apart.{only_owner}
-use Rattle.list_rules.proofs.lookup.Owners.beside.Goals as goal
+use Rattle.list_rules.proofs.lookup.Owners.before.Goals as goal
 
 pub returns-in-Some-clause-value : goal.returns-in-Some-clause-value
 returns-in-Some-clause-value c =
