@@ -66,6 +66,19 @@ impl ExtentList {
         })
     }
 
+    /// An equal list of its own, with room for so many more extents, so that a change of it takes no more memory.
+    pub fn copy_with_room(&self, more: usize) -> Result<ExtentList, NoMemory>
+        ensures { IfOk result (λ copy. copy.extents ≡ self.now.extents) }
+    {
+        let room = self.kept.len().saturating_add(more);
+        let mut kept = Vec::with_capacity(self.alloc, room)?;
+        kept.extend_from_slice(self.kept.as_slice())?;
+        Ok(ExtentList {
+            alloc: self.alloc,
+            kept,
+        })
+    }
+
     /// Makes the spare at least `n`. The extents stay, and without memory the spare does too.
     pub fn reserve(&mut self, n: usize) -> Result<(), NoMemory>
         ensures room { OnOk result (n ≤ self.new.spare) }
@@ -154,6 +167,21 @@ impl ExtentList {
         match self.holder_of(start, bytes) {
             Some(index) => replace_at(&mut self.kept, index, start, bytes, most),
             None => unreachable!(),
+        }
+    }
+
+    /// How many extents the list would have without the range of `bytes` bytes from `start` on, which is cut out of the
+    /// first extent in which it lies, and of none where it lies in none.
+    ///
+    /// The range ends below 2^64, or that extent ends at 2^64 or below.
+    pub fn len_without(&self, start: u64, bytes: u64) -> usize
+        requires { IsCutInAddresses start bytes self.now.extents }
+        ensures value { result ≡ length (cut start bytes self.now.extents) }
+        ensures few { result ≤ length self.now.extents + 1 }
+    {
+        match self.holder_of(start, bytes) {
+            None => self.len(),
+            Some(index) => len_cut_at(&self.kept, index, start, bytes),
         }
     }
 
@@ -310,6 +338,19 @@ fn put_pieces(kept: &mut Vec<Extent>, index: usize, lower: Option<Extent>, upper
             let _ = kept.insert(index, lower);
         }
     }
+}
+
+/// How many extents there are once what remains of the one at the index without the range has taken its place.
+fn len_cut_at(kept: &Vec<Extent>, index: usize, start: u64, bytes: u64) -> usize
+    requires index { holder_of start bytes kept.now.items ≡ Some index }
+    requires in_addresses { IsCutInAddresses start bytes kept.now.items }
+    ensures value { result ≡ length (cut start bytes kept.now.items) }
+    ensures few { result ≤ length kept.now.items + 1 }
+{
+    let extent = kept[index];
+    let lower = lower_piece(&extent, start);
+    let upper = upper_piece(&extent, start, bytes);
+    kept.as_slice().len() - 1 + count_of(&lower) + count_of(&upper)
 }
 
 /// Replaces the extent at the index by what remains of it without the range, unless the list gets too long.
