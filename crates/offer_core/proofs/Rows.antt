@@ -1,5 +1,5 @@
 -- The row of a response that is not too long, and to which no more is to come.
-use Rattle.std.proofs.Common.{◌≡◌, ℕ, ◌+◌, ◌≤◌, Bool, false, List, ◌++◌, length, length-append, Some, refl, ◌∙◌, arith}
+use Rattle.std.proofs.Common.{◌≡◌, ℕ, ◌+◌, ◌≤◌, Bool, false, List, ◌++◌, length, length-append, Some, refl, arith}
 use Rattle.std.specs.Prelude.{nat_lt}
 use Rattle.std.proofs.lemmas.Bool.{le-ltb}
 use Rattle.dcd_base.specs.declared.capacity.Extent.{Extent}
@@ -10,13 +10,14 @@ use Rattle.region_config.specs.Configurations.{Configuration}
 use Rattle.offer_core.specs.Offerings.{oldest_of}
 use Rattle.offer_core.specs.Responses.{extent_rule, response_list_rule, respond_rule}
 
-module _ (c : Configuration) (h : HostId) (accepted : ℕ) (offers : List (List Extent)) (held list whole : List Extent) (is : whole ≡ held ++ list) where
-  whole_tried : length held + length list ≤ 64 → (more : Bool) → more ≡ false → respond_rule c h accepted offers held more list ≡ response_list_rule c h accepted offers whole
-  whole_tried few more last =
+module _ (c : Configuration) (h : HostId) (accepted : ℕ) (offers : List (List Extent)) where
+  -- the whole list is tried
+  pub whole_tried : (held list whole : List Extent) → whole ≡ held ++ list → length held + length list ≤ 64 → (more : Bool) → more ≡ false
+      → response_list_rule c h accepted offers whole ≡ respond_rule c h accepted offers held more list
+  whole_tried held list whole is few more last =
       let listed : nat_lt 64 (length (held ++ list)) ≡ false = le-ltb 64 (length (held ++ list)) (omega (arith, few, length-append held list)) in
       rw (last, is, listed) refl
 
-  -- where an extent breaks a rule, the response does
-  pub one_broken : length held + length list ≤ 64 → (more : Bool) → more ≡ false → (rule : Rule) → each_in whole (extent_rule c h (oldest_of offers)) ≡ Some rule
-      → respond_rule c h accepted offers held more list ≡ Some rule
-  one_broken few more last rule broken = whole_tried few more last ∙ rw broken refl
+  -- where an extent breaks a rule, the whole list does
+  pub one_broken : (whole : List Extent) (rule : Rule) → each_in whole (extent_rule c h (oldest_of offers)) ≡ Some rule → response_list_rule c h accepted offers whole ≡ Some rule
+  one_broken whole rule broken = rw broken refl

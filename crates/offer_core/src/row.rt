@@ -3,7 +3,7 @@
 ghost use Rattle.extent_list.specs.ExtentLists.{count_in};
 ghost use Rattle.list_rules.specs.Listing.{overlapping};
 ghost use Rattle.offer_core.specs.Offerings.{lists_of};
-ghost use Rattle.offer_core.specs.Responses.{extent_rule, respond_rule};
+ghost use Rattle.offer_core.specs.Responses.{extent_rule, respond_rule, response_list_rule};
 ghost use Rattle.std.specs.Prelude.{◌≡◌, ◌+◌, ◌^◌, ◌<◌, ◌≤◌, IfOk, None, drop, length, true};
 
 use crate::offers::Offers;
@@ -38,9 +38,28 @@ pub fn broken_rule(
     if more {
         return Ok(None);
     }
+    if offers.held().is_empty() {
+        return broken_list_rule(config, host, accepted, offers, list);
+    }
     let mut whole = offers.held().copy()?;
     whole.extend_from_slice(list)?;
-    let (offer, whole) = (offers.oldest(), whole.as_slice());
+    broken_list_rule(config, host, accepted, offers, whole.as_slice())
+}
+
+/// The first rule that a whole list breaks, to which no more is to come.
+fn broken_list_rule(
+    config: &Config,
+    host: HostId,
+    accepted: usize,
+    offers: &Offers,
+    whole: &[Extent],
+) -> Result<Option<Rule>, NoMemory>
+    requires host { host < config.now.hosts }
+    requires few { accepted + count_in (lists_of offers.now.offers) ≤ 64 }
+    requires listed { length whole.now ≤ 64 }
+    ensures { IfOk result (λ found. found ≡ response_list_rule config.now host accepted (lists_of offers.now.offers) whole.now) }
+{
+    let offer = offers.oldest();
     let (owners, apart) = (Owners::of(offer), are_apart(whole));
     let mut near = 0;
     for i in 0..whole.len() {
