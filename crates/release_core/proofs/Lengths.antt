@@ -1,5 +1,5 @@
 -- How long a list can be after cuts.
-use Rattle.std.proofs.Common.{ℕ, ◌+◌, ◌≤◌, List, [], ◌∷◌, length, inl, inr, arith, length-append, lt-ltb, le-ltb}
+use Rattle.std.proofs.Common.{◌≡◌, ℕ, ◌+◌, ◌≤◌, List, [], ◌∷◌, length, get_or, refl, inl, inr, arith, length-append, lt-ltb, le-ltb}
 use Rattle.std.proofs.lemmas.Bool.{cases_Bool, cases_lt}
 use Rattle.dcd_base.specs.declared.capacity.Extent.{Extent}
 use Rattle.extent_list.specs.ExtentLists.{cut, cut_all, has_range, piece}
@@ -20,3 +20,9 @@ length_cut start bytes (x ∷ xs) = elim (cases_Bool (has_range start bytes x)) 
 pub length_cut_all : (list xs : List Extent) → length (cut_all list xs) ≤ length xs + length list
 length_cut_all [] xs = omega arith
 length_cut_all (y ∷ list) xs = omega (arith, length_cut y.start y.length xs, length_cut_all list (cut y.start y.length xs))
+
+-- what one extent alone leaves
+pub cut_only : (list xs : List Extent) (d : Extent) → length list ≡ 1 → cut_all list xs ≡ cut (get_or list 0 d).start (get_or list 0 d).length xs
+cut_only (x ∷ []) xs d one = refl
+cut_only [] xs d one = absurd (omega (arith, one))
+cut_only (x ∷ y ∷ list) xs d one = absurd (omega (arith, one))

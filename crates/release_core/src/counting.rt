@@ -33,14 +33,18 @@ pub(crate) fn count_rule(
     Ok(too_many_extents(left + offered))
 }
 
-/// How many of the accepted extents and their pieces are left without the extents of the list.
-#[tactic(auto, using(crate::proofs::Lengths::length_cut_all))]
+/// How many of the accepted extents and their pieces are left without the extents of the list. For one extent, as most
+/// lists have, nothing is cut.
+#[tactic(auto, using(crate::proofs::Lengths::length_cut_all, crate::proofs::Lengths::cut_only))]
 fn extents_left(accepted: &ExtentList, list: &[Extent]) -> Result<usize, NoMemory>
     requires { All (λ x. x.start + x.length < 2 ^ 64) list.now }
     ensures left { IfOk result (λ left. left ≡ length (cut_all list.now accepted.now.extents)) }
     ensures few { IfOk result (λ left. left ≤ length accepted.now.extents + length list.now) }
 {
-    let mut left = accepted.copy()?;
+    if list.len() == 1 {
+        return Ok(accepted.len_without(list[0].start, list[0].length));
+    }
+    let mut left = accepted.copy_with_room(list.len())?;
     left.reserve(list.len())?;
     left.cut_all(list);
     Ok(left.len())

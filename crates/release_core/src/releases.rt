@@ -5,7 +5,7 @@ ghost use Rattle.std.specs.Prelude.{◌≡◌, ◌++◌, ◌+◌, ◌<◌, ◌�
 
 use crate::counting::count_rule;
 use crate::leaving::{Within, broken_leaving_extent};
-use crate::marking::marked_list;
+use crate::marking::marked_lists;
 use dcd_base::{Extent, Extents, HostId, NoMemory};
 use dcd_codes::{Refusal, Rule};
 use extent_list::ExtentList;
@@ -128,8 +128,8 @@ impl Releases {
             self.listed.extend_from_slice(list.as_slice())?;
             return Ok(GivenBack::Held);
         }
-        let whole = followed_by(&self.listed, list.as_slice())?;
-        let leaving = marked_list(whole.allocator(), accepted, whole.as_slice())?;
+        let (alloc, held) = (self.listed.allocator(), self.listed.as_slice());
+        let leaving = marked_lists(alloc, accepted, held, list.as_slice())?;
         self.listed.clear();
         if leaving.is_empty() {
             return Ok(GivenBack::Nothing);
@@ -157,8 +157,45 @@ pub fn broken_rule(
     requires few { length accepted.now.extents + offered ≤ 64 }
     ensures { IfOk result (λ found. found ≡ give_back_rule config.now host accepted.now.extents offered (held.now ++ list.now) more) }
 {
+    let alloc = held.allocator();
+    if held.is_empty() {
+        return broken_list_rule(
+            alloc,
+            config,
+            host,
+            accepted,
+            offered,
+            list.as_slice(),
+            more,
+        );
+    }
     let whole = followed_by(held, list.as_slice())?;
-    if let Some(rule) = too_many_listed(whole.as_slice()) {
+    broken_list_rule(
+        alloc,
+        config,
+        host,
+        accepted,
+        offered,
+        whole.as_slice(),
+        more,
+    )
+}
+
+/// The first rule of its row that a release of this whole list breaks.
+fn broken_list_rule(
+    alloc: Global,
+    config: &Config,
+    host: HostId,
+    accepted: &ExtentList,
+    offered: usize,
+    whole: &[Extent],
+    more: bool,
+) -> Result<Option<Rule>, NoMemory>
+    requires host { host < config.now.hosts }
+    requires few { length accepted.now.extents + offered ≤ 64 }
+    ensures { IfOk result (λ found. found ≡ give_back_rule config.now host accepted.now.extents offered whole.now more) }
+{
+    if let Some(rule) = too_many_listed(whole) {
         return Ok(Some(rule));
     }
     if more {
@@ -166,8 +203,7 @@ pub fn broken_rule(
     }
     // That extents in regions end at an address, which a configuration says of itself where it is read.
     let _regions = config.regions();
-    let (alloc, whole, owners) = (whole.allocator(), whole.as_slice(), accepted.as_slice());
-    let bounds = Within::AnyRegion;
+    let (bounds, owners) = (Within::AnyRegion, accepted.as_slice());
     let (accepted_owners, apart) = (Owners::of(owners), are_apart(whole));
     let mut near = 0;
     for i in 0..whole.len() {
