@@ -88,6 +88,11 @@ tag_count_more before xs i d known =
     ∙ ap tag_count (sym (append_assoc before (take i xs) (get_or xs i d ∷ [])))
     ∙ tag_count-push (before ++ take i xs) (get_or xs i d)
 
+-- an extent more that has no tag makes no tag more
+pub untagged_more : (before xs : List Extent) (i : ℕ) (d : Extent) → i < length xs → is_zero_tag (get_or xs i d).tag ≡ true → tag_count (before ++ take i xs) ≡ tag_count before
+    → tag_count (before ++ take (i + 1) xs) ≡ tag_count before
+untagged_more before xs i d known none same = tag_count_more before xs i d known ∙ rw none same
+
 -- what an index past the end reads
 abbrev pub no_extent : Extent
 no_extent = record { start = 0; length = 0; tag = record { 0 = [] }; sequence = 0 }

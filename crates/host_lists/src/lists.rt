@@ -66,6 +66,19 @@ impl HostLists {
         })
     }
 
+    /// Equal lists of their own, with room for so many more accepted extents, so that a change of those takes no more
+    /// memory.
+    pub fn copy_with_room(&self, more: usize) -> Result<HostLists, NoMemory>
+        ensures { IfOk result (λ copy. copy ≡ self.now) }
+    {
+        Ok(HostLists {
+            accepted: self.accepted.copy_with_room(more)?,
+            offers: self.offers.copy()?,
+            releases: self.releases.copy()?,
+            generation: self.generation,
+        })
+    }
+
     /// The extents that the host has accepted, in the order in which it did.
     pub fn accepted(&self) -> &ExtentList
         ensures { result.now.extents ≡ self.now.accepted }

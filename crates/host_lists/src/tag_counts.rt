@@ -4,7 +4,7 @@ ghost use Rattle.extent_list.specs.ExtentLists.{has_extent_of};
 ghost use Rattle.host_lists.specs.Tags.{capped, extents_before, is_new, tag_count};
 ghost use Rattle.offer_core.specs.Offerings.{lists_of};
 ghost use Rattle.std.specs.List.{list_any};
-ghost use Rattle.std.specs.Prelude.{◌≡◌, ◌++◌, ◌≤◌, length, take};
+ghost use Rattle.std.specs.Prelude.{◌≡◌, ◌++◌, ◌≤◌, List, length, take};
 
 use dcd_base::{Extent, Tag, no_tag};
 use extent_list::{has_extent_of, same_tag};
@@ -46,6 +46,19 @@ fn is_new(tag: &Tag, accepted: &[Extent], offers: &Offers, count: usize, before:
     !same_tag(tag, &no_tag()) && !is_among(tag, accepted, offers, count, before)
 }
 
+/// How many extents at the front have no tag. They make no tags more, whatever stands before them.
+fn untagged(extents: &[Extent]) -> usize
+    ensures known { result ≤ length extents.now }
+    ensures none { (before : List Extent) → tag_count (before ++ take result extents.now) ≡ tag_count before }
+{
+    for i in 0..extents.len() {
+        if !same_tag(&extents[i].tag, &no_tag()) {
+            return i;
+        }
+    }
+    extents.len()
+}
+
 /// How many tags there are with these extents behind the accepted ones and the first `count` offers, which have
 /// `tags` of them. The counts stand still at the end of 32 bits.
 pub(crate) fn more_tags(
@@ -60,7 +73,7 @@ pub(crate) fn more_tags(
     ensures { result ≡ capped (tag_count (extents_before accepted.now (lists_of offers.now.offers) count ++ more.now)) }
 {
     let mut tags = tags;
-    for i in 0..more.len() {
+    for i in untagged(more)..more.len() {
         let (before, _) = more.split_at(i);
         if is_new(&more[i].tag, accepted, offers, count, before) {
             tags = tags.saturating_add(1);
