@@ -1,7 +1,7 @@
 -- What a response and a release do to a host's lists.
 use Rattle.std.specs.declared.result.Result.{Result}
 use Rattle.std.specs.declared.result.Result.TheVariants.{Ok, Err}
-use Rattle.std.specs.Prelude.{◌≡◌, ◌≢◌, ℕ, Bool, true, false, if◌then◌else◌, List, [], ◌∷◌, ◌++◌, length, map}
+use Rattle.std.specs.Prelude.{◌≡◌, ◌≢◌, ℕ, Bool, true, false, if◌then◌else◌, List, [], ◌∷◌, ◌++◌, drop, length, map}
 use Rattle.dcd_base.specs.declared.capacity.Extent.{Extent}
 use Rattle.dcd_base.specs.declared.ids.HostId.{HostId}
 use Rattle.dcd_base.specs.Words.{is_empty}
@@ -32,6 +32,16 @@ pub record IsAccepted (old : Lists) (list : List Extent) (new : Lists) (accepted
     releases = old.releases;
     generation = generation_after accepted old.generation;
   }
+
+-- the lists once these extents are accepted of the oldest offer
+abbrev pub after_accepting : List Extent → Lists → Lists
+after_accepting accepted old = record {
+  accepted = old.accepted ++ accepted;
+  offers = drop 1 old.offers;
+  responses = [];
+  releases = old.releases;
+  generation = generation_after accepted old.generation;
+}
 
 -- What was there, whether more is to come, the message's list, what is there then, and what was answered.
 abbrev pub HostResponds : Lists → Bool → List Extent → Lists → Responded → Type 0

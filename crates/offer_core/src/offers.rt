@@ -2,7 +2,7 @@
 
 ghost use Rattle.extent_list.specs.ExtentLists.{count_in};
 ghost use Rattle.offer_core.specs.Offerings.{lists_of, oldest_of};
-ghost use Rattle.std.specs.Prelude.{◌≡◌, ◌==◌, ◌++◌, ◌∷◌, ◌+◌, ◌^◌, ◌<◌, ◌≤◌, [], IfOk, OnErr, OnOk, Some, length, slice_get};
+ghost use Rattle.std.specs.Prelude.{◌≡◌, ◌==◌, ◌++◌, ◌∷◌, ◌+◌, ◌^◌, ◌<◌, ◌≤◌, [], IfOk, OnErr, OnOk, Some, drop, length, slice_get};
 
 use crate::offer::Offer;
 use dcd_base::{Extent, Extents, NoMemory};
@@ -61,6 +61,20 @@ impl Offers {
             waiting,
             held: self.held.copy()?,
         })
+    }
+
+    /// Equal offers of their own behind the oldest, and nothing held. Where there is none behind it, it takes no memory.
+    pub fn copy_behind_oldest(&self) -> Result<Offers, NoMemory>
+        ensures offers { IfOk result (λ copy. copy.offers ≡ drop 1 self.now.offers) }
+        ensures held { IfOk result (λ copy. copy.held ≡ []) }
+    {
+        if self.len() <= 1 {
+            return Ok(Offers::new(self.alloc));
+        }
+        let mut later = self.copy()?;
+        later.held.clear();
+        let _oldest = later.waiting.pop_front();
+        Ok(later)
     }
 
     /// Makes the spare at least `n`. The offers and the held list stay, and without memory the spare does too.

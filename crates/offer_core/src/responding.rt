@@ -3,7 +3,7 @@
 ghost use Rattle.extent_list.specs.ExtentLists.{count_in, marked};
 ghost use Rattle.offer_core.specs.Answers.{AnswersOldest, Leaves, NeverBroken, Responds};
 ghost use Rattle.offer_core.specs.InOrder.{IsInOrder};
-ghost use Rattle.offer_core.specs.Offerings.{lists_of};
+ghost use Rattle.offer_core.specs.Offerings.{lists_of, oldest_of};
 ghost use Rattle.std.specs.Prelude.{◌≡◌, ◌++◌, ◌+◌, ◌<◌, ◌≤◌, [], IfOk, OnErr, false, map};
 
 use crate::answered::Answered;
@@ -69,13 +69,21 @@ impl Offers {
             self.held.extend_from_slice(list.as_slice())?;
             return Ok(Answered::Held);
         }
-        let alloc = self.held.allocator();
-        let accepted = marked_all(alloc, self.oldest(), self.held.as_slice(), list.as_slice())?;
+        let accepted = self.accepted_of(list)?;
         self.held.clear();
         match self.waiting.pop_front() {
             Some(offer) => Ok(Answered::Done { offer, accepted }),
             None => Ok(Answered::Nothing),
         }
+    }
+
+    /// What a response accepts of the oldest offer with this list of a message behind the held one: each extent with the
+    /// tag and the sequence of the offered extent in which it lies.
+    pub fn accepted_of(&self, list: &Extents) -> Result<Extents, NoMemory>
+        ensures { IfOk result (λ accepted. accepted ≡ map (marked (oldest_of (lists_of self.now.offers))) (self.now.held ++ list.now)) }
+    {
+        let (alloc, held) = (self.held.allocator(), self.held.as_slice());
+        marked_all(alloc, self.oldest(), held, list.as_slice())
     }
 }
 
