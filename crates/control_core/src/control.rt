@@ -196,10 +196,8 @@ impl Control {
         ensures changes { IfOk result (AreChangesOf self.old.config self.old.entries actor act.now) }
         ensures inside { IfOk result (λ changes. All (LiesIn (granule_total self.old.config)) changes) }
     {
-        let alloc = self.live.allocator();
-        let none = Effects::new(alloc);
-        self.entries.append(pass, line, actor, act, reply, &none)?;
-        Ok(Changes::new(alloc))
+        self.entries.append_quiet(pass, line, actor, act, reply)?;
+        Ok(Changes::new(self.live.allocator()))
     }
 
     /// Takes a step that may change something, which is decided.

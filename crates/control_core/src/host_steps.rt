@@ -74,8 +74,8 @@ fn host_recorded(
 {
     part_fits(state.part(host));
     match drafted {
-        Ok(draft) => Ok(recorded(alloc, state, host, request, draft)?),
-        Err(Refusal::Broken(rule)) => Ok(refused_by(alloc, config, state, host, request, &rule)?),
+        Ok(draft) => recorded(alloc, state, host, request, draft),
+        Err(Refusal::Broken(rule)) => refused_by(alloc, config, state, host, request, &rule),
         Err(Refusal::NoMemory) => Err(NoMemory),
     }
 }

@@ -1,11 +1,13 @@
 use Rattle.std.proofs.Common.{length, subst}
 use Rattle.std.specs.declared.result.Result.{Result}
+use Rattle.std.proofs.lemmas.Result.{IfOk-weaker}
 use Rattle.dcd_codes.specs.declared.refusals.Refusal.{Refusal}
 use Rattle.device_commands.specs.declared.draft.DraftParts.{DraftParts}
 use Rattle.device_rules.specs.Answers.{host_outcome}
 use Rattle.device_rules.specs.Views.{view_of}
 use Rattle.device_state.specs.StateAfter.{part_of}
-use Rattle.control_core.specs.Doing.{Drafted}
+use Rattle.control_core.specs.Doing.{Does, Drafted}
+use Rattle.control_core.specs.declared.decided.Decided.{Decided}
 use Rattle.control_core.specs.Fitting.{PartFits}
 use Rattle.control_core.proofs.Decisions.{decided_host, host_known, records_known}
 use Rattle.control_core.proofs.HostOutcomes.{host_of}
@@ -22,14 +24,16 @@ recorded-requires-clause-known c =
     records_known (length c.args.state.now.hosts.items) c.in-Ok.draft.log_records (host_outcome cfg c.args.host v it.request).log_records it.drafts.log_records
     (host_known (length c.args.state.now.hosts.items) cfg c.args.host v it.request)
 
-pub returns-in_ok-recorded-in-Ok : goal.returns-in_ok-recorded-in-Ok
-returns-in_ok-recorded-in-Ok c = λ before legal kept.
+pub returns-in-Ok : goal.returns-in-Ok
+returns-in-Ok c =
     let cfg = c.args.config.now in
     let h = c.args.host in
     let sound = c.requires.reached.sound in
-    let v = view_of cfg h before in
     let drafted = subst (λ (r : Result DraftParts Refusal). Drafted cfg c.args.state.now h c.args.request.now r) c.in-Ok.is c.requires.drafted in
+    IfOk-weaker c.recorded.result (Does c.args.state.now h c.args.request.now c.in-Ok.draft) _ (λ (d : Decided) does. λ before legal kept.
+    let v = view_of cfg h before in
     let it = drafted before legal kept in
-    decided_host cfg before h c.args.request.now it.request it.asked it.row c.in_ok-recorded-in-Ok.field-0
-    (c.in_ok-recorded-in-Ok.ensures cfg before (host_outcome cfg h v it.request) kept (host_of cfg sound before legal h c.requires.host it.request it.row) it.drafts)
-    (short_host cfg h v (part_of c.args.state.now h) (kept.parts h c.requires.host) (subst PartFits c.part.ensures c.part_fits.ensures) sound.regions it.request)
+    decided_host cfg before h c.args.request.now it.request it.asked it.row d
+    (does cfg before (host_outcome cfg h v it.request) kept (host_of cfg sound before legal h c.requires.host it.request it.row) it.drafts)
+    (short_host cfg h v (part_of c.args.state.now h) (kept.parts h c.requires.host) (subst PartFits c.part.ensures c.part_fits.ensures) sound.regions it.request))
+    c.recorded.ensures

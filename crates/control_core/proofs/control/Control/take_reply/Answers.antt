@@ -1,7 +1,6 @@
-use Rattle.std.proofs.Common.{◌≡◌, List, [], ◌∷◌, ◌++◌, sym, subst, ap, ◌∙◌}
+use Rattle.std.proofs.Common.{List, [], sym, subst}
 use Rattle.dcd_base.specs.declared.media.Change.{Change}
 use Rattle.journal_core.specs.Entries.{effects}
-use Rattle.journal_core.specs.Keeping.{next_entry}
 use Rattle.device_rules.specs.ChangedRuns.{AreChanges}
 use Rattle.journal_core.specs.declared.entries.Entry.{Entry}
 use Rattle.journal_core.specs.declared.outcome.Effect.{Effect}
@@ -23,8 +22,5 @@ invariant_of-self-2 c =
     let before = c.self.inside.entries.entries in
     let may = subst (λ (d : Controlled). MayStep d.config c.args.actor c.args.act.now) (sym c.self.view_is) c.requires.may in
     let is = subst (λ (d : Controlled). IsDecidedBy d.config d.entries c.args.actor c.args.act.now (only_replied c.args.reply.now)) (sym c.self.view_is) c.requires.decided in
-    let appended : c.append.new.self.entries ≡ before ++ next_entry before c.args.pass c.args.line c.args.actor c.args.act.now (c.args.reply.now, []) ∷ [] =
-    c.in_ok-append.ensures.appended
-    ∙ ap (λ (es : List Effect). before ++ next_entry before c.args.pass c.args.line c.args.actor c.args.act.now (c.args.reply.now, es) ∷ []) c.new-none.ensures in
-    subst (λ (es : List Entry). Holds live.config es live.state) (sym appended)
+    subst (λ (es : List Entry). Holds live.config es live.state) (sym c.in_ok-append_quiet.ensures.appended)
     (holds_decided live live before c.self.invariant c.args.pass c.args.line c.args.actor c.args.act.now may (only_replied c.args.reply.now) is (enters_nothing live))
