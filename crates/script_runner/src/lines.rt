@@ -47,9 +47,7 @@ pub(crate) fn run_lines(
     ensures ran { OnOk result (RunsLines device.old.config.hosts lanes behind lines device.old.journal device.new.journal) }
 {
     let mut number = behind;
-    let mut rest = lines.into_vec();
-    rest.reverse();
-    while let Some(line) = rest.pop() {
+    for line in lines.into_vec() {
         number += 1;
         run_line(device, lanes, number, line)?;
     }
