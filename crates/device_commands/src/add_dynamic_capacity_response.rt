@@ -63,8 +63,8 @@ pub fn add_response(
     if let Some(rule) = broken_rule(present, host, accepted, offers, list.as_slice(), more)? {
         return Err(Refusal::Broken(rule));
     }
-    let mut after = lists.copy()?;
-    match after.answer(list, more)? {
+    let (after, responded) = lists.after_answer(list, more)?;
+    match responded {
         Responded::Held => Ok(held(alloc, host, list, after)?),
         Responded::Nothing => Ok(nothing(alloc, host, lists, after)?),
         Responded::Done(accepted) => Ok(offer_answered(

@@ -180,7 +180,7 @@ fn lists_without(state: &State, host: HostId, leaving: &Extents) -> Result<HostL
     requires can { AllCanLeave (part_of state.now host).lists.accepted leaving.now }
     ensures { IfOk result (λ lists. lists ≡ removed_lists (part_of state.now host).lists leaving.now) }
 {
-    let mut lists = state.part(host).lists.copy()?;
+    let mut lists = state.part(host).lists.copy_with_room(leaving.len())?;
     lists.remove(leaving)?;
     Ok(lists)
 }

@@ -57,7 +57,7 @@ pub fn give_back(
     if let Some(rule) = broken_rule(present, host, accepted, offered, earlier, list, more)? {
         return Err(Refusal::Broken(rule));
     }
-    let mut after = lists.copy()?;
+    let mut after = lists.copy_with_room(list.len())?;
     match after.let_go(list, more)? {
         GivenBack::Held => Ok(held(alloc, host, list, after)?),
         GivenBack::Nothing => {

@@ -1,47 +1,40 @@
 use Rattle.std.proofs.Common.{◌≡◌, ◌++◌, [], false, length, None, rules, subst, sym}
 use Rattle.host_lists.specs.declared.responded.Responded.{Responded}
-use Rattle.host_lists.specs.Lists.{Lists}
 use Rattle.host_lists.specs.Answers.{HostResponds}
 use Rattle.offer_core.proofs.NoOffer.{nothing_offered}
 use Rattle.offer_core.specs.Responses.{respond_rule}
 use Rattle.device_commands.proofs.AddDynamicCapacityResponse.{accepted_granular, answered_drafts, held_response, response_row}
 use Rattle.device_commands.proofs.add_dynamic_capacity_response.add_response.Goals as goal
 
-pub answer-requires : goal.answer-requires
-answer-requires c =
+pub after_answer-requires : goal.after_answer-requires
+after_answer-requires c =
     let lists = c.args.lists.now in
     let row : None ≡ respond_rule c.args.present.now c.args.host (length lists.accepted) lists.offers lists.responses c.args.more c.args.list.now = search rules in
-    record {
-      offered = subst (λ (l : Lists). c.args.more ≡ false → l.offers ≡ [] → l.responses ++ c.args.list.now ≡ []) (sym c.in_ok-after.ensures)
-          (λ last none. nothing_offered c.args.present.now c.args.host (length lists.accepted) lists.offers lists.responses c.args.more c.args.list.now last none (sym row));
-    }
+    record { offered = λ last none. nothing_offered c.args.present.now c.args.host (length lists.accepted) lists.offers lists.responses c.args.more c.args.list.now last none (sym row) }
 
 pub offer_answered-requires-clause-granular : goal.offer_answered-requires-clause-granular
 offer_answered-requires-clause-granular c =
     let lists = c.args.lists.now in
     let row : None ≡ respond_rule c.args.present.now c.args.host (length lists.accepted) lists.offers lists.responses c.args.more c.args.list.now = search rules in
-    let answered = subst (λ (l : Lists). HostResponds l c.args.more c.args.list.now c.answer.new.self c.in_ok-answer.field-0) c.in_ok-after.ensures c.in_ok-answer.ensures.done in
-    let done = subst (λ (r : Responded). HostResponds lists c.args.more c.args.list.now c.answer.new.self r) c.in-Done.is answered in
-    accepted_granular c.args.present.now c.args.host lists c.answer.new.self c.args.list.now c.args.more (sym row)
+    let done = subst (λ (r : Responded). HostResponds lists c.args.more c.args.list.now c.in_ok-after.after r) c.in-Done.is c.in_ok-after.ensures in
+    accepted_granular c.args.present.now c.args.host lists c.in_ok-after.after c.args.list.now c.args.more (sym row)
     c.regions-regions.ensures.sound (rw (c.requires.hosts) c.requires.host) c.in-Done.accepted done.0 done.1
 
 pub returns-in_ok-held-in-Held-clause-drafts : goal.returns-in_ok-held-in-Held-clause-drafts
 returns-in_ok-held-in-Held-clause-drafts c = λ v present shows.
     let lists = c.args.lists.now in
     let row : None ≡ respond_rule c.args.present.now c.args.host (length lists.accepted) lists.offers lists.responses c.args.more c.args.list.now = search rules in
-    let answered = subst (λ (l : Lists). HostResponds l c.args.more c.args.list.now c.answer.new.self c.in_ok-answer.field-0) c.in_ok-after.ensures c.in_ok-answer.ensures.done in
-    let held = subst (λ (r : Responded). HostResponds lists c.args.more c.args.list.now c.answer.new.self r) c.in-Held.is answered in (
-      response_row c.args.present.now c.args.host lists c.answer.new.self c.args.list.now c.args.more (sym row) c.args.config.now v present shows,
-      held_response c.args.config.now c.args.host v lists c.answer.new.self c.args.list.now c.args.more c.in_ok-held-in-Held.field-0 shows held.0 held.1 c.in_ok-held-in-Held.ensures.drafts,
+    let held = subst (λ (r : Responded). HostResponds lists c.args.more c.args.list.now c.in_ok-after.after r) c.in-Held.is c.in_ok-after.ensures in (
+      response_row c.args.present.now c.args.host lists c.in_ok-after.after c.args.list.now c.args.more (sym row) c.args.config.now v present shows,
+      held_response c.args.config.now c.args.host v lists c.in_ok-after.after c.args.list.now c.args.more c.in_ok-held-in-Held.field-0 shows held.0 held.1 c.in_ok-held-in-Held.ensures.drafts,
     )
 
 pub returns-in_ok-offer_answered-in-Done-clause-drafts : goal.returns-in_ok-offer_answered-in-Done-clause-drafts
 returns-in_ok-offer_answered-in-Done-clause-drafts c = λ v present shows.
     let lists = c.args.lists.now in
     let row : None ≡ respond_rule c.args.present.now c.args.host (length lists.accepted) lists.offers lists.responses c.args.more c.args.list.now = search rules in
-    let answered = subst (λ (l : Lists). HostResponds l c.args.more c.args.list.now c.answer.new.self c.in_ok-answer.field-0) c.in_ok-after.ensures c.in_ok-answer.ensures.done in
-    let done = subst (λ (r : Responded). HostResponds lists c.args.more c.args.list.now c.answer.new.self r) c.in-Done.is answered in (
-      response_row c.args.present.now c.args.host lists c.answer.new.self c.args.list.now c.args.more (sym row) c.args.config.now v present shows,
-      answered_drafts c.args.config.now c.args.present.now c.args.host v lists c.answer.new.self c.args.list.now c.in-Done.accepted c.args.more c.in_ok-offer_answered-in-Done.field-0
+    let done = subst (λ (r : Responded). HostResponds lists c.args.more c.args.list.now c.in_ok-after.after r) c.in-Done.is c.in_ok-after.ensures in (
+      response_row c.args.present.now c.args.host lists c.in_ok-after.after c.args.list.now c.args.more (sym row) c.args.config.now v present shows,
+      answered_drafts c.args.config.now c.args.present.now c.args.host v lists c.in_ok-after.after c.args.list.now c.in-Done.accepted c.args.more c.in_ok-offer_answered-in-Done.field-0
           present shows done.0 done.1 c.in_ok-offer_answered-in-Done.ensures.drafts,
     )
