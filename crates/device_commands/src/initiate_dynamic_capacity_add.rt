@@ -9,19 +9,20 @@ ghost use Rattle.device_commands.specs.InitiateDynamicCapacityAdd.{is_used_tag, 
 ghost use Rattle.device_commands.specs.InitiateDynamicCapacityAdd.{tag_rule};
 ghost use Rattle.device_commands.specs.ListDrafts.{TellOf};
 ghost use Rattle.event_records.specs.declared.events.EventKind.{EventKind};
-ghost use Rattle.extent_list.specs.ExtentLists.{has_extent_of};
+ghost use Rattle.dcd_base.specs.Limits.{tags_supported};
+ghost use Rattle.extent_list.specs.ExtentLists.{has_extent_of, real_tags};
 ghost use Rattle.journal_core.specs.declared.outcome.Effect.{Effect};
 ghost use Rattle.device_state.specs.StateAfter.{IsReached, part_of};
 ghost use Rattle.dcd_base.specs.declared.steps.LogId.{LogId};
-ghost use Rattle.host_lists.specs.Lists.{extent_total};
+ghost use Rattle.host_lists.specs.Lists.{extent_total, extents_of_lists};
 ghost use Rattle.std.specs.List.{list_any};
-ghost use Rattle.std.specs.Prelude.{◌≡◌, ◌+◌, ◌==◌, ◌^◌, ◌<◌, ◌≤◌, ◌∷◌, [], IfNone, IfOk, length};
+ghost use Rattle.std.specs.Prelude.{◌≡◌, ◌++◌, ◌+◌, ◌-◌, ◌==◌, ◌^◌, ◌<◌, ◌≤◌, ◌∷◌, [], IfNone, IfOk, length};
 ghost use Rattle.tag_refs.specs.Tables.{passes};
 ghost use Rattle.tag_refs.specs.declared.entries.TagEntry.{TagEntry};
 
 use crate::choosing::{Asked, new_extents};
 use crate::draft::Draft;
-use crate::log_records::{LogRecords, log_full, records_to};
+use crate::log_records::{LogRecords, log_full, one_record, records_by_tags};
 use dcd_base::limits::TAGS;
 use dcd_base::{Extent, Extents, HostId, LogId, NoMemory, RegionId, Seq, Tag, is_no_tag};
 use dcd_codes::{Refusal, Rule};
@@ -94,10 +95,11 @@ fn offer_of(alloc: Global, state: &State, asked: &Asked, extents: Extents) -> Re
     requires listed { length extents < 2 ^ 16 }
     ensures { AnswersOffer state.now asked.now.host extents result }
 {
-    if let Some(rule) = room_rule(state, asked.host, &extents) {
+    let tags = tags_with(state, asked.host, &extents);
+    if let Some(rule) = room_rule(state, asked.host, &extents, tags) {
         return Err(Refusal::Broken(rule));
     }
-    Ok(offer_draft(alloc, state, asked, extents)?)
+    Ok(offer_draft(alloc, state, asked, extents, tags)?)
 }
 
 /// The rule that is broken where there is no such host, policy or region.
@@ -218,11 +220,22 @@ fn is_open_in(state: &State, region: RegionId, tag: &Tag) -> bool
     }
 }
 
-/// The rule that is broken where the host would have too many extents or tags, or its log has no room.
-fn room_rule(state: &State, host: HostId, extents: &Extents) -> Option<Rule>
+/// How many tags the host would have with these extents.
+fn tags_with(state: &State, host: HostId, extents: &Extents) -> u32
     requires part { host < length state.now.hosts.items }
     requires few { extent_total (part_of state.now host).lists ≤ 64 }
     requires listed { length extents.now < 2 ^ 16 }
+    ensures { result ≡ length (real_tags (extents_of_lists (part_of state.now host).lists ++ extents.now)) }
+{
+    state.part(host).lists.tags_with(extents.as_slice())
+}
+
+/// The rule that is broken where the host would have too many extents, or so many tags too many, or its log has no room.
+fn room_rule(state: &State, host: HostId, extents: &Extents, tags: u32) -> Option<Rule>
+    requires part { host < length state.now.hosts.items }
+    requires few { extent_total (part_of state.now host).lists ≤ 64 }
+    requires listed { length extents.now < 2 ^ 16 }
+    requires tags { tags ≡ length (real_tags (extents_of_lists (part_of state.now host).lists ++ extents.now)) }
     ensures row { IsRoomRule state.now host extents.now result }
     ensures within { IfNone result (extent_total (part_of state.now host).lists + length extents.now ≤ 64) }
 {
@@ -231,29 +244,36 @@ fn room_rule(state: &State, host: HostId, extents: &Extents) -> Option<Rule>
     if let Some(rule) = too_many_extents(total) {
         return Some(rule);
     }
-    let tags = lists.tags_with(extents.as_slice());
     if tags > TAGS {
         return Some(Rule::TooManyTags(tags));
     }
     log_full(state, host, extents.len() as u32)
 }
 
-/// The offer, and a record for each extent.
+/// The offer, and a record for each extent. With it the host has so many tags.
 fn offer_draft(
     alloc: Global,
     state: &State,
     asked: &Asked,
     extents: Extents,
+    tags: u32,
 ) -> Result<Draft, NoMemory>
     requires part { asked.now.host < length state.now.hosts.items }
     requires few { extent_total (part_of state.now asked.now.host).lists + length extents ≤ 64 }
+    requires tags { tags ≡ length (real_tags (extents_of_lists (part_of state.now asked.now.host).lists ++ extents)) }
     ensures { IfOk result (DraftOffers asked.now.host (part_of state.now asked.now.host).lists extents) }
 {
     let lists = lists_with(state, asked, &extents)?;
-    let log_records = offer_records(alloc, asked.host, &lists, &extents)?;
+    let log_records = offer_records(
+        alloc,
+        asked.host,
+        &lists,
+        TAGS.saturating_sub(tags),
+        &extents,
+    )?;
     let changes = offering(alloc, asked.host, extents)?;
-    let tags = Seq::new(alloc);
-    Draft::listing(alloc, changes, tags, log_records, lists)
+    let ended = Seq::new(alloc);
+    Draft::listing(alloc, changes, ended, log_records, lists)
 }
 
 /// The lists of the host with the offer.
@@ -266,24 +286,21 @@ fn lists_with(state: &State, asked: &Asked, extents: &Extents) -> Result<HostLis
     Ok(lists)
 }
 
-/// The records for the host.
+/// The records for the host, which has so many tags available by these lists.
 fn offer_records(
     alloc: Global,
     host: HostId,
     lists: &HostLists,
+    tags_available: u32,
     extents: &Extents,
 ) -> Result<Seq<LogRecords>, NoMemory>
-    requires { extent_total lists.now ≤ 64 }
+    requires few { extent_total lists.now ≤ 64 }
+    requires tags { tags_available ≡ tags_supported - length (real_tags (extents_of_lists lists.now)) }
     ensures { IfOk result (TellOf host EventKind.Add lists.now extents.now) }
 {
-    records_to(
-        alloc,
-        LogId::Host(host),
-        host,
-        lists,
-        EventKind::Add,
-        extents.as_slice(),
-    )
+    let (kind, extents) = (EventKind::Add, extents.as_slice());
+    let events = records_by_tags(alloc, host, lists, tags_available, kind, extents)?;
+    one_record(alloc, LogId::Host(host), events)
 }
 
 /// The change that an offer is.

@@ -4,8 +4,10 @@ ghost use Rattle.device_rules.specs.Outcomes.{record_for, records_of_extents, no
 ghost use Rattle.device_rules.specs.Views.{View};
 ghost use Rattle.event_records.specs.declared.events.EventKind.{EventKind};
 ghost use Rattle.device_state.specs.StateAfter.{lists_in, part_of, IsLogOf};
-ghost use Rattle.host_lists.specs.Lists.{extent_total};
-ghost use Rattle.std.specs.Prelude.{◌≡◌, ◌≤◌, ◌∷◌, [], IfOk, ◌<◌, length, map};
+ghost use Rattle.dcd_base.specs.Limits.{tags_supported};
+ghost use Rattle.extent_list.specs.ExtentLists.{real_tags};
+ghost use Rattle.host_lists.specs.Lists.{extent_total, extents_of_lists};
+ghost use Rattle.std.specs.Prelude.{◌≡◌, ◌-◌, ◌≤◌, ◌∷◌, [], IfOk, ◌<◌, length, map};
 ghost use Rattle.dcd_base.specs.declared.steps.LogId.{LogId};
 ghost use Rattle.device_commands.specs.Drafts.{as_records};
 ghost use Rattle.event_log.specs.Logs.{Log};
@@ -58,8 +60,24 @@ pub fn records_of_extents(
     requires { extent_total lists.now ≤ 64 }
     ensures { IfOk result (λ events. (v : View) → lists.now ≡ lists_in v → events ≡ records_of_extents host v kind extents.now) }
 {
+    records_by_tags(alloc, host, lists, lists.tags_available(), kind, extents)
+}
+
+/// A record for each extent, each of which says whether more come, where it is known how many tags the host has available
+/// by these lists.
+pub(crate) fn records_by_tags(
+    alloc: Global,
+    host: HostId,
+    lists: &HostLists,
+    tags_available: u32,
+    kind: EventKind,
+    extents: &[Extent],
+) -> Result<Seq<Event>, NoMemory>
+    requires few { extent_total lists.now ≤ 64 }
+    requires tags { tags_available ≡ tags_supported - length (real_tags (extents_of_lists lists.now)) }
+    ensures { IfOk result (λ events. (v : View) → lists.now ≡ lists_in v → events ≡ records_of_extents host v kind extents.now) }
+{
     let extents_available = lists.extents_available();
-    let tags_available = lists.tags_available();
     let mut events = Seq::with_capacity(alloc, extents.len())?;
     for i in 0..extents.len() {
         events.push(Event {

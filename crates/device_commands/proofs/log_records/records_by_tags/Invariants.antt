@@ -2,7 +2,7 @@ use Rattle.std.proofs.Common.{◌≡◌, ◌++◌, drop}
 use Rattle.device_rules.specs.Outcomes.{records_of_extents}
 use Rattle.device_rules.specs.Views.{View}
 use Rattle.device_state.specs.StateAfter.{lists_in}
-use Rattle.device_commands.proofs.log_records.records_of_extents.Given as goal
+use Rattle.device_commands.proofs.log_records.records_by_tags.Given as goal
 
 -- The records so far, and those of the rest, are all.
 abbrev pub invariant-loop-i : goal.invariant-loop-i
