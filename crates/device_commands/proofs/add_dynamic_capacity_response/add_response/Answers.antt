@@ -1,4 +1,4 @@
-use Rattle.std.proofs.Common.{◌≡◌, ◌++◌, [], false, length, None, rules, subst, sym}
+use Rattle.std.proofs.Common.{◌≡◌, length, None, rules, subst, sym}
 use Rattle.host_lists.specs.declared.responded.Responded.{Responded}
 use Rattle.host_lists.specs.Answers.{HostResponds}
 use Rattle.offer_core.proofs.NoOffer.{nothing_offered}
