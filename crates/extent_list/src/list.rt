@@ -66,7 +66,7 @@ impl ExtentList {
         })
     }
 
-    /// An equal list of its own, with room for so many more extents, so that a change of it takes no more memory.
+    /// An equal list of its own, which has its memory for so many more extents from the start.
     pub fn copy_with_room(&self, more: usize) -> Result<ExtentList, NoMemory>
         ensures { IfOk result (λ copy. copy.extents ≡ self.now.extents) }
     {

@@ -66,8 +66,7 @@ impl HostLists {
         })
     }
 
-    /// Equal lists of their own, with room for so many more accepted extents, so that a change of those takes no more
-    /// memory.
+    /// Equal lists of their own, which have their memory for so many more accepted extents from the start.
     pub fn copy_with_room(&self, more: usize) -> Result<HostLists, NoMemory>
         ensures { IfOk result (λ copy. copy ≡ self.now) }
     {
