@@ -8,6 +8,7 @@ ghost use Rattle.report.specs.Printing.{Puts};
 ghost use Rattle.report.specs.Texts.{entry_line, entry_lines, fault_number, kind_name, next_word, reply_words, rest_of_line, seen_line};
 ghost use Rattle.std.specs.Prelude.{◌≡◌, ◌<◌, ◌^◌, length};
 
+use crate::line_numbers::LineNumber;
 use crate::printing::Printer;
 use crate::step_writing::step_room;
 use cci_codec::response_head;
@@ -120,22 +121,22 @@ fn put_step_parts<K: Sink>(printer: &mut Printer, sink: &mut K, number: u64, ste
 
 /// Puts the line of a step: its number, its line in the script, its actor, and its answer. It mostly fits into the piece.
 #[tactic(auto, using(crate::proofs::Parts::prints_waiting))]
-fn put_step<K: Sink>(printer: &mut Printer, sink: &mut K, number: u64, step: &StepSeen<'_>)
+fn put_step<K: Sink>(printer: &mut Printer, sink: &mut K, number: &LineNumber, step: &StepSeen<'_>)
     requires { IsShort (seen_reply step.now.reply) }
-    ensures { Puts K.taken K.faults sink.old printer.old sink.new printer.new (seen_line number step.now) }
+    ensures { Puts K.taken K.faults sink.old printer.old sink.new printer.new (seen_line number.now step.now) }
 {
     if step_room(&step.reply) <= printer.room() {
         printer.store_step(number, step);
     } else {
-        put_step_parts(printer, sink, number, step);
+        put_step_parts(printer, sink, number.number(), step);
     }
 }
 
 /// Puts the line of an entry, which is lent.
 #[tactic(auto, unfolding(crate::specs::Texts::entry_line))]
-fn put_entry<K: Sink>(printer: &mut Printer, sink: &mut K, number: u64, entry: &Lent<'_>)
+fn put_entry<K: Sink>(printer: &mut Printer, sink: &mut K, number: &LineNumber, entry: &Lent<'_>)
     requires { IsShort (lent_entry entry.now).reply }
-    ensures { Puts K.taken K.faults sink.old printer.old sink.new printer.new (entry_line (number, lent_entry entry.now)) }
+    ensures { Puts K.taken K.faults sink.old printer.old sink.new printer.new (entry_line (number.now, lent_entry entry.now)) }
 {
     let step = entry.seen();
     put_step(printer, sink, number, &step);
@@ -149,11 +150,13 @@ pub fn put_entries<K: Sink, J: Lender>(printer: &mut Printer, sink: &mut K, jour
     ensures count { result ≡ length (J.rest journal.old) }
     ensures lines { Puts K.taken K.faults sink.old printer.old sink.new printer.new (entry_lines (J.rest journal.old)) }
 {
-    let mut number = 0;
+    let mut count = 0;
+    let mut number = LineNumber::new(1);
     while let Some(entry) = journal.peek() {
-        number += 1;
-        put_entry(printer, sink, number, &entry);
+        put_entry(printer, sink, &number, &entry);
         journal.skip();
+        number.count_up();
+        count += 1;
     }
-    number
+    count
 }

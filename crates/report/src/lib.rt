@@ -5,6 +5,7 @@
 
 mod entry_lines;
 mod hex_digits;
+mod line_numbers;
 mod places;
 mod printing;
 mod refusals;

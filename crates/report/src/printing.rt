@@ -8,6 +8,7 @@ ghost use Rattle.report.specs.Texts.{seen_line};
 ghost use Rattle.std.specs.Prelude.{◌≡◌, ◌+◌, ◌*◌, ◌<◌, ◌≤◌, [], ◌∷◌, ◌++◌, IfSome, None, OnErr, OnOk, Some, decimal, length};
 
 use crate::hex_digits::write_hex;
+use crate::line_numbers::LineNumber;
 use crate::places::write_bytes;
 use crate::step_writing::write_step;
 use dcd_base::{Failed, Sink, write_all};
@@ -205,10 +206,10 @@ impl Printer {
 
     /// Lets the line of a step wait.
     #[inline(always)]
-    pub fn store_step(&mut self, number: u64, step: &StepSeen<'_>)
+    pub fn store_step(&mut self, number: &LineNumber, step: &StepSeen<'_>)
         requires short { IsShort (seen_reply step.now.reply) }
         requires room { IfSome self.old (λ waits. length waits + step_room (seen_reply step.now.reply) ≤ piece_length) }
-        ensures { self.new ≡ with_bytes (seen_line number step.now) self.old }
+        ensures { self.new ≡ with_bytes (seen_line number.now step.now) self.old }
     {
         if !self.failed {
             self.len = write_step(&mut self.buffer, self.len, number, step);

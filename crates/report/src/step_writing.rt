@@ -11,6 +11,7 @@ ghost use Rattle.report.specs.Texts.{actor_name, host_name, kind_name, next_word
 ghost use Rattle.std.specs.Prelude.{◌≡◌, ◌+◌, ◌*◌, ◌<◌, ◌≤◌, ◌++◌, ◌∷◌, [], decimal, length, take};
 
 use crate::hex_digits::{digits_of_sixteen, write_hex};
+use crate::line_numbers::LineNumber;
 use crate::response_heads::wide_head;
 use dcd_base::{AccessFault, Actor};
 use itoa::write_digits;
@@ -64,7 +65,7 @@ fn write_numeral(out: &mut [u8], at: usize, numeral: u8x32, count: usize) -> usi
 
 /// The decimal digits of a number, at most 20, and how many there are.
 #[inline(always)]
-fn numeral(number: u64) -> (u8x32, usize)
+pub(crate) fn numeral(number: u64) -> (u8x32, usize)
     ensures count { result.1 ≤ 20 }
     ensures digits { take result.1 result.0 ≡ decimal number }
 {
@@ -84,18 +85,18 @@ fn write_number(out: &mut [u8], at: usize, number: u64) -> usize
     write_numeral(out, at, digits, count)
 }
 
-/// Writes two numbers with a space between. The digits of two that are equal are made once.
+/// Writes the number of a line and another with a space between. Where they are equal, the digits of the first are written twice.
 #[inline(always)]
 #[tactic(auto, using(crate::proofs::Placed::written_then))]
-fn write_numbers(out: &mut [u8], at: usize, first: u64, second: u64) -> usize
+fn write_numbers(out: &mut [u8], at: usize, first: &LineNumber, second: u64) -> usize
     requires { at + 53 ≤ length out.old }
     ensures end { result ≤ at + 41 }
-    ensures digits { IsWrittenAt at out.old result out.new (decimal first ++ next_word (decimal second)) }
+    ensures digits { IsWrittenAt at out.old result out.new (decimal first.now ++ next_word (decimal second)) }
 {
-    let (digits, count) = numeral(first);
+    let (digits, count) = first.numeral();
     let end = write_numeral(out, at, digits, count);
     write_byte(out, end, b' ');
-    if first == second {
+    if first.number() == second {
         write_numeral(out, end + 1, digits, count)
     } else {
         write_number(out, end + 1, second)
@@ -293,11 +294,16 @@ fn write_reply(out: &mut [u8], at: usize, reply: &ReplySeen<'_>) -> usize
 /// Writes the line of a step at a place, behind what stands before it, and answers where it ends.
 #[inline(always)]
 #[tactic(auto, using(crate::proofs::Placed::written_then), unfolding(crate::specs::Texts::step_line))]
-pub(crate) fn write_step(out: &mut [u8], at: usize, number: u64, step: &StepSeen<'_>) -> usize
+pub(crate) fn write_step(
+    out: &mut [u8],
+    at: usize,
+    number: &LineNumber,
+    step: &StepSeen<'_>,
+) -> usize
     requires short { IsShort (seen_reply step.now.reply) }
     requires room { at + step_room (seen_reply step.now.reply) ≤ length out.old }
     ensures end { result ≤ length out.old }
-    ensures line { IsWrittenAt at out.old result out.new (seen_line number step.now) }
+    ensures line { IsWrittenAt at out.old result out.new (seen_line number.now step.now) }
 {
     let numbered = write_numbers(out, at, number, u64::from(step.line));
     let named = write_actor(out, numbered, step.actor);
