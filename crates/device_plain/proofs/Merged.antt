@@ -13,7 +13,7 @@ use Rattle.journal_core.specs.declared.entries.Entry.{Entry}
 use Rattle.journal_core.specs.Accesses.{access_entry, load_said}
 use Rattle.journal_core.specs.Entries.{effects, is_control}
 use Rattle.journal_core.specs.Merging.{Rising, is_later, merged}
-use Rattle.journal_core.proofs.Pairs.{length_of_both}
+use Rattle.journal_core.proofs.Pairs.{in_order_before_none, length_of_both}
 use Rattle.journal_core.proofs.Pushing.{merged-control_last, merged-shard_last, merged_of_one}
 use Rattle.media_map.specs.Places.{locate}
 use Rattle.region_config.specs.Configurations.{Configuration}
@@ -31,6 +31,10 @@ use Rattle.device_plain.proofs.Numbered.{accesses-push, before_access, before_co
 -- the journal has the entries of both
 pub length_of_whole : (control accesses : List Entry) → length (merged control (accesses ∷ [])) ≡ length control + length accesses
 length_of_whole control accesses = ap length (merged_of_one control accesses) ∙ length_of_both control accesses
+
+-- without loads and stores the journal has the control's entries alone
+pub without_accesses : (control accesses : List Entry) → accesses ≡ [] → Rising control → merged control (accesses ∷ []) ≡ control
+without_accesses control accesses none rises = ap (λ (es : List Entry). merged control (es ∷ [])) none ∙ in_order_before_none control rises
 
 -- a fresh device
 pub both_first : (c : Configuration) (m : Media) → IsSound c → length m.holders ≡ granule_total c → IsFresh m → KeepsBoth c [] [] m 0

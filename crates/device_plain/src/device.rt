@@ -4,19 +4,19 @@ ghost use Rattle.control_core.specs.Deciding.{AreShort};
 ghost use Rattle.control_core.specs.Steps.{MayStep};
 ghost use Rattle.dcd_base.specs.declared.steps.Actor.{Actor};
 ghost use Rattle.device_plain.specs.Devices.{Appends, Enters};
-ghost use Rattle.device_plain.specs.Numbering.{IsCounted, commands_of};
+ghost use Rattle.device_plain.specs.Numbering.{IsCounted, accesses_of, commands_of};
 ghost use Rattle.device_rules.specs.Legal.{Exclusive, Legal};
 ghost use Rattle.journal_core.specs.declared.acts.Act.{Act};
 ghost use Rattle.journal_core.specs.Entries.{Each, effects, fits};
 ghost use Rattle.journal_core.specs.Merging.{Numbered};
-ghost use Rattle.std.specs.Prelude.{◌≡◌, ◌<◌, ◌^◌, [], IfOk, IsTrue, OnErr, OnOk, length};
+ghost use Rattle.std.specs.Prelude.{◌≡◌, ◌<◌, ◌^◌, [], IfOk, IfSome, IsNone, IsTrue, OnErr, OnOk, length};
 
 use crate::accesses::{reserve, stamp_of};
 use control_core::Control;
 use dcd_base::{Actor, HostId, NoMemory};
 use granule_mem::Memory;
 use holding_laws::law_exclusive;
-use journal_core::{Access, Act, Reply, Whole, whole};
+use journal_core::{Access, Act, LentEntries, Reply, Whole, whole};
 use live_device::{granted, make_all, refused_by, store_at, word_at};
 use region_config::Config;
 use std::alloc::Global;
@@ -80,6 +80,18 @@ impl Device {
         ensures { result ≡ length self.now.journal }
     {
         self.control.entries().len() as u64 + self.accesses.as_slice().len() as u64
+    }
+
+    /// All steps in order where none of them is a load or a store: the control's entries alone, lent.
+    pub fn commands(&self) -> Option<LentEntries<'_>>
+        ensures all { IfSome result (λ commands. commands ≡ self.now.journal) }
+        ensures none { IsNone result → 0 < length (accesses_of self.now.journal) }
+    {
+        if self.accesses.as_slice().is_empty() {
+            Some(self.control.entries().lend())
+        } else {
+            None
+        }
     }
 
     /// All steps in order, each with what it replied: the control's entries and the loads and stores, lent.

@@ -21,7 +21,10 @@ pub(crate) fn print_text<K: Sink>(device: &Device, sink: &mut K) -> Result<(), F
     ensures failed { OnErr result (HasRisen (K.faults sink.old) (K.faults sink.new)) }
 {
     let mut journal = device.journal();
-    render(device.control(), &mut journal, sink)
+    match device.commands() {
+        Some(mut commands) => render(device.control(), &mut commands, sink),
+        None => render(device.control(), &mut journal, sink),
+    }
 }
 
 /// Writes the summary of the journal of a device.
