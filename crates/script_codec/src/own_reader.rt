@@ -1,15 +1,16 @@
 //! A script line by line, whose bytes are let go as it is read.
 
 ghost use Rattle.script_codec.specs.LineByLine.{HasBegun, IsNext};
-ghost use Rattle.std.specs.Prelude.{◌≡◌, ◌≤◌, IfOk, drop, length};
+ghost use Rattle.std.specs.Prelude.{◌≡◌, ◌+◌, ◌≤◌, ◌-◌, drop, length, take};
 
 use crate::faults::ScriptFault;
 use crate::heads::Head;
 use crate::reader::{MOST_LINES, begin_at, next_at};
 use crate::script_line::Line;
-use dcd_base::{Bytes, NoMemory};
+use dcd_base::Bytes;
 use std::alloc::Global;
 use std::marker::Model;
+use std::mem;
 
 /// How many bytes are let go at a time at least.
 const AT_ONCE: usize = 65_536;
@@ -77,7 +78,7 @@ impl OwnReader {
         ensures hosts { self.new.hosts ≡ self.old.hosts }
         ensures lanes { self.new.lanes ≡ self.old.lanes }
     {
-        self.let_go()?;
+        self.let_go();
         match next_at(
             self.alloc,
             self.left,
@@ -96,25 +97,40 @@ impl OwnReader {
         }
     }
 
-    /// Lets go of the bytes that are read, where they are half of all.
-    fn let_go(&mut self) -> Result<(), NoMemory>
+    /// Lets go of the bytes that are read, where they are half of all. Takes no memory.
+    fn let_go(&mut self)
         ensures { self.new ≡ self.old }
     {
-        if self.place >= AT_ONCE && self.place >= self.bytes.len() / 2 {
-            let rest = behind(self.alloc, &self.bytes, self.place)?;
-            self.before += self.place as u64;
+        let place = self.place;
+        if place >= AT_ONCE && place >= self.bytes.len() - place {
+            let bytes = mem::replace(&mut self.bytes, Bytes::new(self.alloc));
+            self.before += place as u64;
             self.place = 0;
-            self.bytes = rest;
+            self.bytes = behind(self.alloc, bytes, place);
         }
-        Ok(())
     }
 }
 
-/// The bytes behind a place, in memory of their own.
-fn behind(alloc: Global, bytes: &Bytes, place: usize) -> Result<Bytes, NoMemory>
-    requires { place ≤ length bytes.now }
-    ensures { IfOk result (λ rest. rest ≡ drop place bytes.now) }
+/// The bytes behind a place, in their own memory, the rest of which goes back.
+fn behind(alloc: Global, bytes: Bytes, place: usize) -> Bytes
+    requires within { place ≤ length bytes }
+    requires half { length bytes ≤ place + place }
+    ensures { result ≡ drop place bytes }
 {
-    let (_, rest) = bytes.as_slice().split_at(place);
-    Bytes::from_slice(alloc, rest)
+    let mut bytes = bytes.into_vec();
+    let rest = bytes.len() - place;
+    move_to_front(bytes.as_mut_slice(), place);
+    bytes.truncate(rest);
+    bytes.shrink_to_fit();
+    Bytes::from_vec(alloc, bytes)
+}
+
+/// Copies the bytes behind a place to the front.
+fn move_to_front(bytes: &mut [u8], place: usize)
+    requires within { place ≤ length bytes.old }
+    requires half { length bytes.old ≤ place + place }
+    ensures { take (length bytes.old - place) bytes.new ≡ drop place bytes.old }
+{
+    let (front, rest) = bytes.split_at_mut(place);
+    front[..rest.len()].copy_from_slice(rest);
 }

@@ -1,8 +1,9 @@
-use Rattle.std.proofs.Common.{◌∙◌}
+use Rattle.std.proofs.Common.{◌∙◌, ap}
+use Rattle.std.specs.Prelude.{drop}
 use Rattle.script_codec.proofs.Moves.{let_go_same}
 use Rattle.script_codec.proofs.own_reader.OwnReader.let_go.Goals as goal
 
-pub returns-in_ok-rest : goal.returns-in_ok-rest
-returns-in_ok-rest c =
+pub returns-then-place-len : goal.returns-then-place-len
+returns-then-place-len c =
     let r = c.self.inside in
-    let_go_same r.before r.left r.hosts r.lanes r.place r.bytes c.in_ok-rest.rest c.in_ok-rest.ensures c.self.invariant.0 ∙ c.self.view_is
+    let_go_same r.before r.left r.hosts r.lanes r.place r.bytes c.behind.result (c.behind.ensures ∙ ap (drop r.place) c.replace-bytes.ensures.value) c.self.invariant.0 ∙ c.self.view_is
