@@ -6,6 +6,7 @@
 mod entry_lines;
 mod hex_digits;
 mod line_numbers;
+mod numerals;
 mod places;
 mod printing;
 mod refusals;

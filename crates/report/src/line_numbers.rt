@@ -2,7 +2,7 @@
 
 ghost use Rattle.std.specs.Prelude.{◌≡◌, ◌+◌, ◌%◌, ◌^◌, ◌≤◌, decimal, take};
 
-use crate::step_writing::numeral;
+use crate::numerals::numeral;
 use std::marker::Model;
 use std::simd::prelude::*;
 

@@ -12,9 +12,9 @@ ghost use Rattle.std.specs.Prelude.{◌≡◌, ◌+◌, ◌*◌, ◌<◌, ◌≤
 
 use crate::hex_digits::{digits_of_sixteen, write_hex};
 use crate::line_numbers::LineNumber;
+use crate::numerals::numeral;
 use crate::response_heads::wide_head;
 use dcd_base::{AccessFault, Actor};
-use itoa::write_digits;
 use journal_core::{ActKind, ReplySeen, ResponseSeen, StepSeen};
 use std::simd::prelude::*;
 
@@ -61,17 +61,6 @@ fn write_numeral(out: &mut [u8], at: usize, numeral: u8x32, count: usize) -> usi
 {
     numeral.copy_to_slice(&mut out[at..]);
     at + count
-}
-
-/// The decimal digits of a number, at most 20, and how many there are.
-#[inline(always)]
-pub(crate) fn numeral(number: u64) -> (u8x32, usize)
-    ensures count { result.1 ≤ 20 }
-    ensures digits { take result.1 result.0 ≡ decimal number }
-{
-    let mut digits = [0u8; 52];
-    let start = write_digits(number, &mut digits, 20);
-    (u8x32::from_slice(&digits[start..]), 20 - start)
 }
 
 /// Writes a number at a place, and answers where its digits end.
