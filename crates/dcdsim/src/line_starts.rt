@@ -37,6 +37,9 @@ enum LengthByte {
     Nothing,
 }
 
+/// The kind of a line that is a command, whose length it tells.
+const COMMAND: u8 = 1;
+
 /// The place of the number of hosts.
 const HOSTS_AT: u32 = 8;
 
@@ -134,27 +137,32 @@ impl LineStarts {
             return (u32::MAX, LengthByte::Nothing);
         }
         self.note();
-        match kind {
-            1 => (2, LengthByte::Low),
-            2 => (10, LengthByte::Kind),
-            3 => (18, LengthByte::Kind),
-            4 => (3, LengthByte::Kind),
-            5 => (1, LengthByte::Kind),
-            _ => (u32::MAX, LengthByte::Nothing),
+        match (kind, fixed_length(kind)) {
+            (COMMAND, _) => (2, LengthByte::Low),
+            (_, Some(length)) => (length, LengthByte::Kind),
+            (_, None) => (u32::MAX, LengthByte::Nothing),
         }
+    }
+}
+
+/// How many bytes a line of a kind has that is no command: a load, a store, a turn of the sanitizer, or a mark. `None` of any other kind.
+#[inline(always)]
+fn fixed_length(kind: u8) -> Option<u32> {
+    match kind {
+        2 => Some(10),
+        3 => Some(18),
+        4 => Some(3),
+        5 => Some(1),
+        _ => None,
     }
 }
 
 /// How long the line is whose kind is at the place, where the bytes that say so lie in the piece.
 #[inline(always)]
 fn line_length(piece: &[u8], at: usize) -> Option<u32> {
-    match piece.get(at)? {
-        1 => command_length(piece, at),
-        2 => Some(10),
-        3 => Some(18),
-        4 => Some(3),
-        5 => Some(1),
-        _ => None,
+    match *piece.get(at)? {
+        COMMAND => command_length(piece, at),
+        kind => fixed_length(kind),
     }
 }
 
