@@ -1,12 +1,11 @@
 -- What one effect makes of a log or a host's part, seen from the effect.
-use Rattle.std.specs.Prelude.{◌≡◌, ℕ, ◌<◌, length, Option, Some, None, IfSome}
+use Rattle.std.specs.Prelude.{◌≡◌, ◌<◌, length, Option, Some, None}
 use Rattle.dcd_base.specs.declared.ids.HostId.{HostId}
 use Rattle.dcd_base.specs.declared.steps.LogId.{LogId}
 use Rattle.event_log.specs.LogStates.{LogState, with_missed, without_oldest}
 use Rattle.journal_core.specs.declared.outcome.Effect.{Effect}
-use Rattle.device_state.specs.Entered.{log_by, lists_by, put_in}
+use Rattle.device_state.specs.Entered.{log_by, put_in}
 use Rattle.device_state.specs.StateAfter.{part_of}
-use Rattle.device_state.specs.Updates.{IsOfLog}
 use Rattle.device_state.specs.declared.state.State.{State}
 
 -- the log that the effect changes
@@ -25,19 +24,9 @@ log_changed log (Effect.Cleared l n) = without_oldest n log
 log_changed log (Effect.Reset l) = record log { missed = 0 }
 log_changed log e = log
 
--- It is a log of so many hosts, or the manager's.
-abbrev pub IsOfLogs : ℕ → Effect → Type 0
-IsOfLogs hosts e = IfSome (log_told e) (IsOfLog hosts)
-
 -- The logs are changed by the effect, and no host's lists are.
 pub record AreLogged (e : Effect) (old new : State) : Type 0 where
   pub hosts : length new.hosts.items ≡ length old.hosts.items
   pub manager : new.manager ≡ log_by LogId.Manager old.manager e
   pub logs : (h : HostId) → h < length old.hosts.items → (part_of new h).log ≡ log_by (LogId.Host h) (part_of old h).log e
   pub lists : (h : HostId) → h < length old.hosts.items → (part_of new h).lists ≡ (part_of old h).lists
-
--- The hosts' lists are changed by the effect, and no host's log is.
-pub record AreUnheld (e : Effect) (old new : State) : Type 0 where
-  pub hosts : length new.hosts.items ≡ length old.hosts.items
-  pub lists : (h : HostId) → h < length old.hosts.items → (part_of new h).lists ≡ lists_by h (part_of old h).lists e
-  pub logs : (h : HostId) → h < length old.hosts.items → (part_of new h).log ≡ (part_of old h).log

@@ -1,5 +1,6 @@
 -- What the device keeps of its granules, changed granule by granule.
-use Rattle.std.specs.Prelude.{◌≡◌, ℕ, ◌<◌, ◌&&◌, Bool, true, not, nat_lt, if◌then◌else◌, length, List, Option, Some, None}
+use Rattle.std.specs.Prelude.{◌≡◌, ℕ, ◌<◌, ◌≤◌, ◌&&◌, Bool, true, not, nat_lt, if◌then◌else◌, length, List, Option, Some, None}
+use Rattle.dcd_base.specs.declared.capacity.Tag.{Tag}
 use Rattle.dcd_base.specs.declared.media.Run.{Run}
 use Rattle.region_config.specs.Configurations.{Configuration}
 use Rattle.region_config.specs.Granules.{granule_total, region_of, region_spec}
@@ -10,6 +11,8 @@ use Rattle.dcd_base.specs.declared.ids.HostId.{HostId}
 use Rattle.granule_map.specs.declared.states.GranuleState.{GranuleState}
 use Rattle.journal_core.specs.declared.outcome.Effect.{Effect}
 use Rattle.device_state.specs.Entered.{oldest_in, runs_in}
+use Rattle.device_state.specs.declared.regions.LastRegion.{LastRegion}
+use Rattle.device_state.specs.declared.regions.RegionFlags.{RegionFlags}
 use Rattle.device_state.specs.declared.state.State.{State}
 
 -- Each granule of the table becomes what the change makes of it.
@@ -22,23 +25,34 @@ abbrev pub is_private : Configuration → Run → Bool
 is_private c run = nat_lt run.first (granule_total c) && not (is_shareable_run c run)
 
 -- what is taken has to be zeroed where its region sanitizes
-abbrev pub soiled_by_taking : RegionSpec → Cell → Cell
+abbrev pub soiled_by_taking : RegionFlags → Cell → Cell
 soiled_by_taking r cell = if r.sanitize then soiled cell else cell
 
 -- what is taken is held, unless hosts can share it
-abbrev pub held_by_taking : RegionSpec → HostId → Cell → Cell
+abbrev pub held_by_taking : RegionFlags → HostId → Cell → Cell
 held_by_taking r h cell = if r.shareable then cell else given (GranuleState.Held h) cell
 
 -- what the host makes of a granule that it takes in a region
-abbrev pub taken_in : RegionSpec → HostId → Cell → Cell
+abbrev pub taken_in : RegionFlags → HostId → Cell → Cell
 taken_in r h cell = record {
   state = if r.shareable then cell.state else GranuleState.Held h;
   unclean = if r.sanitize then true else cell.unclean;
 }
 
--- the region of a granule, where it is one of the device
-abbrev pub region_found : Configuration → ℕ → Option RegionSpec
-region_found c g = if nat_lt g (granule_total c) then Some (region_spec c (region_of c g)) else None
+-- what is offered in a region belongs to its tag where hosts can share it, and else is reserved for the host
+abbrev pub offered_in : RegionFlags → HostId → Tag → Cell → Cell
+offered_in r h t cell = given (if r.shareable then GranuleState.Tagged t else GranuleState.Reserved h) cell
+
+-- what becomes of the granules of the region that a granule lies in, where it is one of the device
+abbrev pub flags_of : RegionSpec → RegionFlags
+flags_of r = record { sanitize = r.sanitize; shareable = r.shareable }
+
+abbrev pub flags_found : Configuration → ℕ → Option RegionFlags
+flags_found c g = if nat_lt g (granule_total c) then Some (flags_of (region_spec c (region_of c g))) else None
+
+-- It is known of each granule from the first up to the one before the end.
+pub record IsLastRegion (c : Configuration) (last : LastRegion) : Type 0 where
+  pub known : (g : ℕ) → last.first ≤ g → g < last.end → flags_found c g ≡ Some last.flags
 
 -- The granules are changed by an effect, or by more of them, from the offers and the runs of open tags that are kept.
 abbrev pub CellsAfter : Configuration → Effect → State → CellTable → Type 0

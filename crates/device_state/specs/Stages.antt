@@ -8,18 +8,18 @@ use Rattle.device_state.specs.StateAfter.{part_of}
 use Rattle.device_state.specs.declared.state.State.{State}
 use Rattle.device_state.specs.declared.updates.NewLists.{NewLists}
 
--- The logs are changed by the effects, and no host's lists are.
-pub record LogsOver (new : List Effect) (old now : State) : Type 0 where
+-- The logs and the hosts' lists are changed by an effect, or by more of them.
+pub record ArePartsAfter (e : Effect) (old now : State) : Type 0 where
+  pub hosts : length now.hosts.items ≡ length old.hosts.items
+  pub manager : now.manager ≡ log_by LogId.Manager old.manager e
+  pub logs : (h : HostId) → h < length old.hosts.items → (part_of now h).log ≡ log_by (LogId.Host h) (part_of old h).log e
+  pub lists : (h : HostId) → h < length old.hosts.items → (part_of now h).lists ≡ lists_by h (part_of old h).lists e
+
+pub record PartsOver (new : List Effect) (old now : State) : Type 0 where
   pub hosts : length now.hosts.items ≡ length old.hosts.items
   pub manager : now.manager ≡ fold (log_by LogId.Manager) old.manager new
   pub logs : (h : HostId) → h < length old.hosts.items → (part_of now h).log ≡ fold (log_by (LogId.Host h)) (part_of old h).log new
-  pub lists : (h : HostId) → h < length old.hosts.items → (part_of now h).lists ≡ (part_of old h).lists
-
--- The hosts' lists are changed by the effects, and no host's log is.
-pub record UnheldOver (new : List Effect) (old now : State) : Type 0 where
-  pub hosts : length now.hosts.items ≡ length old.hosts.items
   pub lists : (h : HostId) → h < length old.hosts.items → (part_of now h).lists ≡ fold (lists_by h) (part_of old h).lists new
-  pub logs : (h : HostId) → h < length old.hosts.items → (part_of now h).log ≡ (part_of old h).log
 
 -- The new lists of a host are in place, and nothing else of any host is changed.
 pub record ListsPut (new : Option NewLists) (old now : State) : Type 0 where

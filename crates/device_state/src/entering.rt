@@ -1,13 +1,11 @@
 //! A step is entered: its effects change what the device keeps, and its update is put in place.
 
-ghost use Rattle.device_state.specs.Entered.{one_told, tags_told, IsEntered, holders_by, present_by, tags_put};
-ghost use Rattle.device_state.specs.Granules.{CellsOver};
-ghost use Rattle.device_state.specs.Changes.{IsOfLogs};
+ghost use Rattle.device_state.specs.Entered.{one_told, tags_told, IsEntered, tags_put};
 ghost use Rattle.device_state.specs.StateAfter.{part_of};
-ghost use Rattle.device_state.specs.Stages.{ListsPut, LogsOver, UnheldOver};
+ghost use Rattle.device_state.specs.Stages.{ListsPut};
 ghost use Rattle.device_state.specs.Updates.{CanChange, IsOfDevice, IsOfHosts};
 ghost use Rattle.region_config.specs.Granules.{granule_total, region_spec, with_blocks};
-ghost use Rattle.std.specs.Prelude.{◌≡◌, ◌+◌, ◌<◌, ◌≤◌, All, false, fold, length, true};
+ghost use Rattle.std.specs.Prelude.{◌≡◌, ◌+◌, ◌<◌, ◌≤◌, All, false, length, true};
 ghost use Rattle.tag_refs.specs.Tables.{entries_changed, still_used, with_reference};
 
 use crate::state::State;
@@ -32,48 +30,8 @@ impl State {
     {
         // There are 16 hosts at most.
         let _hosts = config.hosts();
-        self.change_all_granules(config, effects);
-        self.change_all_logs(effects);
-        self.change_all_others(effects);
+        self.change_all(config, effects);
         self.put(update);
-    }
-
-    /// Changes the granules by each effect in turn.
-    fn change_all_granules(&mut self, config: &Config, effects: &[Effect])
-        requires hosts { length self.old.hosts.items ≡ config.now.hosts }
-        requires granules { length self.old.granules.states ≡ granule_total config.now }
-        requires of_device { All (IsOfDevice config.now) effects.now }
-        ensures cells { CellsOver config.now effects.now self.old self.new.granules }
-        ensures kept { self.new ≡ record self.old { granules = self.new.granules } }
-    {
-        for i in 0..effects.len() {
-            self.change_granules(config, &effects[i]);
-        }
-    }
-
-    /// Changes the logs by each effect in turn.
-    fn change_all_logs(&mut self, effects: &[Effect])
-        requires { All (IsOfLogs (length self.old.hosts.items)) effects.now }
-        ensures logs { LogsOver effects.now self.old self.new }
-        ensures kept { self.new ≡ record self.old { hosts = self.new.hosts; manager = self.new.manager } }
-    {
-        for i in 0..effects.len() {
-            self.change_logs(&effects[i]);
-        }
-    }
-
-    /// Changes the block sizes, the held lists and the holders by each effect in turn.
-    fn change_all_others(&mut self, effects: &[Effect])
-        requires hosts { length self.old.hosts.items ≡ self.old.present.hosts }
-        requires of_device { All (IsOfDevice self.old.present) effects.now }
-        ensures present { self.new.present ≡ fold present_by self.old.present effects.now }
-        ensures holders { self.new.holders ≡ fold holders_by self.old.holders effects.now }
-        ensures lists { UnheldOver effects.now self.old self.new }
-        ensures kept { self.new ≡ record self.old { present = self.new.present; hosts = self.new.hosts; holders = self.new.holders } }
-    {
-        for i in 0..effects.len() {
-            self.change_others(&effects[i]);
-        }
     }
 
     /// Puts an update in place.

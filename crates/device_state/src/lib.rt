@@ -6,12 +6,14 @@
 #![tactic(auto)]
 
 mod alike;
+mod changing;
 mod entering;
 mod granules;
 mod holders;
 mod laws;
 mod parts;
 mod records;
+mod regions;
 mod state;
 mod updates;
 

@@ -1,10 +1,11 @@
-//! What an effect makes of the logs, the block sizes, the held lists and the holders.
+//! What effects make of the logs, the block sizes and the held lists.
 
-ghost use Rattle.device_state.specs.Entered.{with_lists, with_log, holders_by, log_by, present_by, put_in, unheld};
+ghost use Rattle.device_state.specs.Entered.{with_lists, with_log, log_by, put_in, unheld};
 ghost use Rattle.device_rules.specs.Logs.{same_log};
-ghost use Rattle.device_state.specs.Changes.{AreLogged, AreUnheld, IsOfLogs, log_changed, log_told};
+ghost use Rattle.device_state.specs.Changes.{AreLogged, log_changed, log_told};
 ghost use Rattle.device_state.specs.StateAfter.{part_of};
-ghost use Rattle.device_state.specs.Updates.{IsOfDevice, IsOfLog};
+ghost use Rattle.device_state.specs.Updates.{IsOfLog};
+ghost use Rattle.event_log.specs.LogStates.{with_missed};
 ghost use Rattle.region_config.specs.Blocks.{with_block};
 ghost use Rattle.region_config.specs.Granules.{is_supported, region_spec};
 ghost use Rattle.std.specs.Prelude.{◌≡◌, ◌<◌, Some, length, true};
@@ -17,20 +18,50 @@ use host_lists::HostLists;
 use journal_core::{Effect, HeldKind};
 
 impl State {
-    /// Changes the logs as the effect says.
-    pub(crate) fn change_logs(&mut self, effect: &Effect)
-        requires { IsOfLogs (length self.old.hosts.items) effect.now }
-        ensures logs { AreLogged effect.now self.old self.new }
+    /// The log gets the record, unless it is full.
+    pub(crate) fn put_record(&mut self, log: LogId, event: &Event)
+        requires { IsOfLog (length self.old.hosts.items) log }
+        ensures logs { AreLogged (Effect.Logged log event.now) self.old self.new }
         ensures kept { self.new ≡ record self.old { hosts = self.new.hosts; manager = self.new.manager } }
     {
-        match log_of(effect) {
-            Some(log) => self.change_log_of(log, effect),
-            None => (),
+        match log {
+            LogId::Host(host) => self.put_record_of_host(host, event),
+            LogId::Manager => put(&mut self.manager, *event),
         }
     }
 
+    /// The log of the host gets the record, unless it is full.
+    fn put_record_of_host(&mut self, host: HostId, event: &Event)
+        requires { host < length self.old.hosts.items }
+        ensures hosts { self.new.hosts.items ≡ with_log self.old host (put_in (part_of self.old host).log event.now) }
+        ensures kept { self.new ≡ record self.old { hosts = self.new.hosts } }
+    {
+        put(&mut self.hosts[usize::from(host.0)].log, *event);
+    }
+
+    /// The log counts a record that it has not.
+    pub(crate) fn count_missed(&mut self, log: LogId)
+        requires { IsOfLog (length self.old.hosts.items) log }
+        ensures logs { AreLogged (Effect.Missed log) self.old self.new }
+        ensures kept { self.new ≡ record self.old { hosts = self.new.hosts; manager = self.new.manager } }
+    {
+        match log {
+            LogId::Host(host) => self.count_missed_of_host(host),
+            LogId::Manager => self.manager.count_missed(),
+        }
+    }
+
+    /// The log of the host counts a record that it has not.
+    fn count_missed_of_host(&mut self, host: HostId)
+        requires { host < length self.old.hosts.items }
+        ensures hosts { self.new.hosts.items ≡ with_log self.old host (with_missed (part_of self.old host).log) }
+        ensures kept { self.new ≡ record self.old { hosts = self.new.hosts } }
+    {
+        self.hosts[usize::from(host.0)].log.count_missed();
+    }
+
     /// Changes the log that the effect changes, which is this one.
-    fn change_log_of(&mut self, log: LogId, effect: &Effect)
+    pub(crate) fn change_log_of(&mut self, log: LogId, effect: &Effect)
         requires known { IsOfLog (length self.old.hosts.items) log }
         requires told { log_told effect.now ≡ Some log }
         ensures logs { AreLogged effect.now self.old self.new }
@@ -51,28 +82,8 @@ impl State {
         change_log(&mut self.hosts[usize::from(host.0)].log, effect);
     }
 
-    /// Changes the block sizes as the effect says, and lets held lists go that end.
-    pub(crate) fn change_others(&mut self, effect: &Effect)
-        requires hosts { length self.old.hosts.items ≡ self.old.present.hosts }
-        requires of_device { IsOfDevice self.old.present effect.now }
-        ensures present { self.new.present ≡ present_by self.old.present effect.now }
-        ensures holders { self.new.holders ≡ holders_by self.old.holders effect.now }
-        ensures lists { AreUnheld effect.now self.old self.new }
-        ensures kept { self.new ≡ record self.old { present = self.new.present; hosts = self.new.hosts; holders = self.new.holders } }
-    {
-        // There are 16 hosts at most.
-        let _hosts = self.present.hosts();
-        match effect {
-            Effect::Block(region, size) => self.set_block(*region, *size),
-            Effect::Unhold(host, kind) => self.unhold(*host, *kind),
-            Effect::Take(host, run) => self.holders.set(*host, *run, true),
-            Effect::Leave(host, run) => self.holders.set(*host, *run, false),
-            _ => (),
-        }
-    }
-
     /// The region has blocks of this size, which it supports.
-    fn set_block(&mut self, region: RegionId, size: u64)
+    pub(crate) fn set_block(&mut self, region: RegionId, size: u64)
         requires known { region < length self.old.present.regions }
         requires supported { is_supported (region_spec self.old.present region) size ≡ true }
         ensures { self.new ≡ record self.old { present = with_block self.old.present region size } }
@@ -82,7 +93,7 @@ impl State {
     }
 
     /// What the host holds of this kind is let go.
-    fn unhold(&mut self, host: HostId, kind: HeldKind)
+    pub(crate) fn unhold(&mut self, host: HostId, kind: HeldKind)
         requires { host < length self.old.hosts.items }
         ensures hosts { self.new.hosts.items ≡ with_lists self.old host (unheld kind (part_of self.old host).lists) }
         ensures kept { self.new ≡ record self.old { hosts = self.new.hosts } }
