@@ -27,8 +27,8 @@ impl State {
         ensures tags { self.new.tags ≡ self.old.tags }
     {
         let mut last = LastRegion::none();
-        for i in 0..effects.len() {
-            self.change(config, &mut last, &effects[i]);
+        for effect in effects {
+            self.change(config, &mut last, effect);
         }
     }
 

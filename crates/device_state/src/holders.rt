@@ -4,7 +4,7 @@ ghost use Rattle.device_state.specs.Entered.{bits_set, held_in};
 ghost use Rattle.std.specs.Prelude.{◌≡◌, ◌==◌, ◌<◌, ◌≤◌, IfOk, false, if◌then◌else◌, length, replicate, slice_index_or, ℕ};
 ghost use Rattle.dcd_base.specs.Hosts.{with_host, without_host};
 
-use crate::alike::held_so_up_to;
+use crate::alike::{held_so_up_to, other_from};
 use dcd_base::{Granule, HostId, NoMemory, Run, host_bits};
 use std::alloc::Global;
 use std::marker::Model;
@@ -53,12 +53,7 @@ impl Holders {
     {
         let bits = self.at(Granule(at));
         let alike = held_so_up_to(self.bits.as_slice(), bits, at, end);
-        for next in alike.max(at + 1)..end {
-            if self.at(Granule(next)) != bits {
-                return next;
-            }
-        }
-        end
+        other_from(self.bits.as_slice(), bits, alike.max(at + 1), end)
     }
 
     /// The host holds the granules of the run from now on, or holds them no longer.

@@ -13,7 +13,7 @@ pub returns : goal.returns
 returns c = λ none g low high.
     let bits = c.args.bits.now in
     let part = drop c.args.first bits in
-    let room : 16 ≤ length part = omega (arith, length-drop c.args.first bits, c.requires) in
-    let long : length (chunk 0 16 part) ≡ 16 = length-chunk 0 16 part (omega (arith, room)) in
-    let next = next_none (λ b. differs b c.args.held) bits part c.args.first 16 _ refl room (omega arith) (bitmask_splat w16 differs (chunk 0 16 part) 16 c.args.held long (omega arith)) (eqb-true _ 0 none) in
+    let room : 32 ≤ length part = omega (arith, length-drop c.args.first bits, c.requires) in
+    let long : length (chunk 0 32 part) ≡ 32 = length-chunk 0 32 part (omega (arith, room)) in
+    let next = next_none (λ b. differs b c.args.held) bits part c.args.first 32 _ refl room (omega arith) (bitmask_splat w16 differs (chunk 0 32 part) 32 c.args.held long (omega arith)) (eqb-true _ 0 none) in
     eqb-true (get_or bits g 0) c.args.held (not-false (eqb (get_or bits g 0) c.args.held) (next.none_before g low high))
