@@ -83,7 +83,7 @@ fn has_address(config: &Config, host: HostId, dpa: u64, region: RegionId) -> boo
     ensures { result ≡ has_address config.now host dpa region }
 {
     let base = config.base(host, region);
-    base <= dpa && dpa < base + config.region(region).length
+    base <= dpa && dpa - base < config.region(region).length
 }
 
 /// The place of an address that the region has.

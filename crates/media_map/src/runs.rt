@@ -1,8 +1,8 @@
 //! A range of addresses as a run of granules, and back.
 
-ghost use Rattle.media_map.specs.Places.{IsRun, IsRunOf, bytes_of_run, extent_of, is_granular, region_at, run_in, start_of};
+ghost use Rattle.media_map.specs.Places.{IsRun, IsRunOf, bytes_of_run, extent_of, has_address, is_granular, region_at, run_in, start_of};
 ghost use Rattle.region_config.specs.Soundness.{IsSound};
-ghost use Rattle.std.specs.Prelude.{◌≡◌, ◌+◌, ◌^◌, ◌<◌, ◌≤◌, IfSome, length};
+ghost use Rattle.std.specs.Prelude.{◌≡◌, ◌+◌, ◌^◌, ◌<◌, ◌≤◌, IfSome, IsTrue, length};
 
 use crate::places::region_at;
 use dcd_base::{Extent, Granule, HostId, RegionId, Run, Tag};
@@ -12,6 +12,7 @@ use region_config::Config;
 ///
 /// None exactly where the length is 0, the range is not within one region, or its offset in the region or its
 /// length is no multiple of the granule. The range may reach past 2^64; then it is within no region.
+#[inline(always)]
 pub fn run_of(config: &Config, host: HostId, start: u64, length: u64) -> Option<Run>
     requires { host < config.now.hosts }
     ensures value { result ≡ run_in config.now host start length }
@@ -21,6 +22,7 @@ pub fn run_of(config: &Config, host: HostId, start: u64, length: u64) -> Option<
 }
 
 /// The granules of the range by their definition.
+#[inline(always)]
 fn granular_run(config: &Config, host: HostId, start: u64, bytes: u64) -> Option<Run>
     requires { host < config.now.hosts }
     ensures value { result ≡ run_in config.now host start bytes }
@@ -40,19 +42,19 @@ fn granular_run(config: &Config, host: HostId, start: u64, bytes: u64) -> Option
 }
 
 /// Whether the range is made of granules of the region that has its start.
+#[inline(always)]
 fn is_granular(config: &Config, host: HostId, region: RegionId, start: u64, bytes: u64) -> bool
     requires host { host < config.now.hosts }
     requires known { region < length config.now.regions }
     requires at { region_at config.now host start ≡ region }
+    requires within { IsTrue (has_address config.now host start region) }
     ensures { result ≡ is_granular config.now host start bytes }
 {
-    let base = config.base(host, region);
+    let offset = start - config.base(host, region);
     let size = config.granule_size(region);
-    let end = u128::from(base + config.region(region).length);
     bytes != 0
-        && base <= start
-        && u128::from(start) + u128::from(bytes) <= end
-        && (start - base) % size == 0
+        && bytes <= config.region(region).length - offset
+        && offset % size == 0
         && bytes % size == 0
 }
 
