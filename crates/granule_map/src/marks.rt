@@ -2,7 +2,7 @@
 
 ghost use Rattle.granule_map.specs.Stretches.{IsNext, fails};
 ghost use Rattle.memchr.specs.Find.{is_byte};
-ghost use Rattle.std.specs.Prelude.{◌≡◌, ◌+◌, ◌<◌, ◌≤◌, ℕ, IsTrue, count_by, drop, length, slice_index, take};
+ghost use Rattle.std.specs.Prelude.{◌≡◌, ◌+◌, ◌<◌, ◌≤◌, ℕ, IsTrue, count_by, false, drop, length, slice_index, take};
 
 use dcd_base::Run;
 use memchr::memchr;
@@ -109,6 +109,7 @@ pub fn alike_from(marks: &[u8], mark: u8, from: usize, end: usize) -> usize
     ensures later { from < result }
     ensures within { result ≤ end }
     ensures alike { (k : ℕ) → from ≤ k → k < result → slice_index marks.now k ≡ mark }
+    ensures ends { result < end → is_byte mark (slice_index marks.now result) ≡ false }
 {
     let mut next = from;
     while end - next >= LANES && are_alike(marks, mark, next) {

@@ -7,6 +7,7 @@ ghost use Rattle.std.specs.Prelude.{◌≡◌, ◌+◌, ◌≤◌, count_by, dro
 use crate::marks::alike_from;
 use crate::states::{DIRTY, FREE, GranuleState};
 use dcd_base::{Run, Tag};
+use std::simd::prelude::*;
 
 /// How many granules of a run were free, and how many dirty.
 #[derive(Clone, Copy, Debug)]
@@ -51,13 +52,23 @@ fn replace_few(marks: &mut [u8], hosts: &mut [u8], run: &Run, mark: u8, host: u8
     ensures dirty { result.dirty ≡ count_by (is_byte DIRTY) (take run.now.count (drop run.now.first marks.old)) }
 {
     let first = run.first.0 as usize;
+    let count = run.count as usize;
     let (mut free, mut dirty) = (0, 0);
-    for i in 0..run.count as usize {
+    let mut i = 0;
+    while i < count {
+        let begun = i;
         let was = marks[first + i];
-        free += all_if(FREE, was, 1);
-        dirty += all_if(DIRTY, was, 1);
         marks[first + i] = mark;
         hosts[first + i] = host;
+        i += 1;
+        while i < count && marks[first + i] == was {
+            marks[first + i] = mark;
+            hosts[first + i] = host;
+            i += 1;
+        }
+        let alike = (i - begun) as u32;
+        free += all_if(FREE, was, alike);
+        dirty += all_if(DIRTY, was, alike);
     }
     Replaced { free, dirty }
 }
@@ -95,8 +106,9 @@ fn fill_tags(tags: &mut [Tag], run: &Run, tag: &Tag)
     ensures { tags.new ≡ with_item run.now tag.now tags.old }
 {
     let first = run.first.0 as usize;
+    let lanes = u8x16::from_array(tag.0);
     for i in 0..run.count as usize {
-        tags[first + i] = *tag;
+        tags[first + i] = Tag(lanes.to_array());
     }
 }
 
