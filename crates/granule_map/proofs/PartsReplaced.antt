@@ -34,10 +34,40 @@ module _ {X : Type 0} (xs : List X) (first i : ℕ) (x : X) (within : first + i 
       ∙ get_or-drop (first + i) xs (first + i - (first + i)) d
       ∙ ap (λ n. get_or xs n d) none
 
+  -- the items behind are as they were
+  pub replaced_past : (k : ℕ) (d : X) → first + i ≤ k → get_or (replaced first i x xs) k d ≡ get_or xs k d
+  replaced_past k d past =
+      let place : first + i + (k - (first + i)) ≡ k = omega (arith, past) in
+      get_or-append_right (take first xs ++ replicate i x) (drop (first + i) xs) (first + i) k d front past
+      ∙ get_or-drop (first + i) xs (k - (first + i)) d
+      ∙ ap (λ n. get_or xs n d) place
+
 pub replaced_none : {X : Type 0} (xs : List X) (first : ℕ) (x : X) → xs ≡ replaced first 0 x xs
 replaced_none xs first x =
     let none : first ≡ first + 0 = omega arith in
     sym (take-append-drop first xs) ∙ ap (λ n. take first xs ++ drop n xs) none ∙ ap (λ (ys : List _). ys ++ drop (first + 0) xs) (sym (append-nil (take first xs)))
+
+replaced_long : {X : Type 0} (xs : List X) (first i : ℕ) (x : X) → first + i ≤ length xs → length (replaced first i x xs) ≡ length xs
+replaced_long xs first i x within =
+    length-append (take first xs ++ replicate i x) (drop (first + i) xs)
+    ∙ omega (arith, length-append (take first xs) (replicate i x), length-take-le first xs (omega (arith, within)), length-replicate i x, length-drop (first + i) xs, within)
+
+-- as many items more at once
+pub replaced_on : {X : Type 0} (xs : List X) (first i n : ℕ) (x : X) → first + i + n ≤ length xs → replaced (first + i) n x (replaced first i x xs) ≡ replaced first (i + n) x xs
+replaced_on xs first i zero x within =
+    let none : i ≡ i + 0 = omega arith in
+    sym (replaced_none (replaced first i x xs) (first + i) x) ∙ ap (λ m. replaced first m x xs) none
+replaced_on xs first i (suc n) x within =
+    let one : n + 1 ≡ suc n = omega arith in
+    let all : i + n + 1 ≡ i + suc n = omega arith in
+    let place : first + i + n ≡ first + (i + n) = omega arith in
+    let long = replaced_long xs first i x (omega (arith, within)) in
+    ap (λ m. replaced (first + i) m x (replaced first i x xs)) (sym one)
+    ∙ sym (replaced_more (replaced first i x xs) (first + i) n x (omega (arith, long, within)))
+    ∙ ap (λ (ys : List _). set ys (first + i + n) x) (replaced_on xs first i n x (omega (arith, within)))
+    ∙ ap (λ m. set (replaced first (i + n) x xs) m x) place
+    ∙ replaced_more xs first (i + n) x (omega (arith, within))
+    ∙ ap (λ m. replaced first m x xs) all
 
 -- one item more is counted
 pub counted_more : (p : ℕ → Bool) (xs : List ℕ) (first i : ℕ) → first + i < length xs → count_by p (take (i + 1) (drop first xs)) ≡ count_by p (take i (drop first xs)) + cond (p (get_or xs (first + i) 0)) 1 0

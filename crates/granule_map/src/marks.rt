@@ -2,14 +2,14 @@
 
 ghost use Rattle.granule_map.specs.Stretches.{IsNext, fails};
 ghost use Rattle.memchr.specs.Find.{is_byte};
-ghost use Rattle.std.specs.Prelude.{◌≡◌, ◌+◌, ◌<◌, ◌≤◌, ℕ, IsTrue, count_by, false, drop, length, slice_index, take};
+ghost use Rattle.std.specs.Prelude.{◌≡◌, ◌+◌, ◌<◌, ◌≤◌, ℕ, IsTrue, ◌++◌, count_by, drop, false, length, replicate, slice_index, take};
 
 use dcd_base::Run;
 use memchr::memchr;
 use std::simd::prelude::*;
 
 /// So many places are read at once.
-const LANES: usize = 16;
+pub(crate) const LANES: usize = 16;
 
 /// The lowest place from one on that has the mark, or the end where none below it has.
 pub(crate) fn next_with(marks: &[u8], mark: u8, from: usize, end: usize) -> usize
@@ -125,7 +125,7 @@ pub fn alike_from(marks: &[u8], mark: u8, from: usize, end: usize) -> usize
 
 /// Whether each of 16 places from one on has the mark.
 #[inline(always)]
-fn are_alike(marks: &[u8], mark: u8, from: usize) -> bool
+pub(crate) fn are_alike(marks: &[u8], mark: u8, from: usize) -> bool
     requires { from + 16 ≤ length marks.now }
     ensures { IsTrue result → (k : ℕ) → from ≤ k → k < from + 16 → slice_index marks.now k ≡ mark }
 {
@@ -133,6 +133,15 @@ fn are_alike(marks: &[u8], mark: u8, from: usize) -> bool
         .simd_ne(u8x16::splat(mark))
         .to_bitmask()
         == 0
+}
+
+/// Makes each of 16 bytes from one on this one.
+#[inline(always)]
+pub(crate) fn fill_16(bytes: &mut [u8], from: usize, byte: u8)
+    requires { from + 16 ≤ length bytes.old }
+    ensures { bytes.new ≡ take from bytes.old ++ replicate 16 byte ++ drop (from + 16) bytes.old }
+{
+    u8x16::splat(byte).copy_to_slice(&mut bytes[from..]);
 }
 
 /// How many places of the run have the mark.

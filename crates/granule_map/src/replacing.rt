@@ -4,7 +4,7 @@ ghost use Rattle.granule_map.specs.Told.{tags_with, with_item};
 ghost use Rattle.memchr.specs.Find.{is_byte};
 ghost use Rattle.std.specs.Prelude.{◌≡◌, ◌+◌, ◌≤◌, count_by, drop, if◌then◌else◌, length, take};
 
-use crate::marks::alike_from;
+use crate::marks::{LANES, are_alike, fill_16};
 use crate::states::{DIRTY, FREE, GranuleState};
 use dcd_base::{Run, Tag};
 use std::simd::prelude::*;
@@ -83,8 +83,28 @@ fn replace_many(marks: &mut [u8], hosts: &mut [u8], run: &Run, mark: u8, host: u
     ensures free { result.free ≡ count_by (is_byte FREE) (take run.now.count (drop run.now.first marks.old)) }
     ensures dirty { result.dirty ≡ count_by (is_byte DIRTY) (take run.now.count (drop run.now.first marks.old)) }
 {
-    fill_bytes(hosts, run, host);
-    replace_marks(marks, run, mark)
+    let first = run.first.0 as usize;
+    let count = run.count as usize;
+    let (mut free, mut dirty) = (0, 0);
+    let mut i = 0;
+    while i < count {
+        let begun = i;
+        let was = marks[first + i];
+        while count - i >= LANES && are_alike(marks, was, first + i) {
+            fill_16(marks, first + i, mark);
+            fill_16(hosts, first + i, host);
+            i += LANES;
+        }
+        while i < count && marks[first + i] == was {
+            marks[first + i] = mark;
+            hosts[first + i] = host;
+            i += 1;
+        }
+        let alike = (i - begun) as u32;
+        free += all_if(FREE, was, alike);
+        dirty += all_if(DIRTY, was, alike);
+    }
+    Replaced { free, dirty }
 }
 
 /// Makes the tag of each granule of the run the one that the state names, where it names one.
@@ -109,51 +129,6 @@ fn fill_tags(tags: &mut [Tag], run: &Run, tag: &Tag)
     let lanes = u8x16::from_array(tag.0);
     for i in 0..run.count as usize {
         tags[first + i] = Tag(lanes.to_array());
-    }
-}
-
-/// Makes each mark of the run this one, and counts those that were there.
-fn replace_marks(marks: &mut [u8], run: &Run, mark: u8) -> Replaced
-    requires { run.now.first + run.now.count ≤ length marks.old }
-    ensures marks { marks.new ≡ with_item run.now mark marks.old }
-    ensures free { result.free ≡ count_by (is_byte FREE) (take run.now.count (drop run.now.first marks.old)) }
-    ensures dirty { result.dirty ≡ count_by (is_byte DIRTY) (take run.now.count (drop run.now.first marks.old)) }
-{
-    let replaced = counts_of(marks, run);
-    fill_bytes(marks, run, mark);
-    replaced
-}
-
-/// How many marks of the run say free, and how many dirty. Marks that are alike and lie together are counted at once.
-fn counts_of(marks: &[u8], run: &Run) -> Replaced
-    requires { run.now.first + run.now.count ≤ length marks.now }
-    ensures free { result.free ≡ count_by (is_byte FREE) (take run.now.count (drop run.now.first marks.now)) }
-    ensures dirty { result.dirty ≡ count_by (is_byte DIRTY) (take run.now.count (drop run.now.first marks.now)) }
-{
-    let first = run.first.0 as usize;
-    let end = first + run.count as usize;
-    let (mut free, mut dirty) = (0, 0);
-    let mut at = first;
-    while at < end {
-        let was = marks[at];
-        let next = alike_from(marks, was, at, end);
-        let alike = (next - at) as u32;
-        free += all_if(FREE, was, alike);
-        dirty += all_if(DIRTY, was, alike);
-        at = next;
-    }
-    Replaced { free, dirty }
-}
-
-/// Makes each byte of the run this one.
-fn fill_bytes(bytes: &mut [u8], run: &Run, byte: u8)
-    requires { run.now.first + run.now.count ≤ length bytes.old }
-    ensures { bytes.new ≡ with_item run.now byte bytes.old }
-{
-    let first = run.first.0 as usize;
-    let many = run.count as usize;
-    for i in 0..many {
-        bytes[first + i] = byte;
     }
 }
 
