@@ -70,11 +70,11 @@ all_piece x y from to low high apart = elim (cases_Bool (nat_lt from to)) [
 ]
 
 -- a range that lies in an extent
-record Within (start bytes : ℕ) (x : Extent) : Type 0 where
-  begins : x.start ≤ start
-  ends : start + bytes ≤ x.start + x.length
+pub record Within (start bytes : ℕ) (x : Extent) : Type 0 where
+  pub begins : x.start ≤ start
+  pub ends : start + bytes ≤ x.start + x.length
 
-within : (start bytes : ℕ) (x : Extent) → has_range start bytes x ≡ true → Within start bytes x
+pub within : (start bytes : ℕ) (x : Extent) → has_range start bytes x ≡ true → Within start bytes x
 within start bytes x here = let parts = and_parts _ _ here in record { begins = leb-true _ _ parts.0; ends = leb-true _ _ parts.1 }
 
 all_cut : (x : Extent) (start bytes : ℕ) (ys : List Extent) → All (Apart x) ys → All (Apart x) (cut start bytes ys)

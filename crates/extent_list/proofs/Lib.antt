@@ -1,4 +1,5 @@
 pub mod ApartLists
+pub mod Back
 pub mod Cutting
 pub mod Front
 pub mod Holding

@@ -5,7 +5,7 @@ ghost use Rattle.extent_list.specs.Apart.{StandApart};
 ghost use Rattle.extent_list.specs.ExtentLists.{cut, cut_all, has_range, holder_of, shares_range};
 ghost use Rattle.extent_list.specs.Rooms.{IsCutInAddresses};
 ghost use Rattle.std.specs.List.{list_any};
-ghost use Rattle.std.specs.Prelude.{◌≡◌, ◌==◌, ◌++◌, ◌∷◌, ◌+◌, ◌^◌, ◌<◌, ◌≤◌, [], All, IfErr, IfOk, IfSome, IsSome, IsTrue, OnErr, OnOk, Some, drop, length, option_to_list, slice_get, slice_index_or, suc, take, true, vec_capacity, vec_len};
+ghost use Rattle.std.specs.Prelude.{◌≡◌, ◌==◌, ◌++◌, ◌∷◌, ◌+◌, ◌-◌, ◌^◌, ◌<◌, ◌≤◌, [], All, IfErr, IfOk, IfSome, IsSome, IsTrue, OnErr, OnOk, Some, drop, length, option_to_list, slice_get, slice_index_or, suc, take, true, vec_capacity, vec_len};
 
 use crate::pieces::{count_of, has_range_in, lower_piece, shares_range_with, upper_piece};
 use crate::standing::stand_apart;
@@ -198,13 +198,27 @@ impl ExtentList {
         self.cut_each(rest);
     }
 
-    /// Cuts these extents out one after another, each looked for beside the last one at first.
+    /// Cuts these extents out one after another, those first that are the last of the list.
     fn cut_each(&mut self, leaving: &[Extent])
         requires spare { length leaving.now ≤ self.old.spare }
         requires ends { All (λ x. x.start + x.length < 2 ^ 64) leaving.now }
         ensures { self.new.extents ≡ cut_all leaving.now self.old.extents }
     {
         let apart = leaving.len() > 1 && stand_apart(self.kept.as_slice());
+        let whole = whole_at_back(self.kept.as_slice(), leaving, apart);
+        drop_back(&mut self.kept, whole);
+        let (_, rest) = leaving.split_at(whole);
+        self.cut_one_by_one(rest, apart);
+    }
+
+    /// Cuts these extents out one after another. Where the list is known to stand `apart`, each is looked for beside the
+    /// last one at first.
+    fn cut_one_by_one(&mut self, leaving: &[Extent], apart: bool)
+        requires spare { length leaving.now ≤ self.old.spare }
+        requires ends { All (λ x. x.start + x.length < 2 ^ 64) leaving.now }
+        requires apart { apart ≡ true → StandApart self.old.extents }
+        ensures { self.new.extents ≡ cut_all leaving.now self.old.extents }
+    {
         let mut near = 0;
         for extent in leaving {
             self.cut_where_held(extent, apart, &mut near);
@@ -290,6 +304,33 @@ fn whole_in_front(kept: &[Extent], leaving: &[Extent]) -> usize
     most
 }
 
+/// How many of the extents that leave are the last of the list, whole and from the last one on, where the list is known to
+/// stand `apart`.
+fn whole_at_back(kept: &[Extent], leaving: &[Extent], apart: bool) -> usize
+    requires { apart ≡ true → StandApart kept.now }
+    ensures kept { result ≤ length kept.now }
+    ensures leaving { result ≤ length leaving.now }
+    ensures cut { cut_all leaving.now kept.now ≡ cut_all (drop result leaving.now) (take (length kept.now - result) kept.now) }
+{
+    if !apart {
+        return 0;
+    }
+    let most = kept.len().min(leaving.len());
+    for i in 0..most {
+        if !is_whole(&kept[kept.len() - 1 - i], &leaving[i]) {
+            return i;
+        }
+    }
+    most
+}
+
+/// Whether an extent that leaves has all addresses of this one, and some.
+fn is_whole(extent: &Extent, leaving: &Extent) -> bool
+    ensures { result ≡ true → (0 < leaving.now.length) × (leaving.now.start ≡ extent.now.start) × (leaving.now.length ≡ extent.now.length) }
+{
+    leaving.length > 0 && leaving.start == extent.start && leaving.length == extent.length
+}
+
 /// An extent of the list in which this one lies, at the index `near` or beside it.
 fn holder_beside(kept: &[Extent], near: usize, extent: &Extent) -> Option<usize>
     ensures known { IfSome result (λ index. index < length kept.now) }
@@ -316,6 +357,17 @@ fn drop_front(kept: &mut Vec<Extent>, count: usize)
         kept.copy_within(count..len, 0);
         kept.truncate(len - count);
     }
+}
+
+/// Lets so many extents go from the back.
+fn drop_back(kept: &mut Vec<Extent>, count: usize)
+    requires { count ≤ vec_len kept.old }
+    ensures items { kept.new.items ≡ take (length kept.old.items - count) kept.old.items }
+    ensures len { vec_len kept.new + count ≡ vec_len kept.old }
+    ensures capacity { vec_capacity kept.new ≡ vec_capacity kept.old }
+{
+    let len = kept.len();
+    kept.truncate(len - count);
 }
 
 /// Puts the pieces in place of the extent at the index, the lower one first. Only where there are none or two, those
