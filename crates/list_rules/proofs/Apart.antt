@@ -1,13 +1,11 @@
 -- Lists of extents that stand apart: the owner of an extent, and no address twice.
-use Rattle.std.proofs.Common.{◌≡◌, ℕ, ◌+◌, ◌<◌, ◌≤◌, Bool, true, false, inl, inr, All, List, [], ◌∷◌, Some, None, length, get_or, take, option_map, refl, sym, ap, subst, ◌∙◌, arith, lt-ltb}
+use Rattle.std.proofs.Common.{◌≡◌, ℕ, ◌+◌, ◌<◌, Bool, true, false, inl, inr, List, [], ◌∷◌, Some, None, length, get_or, take, option_map, refl, sym, ap, ◌∙◌, arith}
 use Rattle.std.specs.List.{list_any, position, position_from, position_or_len}
 use Rattle.std.proofs.lemmas.Iterator.Adapters.{position_from-zero}
-use Rattle.std.specs.Prelude.{nat_le}
-use Rattle.std.proofs.lemmas.Bool.{and_left, and_right, and_parts, cases_Bool, le-ltb, leb-true}
-use Rattle.std.proofs.lemmas.List.{get_or-take, take_more, length-take-le}
-use Rattle.std.proofs.lemmas.List.Elements.{All-push}
+use Rattle.std.proofs.lemmas.Bool.{and_left, and_right, cases_Bool, le-ltb}
+use Rattle.std.proofs.lemmas.List.{get_or-take, length-take-le}
 use Rattle.std.proofs.lemmas.List.Folds.{list_any_at}
-use Rattle.std.proofs.lemmas.List.Quantifiers.{all_pairs_push, position-Some}
+use Rattle.std.proofs.lemmas.List.Quantifiers.{position-Some}
 use Rattle.std.proofs.lemmas.List.Sums.{position_or_len_is}
 use Rattle.dcd_base.specs.declared.capacity.Extent.{Extent}
 use Rattle.dcd_codes.specs.declared.rules.Rule.{Rule}
@@ -28,7 +26,7 @@ pub only_owner : (owners : List Extent) (x : Extent) (i : ℕ) (d : Extent) → 
 only_owner owners x i d apart some known here = only_holder x.start x.length owners i d apart some known here
 
 -- no address twice
-apart-by : (xs : List Extent) (i : ℕ) (d : Extent) → i < length xs → ((k : ℕ) → k < i → overlaps (get_or xs i d) (get_or xs k d) ≡ false) → overlapping (take i xs) (get_or xs i d) ≡ None
+pub apart-by : (xs : List Extent) (i : ℕ) (d : Extent) → i < length xs → ((k : ℕ) → k < i → overlaps (get_or xs i d) (get_or xs k d) ≡ false) → overlapping (take i xs) (get_or xs i d) ≡ None
 apart-by xs i d known each =
     let x = get_or xs i d in
     let none : position (overlaps x) (take i xs) ≡ None = position_nowhere (overlaps x) (take i xs) d (λ k below.

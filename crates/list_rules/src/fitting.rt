@@ -88,7 +88,20 @@ pub fn put_marked(owners: &Owners, list: &[Extent], out: &mut Extents) -> Result
 {
     let mut near = owners.start(list);
     for extent in list {
-        out.push(owners.marked(extent, &mut near))?;
+        let owner = (&*owners).owner_of(extent, &mut near);
+        out.push(marked_by(extent, owner))?;
     }
     Ok(())
+}
+
+/// The extent with the tag and the sequence of this owner.
+pub(crate) fn marked_by(extent: &Extent, owner: &Extent) -> Extent
+    ensures { result ≡ record extent.now { tag = owner.now.tag; sequence = owner.now.sequence } }
+{
+    Extent {
+        start: extent.start,
+        length: extent.length,
+        tag: owner.tag,
+        sequence: owner.sequence,
+    }
 }

@@ -5,6 +5,7 @@
 #![tactic(auto)]
 
 mod fitting;
+mod front;
 mod limits;
 mod lookup;
 mod orders;
@@ -13,9 +14,10 @@ mod placing;
 mod tags;
 
 pub use fitting::{put_marked, sharing, unfit};
+pub use front::fit_front;
 pub use limits::{too_many_extents, too_many_listed};
 pub use lookup::Owners;
 pub use orders::are_apart;
 pub use owners::{is_in, marked, not_whole, shares_address};
 pub use placing::{misplaced, region_at};
-pub use tags::incomplete;
+pub use tags::{incomplete, incomplete_among};

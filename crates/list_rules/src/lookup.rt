@@ -1,12 +1,15 @@
 //! Owners, and the search for those of one listed extent after another.
 
-ghost use Rattle.extent_list.specs.ExtentLists.{lies_in, marked};
-ghost use Rattle.std.specs.Prelude.{◌≡◌, ◌<◌, IfSome, IsTrue, Some, length, position, slice_index_or};
+ghost use Rattle.extent_list.specs.ExtentLists.{lies_in, owner_of};
+ghost use Rattle.list_rules.specs.Fitting.{FrontFits};
+ghost use Rattle.std.specs.Prelude.{◌≡◌, ◌<◌, ◌≤◌, IfSome, IsTrue, Some, length, position, slice_index_or};
 ghost use Rattle.dcd_base.specs.declared.capacity.Extent.{Extent};
 
+use crate::front::fits;
 use crate::owners::{first_owner, lies_in};
-use dcd_base::Extent;
+use dcd_base::{Extent, HostId, RegionId};
 use extent_list::stand_apart;
+use region_config::Config;
 use std::marker::Model;
 
 /// The extents in which those of a list have to lie.
@@ -47,6 +50,34 @@ impl<'a> Owners<'a> {
         self.list
     }
 
+    /// How many extents from the front of the list are known to lie in the region and to fit: the first of them in the owner
+    /// at `place`, and each of the others in the owner before that of the last one.
+    pub(crate) fn fit_falling(
+        &self,
+        config: &Config,
+        host: HostId,
+        region: RegionId,
+        place: usize,
+        list: &[Extent],
+    ) -> usize
+        requires host { host < config.now.hosts }
+        requires region { region < length config.now.regions }
+        requires place { place < length self.now }
+        ensures known { result ≤ length list.now }
+        ensures fit { FrontFits config.now host self.now list.now result }
+    {
+        if !self.apart {
+            return 0;
+        }
+        let most = list.len().min(place + 1);
+        for i in 0..most {
+            if !fits(config, host, region, &self.list[place - i], &list[i]) {
+                return i;
+            }
+        }
+        most
+    }
+
     /// The index of the first owner in which the extent lies. It is looked for beside `near` first, which then becomes that
     /// index.
     pub(crate) fn index_of(&self, extent: &Extent, near: &mut usize) -> Option<usize>
@@ -62,15 +93,23 @@ impl<'a> Owners<'a> {
         }
     }
 
+    /// The index of the first owner in which the extent lies.
+    pub(crate) fn place_of(&self, extent: &Extent) -> Option<usize>
+        ensures value { result ≡ position (lies_in extent.now) self.now }
+        ensures known { IfSome result (λ index. index < length self.now) }
+    {
+        let mut near = 0;
+        self.index_anywhere(extent, &mut near)
+    }
+
     /// Where the search for the extents of a list begins: behind the owner in which the first one lies.
     pub(crate) fn start(&self, list: &[Extent]) -> usize {
-        let mut near = 0;
         if let Some(extent) = list.first() {
-            if let Some(index) = self.index_anywhere(extent, &mut near) {
+            if let Some(index) = self.place_of(extent) {
                 return index.wrapping_add(1);
             }
         }
-        near
+        0
     }
 
     /// The index of the first owner in which the extent lies, which `near` becomes.
@@ -86,13 +125,14 @@ impl<'a> Owners<'a> {
         found
     }
 
-    /// The extent with the tag and the sequence of the first owner in which it lies, which is looked for at `near` first.
-    pub(crate) fn marked(&self, extent: &Extent, near: &mut usize) -> Extent
-        ensures { result ≡ marked self.now extent.now }
+    /// The first owner in which the extent lies, which is looked for at `near` first, and the extent itself where it lies in
+    /// none.
+    pub(crate) fn owner_of<'b>(&'b self, extent: &'b Extent, near: &mut usize) -> &'b Extent
+        ensures { result.now ≡ owner_of self.now extent.now }
     {
         match self.index_of(extent, near) {
-            Some(index) => marked_by(extent, &self.list[index]),
-            None => *extent,
+            Some(index) => &self.list[index],
+            None => extent,
         }
     }
 
@@ -121,17 +161,6 @@ impl<'a> Owners<'a> {
             }
         }
         first_owner(self.list, extent)
-    }
-}
-
-/// The extent with the tag and the sequence of this owner.
-fn marked_by(extent: &Extent, owner: &Extent) -> Extent
-    ensures { result ≡ record extent.now { tag = owner.now.tag; sequence = owner.now.sequence } }
-{
-    Extent {
-        tag: owner.tag,
-        sequence: owner.sequence,
-        ..*extent
     }
 }
 

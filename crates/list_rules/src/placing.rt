@@ -1,9 +1,10 @@
 //! Where an extent lies, and whether blocks begin and end there.
 
 ghost use Rattle.list_rules.specs.Listing.{is_aligned, lies_in_region, misplaced};
+ghost use Rattle.list_rules.specs.Fitting.{IsPlaced};
 ghost use Rattle.media_map.specs.Places.{region_at};
 ghost use Rattle.region_config.specs.Granules.{region_spec};
-ghost use Rattle.std.specs.Prelude.{◌≡◌, ◌==◌, ◌%◌, ◌<◌, IsTrue, length};
+ghost use Rattle.std.specs.Prelude.{◌≡◌, ◌==◌, ◌%◌, ◌<◌, IsTrue, length, true};
 
 use dcd_base::{Extent, HostId, RegionId};
 use dcd_codes::Rule;
@@ -32,6 +33,36 @@ pub fn misplaced(
         return Some(Rule::Unaligned(index));
     }
     None
+}
+
+/// Whether the extent is known to lie in the region, which is that of its first address, and to be made of its blocks.
+pub(crate) fn is_placed(config: &Config, host: HostId, region: RegionId, extent: &Extent) -> bool
+    requires host { host < config.now.hosts }
+    requires region { region < length config.now.regions }
+    ensures { result ≡ true → IsPlaced config.now host region extent.now }
+{
+    // That regions lie apart, which a configuration says of itself where it is read.
+    let _regions = config.regions();
+    if extent.length == 0 {
+        return false;
+    }
+    if !lies_within(config, host, region, extent) {
+        return false;
+    }
+    is_aligned(config, host, region, extent)
+}
+
+/// Whether the extent begins in the region.
+pub(crate) fn begins_in(config: &Config, host: HostId, region: RegionId, extent: &Extent) -> bool
+    requires host { host < config.now.hosts }
+    requires region { region < length config.now.regions }
+    ensures { result ≡ true → region_at config.now host extent.now.start ≡ region }
+{
+    // That regions lie apart, which a configuration says of itself where it is read.
+    let _regions = config.regions();
+    let base = config.base(host, region);
+    let bytes = config.region(region).length;
+    base <= extent.start && extent.start - base < bytes
 }
 
 /// The region of the host's address, or region 0 where none has it.
@@ -70,8 +101,11 @@ fn lies_within(config: &Config, host: HostId, region: RegionId, extent: &Extent)
     ensures { result ≡ lies_in_region config.now host region extent.now }
 {
     let base = config.base(host, region);
-    let end = base + config.region(region).length;
-    base <= extent.start && u128::from(extent.start) + u128::from(extent.length) <= u128::from(end)
+    let bytes = config.region(region).length;
+    if extent.start < base || bytes < extent.start - base {
+        return false;
+    }
+    extent.length <= bytes - (extent.start - base)
 }
 
 /// Whether blocks of the region begin and end where the extent does.

@@ -4,12 +4,14 @@ ghost use Rattle.dcd_base.specs.Words.{where_true};
 ghost use Rattle.dcd_codes.specs.Rules.{◌breaks◌};
 ghost use Rattle.dcd_codes.specs.declared.rules.Rule.{Rule};
 ghost use Rattle.extent_list.specs.ExtentLists.{count_of_tag, has_extent_of};
-ghost use Rattle.list_rules.specs.Listing.{incomplete, shared_of, some_left, too_few_of};
+ghost use Rattle.list_rules.specs.Listing.{incomplete, shared_of, is_shareable_at, some_left, too_few_of};
 ghost use Rattle.list_rules.specs.Sharing.{HasNoShareable, HaveSameTags};
 ghost use Rattle.std.specs.Prelude.{◌≡◌, ◌^◌, ◌<◌, ◌≤◌, IfOk, OnOk, [], false, length, nat_lt, not, true};
 
+use crate::fitting::marked_by;
 use crate::lookup::Owners;
 use crate::owners::is_shareable_at;
+use crate::placing::{begins_in, region_at};
 use dcd_base::{Extent, Extents, HostId, NoMemory, RegionId, Tag};
 use dcd_codes::Rule;
 use extent_list::{has_extent_of, same_tag};
@@ -32,16 +34,31 @@ pub fn incomplete(
     requires listed { length list.now < 2 ^ 32 }
     ensures { IfOk result (λ found. found ≡ incomplete config.now host owners.now list.now) }
 {
+    incomplete_among(alloc, config, host, &Owners::of(owners), list)
+}
+
+/// The rule that `incomplete` answers, among these owners.
+pub fn incomplete_among(
+    alloc: Global,
+    config: &Config,
+    host: HostId,
+    owners: &Owners,
+    list: &[Extent],
+) -> Result<Option<Rule>, NoMemory>
+    requires host { host < config.now.hosts }
+    requires owners { length owners.now < 2 ^ 32 }
+    requires listed { length list.now < 2 ^ 32 }
+    ensures { IfOk result (λ found. found ≡ incomplete config.now host owners.now list.now) }
+{
     if !has_shareable(config) {
         return Ok(None);
     }
-    let among = Owners::of(owners);
-    if are_all_shared(config, host, &among, list) {
+    if are_all_shared(config, host, owners, list) {
         return Ok(None);
     }
     let mut shared = Extents::new(alloc);
-    find_shared(config, host, &among, list, &mut shared)?;
-    Ok(some_left(owners, shared.as_slice()))
+    find_shared(config, host, owners, list, &mut shared)?;
+    Ok(some_left(owners.as_slice(), shared.as_slice()))
 }
 
 /// Whether a region of the device is shareable.
@@ -67,15 +84,43 @@ fn are_all_shared(config: &Config, host: HostId, owners: &Owners, list: &[Extent
         return false;
     }
     let mut near = owners.start(list);
+    let region = first_region(config, host, list);
     for i in 0..list.len() {
-        if !is_shareable_at(config, host, &list[i]) {
+        if !is_shareable_near(config, host, region, &list[i]) {
             return false;
         }
-        if !same_tag(&tagged[i].tag, &owners.marked(&list[i], &mut near).tag) {
+        if !same_tag(
+            &tagged[i].tag,
+            &(&*owners).owner_of(&list[i], &mut near).tag,
+        ) {
             return false;
         }
     }
     true
+}
+
+/// The region in which the first extent of the list begins, or region 0.
+fn first_region(config: &Config, host: HostId, list: &[Extent]) -> RegionId
+    requires { host < config.now.hosts }
+    ensures { result < length config.now.regions }
+{
+    let start = match list.first() {
+        Some(extent) => extent.start,
+        None => 0,
+    };
+    region_at(config, host, start)
+}
+
+/// Whether the extent begins in a shareable region; this one is looked at first.
+fn is_shareable_near(config: &Config, host: HostId, region: RegionId, extent: &Extent) -> bool
+    requires host { host < config.now.hosts }
+    requires region { region < length config.now.regions }
+    ensures { result ≡ is_shareable_at config.now host extent.now }
+{
+    if begins_in(config, host, region, extent) {
+        return config.region(region).shareable;
+    }
+    is_shareable_at(config, host, extent)
 }
 
 /// The listed extents of shareable regions, each with the tag of the one in which it lies.
@@ -94,7 +139,8 @@ fn find_shared(
     let mut near = owners.start(list);
     for extent in list {
         if is_shareable_at(config, host, extent) {
-            shared.push(owners.marked(extent, &mut near))?;
+            let owner = (&*owners).owner_of(extent, &mut near);
+            shared.push(marked_by(extent, owner))?;
         }
     }
     Ok(())

@@ -1,0 +1,36 @@
+-- Extents at the front of a list that break no rule of an extent.
+use Rattle.std.specs.Prelude.{◌≡◌, ℕ, ◌<◌, ◌&&◌, not, ◌==◌, IsTrue, false, List, None, length, slice_index_or, take}
+use Rattle.dcd_base.specs.declared.capacity.Extent.{Extent}
+use Rattle.dcd_base.specs.declared.ids.HostId.{HostId}
+use Rattle.extent_list.specs.ExtentLists.{is_in, lies_in}
+use Rattle.list_rules.specs.Listing.{misplaced, not_whole, overlapping}
+use Rattle.media_map.specs.Places.{region_at}
+use Rattle.region_config.specs.Configurations.{Configuration}
+use Rattle.region_config.specs.Granules.{region_spec}
+
+-- The extent has some bytes, which lie in the region of its first address and are made of its blocks.
+pub record IsPlaced (c : Configuration) (h : HostId) (r : ℕ) (x : Extent) : Type 0 where
+  pub some : 0 < x.length
+  pub at : region_at c h x.start ≡ r
+  pub placed : (n : ℕ) → misplaced c h r n x ≡ None
+
+-- The extent lies in the owner, and is all of it where the region is shareable.
+pub record IsOwned (c : Configuration) (r : ℕ) (owner x : Extent) : Type 0 where
+  pub inside : IsTrue (lies_in x owner)
+  pub whole : (region_spec c r).shareable && not ((x.start == owner.start) && (x.length == owner.length)) ≡ false
+
+-- Both.
+pub record IsFit (c : Configuration) (h : HostId) (r : ℕ) (owner x : Extent) : Type 0 where
+  pub placed : IsPlaced c h r x
+  pub owned : IsOwned c r owner x
+
+-- The extent breaks no rule beside its owner and those before it.
+pub record Fits (c : Configuration) (h : HostId) (owners before : List Extent) (x : Extent) : Type 0 where
+  pub placed : misplaced c h (region_at c h x.start) (length before) x ≡ None
+  pub inside : IsTrue (is_in owners x)
+  pub apart : overlapping before x ≡ None
+  pub whole : not_whole c h owners (length before) x ≡ None
+
+-- So many extents from the front of the list do.
+abbrev pub FrontFits : Configuration → HostId → List Extent → List Extent → ℕ → Type 0
+FrontFits c h owners list n = (i : ℕ) (d : Extent) → i < n → Fits c h owners (take i list) (slice_index_or list i d)
