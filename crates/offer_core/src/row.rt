@@ -1,6 +1,8 @@
 //! The first rule that a response breaks.
 
+ghost use Rattle.dcd_codes.specs.Rules.{each_in};
 ghost use Rattle.extent_list.specs.ExtentLists.{count_in};
+ghost use Rattle.list_rules.specs.Fitting.{FrontFits};
 ghost use Rattle.list_rules.specs.Listing.{overlapping};
 ghost use Rattle.offer_core.specs.Offerings.{lists_of};
 ghost use Rattle.offer_core.specs.Responses.{extent_rule, respond_rule, response_list_rule};
@@ -10,7 +12,9 @@ use crate::offers::Offers;
 use dcd_base::limits::LISTED_EXTENTS;
 use dcd_base::{Extent, HostId, NoMemory};
 use dcd_codes::Rule;
-use list_rules::{Owners, are_apart, incomplete, misplaced, region_at, too_many_extents, unfit};
+use list_rules::{
+    Owners, are_apart, fit_front, incomplete_among, misplaced, region_at, too_many_extents, unfit,
+};
 use region_config::Config;
 
 /// The first rule of its row that a response breaks (CXL 3.1, 8.2.9.9.9.3): this list of a message behind the held one.
@@ -59,26 +63,59 @@ fn broken_list_rule(
     requires listed { length whole.now ≤ 64 }
     ensures { IfOk result (λ found. found ≡ response_list_rule config.now host accepted (lists_of offers.now.offers) whole.now) }
 {
-    let offer = offers.oldest();
-    let (owners, apart) = (Owners::of(offer), are_apart(whole));
+    let owners = Owners::of(offers.oldest());
+    if let Some(rule) = broken_answered(config, host, &owners, whole) {
+        return Ok(Some(rule));
+    }
+    match incomplete_among(offers.held().allocator(), config, host, &owners, whole)? {
+        Some(rule) => Ok(Some(rule)),
+        None => Ok(too_many_extents(accepted + whole.len() + later_extents(offers))),
+    }
+}
+
+/// The first rule that an extent of the list breaks. Those in front that are known to fit are not tried.
+fn broken_answered(config: &Config, host: HostId, offer: &Owners, whole: &[Extent]) -> Option<Rule>
+    requires host { host < config.now.hosts }
+    requires listed { length whole.now ≤ 64 }
+    ensures { result ≡ each_in whole.now (extent_rule config.now host offer.now) }
+{
+    let fit = fit_front(config, host, offer, whole);
+    if fit == whole.len() {
+        return None;
+    }
+    broken_behind(config, host, offer, fit, whole)
+}
+
+/// The first rule that an extent of the list breaks, where so many in front fit.
+fn broken_behind(
+    config: &Config,
+    host: HostId,
+    offer: &Owners,
+    fit: usize,
+    whole: &[Extent],
+) -> Option<Rule>
+    requires host { host < config.now.hosts }
+    requires listed { length whole.now ≤ 64 }
+    requires known { fit ≤ length whole.now }
+    requires fit { FrontFits config.now host offer.now whole.now fit }
+    ensures { result ≡ each_in whole.now (extent_rule config.now host offer.now) }
+{
+    let apart = are_apart(whole);
     let mut near = 0;
-    for i in 0..whole.len() {
+    for i in fit..whole.len() {
         if let Some(rule) = broken_answered_extent(
             config,
             host,
-            &owners,
+            offer,
             &mut near,
             apart,
             &whole[..i],
             &whole[i],
         ) {
-            return Ok(Some(rule));
+            return Some(rule);
         }
     }
-    match incomplete(offers.held().allocator(), config, host, offer, whole)? {
-        Some(rule) => Ok(Some(rule)),
-        None => Ok(too_many_extents(accepted + whole.len() + later_extents(offers))),
-    }
+    None
 }
 
 /// The first rule that an extent of the list breaks behind those before it, whose number is its index. Where it
