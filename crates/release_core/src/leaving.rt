@@ -1,12 +1,15 @@
 //! The rules of an extent that is to leave its host.
 
+ghost use Rattle.dcd_codes.specs.Rules.{each_in};
+ghost use Rattle.list_rules.specs.Fitting.{FrontFits};
 ghost use Rattle.list_rules.specs.Listing.{overlapping};
 ghost use Rattle.release_core.specs.Leaving.{leaving_rule, region_for};
-ghost use Rattle.std.specs.Prelude.{◌≡◌, ◌^◌, ◌<◌, None, length, true};
+ghost use Rattle.release_core.specs.declared.leaving.Within.{Within};
+ghost use Rattle.std.specs.Prelude.{◌≡◌, ◌^◌, ◌<◌, ◌≤◌, None, length, true};
 
 use dcd_base::{Extent, HostId, RegionId};
 use dcd_codes::Rule;
-use list_rules::{Owners, misplaced, region_at, unfit};
+use list_rules::{Owners, are_apart, fit_front, misplaced, region_at, unfit};
 use region_config::Config;
 
 /// Where the extents of a list have to lie.
@@ -16,6 +19,58 @@ pub(crate) enum Within {
     AnyRegion,
     /// In the region that the command names.
     Region(RegionId),
+}
+
+/// The first rule that an extent of the list breaks which is to leave its host from any region. Those in front that are
+/// known to fit are not tried.
+pub(crate) fn broken_leaving(
+    config: &Config,
+    host: HostId,
+    accepted: &Owners,
+    list: &[Extent],
+) -> Option<Rule>
+    requires host { host < config.now.hosts }
+    requires listed { length list.now ≤ 64 }
+    ensures { result ≡ each_in list.now (leaving_rule config.now host accepted.now Within.AnyRegion) }
+{
+    let fit = fit_front(config, host, accepted, list);
+    if fit == list.len() {
+        return None;
+    }
+    broken_behind(config, host, accepted, fit, list)
+}
+
+/// The first rule that an extent of the list breaks, where so many in front fit.
+fn broken_behind(
+    config: &Config,
+    host: HostId,
+    accepted: &Owners,
+    fit: usize,
+    list: &[Extent],
+) -> Option<Rule>
+    requires host { host < config.now.hosts }
+    requires listed { length list.now ≤ 64 }
+    requires known { fit ≤ length list.now }
+    requires fit { FrontFits config.now host accepted.now list.now fit }
+    ensures { result ≡ each_in list.now (leaving_rule config.now host accepted.now Within.AnyRegion) }
+{
+    let (bounds, apart) = (Within::AnyRegion, are_apart(list));
+    let mut near = 0;
+    for i in fit..list.len() {
+        if let Some(rule) = broken_leaving_extent(
+            config,
+            host,
+            accepted,
+            &mut near,
+            &bounds,
+            apart,
+            &list[..i],
+            &list[i],
+        ) {
+            return Some(rule);
+        }
+    }
+    None
 }
 
 /// The first rule that an extent of the list breaks behind those before it, whose number is its index. Where it

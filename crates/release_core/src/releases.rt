@@ -4,12 +4,12 @@ ghost use Rattle.release_core.specs.Releases.{AnswersRelease, GivesBack, KeepsHe
 ghost use Rattle.std.specs.Prelude.{◌≡◌, ◌++◌, ◌+◌, ◌<◌, ◌≤◌, [], IfOk, OnErr, length};
 
 use crate::counting::count_rule;
-use crate::leaving::{Within, broken_leaving_extent};
+use crate::leaving::broken_leaving;
 use crate::marking::marked_lists;
 use dcd_base::{Extent, Extents, HostId, NoMemory};
 use dcd_codes::{Refusal, Rule};
 use extent_list::ExtentList;
-use list_rules::{Owners, are_apart, incomplete, too_many_listed};
+use list_rules::{Owners, incomplete_among, too_many_listed};
 use region_config::Config;
 use std::alloc::Global;
 use std::marker::Model;
@@ -203,24 +203,11 @@ fn broken_list_rule(
     }
     // That extents in regions end at an address, which a configuration says of itself where it is read.
     let _regions = config.regions();
-    let (bounds, owners) = (Within::AnyRegion, accepted.as_slice());
-    let (accepted_owners, apart) = (Owners::of(owners), are_apart(whole));
-    let mut near = 0;
-    for i in 0..whole.len() {
-        if let Some(rule) = broken_leaving_extent(
-            config,
-            host,
-            &accepted_owners,
-            &mut near,
-            &bounds,
-            apart,
-            &whole[..i],
-            &whole[i],
-        ) {
-            return Ok(Some(rule));
-        }
+    let owners = Owners::of(accepted.as_slice());
+    if let Some(rule) = broken_leaving(config, host, &owners, whole) {
+        return Ok(Some(rule));
     }
-    match incomplete(alloc, config, host, owners, whole)? {
+    match incomplete_among(alloc, config, host, &owners, whole)? {
         Some(rule) => Ok(Some(rule)),
         None => count_rule(accepted, offered, whole),
     }

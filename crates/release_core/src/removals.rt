@@ -11,7 +11,7 @@ use crate::marking::marked_list;
 use dcd_base::{Extent, Extents, HostId, NoMemory, RegionId, Tag, is_no_tag};
 use dcd_codes::{Refusal, Rule};
 use extent_list::{ExtentList, has_extent_of};
-use list_rules::{Owners, are_apart, incomplete, too_many_listed};
+use list_rules::{Owners, are_apart, incomplete_among, too_many_listed};
 use region_config::Config;
 use std::alloc::Global;
 
@@ -70,7 +70,7 @@ pub fn removal(
         }
     }
     let alloc = list.allocator();
-    let rule = match incomplete(alloc, config, host, owners, listed)? {
+    let rule = match incomplete_among(alloc, config, host, &accepted_owners, listed)? {
         Some(rule) => Some(rule),
         None if forced => count_rule(accepted, offered, listed)?,
         None => None,
