@@ -83,6 +83,15 @@ module _ (a b place rest : ℕ) (is : rest ≡ bit_xor a b / 2 ^ (8 * place)) wh
       ∙ shr-shr (bit_xor a b) (8 * place + 8 * d) 8
       ∙ ap (λ x. bit_xor a b / 2 ^ x) sum
 
+  -- behind so many bytes and two more
+  pub pair_behind : (d : ℕ) → rest / 2 ^ (8 * d) / 2 ^ 16 ≡ bit_xor a b / 2 ^ (8 * (place + d + 2))
+  pair_behind d =
+      let sum : 8 * place + 8 * d + 16 ≡ 8 * (place + d + 2) = omega arith in
+      ap (λ x. x / 2 ^ (8 * d) / 2 ^ 16) is
+      ∙ ap (λ x. x / 2 ^ 16) (shr-shr (bit_xor a b) (8 * place) (8 * d))
+      ∙ shr-shr (bit_xor a b) (8 * place + 8 * d) 16
+      ∙ ap (λ x. bit_xor a b / 2 ^ x) sum
+
   -- where it is some, the next byte that differs is one of the eight
   pub next_difference : a < 2 ^ 64 → b < 2 ^ 64 → place ≤ 8 → rest ≢ 0 → (place + trailing_zeros w64 rest / 8 < 8) × ((k : ℕ) → place ≤ k → k < place + trailing_zeros w64 rest / 8 → get_or (to_le_bytes w64 a) k 0 ≡ get_or (to_le_bytes w64 b) k 0)
   next_difference small small' le some =

@@ -5,7 +5,7 @@ use Rattle.std.proofs.lemmas.List.{get_or-set_other, get_or-set_same, length-set
 use Rattle.std.proofs.lemmas.Nat.{from_le_bytes-to_le_bytes_8}
 use Rattle.field_bytes.proofs.Fields.{IsBytes}
 use Rattle.journal_core.specs.declared.coding.Coder.{Coder}
-use Rattle.journal_core.specs.Coding.{AddsBytes, CodesTo, IsOnlyDifference}
+use Rattle.journal_core.specs.Coding.{AddsBytes, CodesTo, IsOnlyDifference, IsPairDifference}
 use Rattle.journal_core.specs.Slots.{slots_in, with_slot}
 use Rattle.journal_core.proofs.CoderSteps.{codes_byte, codes_none, codes_number}
 use Rattle.journal_core.proofs.Slotting.{IsBytes-set, bytes_small, with_slot-same}
@@ -108,3 +108,13 @@ change_only a b k n place wanted is wide fits fits_n lt only adds =
     let there = change_skips n place starts is (omega arith) (omega (arith, only.known)) (λ j from below. only.before j below) in
     let told = change_tells there lt only.known adds in
     change_ends n (change_skips n 8 told is (omega (arith, only.known)) (omega arith) (λ j from below. only.behind j (omega (arith, from)) below)) refl is fits_n
+
+-- all bytes but two, one behind the other, are as they have to be, and those two are told
+pub change_pair : (a b c : Coder) (k n place : ℕ) (wanted : List ℕ) → wanted ≡ to_le_bytes w64 n → length a.slots ≡ 16 → get_or a.slots k 0 < 2 ^ 64 → n < 2 ^ 64 → k < 16 → IsPairDifference (slots_in a.slots k) n place
+    → AddsBytes a b ((8 * k + place) ∷ get_or wanted place 0 ∷ []) → AddsBytes b c ((8 * k + (place + 1)) ∷ get_or wanted (place + 1) 0 ∷ []) → CodesTo a c (with_slot (slots_in a.slots) k n) []
+change_pair a b c k n place wanted is wide fits fits_n lt pair adds adds' =
+    let starts = change_starts a k n (to_le_bytes w64 (get_or a.slots k 0)) wanted wide fits refl is in
+    let there = change_skips n place starts is (omega arith) (omega (arith, pair.known)) (λ j from below. pair.before j below) in
+    let told = change_tells there lt (omega (arith, pair.known)) adds in
+    let both = change_tells told lt pair.known adds' in
+    change_ends n (change_skips n 8 both is (omega (arith, pair.known)) (omega arith) (λ j from below. pair.behind j (omega (arith, from)) below)) refl is fits_n

@@ -1,5 +1,5 @@
 -- What a coder has written.
-use Rattle.std.specs.Prelude.{◌≡◌, ℕ, ◌<◌, ◌++◌, List, None, IsFalse, slice_index}
+use Rattle.std.specs.Prelude.{◌≡◌, ℕ, ◌+◌, ◌<◌, ◌++◌, List, None, IsFalse, slice_index}
 use Rattle.std.specs.Int.{w64, to_le_bytes}
 use Rattle.journal_core.specs.declared.coding.Coder.{Coder}
 use Rattle.journal_core.specs.declared.tokens.Token.{Token}
@@ -30,3 +30,9 @@ pub record IsOnlyDifference (told number place : ℕ) : Type 0 where
   pub known : place < 8
   pub before : (k : ℕ) → k < place → slice_index (to_le_bytes w64 told) k ≡ slice_index (to_le_bytes w64 number) k
   pub behind : (k : ℕ) → place < k → k < 8 → slice_index (to_le_bytes w64 told) k ≡ slice_index (to_le_bytes w64 number) k
+
+-- Two numbers have the same bytes before this one of their eight and behind the next one.
+pub record IsPairDifference (told number place : ℕ) : Type 0 where
+  pub known : place + 1 < 8
+  pub before : (k : ℕ) → k < place → slice_index (to_le_bytes w64 told) k ≡ slice_index (to_le_bytes w64 number) k
+  pub behind : (k : ℕ) → place + 1 < k → k < 8 → slice_index (to_le_bytes w64 told) k ≡ slice_index (to_le_bytes w64 number) k

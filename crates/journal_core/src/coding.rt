@@ -1,7 +1,7 @@
 //! Effects to bytes.
 
 ghost use Rattle.event_records.specs.Records.{kind_number};
-ghost use Rattle.journal_core.specs.Coding.{AddsBytes, Codes, CodesTo, IsOnlyDifference};
+ghost use Rattle.journal_core.specs.Coding.{AddsBytes, Codes, CodesTo, IsOnlyDifference, IsPairDifference};
 ghost use Rattle.journal_core.specs.Slots.{FitsWhat, no_slots, number_of_held, number_of_log, slots_in, slotted_event, slotted_extent, slotted_held, slotted_log, slotted_run, slotted_tag, telling_event, telling_extent, telling_flag, telling_held, telling_host, telling_log, telling_run, telling_tag, telling_what, with_slot};
 ghost use Rattle.journal_core.specs.Tokens.{token_of, tokens_of};
 ghost use Rattle.journal_core.specs.declared.tokens.Token.{Token};
@@ -106,6 +106,21 @@ impl Coder {
         }
     }
 
+    /// Writes the two bytes, one behind the other, by which a number differs from that in the slot. There is room for them.
+    fn push_pair(&mut self, slot: usize, place: usize, number: u64)
+        requires slot { slot < 16 }
+        requires room { vec_len self.old.bytes + 16 ≤ vec_capacity self.old.bytes }
+        requires pair { IsPairDifference (slots_in self.old.slots slot) number place }
+        ensures slots { self.new.slots ≡ self.old.slots }
+        ensures coded { CodesTo self.old self.new (with_slot (slots_in self.old.slots) slot number) [] }
+    {
+        // A slot has 64 bits.
+        let _told = self.slots[slot];
+        let wanted = number.to_le_bytes();
+        self.push_change(slot, place, wanted[place]);
+        self.push_change(slot, place + 1, wanted[place + 1]);
+    }
+
     /// Makes room for the bytes by which two numbers can differ.
     fn make_room(&mut self) -> bool
         ensures slots { self.new.slots ≡ self.old.slots }
@@ -173,13 +188,16 @@ impl Coder {
         ensures coded { Codes self.old self.new [] }
     {
         if self.make_room() {
-            self.push_changes(slot, number);
+            match pair_difference(self.slots[slot], number) {
+                Some(place) => self.push_pair(slot, place, number),
+                None => self.push_changes(slot, number),
+            }
         }
         self.slots[slot] = number;
     }
 
-    /// Writes the bytes by which a number differs from that in the slot, and puts it there. Most often it is one byte.
-    #[inline(never)]
+    /// Puts a number into a slot that most often differs in one byte, and writes what that changes.
+    #[inline(always)]
     fn change(&mut self, slot: usize, number: u64)
         requires { slot < 16 }
         ensures slots { slots_in self.new.slots ≡ with_slot (slots_in self.old.slots) slot number }
@@ -191,6 +209,20 @@ impl Coder {
         }
     }
 
+    /// Puts a number that is not that in the slot there, and writes what that changes. Most often it is the lowest byte.
+    #[inline(always)]
+    fn change_low(&mut self, slot: usize, number: u64)
+        requires { slot < 16 }
+        ensures slots { slots_in self.new.slots ≡ with_slot (slots_in self.old.slots) slot number }
+        ensures coded { Codes self.old self.new [] }
+    {
+        if differ_low(self.slots[slot], number) && self.has_room() {
+            self.change_byte(slot, 0, number);
+        } else {
+            self.change_bytes(slot, number);
+        }
+    }
+
     /// Puts a number into a slot, and writes what that changes.
     #[inline(always)]
     fn put(&mut self, slot: usize, number: u64)
@@ -199,7 +231,7 @@ impl Coder {
         ensures coded { Codes self.old self.new [] }
     {
         if self.slots[slot] != number {
-            self.change(slot, number);
+            self.change_low(slot, number);
         }
     }
 
@@ -273,12 +305,13 @@ impl Coder {
         self.put_wide(TAG_HIGH, u64_at(&tag.0, 8));
     }
 
+    #[inline(always)]
     fn put_extent(&mut self, extent: &Extent)
         ensures slots { slots_in self.new.slots ≡ telling_extent (slots_in self.old.slots) extent.now }
         ensures coded { Codes self.old self.new [] }
         ensures back { (slots : ℕ → ℕ) → slotted_extent (telling_extent slots extent.now) ≡ extent.now }
     {
-        // It is seldom that of the extent before.
+        // It is seldom that of the extent before, from which it most often differs in one byte.
         self.change(START, extent.start);
         self.put(LENGTH, extent.length);
         self.put_tag(&extent.tag);
@@ -326,6 +359,7 @@ impl Coder {
     }
 
     /// Writes what is about a run of a host.
+    #[inline(always)]
     fn put_held_run(&mut self, host: &HostId, run: &Run)
         ensures slots { slots_in self.new.slots ≡ telling_run (telling_host (slots_in self.old.slots) host.now) run.now }
         ensures coded { Codes self.old self.new [] }
@@ -510,6 +544,31 @@ fn only_difference(told: u64, number: u64) -> Option<usize>
         return None;
     }
     Some(place)
+}
+
+/// The place of the first of two bytes, one behind the other, that are all in which two numbers differ.
+fn pair_difference(told: u64, number: u64) -> Option<usize>
+    ensures { IfSome result (IsPairDifference told number) }
+{
+    let differing = told ^ number;
+    if differing == 0 {
+        return None;
+    }
+    let place = differing.trailing_zeros() as usize / 8;
+    let from_there = differing >> (8 * place);
+    // The second byte is told only where it differs, too.
+    if place < 7 && from_there >= 256 && from_there >> 16 == 0 {
+        Some(place)
+    } else {
+        None
+    }
+}
+
+/// Whether two numbers differ in the lowest byte at most.
+fn differ_low(told: u64, number: u64) -> bool
+    ensures { IsTrue result → IsOnlyDifference told number 0 }
+{
+    (told ^ number) >> 8 == 0
 }
 
 /// The number of a log in its slot.

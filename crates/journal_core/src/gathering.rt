@@ -82,7 +82,8 @@ fn taken(waiting: &mut Extents) -> Extents
 
 /// The next effect without extents, or none behind the last.
 pub(crate) fn next_alone(tokens: &mut Tokens<'_>) -> Option<Effect>
-    ensures { MatchOption result (filter_map effect_alone tokens.old ≡ []) (λ effect. filter_map effect_alone tokens.old ≡ effect ∷ filter_map effect_alone tokens.new) }
+    ensures { MatchOption result (filter_map effect_alone tokens.old ≡ [])
+        (λ effect. filter_map effect_alone tokens.old ≡ effect ∷ filter_map effect_alone tokens.new) }
 {
     while let Some(token) = tokens.next() {
         if let Some(effect) = effect_alone(&token) {

@@ -64,7 +64,8 @@ impl<'a> Tokens<'a> {
 
 /// Reads bytes up to the end of a token: that token, and the bytes behind it.
 fn next_token<'a>(slots: &mut Slots, bytes: &'a [u8]) -> Option<(Token, &'a [u8])>
-    ensures { MatchOption result (tokens_in (slots_in slots.old) None bytes.now ≡ []) (λ read. tokens_in (slots_in slots.old) None bytes.now ≡ read.0 ∷ tokens_in (slots_in slots.new) None read.1.now) }
+    ensures { MatchOption result (tokens_in (slots_in slots.old) None bytes.now ≡ [])
+        (λ read. tokens_in (slots_in slots.old) None bytes.now ≡ read.0 ∷ tokens_in (slots_in slots.new) None read.1.now) }
 {
     let mut left = bytes;
     while let Some((first, rest)) = left.split_first() {
