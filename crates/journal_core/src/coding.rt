@@ -155,6 +155,20 @@ impl Coder {
         }
     }
 
+    /// The place of the first of the two bytes, one behind the other, by which a number differs from that in the slot, if there
+    /// is room for them.
+    fn pair_change(&self, slot: usize, number: u64) -> Option<usize>
+        requires { slot < 16 }
+        ensures room { IfSome result (λ place. vec_len self.now.bytes + 16 ≤ vec_capacity self.now.bytes) }
+        ensures pair { IfSome result (IsPairDifference (slots_in self.now.slots slot) number) }
+    {
+        if self.has_room() {
+            pair_difference(self.slots[slot], number)
+        } else {
+            None
+        }
+    }
+
     /// Writes the one byte by which a number differs from that in the slot. There is room for it.
     fn push_only_change(&mut self, slot: usize, place: usize, number: u64)
         requires slot { slot < 16 }
@@ -180,6 +194,19 @@ impl Coder {
         self.slots[slot] = number;
     }
 
+    /// Writes the two bytes, one behind the other, by which a number differs from that in the slot, and puts the number there.
+    /// There is room for them.
+    fn change_pair(&mut self, slot: usize, place: usize, number: u64)
+        requires slot { slot < 16 }
+        requires room { vec_len self.old.bytes + 16 ≤ vec_capacity self.old.bytes }
+        requires pair { IsPairDifference (slots_in self.old.slots slot) number place }
+        ensures slots { slots_in self.new.slots ≡ with_slot (slots_in self.old.slots) slot number }
+        ensures coded { Codes self.old self.new [] }
+    {
+        self.push_pair(slot, place, number);
+        self.slots[slot] = number;
+    }
+
     /// Writes the bytes by which a number differs from that in the slot, and puts it there, once there is room for them.
     #[inline(never)]
     fn change_bytes(&mut self, slot: usize, number: u64)
@@ -196,7 +223,21 @@ impl Coder {
         self.slots[slot] = number;
     }
 
-    /// Puts a number into a slot that most often differs in one byte, and writes what that changes.
+    /// Puts a number into a slot that differs in two bytes or more, and writes what that changes. Most often they are two, one
+    /// behind the other.
+    #[inline(always)]
+    fn change_more(&mut self, slot: usize, number: u64)
+        requires { slot < 16 }
+        ensures slots { slots_in self.new.slots ≡ with_slot (slots_in self.old.slots) slot number }
+        ensures coded { Codes self.old self.new [] }
+    {
+        match self.pair_change(slot, number) {
+            Some(place) => self.change_pair(slot, place, number),
+            None => self.change_bytes(slot, number),
+        }
+    }
+
+    /// Puts a number into a slot that most often differs in one byte or two, and writes what that changes.
     #[inline(always)]
     fn change(&mut self, slot: usize, number: u64)
         requires { slot < 16 }
@@ -205,7 +246,7 @@ impl Coder {
     {
         match self.only_change(slot, number) {
             Some(place) => self.change_byte(slot, place, number),
-            None => self.change_bytes(slot, number),
+            None => self.change_more(slot, number),
         }
     }
 
@@ -311,7 +352,7 @@ impl Coder {
         ensures coded { Codes self.old self.new [] }
         ensures back { (slots : ℕ → ℕ) → slotted_extent (telling_extent slots extent.now) ≡ extent.now }
     {
-        // It is seldom that of the extent before, from which it most often differs in one byte.
+        // It is seldom that of the extent before, from which it most often differs in one byte or two.
         self.change(START, extent.start);
         self.put(LENGTH, extent.length);
         self.put_tag(&extent.tag);
