@@ -110,10 +110,10 @@ StayInside n old new = All (LiesIn n) old → All (LiesIn n) new
 abbrev pub StaySound : Configuration → List ℕ → List Change → List Change → Type 0
 StaySound c holders old new = NameNoOthers c holders → All (IsSoundChange c) old → All (IsSoundChange c) new
 
--- the change of the granules from one up to the one before the next
-abbrev pub change_by : Effect → List ℕ → ℕ → ℕ → Change
-change_by e holders at next = record {
+-- the change of the granules from one up to the one before the next, which all have these holders
+abbrev pub change_to : Effect → ℕ → ℕ → ℕ → Change
+change_to e bits at next = record {
   run = record { first = at; count = next - at };
-  holders = bits_by e (slice_index_or holders at 0);
+  holders = bits_by e bits;
   zero = is_zero e;
 }

@@ -1,17 +1,20 @@
 //! What a step changes of the granules' holders and words.
 
-ghost use Rattle.control_core.specs.PutChanges.{AreChangesFrom, IsRunAdded, StayInside, StaySound, change_by, AreOfOneHost, ArePut};
+ghost use Rattle.control_core.specs.PutChanges.{AreChangesFrom, IsRunAdded, StayInside, StaySound, change_to, AreOfOneHost, ArePut};
 ghost use Rattle.control_core.specs.PutChanges.{IsRegionOrNone, NameNoOthers, PutOne, bits_by, is_zero, touched_by};
 ghost use Rattle.device_rules.specs.ChangedRuns.{IsWithinRegion, IsSoundChange, LiesIn};
 ghost use Rattle.device_state.specs.Updates.{IsOfDevice};
 ghost use Rattle.region_config.specs.Granules.{granule_total};
-ghost use Rattle.std.specs.Prelude.{◌≡◌, ◌+◌, ◌<◌, ◌≤◌, All, IfOk, OnOk};
+ghost use Rattle.std.specs.Prelude.{◌≡◌, ℕ, ◌==◌, ◌+◌, ◌<◌, ◌≤◌, All, IfOk, OnOk, false, slice_index_or};
 
 use dcd_base::{Change, Changes, Granule, NoMemory, Run, host_bits};
 use device_state::{Holders, State};
 use journal_core::Effect;
 use region_config::Config;
 use std::alloc::Global;
+
+/// The holders of so many granules at most are compared one by one, and of more many at a time.
+const FEW: u32 = 8;
 
 /// The runs that a host takes or loses, with the hosts that hold them then, and those that are zeroed.
 ///
@@ -54,15 +57,8 @@ fn put_all(
         first: Granule(0),
         count: 0,
     };
-    for i in 0..effects.len() {
-        put_change(
-            config,
-            granules,
-            holders,
-            &effects[i],
-            &mut region,
-            &mut changes,
-        )?;
+    for effect in effects {
+        put_change(config, granules, holders, effect, &mut region, &mut changes)?;
     }
     Ok(changes)
 }
@@ -126,8 +122,9 @@ fn put_runs(
     while at < end {
         go_to_region(config, Granule(at), region);
         let most = end.min(region.first.0.saturating_add(region.count));
-        let next = holders.run_end(at, most);
-        changes.push(change_of(config, holders, effect, at, next))?;
+        let bits = holders.at(Granule(at));
+        let next = alike_up_to(holders, bits, at, most);
+        changes.push(change_of(config, effect, bits, at, next))?;
         at = next;
     }
     Ok(())
@@ -146,13 +143,32 @@ fn go_to_region(config: &Config, granule: Granule, region: &mut Run)
     }
 }
 
-/// The change of the granules from one up to the one before another, which all have the holders of the first.
-fn change_of(config: &Config, holders: &Holders, effect: &Effect, at: u32, next: u32) -> Change
+/// The number of the first granule behind one of these holders that has others, or the end.
+fn alike_up_to(holders: &Holders, bits: u16, at: u32, end: u32) -> u32
+    requires rising { at < end }
+    requires bits { bits ≡ slice_index_or holders.now at 0 }
+    ensures later { at < result }
+    ensures within { result ≤ end }
+    ensures same { (g : ℕ) → at ≤ g → g < result → slice_index_or holders.now g 0 ≡ bits }
+    ensures other { result < end → (slice_index_or holders.now result 0 == bits) ≡ false }
+{
+    if end - at > FEW {
+        return holders.run_end(at, end);
+    }
+    for next in at + 1..end {
+        if holders.at(Granule(next)) != bits {
+            return next;
+        }
+    }
+    end
+}
+
+/// The change of the granules from one up to the one before another, which all have these holders.
+fn change_of(config: &Config, effect: &Effect, bits: u16, at: u32, next: u32) -> Change
     requires rising { at < next }
     requires of_device { IsOfDevice config.now effect.now }
-    ensures { result ≡ change_by effect.now holders.now at next }
+    ensures { result ≡ change_to effect.now bits at next }
 {
-    let bits = holders.at(Granule(at));
     Change {
         run: Run {
             first: Granule(at),
