@@ -15,6 +15,13 @@ use dcd_base::{Boxed, NoMemory};
 use std::alloc::Global;
 use std::marker::Model;
 
+/// For how many entries room is made at a time at least, 40 bytes each: so much is a mapping of its own, which grows without a
+/// copy.
+const ENTRIES_AT_ONCE: usize = 4_096;
+
+/// For how many bytes room is made at a time at least.
+const BYTES_AT_ONCE: usize = 262_144;
+
 /// Entries of commands and scrubs. Their payloads and the bytes that tell their effects lie one behind another in one block.
 ///
 /// Contracts see the entries, for how many more there is room, and for how many more bytes.
@@ -96,7 +103,9 @@ impl KeptList {
         ensures place { OnOk result (0 < self.new.spare) }
         ensures kept { self.new.entries ≡ self.old.entries }
     {
-        self.kept.reserve(1)?;
+        if self.kept.len() == self.kept.capacity() {
+            self.kept.reserve(ENTRIES_AT_ONCE)?;
+        }
         Ok(())
     }
 
@@ -106,7 +115,9 @@ impl KeptList {
         ensures spare { self.new.spare ≡ self.old.spare }
         ensures kept { self.new.entries ≡ self.old.entries }
     {
-        self.bytes.reserve(bytes)?;
+        if bytes > self.room() {
+            self.bytes.reserve(bytes.max(BYTES_AT_ONCE))?;
+        }
         Ok(())
     }
 
