@@ -35,7 +35,8 @@ use host_lists::HostLists;
 use region_config::Config;
 use std::alloc::Global;
 
-/// What a message of the manager comes to. A reply that has a payload is written in the room.
+/// What a message of the manager comes to. A reply that has a payload is written in the room. What changes extents or tags stands
+/// apart, so that one that only reads makes no room for what that needs.
 #[inline(never)]
 pub(crate) fn manager_step(
     alloc: Global,
@@ -47,8 +48,38 @@ pub(crate) fn manager_step(
     requires reached { IsReached config.now state.now }
     ensures { IfOk result (IsDecided config.now state.now Actor.Manager (Act.Command request.now)) }
 {
-    let managed = manager_command(alloc, config, state, request, room);
-    manager_recorded(alloc, config, state, request, managed)
+    match decode(alloc, request.opcode, request.payload.as_slice()) {
+        Ok(asked) => {
+            if is_quiet(&asked) {
+                let managed = decide_quiet(alloc, config, state, request, &asked, room);
+                manager_recorded(alloc, config, state, request, managed)
+            } else {
+                changing_step(alloc, config, state, request, asked)
+            }
+        }
+        Err(PayloadFault::UnknownOpcode(opcode)) => {
+            let broken = Err(Refusal::Broken(Rule::UnknownOpcode(opcode)));
+            manager_recorded(alloc, config, state, request, broken)
+        }
+        Err(PayloadFault::WrongLength { need, have }) => {
+            let broken = Err(Refusal::Broken(Rule::WrongLength { need, have }));
+            manager_recorded(alloc, config, state, request, broken)
+        }
+        Err(PayloadFault::NoMemory) => Err(NoMemory),
+    }
+}
+
+/// Whether a request changes no extents and no tags.
+fn is_quiet(asked: &FmRequest) -> bool
+    ensures { result ≡ is_quiet_manager asked.now }
+{
+    match asked {
+        FmRequest::Add { .. } => false,
+        FmRequest::Remove { .. } => false,
+        FmRequest::AddReference { .. } => false,
+        FmRequest::RemoveReference { .. } => false,
+        _ => true,
+    }
 }
 
 /// What a message of the manager comes to, where it comes to this or breaks this rule first.
@@ -71,30 +102,47 @@ fn manager_recorded(
     }
 }
 
-/// What a message of the manager comes to, or the first rule that it breaks. A reply that has a payload is written in the
-/// room. Those that change extents or tags stand apart, so that one that only reads makes no room for what they need.
-#[inline(always)]
-fn manager_command(
+/// What a request comes to that changes extents or tags.
+#[inline(never)]
+fn changing_step(
     alloc: Global,
     config: &Config,
     state: &State,
     request: &Request,
-    room: Bytes,
+    asked: FmRequest,
+) -> Result<Decision, NoMemory>
+    requires reached { IsReached config.now state.now }
+    requires asked { manager_request request.now.opcode request.now.payload ≡ Ok asked }
+    requires changing { is_quiet_manager asked ≡ false }
+    ensures { IfOk result (IsDecided config.now state.now Actor.Manager (Act.Command request.now)) }
+{
+    let managed = changing_command(alloc, config, state, request, asked);
+    manager_recorded(alloc, config, state, request, managed)
+}
+
+/// What a request comes to that changes extents or tags, or the first rule that it breaks.
+#[inline(always)]
+fn changing_command(
+    alloc: Global,
+    config: &Config,
+    state: &State,
+    request: &Request,
+    asked: FmRequest,
 ) -> Result<Decision, Refusal>
     requires reached { IsReached config.now state.now }
+    requires asked { manager_request request.now.opcode request.now.payload ≡ Ok asked }
+    requires changing { is_quiet_manager asked ≡ false }
     ensures { Manages config.now state.now request.now result }
 {
-    match decode(alloc, request.opcode, request.payload.as_slice()) {
-        Ok(
-            FmRequest::Add {
-                host,
-                policy,
-                region,
-                length,
-                tag,
-                extents,
-            },
-        ) => {
+    match asked {
+        FmRequest::Add {
+            host,
+            policy,
+            region,
+            length,
+            tag,
+            extents,
+        } => {
             let offer = AddRequest {
                 host,
                 policy,
@@ -104,16 +152,14 @@ fn manager_command(
             };
             decide_add(alloc, config, state, request, &offer, &extents)
         }
-        Ok(
-            FmRequest::Remove {
-                host,
-                flags,
-                region,
-                length,
-                tag,
-                extents,
-            },
-        ) => {
+        FmRequest::Remove {
+            host,
+            flags,
+            region,
+            length,
+            tag,
+            extents,
+        } => {
             let removal = RemoveRequest {
                 host,
                 flags,
@@ -123,20 +169,13 @@ fn manager_command(
             };
             decide_remove(alloc, config, state, request, &removal, &extents)
         }
-        Ok(FmRequest::AddReference { tag }) => decide_add_reference(
-            alloc, config, state, request, &tag,
-        ),
-        Ok(FmRequest::RemoveReference { tag }) => decide_remove_reference(
-            alloc, config, state, request, &tag,
-        ),
-        Ok(asked) => decide_quiet(alloc, config, state, request, &asked, room),
-        Err(PayloadFault::UnknownOpcode(opcode)) => {
-            Err(Refusal::Broken(Rule::UnknownOpcode(opcode)))
+        FmRequest::AddReference { tag } => {
+            decide_add_reference(alloc, config, state, request, &tag)
         }
-        Err(PayloadFault::WrongLength { need, have }) => {
-            Err(Refusal::Broken(Rule::WrongLength { need, have }))
+        FmRequest::RemoveReference { tag } => {
+            decide_remove_reference(alloc, config, state, request, &tag)
         }
-        Err(PayloadFault::NoMemory) => Err(Refusal::NoMemory),
+        _ => unreachable!(),
     }
 }
 
