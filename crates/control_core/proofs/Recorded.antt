@@ -1,14 +1,15 @@
 -- The records of a step are those that its history asks for.
-use Rattle.std.proofs.Common.{◌≡◌, ℕ, ◌+◌, ◌-◌, ◌%◌, ◌<◌, append-nil, true, false, List, [], ◌∷◌, ◌++◌, length, map, flat_map, get_or, take, inl, inr, refl, sym, ap, ◌∙◌, subst, arith}
+use Rattle.std.proofs.Common.{◌≡◌, ℕ, ◌+◌, ◌-◌, ◌%◌, ◌<◌, ◌≤◌, ◌⊎◌, append-nil, true, false, List, [], ◌∷◌, ◌++◌, length, map, flat_map, append_assoc, get_or, take, drop, zero, suc, inl, inr, refl, sym, ap, ◌∙◌, subst, arith}
 use Rattle.std.specs.Prelude.{◌==◌, if◌then◌else◌}
 use Rattle.std.proofs.lemmas.Bool.{cases_eq, ne_eqb}
 use Rattle.std.proofs.lemmas.Grind.{flat_map-append}
-use Rattle.std.proofs.lemmas.List.{length_push, take_more}
+use Rattle.std.proofs.lemmas.List.{drop_more, length_push, take_more}
 use Rattle.std.proofs.Math.Nat.{mod-add-mod}
 use Rattle.dcd_base.specs.declared.steps.LogId.{LogId}
 use Rattle.event_log.specs.LogStates.{LogState, handle_after}
 use Rattle.event_log.specs.Logs.{Log, missed_by, next_handle, recorded, room_in}
 use Rattle.event_records.specs.declared.events.Event.{Event}
+use Rattle.event_records.specs.declared.events.EventKind.{EventKind}
 use Rattle.journal_core.specs.Entries.{effects}
 use Rattle.journal_core.specs.declared.entries.Entry.{Entry}
 use Rattle.journal_core.specs.declared.outcome.Effect.{Effect}
@@ -17,7 +18,7 @@ use Rattle.device_state.specs.StateAfter.{IsLogOf, IsStateAfter}
 use Rattle.device_commands.specs.Drafts.{as_records}
 use Rattle.device_commands.specs.declared.log_records.LogRecords.{LogRecords}
 use Rattle.device_rules.specs.Logs.{log_after, log_of}
-use Rattle.device_rules.specs.Outcomes.{entered, entered_all}
+use Rattle.device_rules.specs.Outcomes.{entered, entered_all, no_extent}
 use Rattle.step_laws.proofs.LogSteps.{IsSound, IsSound-recorded, room-recorded, same_log-self}
 use Rattle.control_core.specs.Recording.{records_by, records_entered}
 use Rattle.device_state.specs.Updates.{IsOfLog, log_in}
@@ -74,3 +75,43 @@ told_more past log_records i n below is =
     ap (records_entered past) (take_more log_records i n below)
     ∙ flat_map-append f (take i log_records) (get_or log_records i n ∷ [])
     ∙ ap (λ es. records_entered past (take i log_records) ++ es) (append-nil (f (get_or log_records i n)) ∙ ap f (sym is))
+
+-- records of a full log are counted, whatever the next handle would be
+missed_any : (l : LogId) (events : List Event) (next other : ℕ) → records_by l next 0 events ≡ records_by l other 0 events
+missed_any l [] next other = refl
+missed_any l (e ∷ events) next other = ap (λ es. Effect.Missed l ∷ es) (missed_any l events next other)
+
+-- the records that a log has room for, and then those that are only counted
+pub records_split : (l : LogId) (fit : ℕ) (events : List Event) (room next other : ℕ) → fit ≤ length events → fit ≤ room → (length events ≤ fit) ⊎ (room ≤ fit)
+    → records_by l next room events ≡ records_by l next fit (take fit events) ++ records_by l other 0 (drop fit events)
+records_split l zero [] room next other few within full = refl
+records_split l zero (e ∷ events) room next other few within (inl all) = absurd (omega (arith, all))
+records_split l zero (e ∷ events) room next other few within (inr full) =
+    let none : room ≡ 0 = omega (arith, full) in
+    ap (λ n. records_by l next n (e ∷ events)) none ∙ missed_any l (e ∷ events) next other
+records_split l (suc fit) [] room next other few within full = absurd (omega (arith, few))
+records_split l (suc fit) (e ∷ events) room next other few within full =
+    let some : (room == 0) ≡ false = ne_eqb room 0 (λ is. omega (arith, is, within)) in
+    let more : (suc fit == 0) ≡ false = ne_eqb (suc fit) 0 (λ is. omega (arith, is)) in
+    let last : fit ≡ suc fit - 1 = omega arith in
+    let rest : (length events ≤ fit) ⊎ (room - 1 ≤ fit) = elim full [
+      | inl all ↦ inl (omega (arith, all))
+      | inr out ↦ inr (omega (arith, out))
+    ] in
+    ap (λ b. (if b then Effect.Missed l else Effect.Logged l (record e { handle = next })) ∷ records_by l (if b then next else handle_after next) (room - 1) events) some
+    ∙ ap (λ es. Effect.Logged l (record e { handle = next }) ∷ es)
+    (records_split l fit events (room - 1) (handle_after next) other (omega (arith, few)) (omega (arith, within)) rest
+    ∙ ap (λ n. records_by l (handle_after next) n (take fit events) ++ records_by l other 0 (drop fit events)) last)
+    ∙ ap (λ b. ((if b then Effect.Missed l else Effect.Logged l (record e { handle = next })) ∷ records_by l (if b then next else handle_after next) (suc fit - 1) (take fit events)) ++ records_by l other 0 (drop fit events))
+    (sym more)
+
+-- what an index past the end reads
+abbrev pub no_event : Event
+no_event = record { handle = 0; kind = EventKind.Add; host = 0; region = 0; more = false; extent = no_extent; extents_available = 0; tags_available = 0 }
+
+-- one record more that is only counted
+pub missed_more : (l : LogId) (items : List Effect) (events : List Event) (k next : ℕ) (d : Event) → k < length events
+    → (items ++ Effect.Missed l ∷ []) ++ records_by l next 0 (drop (k + 1) events) ≡ items ++ records_by l next 0 (drop k events)
+missed_more l items events k next d known =
+    append_assoc items (Effect.Missed l ∷ []) (records_by l next 0 (drop (k + 1) events))
+    ∙ ap (λ es. items ++ records_by l next 0 es) (sym (drop_more events k d known))

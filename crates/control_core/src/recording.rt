@@ -1,12 +1,12 @@
 //! The effects of a step: its changes, the ends of tags, and its records.
 
-ghost use Rattle.control_core.specs.Recording.{AreToldBehind, IsToldBehind, next_by, record_by, records_by};
+ghost use Rattle.control_core.specs.Recording.{AreToldBehind, IsToldBehind, records_by};
 ghost use Rattle.device_state.specs.Updates.{IsOfLog};
 ghost use Rattle.device_commands.specs.declared.log_records.LogRecords.{LogRecords};
 ghost use Rattle.journal_core.specs.declared.outcome.Effect.{Effect};
-ghost use Rattle.std.specs.Prelude.{◌≡◌, ◌++◌, ◌-◌, ◌<◌, [], ◌∷◌, All, OnOk, length, map, vec_capacity, vec_len};
+ghost use Rattle.std.specs.Prelude.{◌≡◌, ◌++◌, ◌+◌, ◌-◌, ◌≤◌, ℕ, All, OnOk, length, map, vec_capacity, vec_len};
 
-use dcd_base::{LogId, NoMemory, Seq, Tag};
+use dcd_base::{Extent, LogId, NoMemory, Seq, Tag};
 use device_commands::LogRecords;
 use device_state::State;
 use event_log::{EventLog, handle_after};
@@ -68,40 +68,60 @@ fn put_records(
     let alloc = effects.allocator();
     let mut items = replace(effects, Effects::new(alloc)).into_vec();
     items.reserve(events.len())?;
-    let mut next = log.next_handle();
-    let mut room = log.room();
-    for i in 0..events.len() {
-        put_record(&mut items, id, next, room, &events[i]);
-        next = next_behind(next, room);
-        room = room.saturating_sub(1);
-    }
+    let fit = events.len().min(log.room() as usize);
+    let (logged, missed) = events.split_at(fit);
+    put_logged(&mut items, id, log.next_handle(), logged);
+    put_missed(&mut items, id, missed);
     *effects = Effects::from_vec(alloc, items);
     Ok(())
 }
 
-/// Puts a record for a log with this next handle and so much room. There is memory for it.
-#[inline(always)]
-fn put_record(items: &mut Vec<Effect>, id: &LogId, next: u16, room: u32, event: &Event)
-    requires { vec_len items.old < vec_capacity items.old }
-    ensures items { items.new.items ≡ items.old.items ++ record_by id.now next room event.now ∷ [] }
+/// Puts records for a log that has room for them, the first one under this handle. There is memory for them.
+fn put_logged(items: &mut Vec<Effect>, id: &LogId, first: u16, events: &[Event])
+    requires { vec_len items.old + length events.now ≤ vec_capacity items.old }
+    ensures items { items.new.items ≡ items.old.items ++ records_by id.now first (length events.now) events.now }
+    ensures len { vec_len items.new ≡ vec_len items.old + length events.now }
     ensures capacity { vec_capacity items.new ≡ vec_capacity items.old }
 {
-    if room == 0 {
-        items.push_reserved(Effect::Missed(*id));
-    } else {
-        items.push_reserved(Effect::Logged(
-            *id,
-            Event {
-                handle: next,
-                ..*event
-            },
-        ));
+    let mut next = first;
+    for i in 0..events.len() {
+        items.push_reserved(logged_as(id, next, &events[i]));
+        next = handle_after(next);
     }
 }
 
-/// The next handle after a record.
-fn next_behind(next: u16, room: u32) -> u16
-    ensures { result ≡ next_by next room }
+/// A record under this handle.
+#[inline(always)]
+fn logged_as(id: &LogId, handle: u16, event: &Event) -> Effect
+    ensures { result ≡ Effect.Logged id.now (record event.now { handle = handle }) }
 {
-    if room == 0 { next } else { handle_after(next) }
+    let extent = &event.extent;
+    Effect::Logged(
+        *id,
+        Event {
+            handle,
+            kind: event.kind,
+            host: event.host,
+            region: event.region,
+            more: event.more,
+            extent: Extent {
+                start: extent.start,
+                length: extent.length,
+                tag: extent.tag,
+                sequence: extent.sequence,
+            },
+            extents_available: event.extents_available,
+            tags_available: event.tags_available,
+        },
+    )
+}
+
+/// Puts records for a full log, which are only counted. There is memory for them.
+fn put_missed(items: &mut Vec<Effect>, id: &LogId, events: &[Event])
+    requires { vec_len items.old + length events.now ≤ vec_capacity items.old }
+    ensures { (next : ℕ) → items.new.items ≡ items.old.items ++ records_by id.now next 0 events.now }
+{
+    for _ in 0..events.len() {
+        items.push_reserved(Effect::Missed(*id));
+    }
 }
