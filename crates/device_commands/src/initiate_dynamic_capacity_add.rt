@@ -28,6 +28,7 @@ use dcd_base::{Extent, Extents, HostId, LogId, NoMemory, RegionId, Seq, Tag, is_
 use dcd_codes::{Refusal, Rule};
 use device_state::State;
 use event_records::EventKind;
+use extent_list::same_tag;
 use host_lists::HostLists;
 use journal_core::{Effect, Effects};
 use list_rules::too_many_extents;
@@ -203,7 +204,7 @@ fn has_extent(extents: &[Extent], tag: &Tag) -> bool
     ensures { result ≡ has_extent_of tag.now extents.now }
 {
     for i in 0..extents.len() {
-        if extents[i].tag == *tag {
+        if same_tag(&extents[i].tag, tag) {
             return true;
         }
     }
