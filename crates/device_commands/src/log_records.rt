@@ -78,9 +78,9 @@ pub(crate) fn records_by_tags(
     ensures { IfOk result (λ events. (v : View) → lists.now ≡ lists_in v → events ≡ records_of_extents host v kind extents.now) }
 {
     let extents_available = lists.extents_available();
-    let mut events = Seq::with_capacity(alloc, extents.len())?;
+    let mut events = Vec::with_capacity(alloc, extents.len())?;
     for i in 0..extents.len() {
-        events.push(Event {
+        events.push_reserved(Event {
             handle: 0,
             kind,
             host: u16::from(host.0),
@@ -89,9 +89,9 @@ pub(crate) fn records_by_tags(
             extent: extents[i],
             extents_available,
             tags_available,
-        })?;
+        });
     }
-    Ok(events)
+    Ok(Seq::from_vec(alloc, events))
 }
 
 /// A record for each extent, for one log.
