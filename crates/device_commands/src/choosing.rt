@@ -111,11 +111,11 @@ fn extents_of(
     requires runs { All (IsRun present.now) runs.now }
     ensures { IfOk result (λ xs. xs ≡ extents_of present.now host runs.now) }
 {
-    let mut extents = Extents::with_capacity(alloc, runs.len())?;
+    let mut extents = Vec::with_capacity(alloc, runs.len())?;
     for i in 0..runs.len() {
-        extents.push(extent_of(present, host, &runs[i], no_tag(), 0))?;
+        extents.push_reserved(extent_of(present, host, &runs[i], no_tag(), 0));
     }
-    Ok(extents)
+    Ok(Extents::from_vec(alloc, extents))
 }
 
 /// Each extent with the tag, and numbered from 1 where hosts can share it.
@@ -128,11 +128,11 @@ fn with_tag(
     requires { length extents.now ≤ 4096 }
     ensures { IfOk result (λ xs. xs ≡ with_tag shareable tag.now extents.now) }
 {
-    let mut tagged = Extents::with_capacity(alloc, extents.len())?;
+    let mut tagged = Vec::with_capacity(alloc, extents.len())?;
     for i in 0..extents.len() {
-        tagged.push(tagged_one(shareable, tag, i as u16 + 1, &extents[i]))?;
+        tagged.push_reserved(tagged_one(shareable, tag, i as u16 + 1, &extents[i]));
     }
-    Ok(tagged)
+    Ok(Extents::from_vec(alloc, tagged))
 }
 
 /// The extent with the tag, and with its number where hosts can share it.

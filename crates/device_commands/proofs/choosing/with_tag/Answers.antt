@@ -14,9 +14,13 @@ loop-i-preserved c =
     let x : Extent = get_or xs i no_extent in
     let f : ℕ × Extent → Extent = λ y. record y.1 { tag = c.args.tag.now; sequence = if c.args.shareable then y.0 else 0 } in
     let number : 1 + length (take i xs) ≡ i + 1 = omega (arith, length-take-le i xs (omega (arith, c.loop-i-test.true))) in
-    c.in_ok-push.ensures.pushed
-    ∙ (λ j. c.loop-i.invariant j ++ c.tagged_one.ensures j ∷ [])
-    ∙ sym (ap (λ ys. map f (enumerate_from 1 ys)) (take_more xs i no_extent c.loop-i-test.true)
-    ∙ ap (map f) (numbered_more 1 (take i xs) x)
-    ∙ map-append f (enumerate_from 1 (take i xs)) ((1 + length (take i xs), x) ∷ [])
-    ∙ ap (λ n. map f (enumerate_from 1 (take i xs)) ++ f (n, x) ∷ []) number)
+    record {
+      put =
+          c.push_reserved.ensures.items
+          ∙ (λ j. c.loop-i.invariant.put j ++ c.tagged_one.ensures j ∷ [])
+          ∙ sym (ap (λ ys. map f (enumerate_from 1 ys)) (take_more xs i no_extent c.loop-i-test.true)
+          ∙ ap (map f) (numbered_more 1 (take i xs) x)
+          ∙ map-append f (enumerate_from 1 (take i xs)) ((1 + length (take i xs), x) ∷ [])
+          ∙ ap (λ n. map f (enumerate_from 1 (take i xs)) ++ f (n, x) ∷ []) number);
+      room = omega (arith, c.loop-i.invariant.room, c.push_reserved.ensures.len, c.push_reserved.ensures.capacity, c.loop-i-test.true);
+    }
