@@ -5,7 +5,7 @@ ghost use Rattle.control_core.specs.PutChanges.{IsRegionOrNone, NameNoOthers, Pu
 ghost use Rattle.device_rules.specs.ChangedRuns.{IsWithinRegion, IsSoundChange, LiesIn};
 ghost use Rattle.device_state.specs.Updates.{IsOfDevice};
 ghost use Rattle.region_config.specs.Granules.{granule_total};
-ghost use Rattle.std.specs.Prelude.{◌≡◌, ℕ, ◌==◌, ◌+◌, ◌<◌, ◌≤◌, All, IfOk, OnOk, false, slice_index_or};
+ghost use Rattle.std.specs.Prelude.{◌≡◌, ℕ, ◌==◌, ◌+◌, ◌<◌, ◌≤◌, All, IfOk, List, OnOk, [], false, length, slice_index_or, take};
 
 use dcd_base::{Change, Changes, Granule, NoMemory, Run, host_bits};
 use device_state::{Holders, State};
@@ -51,16 +51,41 @@ fn put_all(
     ensures inside { IfOk result (λ changes. All (LiesIn (granule_total config.now)) changes) }
     ensures sound { IfOk result (λ changes. NameNoOthers config.now holders.now → All (IsSoundChange config.now) changes) }
 {
+    let quiet = quiet_front(effects);
+    if quiet >= effects.len() {
+        return Ok(Changes::new(alloc));
+    }
     let granules = config.granules();
-    let mut changes = Changes::new(alloc);
+    let mut changes = Changes::with_capacity(alloc, effects.len() - quiet)?;
     let mut region = Run {
         first: Granule(0),
         count: 0,
     };
-    for effect in effects {
-        put_change(config, granules, holders, effect, &mut region, &mut changes)?;
+    for i in quiet..effects.len() {
+        put_change(
+            config,
+            granules,
+            holders,
+            &effects[i],
+            &mut region,
+            &mut changes,
+        )?;
     }
     Ok(changes)
+}
+
+/// How many effects come before the first one that touches granules: all, where none does.
+fn quiet_front(effects: &[Effect]) -> usize
+    ensures within { result ≤ length effects.now }
+    ensures quiet { (n : ℕ) (holders : List ℕ) → ArePut n holders (take result effects.now) [] }
+{
+    for i in 0..effects.len() {
+        match touched_run(&effects[i]) {
+            Some(_) => return i,
+            None => {}
+        }
+    }
+    effects.len()
 }
 
 /// Puts what one effect changes, of a device of so many granules. The region is that of the last change, or has no granule.

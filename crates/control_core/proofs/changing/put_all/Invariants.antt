@@ -5,9 +5,9 @@ use Rattle.device_rules.specs.ChangedRuns.{IsSoundChange, LiesIn}
 use Rattle.control_core.specs.PutChanges.{ArePut, IsRegionOrNone, NameNoOthers}
 use Rattle.control_core.proofs.changing.put_all.Given as goal
 
-abbrev pub invariant-loop-effect : goal.invariant-loop-effect
-invariant-loop-effect l = record {
-  put : ArePut (granule_total l.config) l.holders (take l.effect-index l.effects) l.changes;
+abbrev pub invariant-loop-i : goal.invariant-loop-i
+invariant-loop-i l = record {
+  put : ArePut (granule_total l.config) l.holders (take l.i l.effects) l.changes;
   inside : All (LiesIn (granule_total l.config)) l.changes;
   sound : NameNoOthers l.config l.holders → All (IsSoundChange l.config) l.changes;
   region : IsRegionOrNone l.config l.region;
