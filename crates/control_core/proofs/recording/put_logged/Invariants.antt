@@ -1,4 +1,4 @@
-use Rattle.std.proofs.Common.{◌≡◌, ◌≤◌, ◌+◌, ◌-◌, ◌++◌, drop, length, vec_capacity, vec_len}
+use Rattle.std.proofs.Common.{◌≡◌, ◌+◌, ◌-◌, ◌++◌, drop, length, vec_capacity, vec_len}
 use Rattle.control_core.specs.Recording.{records_by}
 use Rattle.control_core.proofs.recording.put_logged.Given as goal
 
