@@ -179,6 +179,7 @@ fn told_none(alloc: Global, host: HostId, after: &HostLists) -> Result<Seq<Event
 }
 
 /// The host takes each of the extents.
+#[inline(never)]
 fn put_takes(
     present: &Config,
     host: HostId,
