@@ -1,7 +1,7 @@
 """Scripts of many lines whose lists are near the limits of the device, for bench/run.
 
 Each function takes how many lines or commands it is to have, so that a small one can be looked at, and answers a head and the lines. A device
-here has 16 hosts, all with the same addresses, and up to 4,096 granules. Each command is answered with Success, and no access is refused.
+here has 16 hosts, all with the same addresses, and up to 4,096 granules. Each command is answered with Success, but for those of refused_last, and no access is refused.
 """
 import os
 import sys
@@ -268,6 +268,143 @@ def shared_device(count):
     return device([(GRANULES, 1, "shareable")]), lines
 
 
+# Commands that change something, on devices that are full, or free in small parts only, or in large ones
+
+
+def whole_in_parts(count):
+    """Each host in turn is offered the whole device as one extent, answers with 64 parts of it, and gives these back; all is zeroed."""
+    parts = blocks(0, 64, 64, 64)
+    lines = Lines()
+    for n in range(count // 5):
+        host = n % HOSTS
+        lines.told(host, offer(host, FREE, 0, GRANULES * MIB), 1)
+        lines.host(host, respond(parts))
+        lines.host(host, give_back(parts))
+        lines.append(scrub(GRANULES))
+        lines.clear(host)
+    return device([(GRANULES, 1)]), lines
+
+
+def declined(count):
+    """Host 0 holds all granules but the last two; host 1 is offered one, and declines it."""
+    lines = Lines()
+    lines.told(0, offer(0, FREE, 0, (GRANULES - 2) * MIB), 1)
+    lines.host(0, respond([(0, (GRANULES - 2) * MIB)]))
+    lines.clear(0)
+    for _ in range((count - len(lines)) // 3):
+        lines.told(1, offer(1, FREE, 0, MIB), 1)
+        lines.host(1, respond([]))
+        lines.clear(1)
+    return device([(GRANULES, 1)]), lines
+
+
+def nothing_to_zero(count):
+    """Scrubs of a device with nothing dirty."""
+    return device([(GRANULES, 1)]), [scrub(GRANULES)] * count
+
+
+def given_and_got(count, owned):
+    """Each host has 64 granules, and gives them back in turn, and gets the same ones."""
+    lines = Lines()
+    for host in range(HOSTS):
+        lines.told(host, offer(host, PRESCRIPTIVE, 0, extents=owned(host)), 64)
+        lines.host(host, respond(owned(host)))
+        lines.clear(host)
+    for n in range((count - len(lines)) // 5):
+        host = n % HOSTS
+        lines.host(host, give_back(owned(host)))
+        lines.append(scrub(GRANULES))
+        lines.told(host, offer(host, PRESCRIPTIVE, 0, extents=owned(host)), 64)
+        lines.host(host, respond(owned(host)))
+        lines.clear(host)
+    return device([(GRANULES, 1)]), lines
+
+
+def every_second(count):
+    """Each second granule of half of the device is held, and given back and got again."""
+    return given_and_got(count, lambda host: blocks(128 * host, 64, 2))
+
+
+def interleaved(count):
+    """Granule g is host g mod 16's: neighbours are others'."""
+    return given_and_got(count, lambda host: blocks(host, 64, HOSTS))
+
+
+def eight_regions(count):
+    """Each host in turn gets eight granules in each of eight regions, and gives back all 64 at once."""
+    lines = Lines()
+    for n in range(count // 19):
+        host = n % HOSTS
+        extents = [blocks((number << 8) + 16 * host, 8, 2) for number in range(8)]
+        for number in range(8):
+            lines.told(host, offer(host, PRESCRIPTIVE, number, extents=extents[number]), 8)
+            lines.host(host, respond(extents[number]))
+        lines.host(host, give_back([extent for each in extents for extent in each]))
+        lines.append(scrub(GRANULES))
+        lines.clear(host)
+    return device([(256, 1)] * 8), lines
+
+
+def large_blocks(count):
+    """Blocks of 64 granules: each host gets four, and gives them back or loses them."""
+    lines = Lines()
+    for _ in range(count // (3 * HOSTS + 1)):
+        for host in range(HOSTS):
+            lines.told(host, offer(host, FREE, 0, 256 * MIB), 1)
+        use_up(lines, lambda host: blocks(256 * host, 1, size=256))
+    return device([(GRANULES, 64)]), lines
+
+
+def among_fragments(count):
+    """Eight hosts hold each second granule of a quarter of the device; the others get 64 granules that lie together."""
+    lines = Lines()
+    for host in range(8):
+        extents = blocks(128 * host, 64, 2)
+        lines.told(host, offer(host, PRESCRIPTIVE, 0, extents=extents), 64)
+        lines.host(host, respond(extents))
+    for _ in range((count - len(lines)) // (4 * 8 + 1)):
+        for host in range(8, HOSTS):
+            lines.told(host, offer(host, CONTIGUOUS, 0, 64 * MIB), 1)
+        for host in range(8, HOSTS):
+            extents = blocks(1023 + 64 * (host - 8), 1, size=64)
+            lines.host(host, respond(extents))
+            lines.host(host, give_back(extents))
+            lines.clear(host)
+        lines.append(scrub(GRANULES))
+    return device([(GRANULES, 1)]), lines
+
+
+def lost_by_tag(count):
+    """Each host in turn gets 64 granules with 16 tags, four to a tag, and loses them by force, tag by tag."""
+    lines = Lines()
+    for n in range(count // 50):
+        host = n % HOSTS
+        for number in range(16):
+            extents = blocks(128 * host + 8 * number, 4, 2)
+            lines.told(host, offer(host, PRESCRIPTIVE, 0, tag=tag_of(number), extents=extents), 4)
+            lines.host(host, respond(extents))
+        lines.clear(host)
+        for number in range(16):
+            lines.told(host, take(host, BY_TAG | FORCED, tag=tag_of(number)), 4)
+        lines.append(scrub(GRANULES))
+        lines.clear(host)
+    return device([(GRANULES, 1)]), lines
+
+
+def refused_last(count):
+    """Host 0 holds 64 granules: what it gives back is refused for the last of 64 extents, which is not its own. Between it reads its empty log."""
+    lines = Lines()
+    extents = blocks(0, 64, 2)
+    lines.told(0, offer(0, PRESCRIPTIVE, 0, extents=extents), 64)
+    lines.host(0, respond(extents))
+    lines.clear(0)
+    wrong = [*extents[:63], (127 * MIB, MIB)]
+    for _ in range((count - len(lines)) // 2):
+        lines.host(0, give_back(wrong))
+        lines.host(0, get_events())
+    return device([(GRANULES, 1)]), lines
+
+
 # Commands that read lists and logs
 
 
@@ -374,7 +511,19 @@ KINDS = [
         ("63 extents each, and one more", full_lists),
         ("64 fragments an offer", fragments),
         ("127 blocks cut into 64", cuts),
-        ("64 extents that 16 hosts share", shared_device)]),
+        ("64 extents that 16 hosts share", shared_device),
+        ("all offered, answered in 64 parts", whole_in_parts)]),
+    ("granules", "about 12,000 lines on devices that are free in small parts only, or in large ones", 12000, [
+        ("each second granule", every_second),
+        ("granules of 16 hosts in turn", interleaved),
+        ("eight regions", eight_regions),
+        ("blocks of 64 granules", large_blocks),
+        ("contiguous ones among fragments", among_fragments),
+        ("lost by tag, 4 of 64 at a time", lost_by_tag),
+        ("refused for the last of 64 extents", refused_last)]),
+    ("small", "48,003 lines that come to little", 48003, [
+        ("one of the last two, declined", declined),
+        ("scrubs with nothing dirty", nothing_to_zero)]),
     ("reads", "48,000 commands that read lists and logs", 48000, [
         ("lists of one, empty logs", short_reads),
         ("lists of 64, full logs, 512 tags", long_reads)]),
