@@ -184,14 +184,14 @@ def use_up(lines, offered):
     lines.append(scrub(GRANULES))
 
 
-def whole_device(count):
-    """The whole device in extents of 256 granules: each host gets one, and gives it back or loses it."""
+def whole_device(count, block=1):
+    """The whole device in extents of 256 granules: each host gets one, and gives it back or loses it. A block has so many granules."""
     lines = Lines()
     for _ in range(count // (3 * HOSTS + 1)):
         for host in range(HOSTS):
             lines.told(host, offer(host, FREE, 0, 256 * MIB), 1)
         use_up(lines, lambda host: blocks(256 * host, 1, size=256))
-    return device([(GRANULES, 1)]), lines
+    return device([(GRANULES, block)]), lines
 
 
 def full_lists(count):
@@ -346,13 +346,8 @@ def eight_regions(count):
 
 
 def large_blocks(count):
-    """Blocks of 64 granules: each host gets four, and gives them back or loses them."""
-    lines = Lines()
-    for _ in range(count // (3 * HOSTS + 1)):
-        for host in range(HOSTS):
-            lines.told(host, offer(host, FREE, 0, 256 * MIB), 1)
-        use_up(lines, lambda host: blocks(256 * host, 1, size=256))
-    return device([(GRANULES, 64)]), lines
+    """The same as whole_device by blocks of 64 granules."""
+    return whole_device(count, 64)
 
 
 def among_fragments(count):
