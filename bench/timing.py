@@ -1,4 +1,5 @@
 """Runs programs and measures what they take, for bench/run and bench/beside."""
+import mmap
 import os
 import subprocess
 import sys
@@ -56,12 +57,31 @@ def piped(path, script, stdout, words=()):
     return timed(path, words, source, stdout, feed)
 
 
-def peak_of(path, source, words=()):
-    """The peak memory of one run in millions of bytes.
+def memory_of(path, source, words=()):
+    """Of one run the peak memory in millions of bytes, and how many pages it touched for the first time.
 
-    /usr/bin/time starts the run, so that the peak is the program's and not that of this one. A run that it starts is not timed.
+    /usr/bin/time starts the run, so that the figures are the program's and not those of this one. A run that it starts is not timed.
     """
-    with tempfile.NamedTemporaryFile() as peak, open(source, "rb") as stdin, open(os.devnull, "wb") as null:
-        subprocess.run(["/usr/bin/time", "-f", "%M", "-o", peak.name, path, *words], stdin=stdin, stdout=null, check=True)
-        with open(peak.name) as lines:
-            return int(lines.read()) * 1024 / 1e6
+    with tempfile.NamedTemporaryFile() as told, open(source, "rb") as stdin, open(os.devnull, "wb") as null:
+        subprocess.run(["/usr/bin/time", "-f", "%M %R", "-o", told.name, path, *words], stdin=stdin, stdout=null, check=True)
+        with open(told.name) as lines:
+            peak, pages = map(int, lines.read().split())
+            return peak * 1024 / 1e6, pages
+
+
+def peak_of(path, source, words=()):
+    """The peak memory of one run in millions of bytes."""
+    return memory_of(path, source, words)[0]
+
+
+def first_touch():
+    """What it costs to touch a page for the first time, in microseconds: the least of several passes over fresh pages, without what a second pass takes."""
+    size, best = 64 << 20, [float("inf")] * 2
+    for _ in range(5):
+        with mmap.mmap(-1, size, mmap.MAP_PRIVATE | mmap.MAP_ANONYMOUS) as memory:
+            for turn in range(2):
+                start = time.perf_counter()
+                for at in range(0, size, mmap.PAGESIZE):
+                    memory[at] = 1
+                best[turn] = min(best[turn], time.perf_counter() - start)
+    return (best[0] - best[1]) * 1e6 / (size // mmap.PAGESIZE)
