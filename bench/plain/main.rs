@@ -337,12 +337,14 @@ struct Media {
     words: Vec<Words>,
     free: usize,
     dirty: usize,
+    /// No granule below this one is free.
+    lowest: usize,
 }
 
 impl Media {
     fn new(granules: usize) -> Media {
         let words = vec![Words::default(); granules];
-        Media { states: vec![FREE; granules], holders: vec![0; granules], words, free: granules, dirty: 0 }
+        Media { states: vec![FREE; granules], holders: vec![0; granules], words, free: granules, dirty: 0, lowest: 0 }
     }
 
     fn is_free(&self, run: Range<usize>) -> bool {
@@ -352,12 +354,16 @@ impl Media {
     /// Free granules are offered, held or tagged from now on.
     fn occupy(&mut self, run: Range<usize>) {
         self.free -= run.len();
+        if run.contains(&self.lowest) {
+            self.lowest = run.end;
+        }
         self.states[run].fill(IN_USE);
     }
 
     /// They are so no longer.
     fn vacate(&mut self, run: Range<usize>) {
         let (count, mut dirty) = (run.len(), 0);
+        self.lowest = self.lowest.min(run.start);
         for state in &mut self.states[run] {
             *state &= !IN_USE;
             dirty += usize::from(*state);
@@ -386,6 +392,7 @@ impl Media {
         for granule in dirty.collect::<Vec<_>>() {
             self.states[granule] = FREE;
             self.words[granule].clear();
+            self.lowest = self.lowest.min(granule);
         }
         self.dirty -= count;
         self.free += count;
@@ -1006,7 +1013,8 @@ impl Device {
     /// The runs of free blocks of a region, from the lowest on.
     fn runs_of_free_blocks(&self, region: usize) -> impl Iterator<Item = Range<usize>> + '_ {
         let size = self.config.regions[region].granules_of_block();
-        let Range { start: mut next, end } = self.config.regions[region].granules();
+        let Range { start, end } = self.config.regions[region].granules();
+        let mut next = start + (self.media.lowest.clamp(start, end) - start) / size * size;
         std::iter::from_fn(move || {
             while next < end && !self.media.is_free(next..next + size) {
                 next += size;
