@@ -10,6 +10,7 @@ use Rattle.region_config.specs.Configurations.{Configuration}
 use Rattle.dcd_base.specs.declared.capacity.Extent.{Extent}
 use Rattle.dcd_base.specs.declared.media.Run.{Run}
 use Rattle.dcd_base.specs.declared.media.Place.{Place}
+use Rattle.media_map.specs.declared.bounds.Bounds.{Bounds}
 use Rattle.dcd_base.specs.declared.failures.AccessFault.{AccessFault}
 use Rattle.dcd_base.specs.declared.failures.AccessFault.TheVariants.{Misaligned, OutsideRegions}
 use Rattle.region_config.specs.Granules.{region_spec, regions_of, base_of, granule_size, granule_total, first_granule, region_of}
@@ -17,6 +18,23 @@ use Rattle.region_config.specs.Granules.{region_spec, regions_of, base_of, granu
 -- whether the region has the host's address
 abbrev pub has_address : Configuration → HostId → ℕ → ℕ → Bool
 has_address c h d r = nat_le (base_of c h r) d && nat_lt d (base_of c h r + (region_spec c r).length)
+
+-- where a region lies for a host
+abbrev pub bounds_of : Configuration → HostId → ℕ → Bounds
+bounds_of c h r = record { base = base_of c h r; length = (region_spec c r).length }
+
+-- whether an address or a whole range is within the bounds, and whether units begin and end where the range does
+abbrev pub is_within : Bounds → ℕ → Bool
+is_within b d = nat_le b.base d && nat_lt d (b.base + b.length)
+
+abbrev pub has_range : Bounds → ℕ → ℕ → Bool
+has_range b start bytes = nat_le b.base start && nat_le (start + bytes) (b.base + b.length)
+
+abbrev pub is_made_of : Bounds → ℕ → ℕ → ℕ → Bool
+is_made_of b start bytes unit = ((start - b.base) % unit == 0) && (bytes % unit == 0)
+
+abbrev pub has_units : Bounds → ℕ → ℕ → ℕ → Bool
+has_units b start bytes unit = not (bytes == 0) && has_range b start bytes && is_made_of b start bytes unit
 
 -- The place of a host's address: p says which region, granule and word it is.
 pub record IsPlace (c : Configuration) (h : HostId) (d : ℕ) (p : Place) : Type 0 where

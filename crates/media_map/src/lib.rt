@@ -5,8 +5,10 @@
 //! same offset in the same region.
 #![tactic(auto)]
 
+mod bounds;
 mod places;
 mod runs;
 
-pub use places::{dpa_of, locate, region_at};
+pub use bounds::{Bounds, bounds_of};
+pub use places::{dpa_of, has_address, locate, region_at};
 pub use runs::{extent_of, run_of};

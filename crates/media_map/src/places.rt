@@ -1,11 +1,12 @@
 //! An address as a place, and back.
 
-ghost use Rattle.media_map.specs.Places.{EveryHostHas, IsPlace, IsWord, NoOtherWordAt, address_of, has_address, locate, place_in};
+ghost use Rattle.media_map.specs.Places.{EveryHostHas, IsPlace, IsWord, NoOtherWordAt, address_of, has_address, locate, place_in, region_at};
 ghost use Rattle.region_config.specs.Granules.{base_of, regions_of};
 ghost use Rattle.region_config.specs.Soundness.{IsSound};
 ghost use Rattle.std.specs.List.{find};
-ghost use Rattle.std.specs.Prelude.{◌≡◌, ◌+◌, ◌-◌, ◌^◌, ◌<◌, IfOk, IfSome, IsTrue, length};
+ghost use Rattle.std.specs.Prelude.{◌≡◌, ◌+◌, ◌-◌, ◌^◌, ◌<◌, IfOk, IfSome, IsTrue, length, true};
 
+use crate::bounds::bounds_of;
 use dcd_base::{AccessFault, Granule, HostId, Place, RegionId};
 use region_config::Config;
 
@@ -76,14 +77,16 @@ pub fn region_at(config: &Config, host: HostId, dpa: u64) -> Option<RegionId>
     None
 }
 
-/// Whether the region has the host's address within its length.
-fn has_address(config: &Config, host: HostId, dpa: u64, region: RegionId) -> bool
+/// Whether the region has the host's address within its length. It is the only one then.
+pub fn has_address(config: &Config, host: HostId, dpa: u64, region: RegionId) -> bool
     requires host { host < config.now.hosts }
     requires region { region < length config.now.regions }
-    ensures { result ≡ has_address config.now host dpa region }
+    ensures value { result ≡ has_address config.now host dpa region }
+    ensures only { result ≡ true → region_at config.now host dpa ≡ region }
 {
-    let base = config.base(host, region);
-    base <= dpa && dpa - base < config.region(region).length
+    // That regions lie apart, which a configuration says of itself where it is read.
+    let _regions = config.regions();
+    bounds_of(config, host, region).has_address(dpa)
 }
 
 /// The place of an address that the region has.

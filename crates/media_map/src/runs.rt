@@ -50,6 +50,7 @@ fn is_granular(config: &Config, host: HostId, region: RegionId, start: u64, byte
     requires within { IsTrue (has_address config.now host start region) }
     ensures { result ≡ is_granular config.now host start bytes }
 {
+    // The remainder is of the division that finds the granule.
     let offset = start - config.base(host, region);
     let size = config.granule_size(region);
     bytes != 0
