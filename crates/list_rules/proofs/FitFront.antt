@@ -1,7 +1,7 @@
 -- Extents that fit into owners which stand apart, each in the owner before that of the last one.
 use Rattle.std.proofs.Common.{◌≡◌, ℕ, ◌+◌, ◌-◌, ◌<◌, ◌≤◌, Bool, true, false, not, ◌&&◌, inl, inr, List, Option, None, length, get_or, take, refl, sym, ap, ◌∙◌, arith, suc, zero, le-ltb, subst}
 use Rattle.std.specs.Prelude.{◌==◌, nat_le, nat_lt}
-use Rattle.std.proofs.lemmas.Bool.{and_left, and_parts, and_right, cases_lt, leb-true, ne_eqb}
+use Rattle.std.proofs.lemmas.Bool.{and_from, and_left, and_parts, and_right, cases_Bool, cases_lt, leb-true, lt-ltb, ne_eqb}
 use Rattle.std.proofs.lemmas.List.{get_or_default}
 use Rattle.std.proofs.lemmas.List.Folds.{list_any_at}
 use Rattle.dcd_base.specs.declared.capacity.Extent.{Extent}
@@ -10,15 +10,15 @@ use Rattle.dcd_codes.specs.declared.rules.Rule.{Rule}
 use Rattle.dcd_codes.specs.Rules.{◌breaks◌, each_in}
 use Rattle.dcd_codes.proofs.RuleSteps.{each_in_more}
 use Rattle.extent_list.specs.Apart.{StandApart}
-use Rattle.extent_list.specs.ExtentLists.{lies_in, overlaps, owner_of}
+use Rattle.extent_list.specs.ExtentLists.{is_whole, lies_in, overlaps, owner_of}
 use Rattle.extent_list.proofs.ApartLists.{within}
-use Rattle.list_rules.specs.Fitting.{FrontFits, IsFit, IsPlaced}
+use Rattle.list_rules.specs.Fitting.{Fits, FrontEnds, FrontFits, IsFit, IsOwnedBehind, IsPlaced, area_of, fits_area}
 use Rattle.list_rules.specs.Listing.{is_aligned, is_shareable_at, lies_in_region, misplaced}
 use Rattle.list_rules.proofs.Apart.{apart-by, only_owner}
 use Rattle.list_rules.proofs.FirstOwner.{no_extent, owner_at}
 use Rattle.media_map.proofs.PlaceLemmas.{has}
 use Rattle.media_map.proofs.RunLemmas.{region_at_is}
-use Rattle.media_map.specs.Places.{has_address}
+use Rattle.media_map.specs.Places.{bounds_of, has_address, has_range, region_at}
 use Rattle.region_config.specs.Configurations.{Configuration}
 use Rattle.region_config.specs.Soundness.{IsSound}
 use Rattle.region_config.specs.Granules.{base_of, region_spec}
@@ -97,3 +97,78 @@ placed_in c h r x sound host known some within aligned =
 -- a region that has the first address
 pub begins_at : (c : Configuration) (h : HostId) (r : ℕ) (x : Extent) → IsSound c → h < c.hosts → r < length c.regions → has_address c h x.start r ≡ true → is_shareable_at c h x ≡ (region_spec c r).shareable
 begins_at c h r x sound host known has_it = ap (λ (k : ℕ). (region_spec c k).shareable) (region_at_is c h sound host x.start r known has_it)
+
+some_of : (n : ℕ) → not (n == 0) ≡ true → 0 < n
+some_of zero holds = absurd (cc)
+some_of (suc n) holds = omega arith
+
+-- an extent that has some units of a region's bounds
+pub fits_placed : (c : Configuration) (h : HostId) (r : ℕ) (x : Extent) → IsSound c → h < c.hosts → r < length c.regions → fits_area (area_of c h r) x ≡ true → IsPlaced c h r x
+fits_placed c h r x sound host known holds =
+    let first = and_parts (not (x.length == 0) && has_range (bounds_of c h r) x.start x.length) _ holds in
+    let second = and_parts (not (x.length == 0)) _ first.0 in
+    let range = and_parts (nat_le (base_of c h r) x.start) _ second.1 in
+    placed_in c h r x sound host known (some_of x.length second.0) (and_from _ _ (and_from _ _ (lt-ltb _ _ known) range.0) range.1) first.1
+
+-- the other way round
+pub placed_fits : (c : Configuration) (h : HostId) (r n : ℕ) (x : Extent) → misplaced c h r n x ≡ None → fits_area (area_of c h r) x ≡ true
+placed_fits c h r n x none = elim (cases_Bool (x.length == 0)) [
+  | inl empty ↦ absurd (cc (rw empty at none))
+  | inr some ↦ elim (cases_Bool (lies_in_region c h r x)) [
+    | inr outside ↦ absurd (cc (rw (some, outside) at none))
+    | inl within ↦ elim (cases_Bool (is_aligned c h r x)) [
+      | inr loose ↦ absurd (cc (rw (some, within, loose) at none))
+      | inl aligned ↦
+          let ends = and_parts (nat_lt r (length c.regions) && nat_le (base_of c h r) x.start) _ within in
+          let begins = and_parts (nat_lt r (length c.regions)) _ ends.0 in
+          and_from _ _ (and_from _ _ (ap not some) (and_from _ _ begins.1 ends.1)) aligned
+    ]
+  ]
+]
+
+module _ (c : Configuration) (h : HostId) (owners before : List Extent) (x : Extent) (r : ℕ) (at : region_at c h x.start ≡ r) where
+  shareable_is : is_shareable_at c h x ≡ (region_spec c r).shareable
+  shareable_is = ap (λ (k : ℕ). (region_spec c k).shareable) at
+
+  pub fit_by : IsPlaced c h r x → IsOwnedBehind (region_spec c r).shareable owners before x → Fits c h owners before x
+  fit_by placed owned = record {
+    placed = ap (λ (k : ℕ). misplaced c h k (length before) x) at ∙ placed.placed (length before);
+    inside = owned.inside;
+    apart = owned.apart;
+    whole =
+        ap (λ (b : Bool). (b && not (is_whole owners x)) breaks Rule.NotWhole (length before)) shareable_is
+        ∙ ap (λ (b : Bool). b breaks Rule.NotWhole (length before)) owned.whole;
+  }
+
+  none_broken : (b : Bool) → b breaks Rule.NotWhole (length before) ≡ None → b ≡ false
+  none_broken true none = absurd (cc)
+  none_broken false none = refl
+
+  pub owned_by : Fits c h owners before x → IsOwnedBehind (region_spec c r).shareable owners before x
+  owned_by fits = record {
+    inside = fits.inside;
+    apart = fits.apart;
+    whole = none_broken _ (ap (λ (b : Bool). (b && not (is_whole owners x)) breaks Rule.NotWhole (length before)) (sym shareable_is) ∙ fits.whole);
+  }
+
+-- one more that fits
+pub fits_more : (c : Configuration) (h : HostId) (owners list : List Extent) (i : ℕ) → i < length list → Fits c h owners (take i list) (get_or list i no_extent) → FrontFits c h owners list i → FrontFits c h owners list (i + 1)
+fits_more c h owners list i listed next before k d below = elim (cases_lt k i) [
+  | inl less ↦ before k d less
+  | inr from ↦
+      let is : i ≡ k = omega (arith, below, from) in
+      subst (λ (j : ℕ). Fits c h owners (take j list) (get_or list j d)) is (subst (Fits c h owners (take i list)) (get_or_default list i no_extent d listed) next)
+]
+
+-- one that does not
+pub ends_at : (c : Configuration) (h : HostId) (owners list : List Extent) (i : ℕ) → (Fits c h owners (take i list) (get_or list i no_extent) → ⊥) → FrontEnds c h owners list i
+ends_at c h owners list i not_next d listed fits = not_next (subst (Fits c h owners (take i list)) (get_or_default list i d no_extent listed) fits)
+
+-- what a test that fails says
+pub not_true : (b : Bool) → not b ≡ true → b ≡ false
+not_true true holds = absurd (cc)
+not_true false holds = refl
+
+pub part_none : (shareable whole : Bool) → whole ≡ true → shareable && not whole ≡ false
+part_none true whole is = rw is refl
+part_none false whole is = refl

@@ -36,10 +36,11 @@ pub fn unfit(
         or overlapping before.now extent.now
         or not_whole config.now host owners.now (length before.now) extent.now) }
 {
-    let index = match owners.index_of(extent, near) {
+    let index = match owners.index_of(extent, *near) {
         Some(index) => index,
         None => return Some(missing),
     };
+    *near = index;
     if let Some(rule) = sharing(apart, before, extent) {
         return Some(rule);
     }
@@ -88,8 +89,9 @@ pub fn put_marked(owners: &Owners, list: &[Extent], out: &mut Extents) -> Result
 {
     let mut near = owners.start(list);
     for extent in list {
-        let owner = (&*owners).owner_of(extent, &mut near);
+        let (owner, place) = (&*owners).owner_of(extent, near);
         out.push(marked_by(extent, owner))?;
+        near = place;
     }
     Ok(())
 }

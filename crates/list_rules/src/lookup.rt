@@ -1,12 +1,13 @@
 //! Owners, and the search for those of one listed extent after another.
 
 ghost use Rattle.extent_list.specs.ExtentLists.{lies_in, owner_of};
-ghost use Rattle.list_rules.specs.Fitting.{FrontFits};
+ghost use Rattle.list_rules.specs.Fitting.{FrontFits, area_of};
 ghost use Rattle.std.specs.Prelude.{◌≡◌, ◌<◌, ◌≤◌, IfSome, IsTrue, Some, length, position, slice_index_or};
 ghost use Rattle.dcd_base.specs.declared.capacity.Extent.{Extent};
 
 use crate::front::fits;
 use crate::owners::{first_owner, lies_in};
+use crate::placing::Area;
 use dcd_base::{Extent, HostId, RegionId};
 use extent_list::stand_apart;
 use region_config::Config;
@@ -50,18 +51,21 @@ impl<'a> Owners<'a> {
         self.list
     }
 
-    /// How many extents from the front of the list are known to lie in the region and to fit: the first of them in the owner
-    /// at `place`, and each of the others in the owner before that of the last one.
+    /// How many extents from the front of the list are known to fit into the area of this region: the first of them in the
+    /// owner at `place`, and each of the others in the owner before that of the last one.
     pub(crate) fn fit_falling(
         &self,
         config: &Config,
         host: HostId,
         region: RegionId,
+        area: &Area,
         place: usize,
         list: &[Extent],
     ) -> usize
         requires host { host < config.now.hosts }
         requires region { region < length config.now.regions }
+        requires area { area.now ≡ area_of config.now host region }
+        requires some { 0 < area.now.block }
         requires place { place < length self.now }
         ensures known { result ≤ length list.now }
         ensures fit { FrontFits config.now host self.now list.now result }
@@ -69,26 +73,25 @@ impl<'a> Owners<'a> {
         if !self.apart {
             return 0;
         }
+        // That regions lie apart, which a configuration says of itself where it is read.
+        let _regions = config.regions();
         let most = list.len().min(place + 1);
         for i in 0..most {
-            if !fits(config, host, region, &self.list[place - i], &list[i]) {
+            if !fits(area, &self.list[place - i], &list[i]) {
                 return i;
             }
         }
         most
     }
 
-    /// The index of the first owner in which the extent lies. It is looked for beside `near` first, which then becomes that
-    /// index.
-    pub(crate) fn index_of(&self, extent: &Extent, near: &mut usize) -> Option<usize>
+    /// The index of the first owner in which the extent lies, which is looked for beside the index `near` first.
+    #[inline(always)]
+    pub(crate) fn index_of(&self, extent: &Extent, near: usize) -> Option<usize>
         ensures value { result ≡ position (lies_in extent.now) self.now }
         ensures known { IfSome result (λ index. index < length self.now) }
     {
-        match self.before(extent, *near) {
-            Some(index) => {
-                *near = index;
-                Some(index)
-            }
+        match self.beside(extent, near) {
+            Some(index) => Some(index),
             None => self.index_anywhere(extent, near),
         }
     }
@@ -98,8 +101,7 @@ impl<'a> Owners<'a> {
         ensures value { result ≡ position (lies_in extent.now) self.now }
         ensures known { IfSome result (λ index. index < length self.now) }
     {
-        let mut near = 0;
-        self.index_anywhere(extent, &mut near)
+        self.index_anywhere(extent, 0)
     }
 
     /// Where the search for the extents of a list begins: behind the owner in which the first one lies.
@@ -112,33 +114,22 @@ impl<'a> Owners<'a> {
         0
     }
 
-    /// The index of the first owner in which the extent lies, which `near` becomes.
-    #[inline(never)]
-    fn index_anywhere(&self, extent: &Extent, near: &mut usize) -> Option<usize>
-        ensures value { result ≡ position (lies_in extent.now) self.now }
-        ensures known { IfSome result (λ index. index < length self.now) }
-    {
-        let found = self.search(extent, *near);
-        if let Some(index) = found {
-            *near = index;
-        }
-        found
-    }
-
-    /// The first owner in which the extent lies, which is looked for at `near` first, and the extent itself where it lies in
-    /// none.
-    pub(crate) fn owner_of<'b>(&'b self, extent: &'b Extent, near: &mut usize) -> &'b Extent
-        ensures { result.now ≡ owner_of self.now extent.now }
+    /// The first owner in which the extent lies, and its index; the extent itself and `near` where it lies in none. It is
+    /// looked for beside the index `near` first.
+    #[inline(always)]
+    pub(crate) fn owner_of<'b>(&'b self, extent: &'b Extent, near: usize) -> (&'b Extent, usize)
+        ensures { result.0.now ≡ owner_of self.now extent.now }
     {
         match self.index_of(extent, near) {
-            Some(index) => &self.list[index],
-            None => extent,
+            Some(index) => (&self.list[index], index),
+            None => (extent, near),
         }
     }
 
-    /// The index of the first owner in which the extent lies, if that is the one before the index `near`. Those of a host's
-    /// extents fall most often.
-    fn before(&self, extent: &Extent, near: usize) -> Option<usize>
+    /// The index of the first owner in which the extent lies, if that is the one before the index `near` or the one at it.
+    /// Those of a host's extents fall most often, or are parts of one.
+    #[inline(always)]
+    fn beside(&self, extent: &Extent, near: usize) -> Option<usize>
         ensures value { IfSome result (λ index. position (lies_in extent.now) self.now ≡ Some index) }
         ensures known { IfSome result (λ index. index < length self.now) }
     {
@@ -146,12 +137,16 @@ impl<'a> Owners<'a> {
             if let Some(index) = owner_at(self.list, near.wrapping_sub(1), extent) {
                 return Some(index);
             }
+            if let Some(index) = owner_at(self.list, near, extent) {
+                return Some(index);
+            }
         }
         None
     }
 
     /// The index of the first owner in which the extent lies, looked for behind `near` first.
-    fn search(&self, extent: &Extent, near: usize) -> Option<usize>
+    #[inline(never)]
+    fn index_anywhere(&self, extent: &Extent, near: usize) -> Option<usize>
         ensures value { result ≡ position (lies_in extent.now) self.now }
         ensures known { IfSome result (λ index. index < length self.now) }
     {
@@ -175,16 +170,13 @@ fn owner_at(owners: &[Extent], index: usize, extent: &Extent) -> Option<usize>
     None
 }
 
-/// An owner in which the extent lies: behind the index `near` or at it, or else where it stands in owners by rising or by
+/// An owner in which the extent lies: behind the index `near`, or else where it stands in owners by rising or by
 /// falling address.
 fn owner_near(owners: &[Extent], near: usize, extent: &Extent) -> Option<usize>
     ensures known { IfSome result (λ index. index < length owners.now) }
     ensures owner { IfSome result (λ index. (d : Extent) → IsTrue (lies_in extent.now (slice_index_or owners.now index d))) }
 {
     if let Some(index) = owner_at(owners, near.wrapping_add(1), extent) {
-        return Some(index);
-    }
-    if let Some(index) = owner_at(owners, near, extent) {
         return Some(index);
     }
     match last_begun(owners, extent) {

@@ -4,7 +4,7 @@ ghost use Rattle.extent_list.specs.ExtentLists.{is_in, is_whole, lies_in, marked
 ghost use Rattle.list_rules.specs.Listing.{is_shareable_at, not_whole, overlapping};
 ghost use Rattle.dcd_codes.specs.Rules.{◌breaks◌};
 ghost use Rattle.dcd_codes.specs.declared.rules.Rule.{Rule};
-ghost use Rattle.std.specs.Prelude.{◌≡◌, ◌^◌, ◌<◌, IfSome, length, not, position};
+ghost use Rattle.std.specs.Prelude.{◌≡◌, ◌^◌, ◌<◌, IfSome, None, false, length, not, position, true};
 
 use crate::placing::region_at;
 use dcd_base::{Extent, HostId};
@@ -83,6 +83,14 @@ fn first_sharing(before: &[Extent], extent: &Extent) -> Option<usize>
     ensures { result ≡ position (overlaps extent.now) before.now }
 {
     before.iter().position(|other| overlaps(extent, other))
+}
+
+/// Whether the extent shares an address with one of these.
+pub(crate) fn shares_some(before: &[Extent], extent: &Extent) -> bool
+    ensures some { result ≡ true → overlapping before.now extent.now ≡ None → ⊥ }
+    ensures none { result ≡ false → overlapping before.now extent.now ≡ None }
+{
+    first_sharing(before, extent).is_some()
 }
 
 /// Whether the extent begins in a shareable region.

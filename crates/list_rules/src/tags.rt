@@ -4,6 +4,7 @@ ghost use Rattle.dcd_base.specs.Words.{where_true};
 ghost use Rattle.dcd_codes.specs.Rules.{◌breaks◌};
 ghost use Rattle.dcd_codes.specs.declared.rules.Rule.{Rule};
 ghost use Rattle.extent_list.specs.ExtentLists.{count_of_tag, has_extent_of};
+ghost use Rattle.list_rules.specs.Fitting.{area_of};
 ghost use Rattle.list_rules.specs.Listing.{incomplete, shared_of, is_shareable_at, some_left, too_few_of};
 ghost use Rattle.list_rules.specs.Sharing.{HasNoShareable, HaveSameTags};
 ghost use Rattle.std.specs.Prelude.{◌≡◌, ◌^◌, ◌<◌, ◌≤◌, IfOk, OnOk, [], false, length, nat_lt, not, true};
@@ -11,7 +12,7 @@ ghost use Rattle.std.specs.Prelude.{◌≡◌, ◌^◌, ◌<◌, ◌≤◌, IfOk
 use crate::fitting::marked_by;
 use crate::lookup::Owners;
 use crate::owners::is_shareable_at;
-use crate::placing::{begins_in, region_at};
+use crate::placing::{Area, region_at};
 use dcd_base::{Extent, Extents, HostId, NoMemory, RegionId, Tag};
 use dcd_codes::Rule;
 use extent_list::{has_extent_of, same_tag};
@@ -85,16 +86,16 @@ fn are_all_shared(config: &Config, host: HostId, owners: &Owners, list: &[Extent
     }
     let mut near = owners.start(list);
     let region = first_region(config, host, list);
+    let area = Area::of(config, host, region);
     for i in 0..list.len() {
-        if !is_shareable_near(config, host, region, &list[i]) {
+        if !is_shareable_near(config, host, region, &area, &list[i]) {
             return false;
         }
-        if !same_tag(
-            &tagged[i].tag,
-            &(&*owners).owner_of(&list[i], &mut near).tag,
-        ) {
+        let (owner, place) = (&*owners).owner_of(&list[i], near);
+        if !same_tag(&tagged[i].tag, &owner.tag) {
             return false;
         }
+        near = place;
     }
     true
 }
@@ -111,14 +112,24 @@ fn first_region(config: &Config, host: HostId, list: &[Extent]) -> RegionId
     region_at(config, host, start)
 }
 
-/// Whether the extent begins in a shareable region; this one is looked at first.
-fn is_shareable_near(config: &Config, host: HostId, region: RegionId, extent: &Extent) -> bool
+/// Whether the extent begins in a shareable region; the area of this one is looked at first.
+#[inline(always)]
+fn is_shareable_near(
+    config: &Config,
+    host: HostId,
+    region: RegionId,
+    area: &Area,
+    extent: &Extent,
+) -> bool
     requires host { host < config.now.hosts }
     requires region { region < length config.now.regions }
+    requires area { area.now ≡ area_of config.now host region }
     ensures { result ≡ is_shareable_at config.now host extent.now }
 {
-    if begins_in(config, host, region, extent) {
-        return config.region(region).shareable;
+    // That regions lie apart, which a configuration says of itself where it is read.
+    let _regions = config.regions();
+    if area.bounds.has_address(extent.start) {
+        return area.shareable;
     }
     is_shareable_at(config, host, extent)
 }
@@ -139,8 +150,9 @@ fn find_shared(
     let mut near = owners.start(list);
     for extent in list {
         if is_shareable_at(config, host, extent) {
-            let owner = (&*owners).owner_of(extent, &mut near);
+            let (owner, place) = (&*owners).owner_of(extent, near);
             shared.push(marked_by(extent, owner))?;
+            near = place;
         }
     }
     Ok(())

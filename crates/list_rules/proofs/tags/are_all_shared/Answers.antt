@@ -15,9 +15,9 @@ loop-i-preserved c =
     let list = c.args.list.now in
     let i = c.loop-i.i in
     let lengths : length c.args.owners.now ≡ length c.args.list.now = ap length (sym c.as_slice-tagged.ensures) ∙ (search rules) in
-    let owner : same_tag (get_or owners i no_extent).tag (marked owners (get_or list i no_extent)).tag ≡ same_tag (get_or c.as_slice-tagged.result.now i no_extent).tag c.owner_of.result.now.tag =
+    let owner : same_tag (get_or owners i no_extent).tag (marked owners (get_or list i no_extent)).tag ≡ same_tag (get_or c.as_slice-tagged.result.now i no_extent).tag c.owner_of-place.result.0.now.tag =
     ap (λ (xs : List Extent). same_tag (get_or xs i no_extent).tag (marked owners (get_or list i no_extent)).tag) (sym c.as_slice-tagged.ensures)
-    ∙ ap (λ (x : Extent). same_tag (get_or c.as_slice-tagged.result.now i no_extent).tag x.tag) (sym c.owner_of.ensures) in
+    ∙ ap (λ (x : Extent). same_tag (get_or c.as_slice-tagged.result.now i no_extent).tag x.tag) (sym c.owner_of-place.ensures) in
     shared_more c.args.config.now c.args.host owners list i no_extent (omega (arith, lengths, c.loop-i-test.true)) c.loop-i-test.true
     (sym c.is_shareable_near.ensures ∙ (search rules)) (owner ∙ sym c.same_tag.ensures ∙ (search rules)) c.loop-i.invariant
 

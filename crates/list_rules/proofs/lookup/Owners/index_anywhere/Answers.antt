@@ -2,7 +2,7 @@ use Rattle.std.proofs.Common.{sym, ap, ◌∙◌, position}
 use Rattle.extent_list.specs.ExtentLists.{lies_in}
 use Rattle.list_rules.proofs.FirstOwner.{no_extent}
 use Rattle.list_rules.proofs.Apart.{only_owner}
-use Rattle.list_rules.proofs.lookup.Owners.search.Goals as goal
+use Rattle.list_rules.proofs.lookup.Owners.index_anywhere.Goals as goal
 
 pub returns-in-Some-clause-value : goal.returns-in-Some-clause-value
 returns-in-Some-clause-value c =
