@@ -40,7 +40,8 @@ pub fn removal(
 ) -> Result<Extents, Refusal>
     requires host { host < config.now.hosts }
     requires few { length accepted.now.extents + offered ≤ 64 }
-    ensures { ByRow (prescribed_removal_rule config.now host accepted.now.extents offered region list.now forced) (AreMarked accepted.now.extents list.now) result }
+    ensures { ByRow (prescribed_removal_rule config.now host accepted.now.extents offered region list.now forced)
+        (AreMarked accepted.now.extents list.now) result }
 {
     if region.0 >= config.regions() {
         return Err(Refusal::Broken(Rule::NoSuchRegion(region.0)));

@@ -75,7 +75,8 @@ fn find_lowest(
     requires area { IsArea map.now.states area.now per_block }
     requires empty { runs.old ≡ [] }
     ensures runs { OnOk result (runs.new ≡ free_runs (is_free_at map.now.states) area.now per_block blocks) }
-    ensures wanting { IfOk result (λ left. left + length (lowest_from (is_block_free map.now.states area.now per_block) (block_count area.now per_block) 0 blocks) ≡ blocks) }
+    ensures wanting { IfOk result (λ left.
+        left + length (lowest_from (is_block_free map.now.states area.now per_block) (block_count area.now per_block) 0 blocks) ≡ blocks) }
 {
     let _granules = map.len();
     let mut at = 0;
