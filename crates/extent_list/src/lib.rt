@@ -13,4 +13,4 @@ mod tags;
 pub use list::{ExtentList, TooMany};
 pub use pieces::{has_range_in, shares_range_with};
 pub use standing::stand_apart;
-pub use tags::{has_extent_of, same_tag};
+pub use tags::{has_extent_of, has_no_tags, same_tag};
