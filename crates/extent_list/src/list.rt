@@ -185,6 +185,16 @@ impl ExtentList {
         }
     }
 
+    /// The same, where the first extent in which the range lies is known to be the one at the index.
+    pub fn len_without_at(&self, index: usize, start: u64, bytes: u64) -> usize
+        requires index { holder_of start bytes self.now.extents ≡ Some index }
+        requires in_addresses { IsCutInAddresses start bytes self.now.extents }
+        ensures value { result ≡ length (cut start bytes self.now.extents) }
+        ensures few { result ≤ length self.now.extents + 1 }
+    {
+        len_cut_at(&self.kept, index, start, bytes)
+    }
+
     /// Cuts these extents out one after another, each where it lies in one of the list when its turn comes. Takes no
     /// memory, and uses one of the spare for each.
     pub fn cut_all(&mut self, leaving: &[Extent])
@@ -386,8 +396,8 @@ fn put_pieces(kept: &mut Vec<Extent>, index: usize, lower: Option<Extent>, upper
         (Some(piece), None) => kept[index] = piece,
         (None, Some(piece)) => kept[index] = piece,
         (Some(lower), Some(upper)) => {
-            kept[index] = upper;
-            let _ = kept.insert(index, lower);
+            kept[index] = lower;
+            let _ = kept.insert(index + 1, upper);
         }
     }
 }
