@@ -97,7 +97,7 @@ impl<'a> Owners<'a> {
     }
 
     /// The index of the first owner in which the extent lies.
-    pub(crate) fn place_of(&self, extent: &Extent) -> Option<usize>
+    pub fn place_of(&self, extent: &Extent) -> Option<usize>
         ensures value { result ≡ position (lies_in extent.now) self.now }
         ensures known { IfSome result (λ index. index < length self.now) }
     {

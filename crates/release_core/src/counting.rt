@@ -1,6 +1,6 @@
 //! How many extents a host has once those of a list have left.
 
-ghost use Rattle.extent_list.specs.ExtentLists.{cut_all};
+ghost use Rattle.extent_list.specs.ExtentLists.{cut, cut_all};
 ghost use Rattle.list_rules.specs.Listing.{too_many_extents};
 ghost use Rattle.release_core.specs.Leaving.{AllCanLeave, count_after};
 ghost use Rattle.std.specs.Prelude.{◌≡◌, ◌+◌, ◌^◌, ◌<◌, ◌≤◌, All, IfOk, length};
@@ -9,7 +9,7 @@ use dcd_base::limits::EXTENTS;
 use dcd_base::{Extent, NoMemory};
 use dcd_codes::Rule;
 use extent_list::ExtentList;
-use list_rules::too_many_extents;
+use list_rules::{Owners, too_many_extents};
 
 /// The rule that the host breaks which has too many extents once those of the list have left.
 ///
@@ -18,10 +18,12 @@ use list_rules::too_many_extents;
 #[tactic(auto, using(crate::proofs::Lengths::length_cut_all))]
 pub(crate) fn count_rule(
     accepted: &ExtentList,
+    owners: &Owners,
     offered: usize,
     list: &[Extent],
 ) -> Result<Option<Rule>, NoMemory>
     requires few { length accepted.now.extents + offered ≤ 64 }
+    requires owners { owners.now ≡ accepted.now.extents }
     requires listed { length list.now ≤ 64 }
     requires leaving { AllCanLeave accepted.now.extents list.now }
     ensures { IfOk result (λ found. found ≡ too_many_extents (count_after accepted.now.extents offered list.now)) }
@@ -29,23 +31,37 @@ pub(crate) fn count_rule(
     if accepted.len() + list.len() + offered <= EXTENTS {
         return Ok(None);
     }
-    let left = extents_left(accepted, list)?;
+    let left = extents_left(accepted, owners, list)?;
     Ok(too_many_extents(left + offered))
 }
 
 /// How many of the accepted extents and their pieces are left without the extents of the list. For one extent, as most
 /// lists have, nothing is cut.
 #[tactic(auto, using(crate::proofs::Lengths::length_cut_all, crate::proofs::Lengths::cut_only))]
-fn extents_left(accepted: &ExtentList, list: &[Extent]) -> Result<usize, NoMemory>
-    requires { All (λ x. x.start + x.length < 2 ^ 64) list.now }
+fn extents_left(accepted: &ExtentList, owners: &Owners, list: &[Extent]) -> Result<usize, NoMemory>
+    requires owners { owners.now ≡ accepted.now.extents }
+    requires ends { All (λ x. x.start + x.length < 2 ^ 64) list.now }
     ensures left { IfOk result (λ left. left ≡ length (cut_all list.now accepted.now.extents)) }
     ensures few { IfOk result (λ left. left ≤ length accepted.now.extents + length list.now) }
 {
     if list.len() == 1 {
-        return Ok(accepted.len_without(list[0].start, list[0].length));
+        return Ok(left_by(accepted, owners, &list[0]));
     }
     let mut left = accepted.copy_with_room(list.len())?;
     left.reserve(list.len())?;
     left.cut_all(list);
     Ok(left.len())
+}
+
+/// How many of the accepted extents and their pieces are left without this one.
+fn left_by(accepted: &ExtentList, owners: &Owners, extent: &Extent) -> usize
+    requires owners { owners.now ≡ accepted.now.extents }
+    requires ends { extent.now.start + extent.now.length < 2 ^ 64 }
+    ensures left { result ≡ length (cut extent.now.start extent.now.length accepted.now.extents) }
+    ensures few { result ≤ length accepted.now.extents + 1 }
+{
+    match owners.place_of(extent) {
+        Some(index) => accepted.len_without_at(index, extent.start, extent.length),
+        None => accepted.len(),
+    }
 }

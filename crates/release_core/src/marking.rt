@@ -10,13 +10,13 @@ use std::alloc::Global;
 /// The extents of the list, each with the tag and the sequence of the accepted extent in which it lies.
 pub(crate) fn marked_list(
     alloc: Global,
-    accepted: &[Extent],
+    accepted: &Owners,
     list: &[Extent],
 ) -> Result<Extents, NoMemory>
     ensures { IfOk result (λ leaving. leaving ≡ map (marked accepted.now) list.now) }
 {
     let mut leaving = Extents::with_capacity(alloc, list.len())?;
-    put_marked(&Owners::of(accepted), list, &mut leaving)?;
+    put_marked(accepted, list, &mut leaving)?;
     Ok(leaving)
 }
 

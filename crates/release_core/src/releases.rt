@@ -209,7 +209,7 @@ fn broken_list_rule(
     }
     match incomplete_among(alloc, config, host, &owners, whole)? {
         Some(rule) => Ok(Some(rule)),
-        None => count_rule(accepted, offered, whole),
+        None => count_rule(accepted, &owners, offered, whole),
     }
 }
 

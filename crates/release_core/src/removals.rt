@@ -73,12 +73,12 @@ pub fn removal(
     let alloc = list.allocator();
     let rule = match incomplete_among(alloc, config, host, &accepted_owners, listed)? {
         Some(rule) => Some(rule),
-        None if forced => count_rule(accepted, offered, listed)?,
+        None if forced => count_rule(accepted, &accepted_owners, offered, listed)?,
         None => None,
     };
     match rule {
         Some(rule) => Err(Refusal::Broken(rule)),
-        None => Ok(marked_list(alloc, owners, listed)?),
+        None => Ok(marked_list(alloc, &accepted_owners, listed)?),
     }
 }
 

@@ -4,4 +4,4 @@ use Rattle.release_core.specs.Leaving.{leaving_rule}
 use Rattle.release_core.proofs.removals.removal.Given as goal
 
 abbrev pub invariant-loop-i : goal.invariant-loop-i
-invariant-loop-i l = each_in (take l.i l.listed) (leaving_rule l.config l.host l.owners l.bounds) ≡ None
+invariant-loop-i l = each_in (take l.i l.listed) (leaving_rule l.config l.host l.accepted_owners l.bounds) ≡ None
