@@ -1,11 +1,12 @@
 -- How many tags there are with one extent more.
-use Rattle.std.proofs.Common.{◌≡◌, ◌||◌, ◌&&◌, ℕ, ◌+◌, ◌^◌, ◌-◌, ◌<◌, ◌≤◌, Bool, true, false, inl, inr, if◌then◌else◌, List, [], ◌∷◌, ◌++◌, length, get_or, take, map, fold, not, refl, sym, ap, ◌∙◌, append_assoc, append-nil, arith}
+use Rattle.std.proofs.Common.{◌≡◌, ◌||◌, ◌&&◌, ℕ, zero, suc, ◌+◌, ◌^◌, ◌-◌, ◌<◌, ◌≤◌, Bool, true, false, inl, inr, if◌then◌else◌, List, [], ◌∷◌, ◌++◌, length, get_or, take, map, fold, not, refl, sym, ap, ◌∙◌, append_assoc, append-nil, arith}
 use Rattle.std.specs.Prelude.{filter, min}
 use Rattle.std.proofs.lemmas.Bool.{cases_Bool}
 use Rattle.std.proofs.lemmas.Cmp.{nat_list_eq_equiv}
 use Rattle.std.proofs.lemmas.List.{length_push, length-map, map-append, take_more}
 use Rattle.std.proofs.lemmas.List.Elements.{filter-append}
-use Rattle.std.proofs.lemmas.List.Folds.{list_any-append}
+use Rattle.std.proofs.lemmas.List.Folds.{list_all_at, list_any-append}
+use Rattle.std.specs.List.{list_all}
 use Rattle.std.proofs.lemmas.List.Sums.{count_by-le-length, fold_push, length-filter}
 use Rattle.dcd_base.specs.declared.capacity.Extent.{Extent}
 use Rattle.dcd_base.specs.declared.capacity.Tag.{Tag}
@@ -88,14 +89,26 @@ tag_count_more before xs i d known =
     ∙ ap tag_count (sym (append_assoc before (take i xs) (get_or xs i d ∷ [])))
     ∙ tag_count-push (before ++ take i xs) (get_or xs i d)
 
+-- what an index past the end reads
+abbrev pub no_extent : Extent
+no_extent = record { start = 0; length = 0; tag = record { 0 = [] }; sequence = 0 }
+
 -- an extent more that has no tag makes no tag more
 pub untagged_more : (before xs : List Extent) (i : ℕ) (d : Extent) → i < length xs → is_zero_tag (get_or xs i d).tag ≡ true → tag_count (before ++ take i xs) ≡ tag_count before
     → tag_count (before ++ take (i + 1) xs) ≡ tag_count before
 untagged_more before xs i d known none same = tag_count_more before xs i d known ∙ rw none same
 
--- what an index past the end reads
-abbrev pub no_extent : Extent
-no_extent = record { start = 0; length = 0; tag = record { 0 = [] }; sequence = 0 }
+-- where none has a tag, so many of them make no tag more
+pub untagged_front : (before xs : List Extent) → list_all (λ (x : Extent). is_zero_tag x.tag) xs ≡ true → (n : ℕ) → n ≤ length xs → tag_count (before ++ take n xs) ≡ tag_count before
+untagged_front before xs none zero few = ap tag_count (append-nil before)
+untagged_front before xs none (suc n) few =
+    let next : n + 1 ≡ suc n = omega arith in
+    let known : n < length xs = omega (arith, few) in
+    let zero_at : is_zero_tag (get_or xs n no_extent).tag ≡ true = elim (cases_Bool (is_zero_tag (get_or xs n no_extent).tag)) [
+      | inl holds ↦ holds
+      | inr fails ↦ absurd (cc (none, list_all_at (λ (x : Extent). is_zero_tag x.tag) xs n no_extent known fails))
+    ] in
+    ap (λ k. tag_count (before ++ take k xs)) (sym next) ∙ untagged_more before xs n no_extent known zero_at (untagged_front before xs none n (omega (arith, few)))
 
 -- the capped count after one extent more
 pub capped_new : (n m tags more : ℕ) → m ≡ n + 1 → tags ≡ capped n → more ≡ min (tags + 1) (2 ^ 32 - 1) → more ≡ capped m

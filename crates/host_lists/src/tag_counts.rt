@@ -4,10 +4,10 @@ ghost use Rattle.extent_list.specs.ExtentLists.{has_extent_of};
 ghost use Rattle.host_lists.specs.Tags.{capped, extents_before, is_new, tag_count};
 ghost use Rattle.offer_core.specs.Offerings.{lists_of};
 ghost use Rattle.std.specs.List.{list_any};
-ghost use Rattle.std.specs.Prelude.{◌≡◌, ◌++◌, ◌≤◌, List, length, take};
+ghost use Rattle.std.specs.Prelude.{◌≡◌, ◌++◌, ◌≤◌, List, length, take, true};
 
 use dcd_base::{Extent, Tag, no_tag};
-use extent_list::{has_extent_of, same_tag};
+use extent_list::{has_extent_of, has_no_tags, same_tag};
 use offer_core::Offers;
 
 /// Whether an extent of the first `count` offers has the tag.
@@ -38,11 +38,25 @@ fn is_among(
     has_extent_of(tag, before) || has_extent_of(tag, accepted) || has_in_offers(tag, offers, count)
 }
 
-/// Whether the tag is one, and is new behind the accepted extents, the first `count` offers and those before it.
+/// Whether the last of the extents has the tag.
+fn is_tag_of_last(tag: &Tag, before: &[Extent]) -> bool
+    ensures { result ≡ true → has_extent_of tag.now before.now ≡ true }
+{
+    match before.last() {
+        Some(last) => same_tag(&last.tag, tag),
+        None => false,
+    }
+}
+
+/// Whether the tag is one, and is new behind the accepted extents, the first `count` offers and those before it, of
+/// which the last one is looked at first.
 fn is_new(tag: &Tag, accepted: &[Extent], offers: &Offers, count: usize, before: &[Extent]) -> bool
     requires { count ≤ length offers.now.offers }
     ensures { result ≡ is_new (extents_before accepted.now (lists_of offers.now.offers) count ++ before.now) tag.now }
 {
+    if is_tag_of_last(tag, before) {
+        return false;
+    }
     !same_tag(tag, &no_tag()) && !is_among(tag, accepted, offers, count, before)
 }
 
@@ -51,6 +65,13 @@ fn untagged(extents: &[Extent]) -> usize
     ensures known { result ≤ length extents.now }
     ensures none { (before : List Extent) → tag_count (before ++ take result extents.now) ≡ tag_count before }
 {
+    match extents.first() {
+        Some(first) if !same_tag(&first.tag, &no_tag()) => return 0,
+        _ => (),
+    }
+    if has_no_tags(extents) {
+        return extents.len();
+    }
     for i in 0..extents.len() {
         if !same_tag(&extents[i].tag, &no_tag()) {
             return i;
