@@ -18,6 +18,7 @@ pub struct FreeBlocks {
 impl GranuleMap {
     /// The next free blocks of the area from one on, as many as lie together; None exactly where none is free from
     /// there on.
+    #[inline(always)]
     pub fn next_free_blocks(&self, area: Run, per_block: u32, from: u32) -> Option<FreeBlocks>
         requires { IsArea self.now.states area per_block }
         ensures { NextStretch (is_block_free self.now.states area per_block) (block_count area per_block) from result }
@@ -105,6 +106,7 @@ fn blocks_between(first: u32, end: u32, per_block: u32) -> Option<FreeBlocks>
 }
 
 /// The next free blocks from one on, as many as lie together; None exactly where none is free from there on.
+#[inline(always)]
 fn next_blocks(map: &GranuleMap, area: &Run, per_block: u32, from: u32) -> Option<FreeBlocks>
     requires area { IsArea map.now.states area.now per_block }
     ensures { NextStretch (is_block_free map.now.states area.now per_block) (block_count area.now per_block) from result }
