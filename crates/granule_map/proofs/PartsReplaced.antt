@@ -1,9 +1,10 @@
 -- A run of a list whose items are replaced one after another, and what they were.
 use Rattle.std.proofs.Common.{◌≡◌, ℕ, zero, suc, ◌+◌, ◌-◌, ◌<◌, ◌≤◌, Bool, true, false, cond, List, [], ◌∷◌, ◌++◌, length, get_or, set, take, drop, replicate, refl, ap, sym, ◌∙◌, arith, append-nil, append_assoc, length-append, length-drop}
 use Rattle.std.specs.Prelude.{count_by}
-use Rattle.std.proofs.Math.Seq.{set-append_seam}
-use Rattle.std.proofs.Math.Nat.{add-zero}
+use Rattle.std.proofs.Math.Seq.{set-append_seam, take-append_seam}
+use Rattle.std.proofs.Math.Nat.{add-zero, zero-add}
 use Rattle.std.proofs.lemmas.List.{drop_more, get_or-append_right, get_or-drop, length-replicate, length-take-le, replicate-append-replicate, take-append-drop, take_more}
+use Rattle.std.proofs.lemmas.Slice.{drop-append-drop}
 use Rattle.std.proofs.lemmas.List.Sums.{sum_by-append, sum_by-cons}
 
 -- the list with so many items from the first on replaced
@@ -69,6 +70,34 @@ replaced_on xs first i (suc n) x within =
     ∙ replaced_more xs first (i + n) x (omega (arith, within))
     ∙ ap (λ m. replaced first m x xs) all
 
+-- items that are replaced again are as if they were replaced once
+replaced_over : {X : Type 0} (xs : List X) (first i n : ℕ) (x : X) → i ≤ n → first + n ≤ length xs → replaced first n x (replaced first i x xs) ≡ replaced first n x xs
+replaced_over xs first i n x few within =
+    let front_long : length (take first xs) ≡ first = length-take-le first xs (omega (arith, within)) in
+    let both_long : length (take first xs ++ replicate i x) ≡ first + i = length-append (take first xs) (replicate i x) ∙ omega (arith, front_long, length-replicate i x) in
+    let before : take first (replaced first i x xs) ≡ take first xs =
+    ap (take first) (append_assoc (take first xs) (replicate i x) (drop (first + i) xs))
+    ∙ ap (λ m. take m (take first xs ++ (replicate i x ++ drop (first + i) xs))) (sym front_long)
+    ∙ take-append_seam (take first xs) (replicate i x ++ drop (first + i) xs) in
+    let behind : drop (first + n) (replaced first i x xs) ≡ drop (first + n) xs =
+    drop-append-drop (first + i) xs (take first xs ++ replicate i x) (first + n) (omega (arith, few)) both_long in
+    ap (λ (ys : List _). ys ++ replicate n x ++ drop (first + n) (replaced first i x xs)) before
+    ∙ ap (λ (ys : List _). take first xs ++ replicate n x ++ ys) behind
+
+-- the first of so many items and the last of them are all of them, where they meet
+pub replaced_ends : {X : Type 0} (xs : List X) (first n count : ℕ) (x : X) → n ≤ count → count ≤ n + n → first + count ≤ length xs
+    → replaced (first + (count - n)) n x (replaced first n x xs) ≡ replaced first count x xs
+replaced_ends xs first n count x least most within =
+    let m = count - n in
+    let split : m + (n - m) ≡ n = omega (arith, least, most) in
+    let all : m + n ≡ count = omega (arith, least) in
+    let long = replaced_long xs first m x (omega (arith, least, within)) in
+    ap (λ k. replaced (first + m) n x (replaced first k x xs)) (sym split)
+    ∙ ap (λ (ys : List _). replaced (first + m) n x ys) (sym (replaced_on xs first m (n - m) x (omega (arith, split, least, within))))
+    ∙ replaced_over (replaced first m x xs) (first + m) (n - m) n x (omega arith) (omega (arith, long, least, within))
+    ∙ replaced_on xs first m n x (omega (arith, least, within))
+    ∙ ap (λ k. replaced first k x xs) all
+
 -- one item more is counted
 pub counted_more : (p : ℕ → Bool) (xs : List ℕ) (first i : ℕ) → first + i < length xs → count_by p (take (i + 1) (drop first xs)) ≡ count_by p (take i (drop first xs)) + cond (p (get_or xs (first + i) 0)) 1 0
 counted_more p xs first i within =
@@ -96,6 +125,15 @@ counted_alike p xs first i (suc n) was within alike =
     let rest = counted_alike p xs first i n was (omega (arith, within)) (λ k low high. alike k low (omega (arith, high))) in
     let last = counted_more p xs first (i + n) (omega (arith, within)) ∙ ap (λ m. count_by p (take (i + n) (drop first xs)) + cond (p m) 1 0) here in
     ap (λ m. count_by p (take m (drop first xs))) place ∙ omega (arith, rest, last, one_more_if (p was) n)
+
+-- so many that are alike
+pub counted_all : (p : ℕ → Bool) (xs : List ℕ) (first n : ℕ) → first + n ≤ length xs → ((k : ℕ) → first ≤ k → k < first + n → get_or xs k 0 ≡ get_or xs first 0)
+    → count_by p (take n (drop first xs)) ≡ cond (p (get_or xs first 0)) n 0
+counted_all p xs first n within alike =
+    let whole : n ≡ 0 + n = omega arith in
+    ap (λ m. count_by p (take m (drop first xs))) whole
+    ∙ counted_alike p xs first 0 n (get_or xs first 0) (omega (arith, within)) (λ k low high. alike k (omega (arith, low)) (omega (arith, high)))
+    ∙ zero-add (cond (p (get_or xs first 0)) n 0)
 
 pub most_if : (b : Bool) (n : ℕ) → cond b n 0 ≤ n
 most_if true n = omega arith

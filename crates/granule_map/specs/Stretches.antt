@@ -1,5 +1,5 @@
 -- Numbers that pass a test, from one on up to a limit: the next of them, and how many lie together.
-use Rattle.std.specs.Prelude.{◌≡◌, ℕ, ◌+◌, ◌*◌, ◌<◌, ◌≤◌, Bool, true, false, not, Option, Some, None}
+use Rattle.std.specs.Prelude.{◌≡◌, ℕ, ◌+◌, ◌*◌, ◌<◌, ◌≤◌, Bool, true, false, not, List, Option, Some, None, slice_index}
 use Rattle.granule_map.specs.declared.blocks.FreeBlocks.{FreeBlocks}
 
 -- a number passes where it does not pass the test
@@ -12,6 +12,10 @@ pub record IsNext (p : ℕ → Bool) (from limit k : ℕ) : Type 0 where
   pub within : k ≤ limit
   pub none_before : (j : ℕ) → from ≤ j → j < k → p j ≡ false
   pub passes : k < limit → p k ≡ true
+
+-- So many items from one on are as that one is.
+abbrev pub AreAlike : List ℕ → ℕ → ℕ → Type 0
+AreAlike items from count = (k : ℕ) → from ≤ k → k < from + count → slice_index items k ≡ slice_index items from
 
 -- The next numbers from one on that pass, so many from the first on, and no more lie together with them.
 pub record IsStretch (p : ℕ → Bool) (limit from first count : ℕ) : Type 0 where

@@ -12,6 +12,6 @@ mod states;
 
 pub use blocks::FreeBlocks;
 pub use map::GranuleMap;
-pub use marks::alike_from;
+pub use marks::{alike_from, are_few_alike, fill_few};
 pub use replacing::Replaced;
 pub use states::GranuleState;

@@ -1,6 +1,6 @@
 //! Granules by their marks: a byte for each, searched many at a time.
 
-ghost use Rattle.granule_map.specs.Stretches.{IsNext, fails};
+ghost use Rattle.granule_map.specs.Stretches.{AreAlike, IsNext, fails};
 ghost use Rattle.memchr.specs.Find.{is_byte};
 ghost use Rattle.std.specs.Prelude.{◌≡◌, ◌+◌, ◌<◌, ◌≤◌, ℕ, IsTrue, ◌++◌, count_by, drop, false, length, replicate, slice_index, take};
 
@@ -142,6 +142,72 @@ pub(crate) fn fill_16(bytes: &mut [u8], from: usize, byte: u8)
     ensures { bytes.new ≡ take from bytes.old ++ replicate 16 byte ++ drop (from + 16) bytes.old }
 {
     u8x16::splat(byte).copy_to_slice(&mut bytes[from..]);
+}
+
+/// Makes each of 8 bytes from one on this one.
+#[inline(always)]
+fn fill_8(bytes: &mut [u8], from: usize, byte: u8)
+    requires { from + 8 ≤ length bytes.old }
+    ensures { bytes.new ≡ take from bytes.old ++ replicate 8 byte ++ drop (from + 8) bytes.old }
+{
+    u8x8::splat(byte).copy_to_slice(&mut bytes[from..]);
+}
+
+/// Makes each of 4 bytes from one on this one.
+#[inline(always)]
+fn fill_4(bytes: &mut [u8], from: usize, byte: u8)
+    requires { from + 4 ≤ length bytes.old }
+    ensures { bytes.new ≡ take from bytes.old ++ replicate 4 byte ++ drop (from + 4) bytes.old }
+{
+    u8x4::splat(byte).copy_to_slice(&mut bytes[from..]);
+}
+
+/// Makes each of 2 bytes from one on this one.
+#[inline(always)]
+fn fill_2(bytes: &mut [u8], from: usize, byte: u8)
+    requires { from + 2 ≤ length bytes.old }
+    ensures { bytes.new ≡ take from bytes.old ++ replicate 2 byte ++ drop (from + 2) bytes.old }
+{
+    u8x2::splat(byte).copy_to_slice(&mut bytes[from..]);
+}
+
+/// Makes each of so many bytes from one on this one, 16 at most: the first of them at once, and the last of them at once.
+#[inline(always)]
+pub fn fill_few(bytes: &mut [u8], from: usize, count: usize, byte: u8)
+    requires within { from + count ≤ length bytes.old }
+    requires few { count ≤ 16 }
+    ensures { bytes.new ≡ take from bytes.old ++ replicate count byte ++ drop (from + count) bytes.old }
+{
+    if count >= 8 {
+        fill_8(bytes, from, byte);
+        fill_8(bytes, from + (count - 8), byte);
+    } else if count >= 4 {
+        fill_4(bytes, from, byte);
+        fill_4(bytes, from + (count - 4), byte);
+    } else if count >= 2 {
+        fill_2(bytes, from, byte);
+        fill_2(bytes, from + (count - 2), byte);
+    } else if count == 1 {
+        bytes[from] = byte;
+    }
+}
+
+/// Whether it is one mark, or so many marks from one on are alike, 16 at most, and can be read at once: 16 lie there.
+#[inline(always)]
+pub fn are_few_alike(marks: &[u8], from: usize, count: usize) -> bool
+    requires { from + count ≤ length marks.now }
+    ensures few { IsTrue result → count ≤ 16 }
+    ensures within { IsTrue result → from < length marks.now }
+    ensures alike { IsTrue result → AreAlike marks.now from count }
+    ensures one { count ≡ 1 → IsTrue result }
+    ensures each { count ≤ 16 → from + 16 ≤ length marks.now → AreAlike marks.now from count → IsTrue result }
+{
+    if count == 1 {
+        return true;
+    }
+    count <= LANES
+        && marks.len() - from >= LANES
+        && other_of_16(marks, marks[from], from) >= from + count
 }
 
 /// How many places of the run have the mark.

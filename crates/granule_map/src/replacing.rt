@@ -4,7 +4,7 @@ ghost use Rattle.granule_map.specs.Told.{tags_with, with_item};
 ghost use Rattle.memchr.specs.Find.{is_byte};
 ghost use Rattle.std.specs.Prelude.{◌≡◌, ◌+◌, ◌≤◌, count_by, drop, if◌then◌else◌, length, take};
 
-use crate::marks::{LANES, are_alike, fill_16};
+use crate::marks::{LANES, are_alike, are_few_alike, fill_16, fill_few};
 use crate::states::{DIRTY, FREE, GranuleState};
 use dcd_base::{Run, Tag};
 use std::simd::prelude::*;
@@ -15,9 +15,6 @@ pub struct Replaced {
     pub free: u32,
     pub dirty: u32,
 }
-
-/// So many granules are changed one by one. More are changed many at a time, which costs more to begin.
-const FEW: u32 = 8;
 
 /// Makes each mark and each host of the run the ones given, and counts the marks that were there.
 #[inline(always)]
@@ -35,42 +32,18 @@ pub(crate) fn replace_both(
     ensures free { result.free ≡ count_by (is_byte FREE) (take run.now.count (drop run.now.first marks.old)) }
     ensures dirty { result.dirty ≡ count_by (is_byte DIRTY) (take run.now.count (drop run.now.first marks.old)) }
 {
-    if run.count <= FEW {
-        return replace_few(marks, hosts, run, mark, host);
-    }
-    replace_many(marks, hosts, run, mark, host)
-}
-
-/// The same, one by one.
-#[inline(always)]
-fn replace_few(marks: &mut [u8], hosts: &mut [u8], run: &Run, mark: u8, host: u8) -> Replaced
-    requires marks { run.now.first + run.now.count ≤ length marks.old }
-    requires hosts { run.now.first + run.now.count ≤ length hosts.old }
-    ensures marks { marks.new ≡ with_item run.now mark marks.old }
-    ensures hosts { hosts.new ≡ with_item run.now host hosts.old }
-    ensures free { result.free ≡ count_by (is_byte FREE) (take run.now.count (drop run.now.first marks.old)) }
-    ensures dirty { result.dirty ≡ count_by (is_byte DIRTY) (take run.now.count (drop run.now.first marks.old)) }
-{
     let first = run.first.0 as usize;
     let count = run.count as usize;
-    let (mut free, mut dirty) = (0, 0);
-    let mut i = 0;
-    while i < count {
-        let begun = i;
-        let was = marks[first + i];
-        marks[first + i] = mark;
-        hosts[first + i] = host;
-        i += 1;
-        while i < count && marks[first + i] == was {
-            marks[first + i] = mark;
-            hosts[first + i] = host;
-            i += 1;
-        }
-        let alike = (i - begun) as u32;
-        free += all_if(FREE, was, alike);
-        dirty += all_if(DIRTY, was, alike);
+    if are_few_alike(marks, first, count) {
+        let was = marks[first];
+        fill_few(marks, first, count, mark);
+        fill_few(hosts, first, count, host);
+        return Replaced {
+            free: all_if(FREE, was, run.count),
+            dirty: all_if(DIRTY, was, run.count),
+        };
     }
-    Replaced { free, dirty }
+    replace_many(marks, hosts, run, mark, host)
 }
 
 /// The same, many at a time.

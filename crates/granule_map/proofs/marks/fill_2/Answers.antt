@@ -1,0 +1,13 @@
+use Rattle.std.proofs.Common.{◌∙◌, ◌++◌, List, ℕ, take, drop, replicate, ap, sym, append_assoc}
+use Rattle.std.proofs.lemmas.List.{drop-drop}
+use Rattle.std.proofs.lemmas.Simd.{put_chunk_is}
+use Rattle.granule_map.proofs.marks.fill_2.Goals as goal
+
+pub returns : goal.returns
+returns c =
+    let bytes = c.args.bytes.now in
+    let from = c.args.from in
+    let lanes = replicate 2 c.args.byte in
+    put_chunk_is from bytes lanes c.requires
+    ∙ sym (append_assoc (take from bytes) lanes (drop 2 (drop from bytes)))
+    ∙ ap (λ (ys : List ℕ). take from bytes ++ lanes ++ ys) (drop-drop 2 from bytes)
