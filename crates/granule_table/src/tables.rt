@@ -4,12 +4,15 @@ ghost use Rattle.granule_map.specs.StateLists.{count_of};
 ghost use Rattle.dcd_base.specs.Words.{has_granule};
 ghost use Rattle.granule_table.specs.Parts.{between, flags_in, marked_unclean, with_part};
 ghost use Rattle.granule_table.specs.Tables.{IsChanged, given, settled, soiled, zeroed};
-ghost use Rattle.std.specs.Prelude.{◌≡◌, ◌+◌, ◌^◌, ◌<◌, ◌≤◌, ℕ, IfOk, false, true, length, replicate, slice_index_or, if◌then◌else◌};
+ghost use Rattle.std.specs.Prelude.{◌≡◌, ◌+◌, ◌^◌, ◌<◌, ◌≤◌, ℕ, IfOk, IfSome, false, true, length, replicate, slice_index_or, if◌then◌else◌};
 
 use dcd_base::{Granule, NoMemory, Run};
-use granule_map::{GranuleMap, GranuleState, alike_from};
+use granule_map::{GranuleMap, GranuleState, alike_from, are_few_alike, fill_few};
 use std::alloc::Global;
 use std::marker::Model;
+
+/// So many flags are written at once.
+const FEW: usize = 16;
 
 /// The state of each granule, whether it has to be zeroed before it is free, and how many are free and dirty. The flags are
 /// kept as bytes, 1 for true, so that many of them are read at a time.
@@ -92,7 +95,10 @@ impl GranuleTable {
         ensures { IsChanged settled run self.old self.new }
     {
         let within = self.within(&run);
-        self.settle_each(&within);
+        match flag_of_few(self.unclean.as_slice(), &within) {
+            Some(unclean) => self.set_states(&within, &settled_state(unclean)),
+            None => self.settle_each(&within),
+        }
     }
 
     /// Each granule of the run has to be zeroed before it is free. Its state stays.
@@ -118,7 +124,7 @@ impl GranuleTable {
         ensures same { (g : ℕ) → g < length self.now.states → has_granule result g ≡ has_granule run.now g }
     {
         let len = self.len();
-        if run.first.0 <= len && run.count <= len - run.first.0 {
+        if u64::from(run.first.0) + u64::from(run.count) <= u64::from(len) {
             return *run;
         }
         let first = run.first.0.min(len);
@@ -152,6 +158,7 @@ impl GranuleTable {
     }
 
     /// Settles the granules of a run of the table, those that are alike at a time.
+    #[inline(never)]
     fn settle_each(&mut self, run: &Run)
         requires { run.now.first + run.now.count ≤ length self.old.states }
         ensures { IsChanged settled run.now self.old self.new }
@@ -241,6 +248,20 @@ fn is_set(flags: &[u8], place: usize) -> bool
     flags[place] == 1
 }
 
+/// The flag of each place of a run, where they are few and all have the same.
+#[inline(always)]
+fn flag_of_few(flags: &[u8], run: &Run) -> Option<bool>
+    requires { run.now.first + run.now.count ≤ length flags.now }
+    ensures { IfSome result (λ flag. (k : ℕ) → run.now.first ≤ k → k < run.now.first + run.now.count → slice_index_or (flags_in flags.now) k true ≡ flag) }
+{
+    let first = run.first.0 as usize;
+    if are_few_alike(flags, first, run.count as usize) {
+        Some(is_set(flags, first))
+    } else {
+        None
+    }
+}
+
 /// The first place from one on, but not that one itself, that has another flag, or the end where none below it has.
 fn like_from(flags: &[u8], flag: bool, from: usize, end: usize) -> usize
     requires below { from < end }
@@ -261,5 +282,10 @@ fn fill_bytes(bytes: &mut [u8], run: &Run, byte: u8)
     ensures { bytes.new ≡ with_part run.now byte bytes.old }
 {
     let first = run.first.0 as usize;
-    bytes[first..first + run.count as usize].fill(byte);
+    let count = run.count as usize;
+    if count <= FEW {
+        fill_few(bytes, first, count, byte);
+    } else {
+        bytes[first..first + count].fill(byte);
+    }
 }

@@ -1,4 +1,4 @@
-use Rattle.std.proofs.Common.{◌≡◌, ◌∙◌, rules}
+use Rattle.std.proofs.Common.{◌∙◌, rules}
 use Rattle.granule_table.proofs.Flags.{flag_at}
 use Rattle.granule_table.proofs.tables.is_set.Goals as goal
 

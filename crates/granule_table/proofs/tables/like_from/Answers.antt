@@ -1,5 +1,4 @@
-use Rattle.std.proofs.Common.{◌≡◌, ◌<◌, ◌∙◌, eqb, get_or, length, true, sym, ap, arith}
-use Rattle.granule_table.specs.Parts.{flags_in}
+use Rattle.std.proofs.Common.{◌∙◌, eqb, sym, ap, arith}
 use Rattle.granule_table.proofs.Flags.{flag_at}
 use Rattle.granule_table.proofs.tables.like_from.Goals as goal
 

@@ -1,4 +1,4 @@
-use Rattle.std.proofs.Common.{◌≡◌, ◌∙◌, length, sym, subst}
+use Rattle.std.proofs.Common.{◌≡◌, ◌∙◌, length, subst}
 use Rattle.granule_table.specs.Tables.{CellTable}
 use Rattle.granule_table.proofs.Flags.{flags_long}
 use Rattle.granule_table.proofs.tables.GranuleTable.len.Goals as goal
