@@ -67,6 +67,22 @@ lowest_difference a b from small small' le some =
       | inr le ↦ absurd (omega (arith, set, bit_at_above x 64 i fits le))
     ]
 
+-- a number with more than a byte from this one of its eight on has another one behind it
+pub place_of_pair : (n place : ℕ) → n < 2 ^ 64 → place < 8 → 256 ≤ n / 2 ^ (8 * place) → place + 1 < 8
+place_of_pair n zero fits lt more = omega arith
+place_of_pair n (suc zero) fits lt more = omega arith
+place_of_pair n (suc (suc zero)) fits lt more = omega arith
+place_of_pair n (suc (suc (suc zero))) fits lt more = omega arith
+place_of_pair n (suc (suc (suc (suc zero)))) fits lt more = omega arith
+place_of_pair n (suc (suc (suc (suc (suc zero))))) fits lt more = omega arith
+place_of_pair n (suc (suc (suc (suc (suc (suc zero)))))) fits lt more = omega arith
+place_of_pair n (suc (suc (suc (suc (suc (suc (suc zero))))))) fits lt more = absurd (omega arith)
+place_of_pair n (suc (suc (suc (suc (suc (suc (suc (suc k)))))))) fits lt more = absurd (omega arith)
+
+-- one that is some and below 256, by the one before it
+pub lowest_byte : (n : ℕ) → n < 2 ^ 64 → (n + 18446744073709551615) % 18446744073709551616 < 255 → n / 2 ^ 8 ≡ 0
+lowest_byte n fits low = omega arith
+
 -- ---- what is left of the difference of two numbers, from a byte on
 
 -- from the first one on it is all

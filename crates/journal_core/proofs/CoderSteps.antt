@@ -118,3 +118,7 @@ codes_end a b kind le adds = record {
 pub codes_ended : {a b c : Coder} {slots : ℕ → ℕ} (kind : ℕ) (t : Token) → slots_in b.slots ≡ slots → token_of kind slots ≡ t → CodesTo a b (slots_in b.slots) [] → CodesTo b c (slots_in c.slots) (token_of kind (slots_in b.slots) ∷ []) → CodesTo a c (slots_in c.slots) (t ∷ [])
 codes_ended {a} {b} {c} {slots} kind t holds is p q =
     subst (λ (u : Token). CodesTo a c (slots_in c.slots) (u ∷ [])) (ap (token_of kind) holds ∙ is) (codes_then p q)
+
+-- a token that these slots hold, by what it is
+pub codes_as : {a b : Coder} (kind : ℕ) (slots : ℕ → ℕ) (t : Token) → token_of kind slots ≡ t → CodesTo a b (slots_in b.slots) (token_of kind slots ∷ []) → CodesTo a b (slots_in b.slots) (t ∷ [])
+codes_as {a} {b} kind slots t is p = subst (λ (u : Token). CodesTo a b (slots_in b.slots) (u ∷ [])) is p

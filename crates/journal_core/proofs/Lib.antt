@@ -10,6 +10,7 @@ pub mod HoldingSteps
 pub mod Inserting
 pub mod JournalSteps
 pub mod Keepings
+pub mod LikeSlots
 pub mod Lists
 pub mod MergedFilters
 pub mod Merges

@@ -1,9 +1,16 @@
 -- What a coder has written.
 use Rattle.std.specs.Prelude.{◌≡◌, ℕ, ◌+◌, ◌<◌, ◌++◌, List, None, IsFalse, slice_index}
 use Rattle.std.specs.Int.{w64, to_le_bytes}
+use Rattle.dcd_base.specs.Words.{flag_of}
+use Rattle.dcd_base.specs.declared.capacity.Extent.{Extent}
+use Rattle.dcd_base.specs.declared.steps.LogId.{LogId}
+use Rattle.event_records.specs.Records.{kind_number}
+use Rattle.event_records.specs.declared.events.Event.{Event}
+use Rattle.field_bytes.specs.Layouts.{number_at}
 use Rattle.journal_core.specs.declared.coding.Coder.{Coder}
 use Rattle.journal_core.specs.declared.tokens.Token.{Token}
-use Rattle.journal_core.specs.Slots.{slots_in}
+use Rattle.journal_core.specs.declared.slots.TheConstants.{EVENT_HOST, EVENT_KIND, EXTENTS_LEFT, FLAG, HANDLE, LENGTH, LOG, REGION, SEQUENCE, TAGS_LEFT, TAG_HIGH, TAG_LOW}
+use Rattle.journal_core.specs.Slots.{number_of_log, slots_in}
 use Rattle.journal_core.specs.Tokens.{tokens_in}
 
 -- The bytes that came behind the old ones tell these tokens and lead from the slots to others, whatever follows.
@@ -36,3 +43,22 @@ pub record IsPairDifference (told number place : ℕ) : Type 0 where
   pub known : place + 1 < 8
   pub before : (k : ℕ) → k < place → slice_index (to_le_bytes w64 told) k ≡ slice_index (to_le_bytes w64 number) k
   pub behind : (k : ℕ) → place + 1 < k → k < 8 → slice_index (to_le_bytes w64 told) k ≡ slice_index (to_le_bytes w64 number) k
+
+-- An extent is the one in the slots but for its start and the lowest byte of its sequence.
+pub record IsLike (slots : ℕ → ℕ) (x : Extent) : Type 0 where
+  pub length : slots LENGTH ≡ x.length
+  pub low : slots TAG_LOW ≡ number_at w64 x.tag.0 0
+  pub high : slots TAG_HIGH ≡ number_at w64 x.tag.0 8
+  pub sequence : IsOnlyDifference (slots SEQUENCE) x.sequence 0
+
+-- An event of a log is the one in the slots but for the lowest byte of its handle, and its extent is like the one there.
+pub record IsFollower (slots : ℕ → ℕ) (log : LogId) (e : Event) : Type 0 where
+  pub extent : IsLike slots e.extent
+  pub its_log : slots LOG ≡ number_of_log log
+  pub kind : slots EVENT_KIND ≡ kind_number e.kind
+  pub host : slots EVENT_HOST ≡ e.host
+  pub region : slots REGION ≡ e.region
+  pub flag : slots FLAG ≡ flag_of e.more
+  pub extents : slots EXTENTS_LEFT ≡ e.extents_available
+  pub tags : slots TAGS_LEFT ≡ e.tags_available
+  pub handle : IsOnlyDifference (slots HANDLE) e.handle 0

@@ -1,7 +1,7 @@
 //! Effects to bytes.
 
 ghost use Rattle.event_records.specs.Records.{kind_number};
-ghost use Rattle.journal_core.specs.Coding.{AddsBytes, Codes, CodesTo, IsOnlyDifference, IsPairDifference};
+ghost use Rattle.journal_core.specs.Coding.{AddsBytes, Codes, CodesTo, IsFollower, IsLike, IsOnlyDifference, IsPairDifference};
 ghost use Rattle.journal_core.specs.Slots.{FitsWhat, no_slots, number_of_held, number_of_log, slots_in, slotted_event, slotted_extent, slotted_held, slotted_log, slotted_run, slotted_tag, telling_event, telling_extent, telling_flag, telling_held, telling_host, telling_log, telling_run, telling_tag, telling_what, with_slot};
 ghost use Rattle.journal_core.specs.Tokens.{token_of, tokens_of};
 ghost use Rattle.journal_core.specs.declared.tokens.Token.{Token};
@@ -63,6 +63,14 @@ impl Coder {
         }
     }
 
+    /// Writes a byte. There is room for it.
+    fn push_reserved(&mut self, byte: u8)
+        requires { vec_len self.old.bytes < vec_capacity self.old.bytes }
+        ensures { AddsBytes self.old self.new (byte ∷ []) }
+    {
+        self.bytes.push_reserved(byte);
+    }
+
     /// Writes a byte.
     fn push(&mut self, byte: u8)
         ensures { AddsBytes self.old self.new (byte ∷ []) }
@@ -109,9 +117,11 @@ impl Coder {
     /// Writes the two bytes, one behind the other, by which a number differs from that in the slot. There is room for them.
     fn push_pair(&mut self, slot: usize, place: usize, number: u64)
         requires slot { slot < 16 }
-        requires room { vec_len self.old.bytes + 16 ≤ vec_capacity self.old.bytes }
+        requires room { vec_len self.old.bytes + 4 ≤ vec_capacity self.old.bytes }
         requires pair { IsPairDifference (slots_in self.old.slots slot) number place }
         ensures slots { self.new.slots ≡ self.old.slots }
+        ensures len { vec_len self.new.bytes ≡ vec_len self.old.bytes + 4 }
+        ensures capacity { vec_capacity self.new.bytes ≡ vec_capacity self.old.bytes }
         ensures coded { CodesTo self.old self.new (with_slot (slots_in self.old.slots) slot number) [] }
     {
         // A slot has 64 bits.
@@ -172,9 +182,11 @@ impl Coder {
     /// Writes the one byte by which a number differs from that in the slot. There is room for it.
     fn push_only_change(&mut self, slot: usize, place: usize, number: u64)
         requires slot { slot < 16 }
-        requires room { vec_len self.old.bytes + 16 ≤ vec_capacity self.old.bytes }
+        requires room { vec_len self.old.bytes + 2 ≤ vec_capacity self.old.bytes }
         requires only { IsOnlyDifference (slots_in self.old.slots slot) number place }
         ensures slots { self.new.slots ≡ self.old.slots }
+        ensures len { vec_len self.new.bytes ≡ vec_len self.old.bytes + 2 }
+        ensures capacity { vec_capacity self.new.bytes ≡ vec_capacity self.old.bytes }
         ensures coded { CodesTo self.old self.new (with_slot (slots_in self.old.slots) slot number) [] }
     {
         // A slot has 64 bits.
@@ -185,10 +197,12 @@ impl Coder {
     /// Writes the one byte by which a number differs from that in the slot, and puts the number there. There is room for it.
     fn change_byte(&mut self, slot: usize, place: usize, number: u64)
         requires slot { slot < 16 }
-        requires room { vec_len self.old.bytes + 16 ≤ vec_capacity self.old.bytes }
+        requires room { vec_len self.old.bytes + 2 ≤ vec_capacity self.old.bytes }
         requires only { IsOnlyDifference (slots_in self.old.slots slot) number place }
         ensures slots { slots_in self.new.slots ≡ with_slot (slots_in self.old.slots) slot number }
         ensures coded { Codes self.old self.new [] }
+        ensures len { vec_len self.new.bytes ≡ vec_len self.old.bytes + 2 }
+        ensures capacity { vec_capacity self.new.bytes ≡ vec_capacity self.old.bytes }
     {
         self.push_only_change(slot, place, number);
         self.slots[slot] = number;
@@ -198,10 +212,12 @@ impl Coder {
     /// There is room for them.
     fn change_pair(&mut self, slot: usize, place: usize, number: u64)
         requires slot { slot < 16 }
-        requires room { vec_len self.old.bytes + 16 ≤ vec_capacity self.old.bytes }
+        requires room { vec_len self.old.bytes + 4 ≤ vec_capacity self.old.bytes }
         requires pair { IsPairDifference (slots_in self.old.slots slot) number place }
         ensures slots { slots_in self.new.slots ≡ with_slot (slots_in self.old.slots) slot number }
         ensures coded { Codes self.old self.new [] }
+        ensures len { vec_len self.new.bytes ≡ vec_len self.old.bytes + 4 }
+        ensures capacity { vec_capacity self.new.bytes ≡ vec_capacity self.old.bytes }
     {
         self.push_pair(slot, place, number);
         self.slots[slot] = number;
@@ -297,6 +313,17 @@ impl Coder {
         self.push(kind);
     }
 
+    /// Writes the kind of the token that the slots hold. There is room for it.
+    #[inline(always)]
+    fn end_reserved(&mut self, kind: u8)
+        requires kind { 128 ≤ kind }
+        requires room { vec_len self.old.bytes < vec_capacity self.old.bytes }
+        ensures slots { slots_in self.new.slots ≡ slots_in self.old.slots }
+        ensures coded { Codes self.old self.new (token_of kind (slots_in self.old.slots) ∷ []) }
+    {
+        self.push_reserved(kind);
+    }
+
     fn put_host(&mut self, host: &HostId)
         ensures slots { slots_in self.new.slots ≡ telling_host (slots_in self.old.slots) host.now }
         ensures coded { Codes self.old self.new [] }
@@ -359,6 +386,109 @@ impl Coder {
         self.put(SEQUENCE, u64::from(extent.sequence));
     }
 
+    /// Whether an extent is the one in the slots but for its start and the lowest byte of its sequence.
+    #[inline(always)]
+    fn is_like(&self, extent: &Extent) -> bool
+        ensures { IsTrue result → IsLike (slots_in self.now.slots) extent.now }
+    {
+        self.slots[LENGTH] == extent.length
+            && self.slots[TAG_LOW] == u64_at(&extent.tag.0, 0)
+            && self.slots[TAG_HIGH] == u64_at(&extent.tag.0, 8)
+            && differ_low(self.slots[SEQUENCE], u64::from(extent.sequence))
+    }
+
+    /// Whether an event of a log is the one in the slots but for the lowest byte of its handle and as `is_like` says of its extent.
+    #[inline(always)]
+    fn is_follower(&self, log: &LogId, event: &Event) -> bool
+        ensures { IsTrue result → IsFollower (slots_in self.now.slots) log.now event.now }
+    {
+        self.is_like(&event.extent)
+            && self.slots[LOG] == number_of_log(log)
+            && self.slots[EVENT_KIND] == number_of_kind(&event.kind)
+            && self.slots[EVENT_HOST] == u64::from(event.host)
+            && self.slots[REGION] == u64::from(event.region)
+            && self.slots[FLAG] == u64::from(event.more)
+            && self.slots[EXTENTS_LEFT] == u64::from(event.extents_available)
+            && self.slots[TAGS_LEFT] == u64::from(event.tags_available)
+            && differ_low(self.slots[HANDLE], u64::from(event.handle))
+    }
+
+    /// Writes a token with a sequence that differs from the one in its slot in the lowest byte at most. There is room for it.
+    #[inline(always)]
+    fn end_sequence(&mut self, sequence: u64, kind: u8)
+        requires kind { 128 ≤ kind }
+        requires low { IsOnlyDifference (slots_in self.old.slots SEQUENCE) sequence 0 }
+        requires room { vec_len self.old.bytes + 3 ≤ vec_capacity self.old.bytes }
+        ensures { Codes self.old self.new (token_of kind (with_slot (slots_in self.old.slots) SEQUENCE sequence) ∷ []) }
+    {
+        if self.slots[SEQUENCE] == sequence {
+            self.end_reserved(kind);
+        } else {
+            self.change_byte(SEQUENCE, 0, sequence);
+            self.end_reserved(kind);
+        }
+    }
+
+    /// Writes a token of a start and a sequence.
+    #[inline(always)]
+    fn end_far(&mut self, start: u64, sequence: u64, kind: u8)
+        requires { 128 ≤ kind }
+        ensures { Codes self.old self.new (token_of kind (with_slot (with_slot (slots_in self.old.slots) START start) SEQUENCE sequence) ∷ []) }
+    {
+        self.change_bytes(START, start);
+        self.put(SEQUENCE, sequence);
+        self.end(kind);
+    }
+
+    /// Writes a token of a start that most often differs from the one in its slot in two bytes, one behind the other, and of a
+    /// sequence that differs in the lowest byte at most. There is room for those and the kind.
+    #[inline(always)]
+    fn end_pair(&mut self, start: u64, sequence: u64, kind: u8)
+        requires kind { 128 ≤ kind }
+        requires low { IsOnlyDifference (slots_in self.old.slots SEQUENCE) sequence 0 }
+        requires room { vec_len self.old.bytes + 7 ≤ vec_capacity self.old.bytes }
+        ensures { Codes self.old self.new (token_of kind (with_slot (with_slot (slots_in self.old.slots) START start) SEQUENCE sequence) ∷ []) }
+    {
+        match pair_difference(self.slots[START], start) {
+            Some(place) => {
+                self.change_pair(START, place, start);
+                self.end_sequence(sequence, kind);
+            }
+            None => self.end_far(start, sequence, kind),
+        }
+    }
+
+    /// Writes a token of a start that most often differs from the one in its slot in one byte or two, and of a sequence that
+    /// differs in the lowest byte at most. There is room for those and the kind.
+    #[inline(always)]
+    fn end_near(&mut self, start: u64, sequence: u64, kind: u8)
+        requires kind { 128 ≤ kind }
+        requires low { IsOnlyDifference (slots_in self.old.slots SEQUENCE) sequence 0 }
+        requires room { vec_len self.old.bytes + 7 ≤ vec_capacity self.old.bytes }
+        ensures { Codes self.old self.new (token_of kind (with_slot (with_slot (slots_in self.old.slots) START start) SEQUENCE sequence) ∷ []) }
+    {
+        match only_difference(self.slots[START], start) {
+            Some(place) => {
+                self.change_byte(START, place, start);
+                self.end_sequence(sequence, kind);
+            }
+            None => self.end_pair(start, sequence, kind),
+        }
+    }
+
+    /// Writes a token of an extent that is like the one in the slots. There is room for it.
+    #[inline(always)]
+    fn end_like(&mut self, extent: &Extent, kind: u8)
+        requires kind { 128 ≤ kind }
+        requires like { IsLike (slots_in self.old.slots) extent.now }
+        requires room { vec_len self.old.bytes + 7 ≤ vec_capacity self.old.bytes }
+        ensures coded { Codes self.old self.new (token_of kind (telling_extent (slots_in self.old.slots) extent.now) ∷ []) }
+        ensures back { (slots : ℕ → ℕ) → slotted_extent (telling_extent slots extent.now) ≡ extent.now }
+    {
+        are_bytes(&extent.tag.0);
+        self.end_near(extent.start, u64::from(extent.sequence), kind);
+    }
+
     /// An event without its extent and its counts.
     fn put_what(&mut self, event: &Event)
         ensures slots { slots_in self.new.slots ≡ telling_what (slots_in self.old.slots) event.now }
@@ -395,48 +525,107 @@ impl Coder {
     fn put_more(&mut self, extent: &Extent)
         ensures { Codes self.old self.new (Token.More extent.now ∷ []) }
     {
+        if self.is_like(extent) && self.has_room() {
+            self.end_like(extent, MORE);
+        } else {
+            self.put_other_more(extent);
+        }
+    }
+
+    /// The same, of an extent that is not like the one in the slots.
+    #[inline(always)]
+    fn put_other_more(&mut self, extent: &Extent)
+        ensures { Codes self.old self.new (Token.More extent.now ∷ []) }
+    {
         self.put_extent(extent);
         self.end(MORE);
     }
 
-    /// Writes what is about a run of a host.
+    /// Writes a token of a first granule that most often differs from the one in its slot in two bytes, one behind the other.
+    /// There is room for those and the kind.
     #[inline(always)]
-    fn put_held_run(&mut self, host: &HostId, run: &Run)
-        ensures slots { slots_in self.new.slots ≡ telling_run (telling_host (slots_in self.old.slots) host.now) run.now }
-        ensures coded { Codes self.old self.new [] }
+    fn end_first_pair(&mut self, first: u64, kind: u8)
+        requires kind { 128 ≤ kind }
+        requires room { vec_len self.old.bytes + 5 ≤ vec_capacity self.old.bytes }
+        ensures { Codes self.old self.new (token_of kind (with_slot (slots_in self.old.slots) FIRST first) ∷ []) }
+    {
+        match pair_difference(self.slots[FIRST], first) {
+            Some(place) => {
+                self.change_pair(FIRST, place, first);
+                self.end_reserved(kind);
+            }
+            None => {
+                self.put(FIRST, first);
+                self.end(kind);
+            }
+        }
+    }
+
+    /// Writes a token of a first granule that most often differs from the one in its slot in the lowest byte alone. There is room
+    /// for two bytes and the kind.
+    #[inline(always)]
+    fn end_first(&mut self, first: u64, kind: u8)
+        requires kind { 128 ≤ kind }
+        requires room { vec_len self.old.bytes + 5 ≤ vec_capacity self.old.bytes }
+        ensures { Codes self.old self.new (token_of kind (with_slot (slots_in self.old.slots) FIRST first) ∷ []) }
+    {
+        if differ_lowest(self.slots[FIRST], first) {
+            self.change_byte(FIRST, 0, first);
+            self.end_reserved(kind);
+        } else {
+            self.end_first_pair(first, kind);
+        }
+    }
+
+    /// Writes a token of a run, most often of as many granules as the one in the slots.
+    #[inline(always)]
+    fn end_run(&mut self, run: &Run, kind: u8)
+        requires { 128 ≤ kind }
+        ensures coded { Codes self.old self.new (token_of kind (telling_run (slots_in self.old.slots) run.now) ∷ []) }
+        ensures back { (slots : ℕ → ℕ) → slotted_run (telling_run slots run.now) ≡ run.now }
+    {
+        if self.slots[COUNT] == u64::from(run.count) && self.has_room() {
+            self.end_first(u64::from(run.first.0), kind);
+        } else {
+            self.put_run(run);
+            self.end(kind);
+        }
+    }
+
+    /// Writes a token of a run of a host.
+    #[inline(always)]
+    fn end_held_run(&mut self, host: &HostId, run: &Run, kind: u8)
+        requires { 128 ≤ kind }
+        ensures coded { Codes self.old self.new (token_of kind (telling_run (telling_host (slots_in self.old.slots) host.now) run.now) ∷ []) }
         ensures host { host.now % 256 ≡ host.now }
         ensures run { (slots : ℕ → ℕ) → slotted_run (telling_run slots run.now) ≡ run.now }
     {
         self.put_host(host);
-        self.put_run(run);
+        self.end_run(run, kind);
     }
 
     fn put_take(&mut self, host: &HostId, run: &Run)
         ensures { Codes self.old self.new (Token.Take host.now run.now ∷ []) }
     {
-        self.put_held_run(host, run);
-        self.end(TAKE);
+        self.end_held_run(host, run, TAKE);
     }
 
     fn put_leave(&mut self, host: &HostId, run: &Run)
         ensures { Codes self.old self.new (Token.Leave host.now run.now ∷ []) }
     {
-        self.put_held_run(host, run);
-        self.end(LEAVE);
+        self.end_held_run(host, run, LEAVE);
     }
 
     fn put_zero(&mut self, run: &Run)
         ensures { Codes self.old self.new (Token.Zero run.now ∷ []) }
     {
-        self.put_run(run);
-        self.end(ZERO);
+        self.end_run(run, ZERO);
     }
 
     fn put_soil(&mut self, run: &Run)
         ensures { Codes self.old self.new (Token.Soil run.now ∷ []) }
     {
-        self.put_run(run);
-        self.end(SOIL);
+        self.end_run(run, SOIL);
     }
 
     fn put_offer(&mut self, host: &HostId)
@@ -470,6 +659,33 @@ impl Coder {
     }
 
     fn put_logged(&mut self, log: &LogId, event: &Event)
+        ensures { Codes self.old self.new (Token.Logged log.now event.now ∷ []) }
+    {
+        if self.is_follower(log, event) && self.has_room() {
+            self.put_follower(log, event);
+        } else {
+            self.put_other_logged(log, event);
+        }
+    }
+
+    /// The same, of an event that follows the one in the slots. There is room for it.
+    #[inline(always)]
+    fn put_follower(&mut self, log: &LogId, event: &Event)
+        requires follower { IsFollower (slots_in self.old.slots) log.now event.now }
+        requires room { vec_len self.old.bytes + 9 ≤ vec_capacity self.old.bytes }
+        ensures { Codes self.old self.new (Token.Logged log.now event.now ∷ []) }
+    {
+        // The fields that the slots have already fit into them.
+        let _log = number_of_log(log);
+        let (_host, _region) = (event.host, event.region);
+        let (_extents, _tags) = (event.extents_available, event.tags_available);
+        self.change_byte(HANDLE, 0, u64::from(event.handle));
+        self.end_like(&event.extent, LOGGED);
+    }
+
+    /// The same, of an event that does not.
+    #[inline(always)]
+    fn put_other_logged(&mut self, log: &LogId, event: &Event)
         ensures { Codes self.old self.new (Token.Logged log.now event.now ∷ []) }
     {
         self.put_log(log);
@@ -598,7 +814,7 @@ fn pair_difference(told: u64, number: u64) -> Option<usize>
     let place = differing.trailing_zeros() as usize / 8;
     let from_there = differing >> (8 * place);
     // The second byte is told only where it differs, too.
-    if place < 7 && from_there >= 256 && from_there >> 16 == 0 {
+    if from_there >= 256 && from_there >> 16 == 0 {
         Some(place)
     } else {
         None
@@ -610,6 +826,13 @@ fn differ_low(told: u64, number: u64) -> bool
     ensures { IsTrue result → IsOnlyDifference told number 0 }
 {
     (told ^ number) >> 8 == 0
+}
+
+/// Whether two numbers differ in the lowest byte and in no other.
+fn differ_lowest(told: u64, number: u64) -> bool
+    ensures { IsTrue result → IsOnlyDifference told number 0 }
+{
+    (told ^ number).wrapping_sub(1) < 255
 }
 
 /// The number of a log in its slot.

@@ -4,7 +4,7 @@ use Rattle.journal_core.specs.declared.slots.TheConstants.{LOGGED}
 use Rattle.journal_core.specs.Tokens.{token_of}
 use Rattle.journal_core.specs.declared.tokens.Token.{Token}
 use Rattle.journal_core.proofs.CoderSteps.{codes_ended, codes_then}
-use Rattle.journal_core.proofs.coding.Coder.put_logged.Goals as goal
+use Rattle.journal_core.proofs.coding.Coder.put_other_logged.Goals as goal
 
 pub returns : goal.returns
 unfolding token_of
