@@ -225,16 +225,13 @@ impl Coder {
 
     /// Writes the bytes by which a number differs from that in the slot, and puts it there, once there is room for them.
     #[inline(never)]
-    fn change_bytes(&mut self, slot: usize, number: u64)
+    fn change_many(&mut self, slot: usize, number: u64)
         requires { slot < 16 }
         ensures slots { slots_in self.new.slots ≡ with_slot (slots_in self.old.slots) slot number }
         ensures coded { Codes self.old self.new [] }
     {
         if self.make_room() {
-            match pair_difference(self.slots[slot], number) {
-                Some(place) => self.push_pair(slot, place, number),
-                None => self.push_changes(slot, number),
-            }
+            self.push_changes(slot, number);
         }
         self.slots[slot] = number;
     }
@@ -249,7 +246,7 @@ impl Coder {
     {
         match self.pair_change(slot, number) {
             Some(place) => self.change_pair(slot, place, number),
-            None => self.change_bytes(slot, number),
+            None => self.change_many(slot, number),
         }
     }
 
@@ -266,6 +263,16 @@ impl Coder {
         }
     }
 
+    /// The same, by a call.
+    #[inline(never)]
+    fn change_apart(&mut self, slot: usize, number: u64)
+        requires { slot < 16 }
+        ensures slots { slots_in self.new.slots ≡ with_slot (slots_in self.old.slots) slot number }
+        ensures coded { Codes self.old self.new [] }
+    {
+        self.change(slot, number);
+    }
+
     /// Puts a number that is not that in the slot there, and writes what that changes. Most often it is the lowest byte.
     #[inline(always)]
     fn change_low(&mut self, slot: usize, number: u64)
@@ -276,7 +283,7 @@ impl Coder {
         if differ_low(self.slots[slot], number) && self.has_room() {
             self.change_byte(slot, 0, number);
         } else {
-            self.change_bytes(slot, number);
+            self.change_apart(slot, number);
         }
     }
 
@@ -292,6 +299,18 @@ impl Coder {
         }
     }
 
+    /// Puts a number into a slot that most often differs in one byte or two, whichever they are, and writes what that changes.
+    #[inline(always)]
+    fn put_near(&mut self, slot: usize, number: u64)
+        requires { slot < 16 }
+        ensures slots { slots_in self.new.slots ≡ with_slot (slots_in self.old.slots) slot number }
+        ensures coded { Codes self.old self.new [] }
+    {
+        if self.slots[slot] != number {
+            self.change(slot, number);
+        }
+    }
+
     /// Puts a number into a slot that is alike or differs in most bytes, and writes what that changes.
     #[inline(always)]
     fn put_wide(&mut self, slot: usize, number: u64)
@@ -300,7 +319,7 @@ impl Coder {
         ensures coded { Codes self.old self.new [] }
     {
         if self.slots[slot] != number {
-            self.change_bytes(slot, number);
+            self.change_many(slot, number);
         }
     }
 
@@ -379,9 +398,8 @@ impl Coder {
         ensures coded { Codes self.old self.new [] }
         ensures back { (slots : ℕ → ℕ) → slotted_extent (telling_extent slots extent.now) ≡ extent.now }
     {
-        // It is seldom that of the extent before, from which it most often differs in one byte or two.
-        self.change(START, extent.start);
-        self.put(LENGTH, extent.length);
+        self.put_near(START, extent.start);
+        self.put_near(LENGTH, extent.length);
         self.put_tag(&extent.tag);
         self.put(SEQUENCE, u64::from(extent.sequence));
     }
@@ -397,7 +415,8 @@ impl Coder {
             && differ_low(self.slots[SEQUENCE], u64::from(extent.sequence))
     }
 
-    /// Whether an event of a log is the one in the slots but for the lowest byte of its handle and as `is_like` says of its extent.
+    /// Whether an event of a log is the one in the slots but for the lowest byte of its handle, and its extent is like the one
+    /// there.
     #[inline(always)]
     fn is_follower(&self, log: &LogId, event: &Event) -> bool
         ensures { IsTrue result → IsFollower (slots_in self.now.slots) log.now event.now }
@@ -429,13 +448,13 @@ impl Coder {
         }
     }
 
-    /// Writes a token of a start and a sequence.
+    /// Writes a token of a start that differs from the one in its slot in other bytes, and of a sequence.
     #[inline(always)]
     fn end_far(&mut self, start: u64, sequence: u64, kind: u8)
         requires { 128 ≤ kind }
         ensures { Codes self.old self.new (token_of kind (with_slot (with_slot (slots_in self.old.slots) START start) SEQUENCE sequence) ∷ []) }
     {
-        self.change_bytes(START, start);
+        self.change_many(START, start);
         self.put(SEQUENCE, sequence);
         self.end(kind);
     }

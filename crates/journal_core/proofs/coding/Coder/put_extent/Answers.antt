@@ -6,10 +6,10 @@ use Rattle.journal_core.proofs.coding.Coder.put_extent.Goals as goal
 
 pub returns-clause-slots : goal.returns-clause-slots
 returns-clause-slots c =
-    rw (c.put-2.ensures.slots, c.put_tag.ensures.slots, c.put.ensures.slots, c.change.ensures.slots, c.from.ensures) refl
+    rw (c.put.ensures.slots, c.put_tag.ensures.slots, c.put_near-2.ensures.slots, c.put_near.ensures.slots, c.from.ensures) refl
 
 pub returns-clause-coded : goal.returns-clause-coded
-returns-clause-coded c = codes_then c.change.ensures.coded (codes_then c.put.ensures.coded (codes_then c.put_tag.ensures.coded c.put-2.ensures.coded))
+returns-clause-coded c = codes_then c.put_near.ensures.coded (codes_then c.put_near-2.ensures.coded (codes_then c.put_tag.ensures.coded c.put.ensures.coded))
 
 pub returns-clause-back : goal.returns-clause-back
 returns-clause-back c = λ slots.
