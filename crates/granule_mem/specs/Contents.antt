@@ -15,9 +15,12 @@ pub record Media : Type 0 where
 abbrev pub word_among : List (ℕ × ℕ) → ℕ → ℕ
 word_among stored w = unwrap_or (lookup (is_at (nat_cmp w)) stored) 0
 
--- word w of granule g
+-- word w of granule g, among the words that were stored in each granule
+abbrev pub word_kept : List (List (ℕ × ℕ)) → ℕ → ℕ → ℕ
+word_kept stored g w = word_among (slice_index_or stored g []) w
+
 abbrev pub word_in : Media → ℕ → ℕ → ℕ
-word_in m g w = word_among (slice_index_or m.words g []) w
+word_in m g w = word_kept m.words g w
 
 -- the hosts that hold granule g: bit h is host h
 abbrev pub holders_in : Media → ℕ → ℕ
@@ -28,14 +31,24 @@ pub record IsFresh (m : Media) : Type 0 where
   pub zeroed : (g w : ℕ) → word_in m g w ≡ 0
   pub unheld : (g : ℕ) → holders_in m g ≡ 0
 
+-- Each word is 0.
+abbrev pub AreZero : List (List (ℕ × ℕ)) → Type 0
+AreZero stored = (g w : ℕ) → word_kept stored g w ≡ 0
+
 -- One word is this value, and each other word is what it was.
+abbrev pub StoresWord : List (List (ℕ × ℕ)) → List (List (ℕ × ℕ)) → ℕ → ℕ → ℕ → Type 0
+StoresWord old new granule word value =
+    (g w : ℕ) → word_kept new g w ≡ (if (granule == g) && (word == w) then value else word_kept old g w)
+
 abbrev pub Stores : Media → Media → ℕ → ℕ → ℕ → Type 0
-Stores old new granule word value =
-    (g w : ℕ) → word_in new g w ≡ (if (granule == g) && (word == w) then value else word_in old g w)
+Stores old new granule word value = StoresWord old.words new.words granule word value
 
 -- Each word of the run is 0, and each other word is what it was.
+abbrev pub ZeroesWords : List (List (ℕ × ℕ)) → List (List (ℕ × ℕ)) → Run → Type 0
+ZeroesWords old new run = (g w : ℕ) → word_kept new g w ≡ (if has_granule run g then 0 else word_kept old g w)
+
 abbrev pub Zeroes : Media → Media → Run → Type 0
-Zeroes old new run = (g w : ℕ) → word_in new g w ≡ (if has_granule run g then 0 else word_in old g w)
+Zeroes old new run = ZeroesWords old.words new.words run
 
 -- Each granule of the run has these holders, and each other granule has those that it had.
 abbrev pub SetsHolders : Media → Media → Run → ℕ → Type 0

@@ -1,9 +1,9 @@
 //! Words and holders, granule by granule.
 
 ghost use Rattle.granule_mem.specs.Contents.{IsFresh, SetsHeld, SetsHolders, Stores, Zeroes, holders_in, word_in};
-ghost use Rattle.std.specs.Prelude.{◌≡◌, ◌+◌, ◌<◌, ◌≤◌, [], IfOk, OnErr, OnOk, length, replicate};
+ghost use Rattle.std.specs.Prelude.{◌≡◌, ◌+◌, ◌<◌, ◌≤◌, IfOk, OnErr, OnOk, length};
 
-use crate::words::Words;
+use crate::granule_words::GranuleWords;
 use dcd_base::{Granule, NoMemory, Run};
 use std::alloc::Global;
 use std::marker::Model;
@@ -14,7 +14,7 @@ use std::marker::Model;
 /// A granule or a run that is handed in is of the memory.
 #[derive(Debug, Drop)]
 pub struct Memory {
-    stored: Vec<Words>,
+    words: GranuleWords,
     held: Vec<u16>,
 }
 
@@ -24,9 +24,9 @@ impl Model for Memory {
 
     ghost Value = { Media };
 
-    ghost view = { λ m. record { words = m.stored.items; holders = m.held.items } };
+    ghost view = { λ m. record { words = m.words; holders = m.held.items } };
 
-    ghost invariant = { λ m. length m.stored.items ≡ length m.held.items };
+    ghost invariant = { λ m. length m.words ≡ length m.held.items };
 }
 
 impl Memory {
@@ -36,7 +36,7 @@ impl Memory {
         ensures fresh { IfOk result IsFresh }
     {
         Ok(Memory {
-            stored: nothing_stored(alloc, granules)?,
+            words: GranuleWords::new(alloc, granules)?,
             held: vec![in alloc; 0u16; granules as usize]?,
         })
     }
@@ -46,7 +46,7 @@ impl Memory {
         requires { granule < length self.now.holders }
         ensures { result ≡ word_in self.now granule word }
     {
-        self.stored[granule.0 as usize].get(word)
+        self.words.read(granule, word)
     }
 
     /// Stores a word. All other words stay, of this granule too, and so do all holders; without memory all stays.
@@ -56,8 +56,7 @@ impl Memory {
         ensures holders { self.new.holders ≡ self.old.holders }
         ensures kept { OnErr result (self.new ≡ self.old) }
     {
-        let stored = &mut self.stored[granule.0 as usize];
-        stored.put(word, value)
+        self.words.write(granule, word, value)
     }
 
     /// Makes each word of the run's granules 0. All other words and all holders stay. Takes no memory.
@@ -66,10 +65,7 @@ impl Memory {
         ensures words { Zeroes self.old self.new run }
         ensures holders { self.new.holders ≡ self.old.holders }
     {
-        let first = run.first.0 as usize;
-        for granule in first..first + run.count as usize {
-            self.stored[granule].clear();
-        }
+        self.words.zero(run);
     }
 
     /// The hosts that hold a granule: bit h stands for host h.
@@ -102,15 +98,4 @@ fn set_held(held: &mut [u16], first: usize, end: usize, holders: u16)
     for granule in first..end {
         held[granule] = holders;
     }
-}
-
-/// So many granules of which no word is stored.
-fn nothing_stored(alloc: Global, granules: u32) -> Result<Vec<Words>, NoMemory>
-    ensures { IfOk result (λ stored. stored.items ≡ replicate granules []) }
-{
-    let mut stored = Vec::with_capacity(alloc, granules as usize)?;
-    for _ in 0..granules {
-        stored.push(Words::new(alloc))?;
-    }
-    Ok(stored)
 }

@@ -1,7 +1,7 @@
 use Rattle.std.proofs.Common.{◌<◌, [], ap, ◌∙◌, cond, eqb, get_or, length, rules}
 use Rattle.granule_mem.proofs.Steps.{run_more, word_after_set}
-use Rattle.granule_mem.specs.Contents.{word_among, word_in}
-use Rattle.granule_mem.proofs.media.Memory.zero.Goals as goal
+use Rattle.granule_mem.specs.Contents.{word_among, word_kept}
+use Rattle.granule_mem.proofs.granule_words.GranuleWords.zero.Goals as goal
 
 pub loop-granule-preserved : goal.loop-granule-preserved
 loop-granule-preserved c =
@@ -11,7 +11,6 @@ loop-granule-preserved c =
     record {
       words = λ g w. word_after_set maps i c.clear.new.self g w known
           ∙ ap (λ es. cond (eqb i g) (word_among es w) (word_among (get_or maps g []) w)) c.clear.ensures
-          ∙ run_more _ i g 0 _ (word_in c.args.self.now g w) c.loop-granule.auto.granule (c.loop-granule.invariant.words g w);
-      holders = search rules;
+          ∙ run_more _ i g 0 _ (word_kept c.args.self.now g w) c.loop-granule.auto.granule (c.loop-granule.invariant.words g w);
       granules = search rules;
     }

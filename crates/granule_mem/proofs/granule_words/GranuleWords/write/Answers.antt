@@ -1,7 +1,7 @@
-use Rattle.std.proofs.Common.{◌<◌, ap, length, rules}
+use Rattle.std.proofs.Common.{◌<◌, length, rules}
 use Rattle.std.proofs.lemmas.Result.{on_err_weaker, on_ok_weaker}
 use Rattle.granule_mem.proofs.Steps.{word_after_store, words_kept}
-use Rattle.granule_mem.proofs.media.Memory.write.Goals as goal
+use Rattle.granule_mem.proofs.granule_words.GranuleWords.write.Goals as goal
 
 pub returns-clause-words : goal.returns-clause-words
 returns-clause-words c =
@@ -15,6 +15,6 @@ pub returns-clause-kept : goal.returns-clause-kept
 returns-clause-kept c =
     let known : c.granule.inside.0 < length c.self.inside.stored.items = search rules in
     on_err_weaker c.put.result
-    (λ same. rw (← c.self.view_is) (ap (λ words. record { words = words; holders = c.self.inside.held.items })
-    (words_kept c.self.inside.stored.items c.granule.inside.0 c.index_mut-stored.result.now c.put.new.self known c.index_mut-stored.ensures.value same)))
+    (λ same. rw (← c.self.view_is)
+    (words_kept c.self.inside.stored.items c.granule.inside.0 c.index_mut-stored.result.now c.put.new.self known c.index_mut-stored.ensures.value same))
     c.put.ensures.kept
