@@ -13,12 +13,14 @@ ghost use Rattle.device_state.specs.Updates.{IsOfLog, log_in};
 ghost use Rattle.event_log.specs.Logs.{places_in, state_of};
 ghost use Rattle.table_laws.specs.GranuleCells.{status_of};
 ghost use Rattle.journal_core.specs.Entries.{effects};
+ghost use Rattle.journal_core.specs.Holders.{holds};
 ghost use Rattle.journal_core.specs.declared.outcome.HeldKind.{HeldKind};
 ghost use Rattle.media_map.specs.Places.{run_of as run_with};
+ghost use Rattle.region_config.specs.Granules.{granule_total};
 ghost use Rattle.std.specs.Prelude.{◌≡◌, ◌<◌, Some, length, map, slice_get, sum_by};
 
 use crate::live::LiveControl;
-use dcd_base::{Extent, HostId, LogId, RegionId};
+use dcd_base::{Extent, Granule, HostId, LogId, RegionId, host_bits};
 use device_commands::run_of;
 use event_log::EventLog;
 use event_records::Event;
@@ -92,6 +94,18 @@ impl LiveControl {
             host,
             self.state.part(host).lists.accepted().as_slice(),
         )
+    }
+
+    /// Whether the host holds the granule.
+    #[inline(always)]
+    pub fn holds(&self, host: HostId, granule: Granule) -> bool
+        requires host { host < self.now.config.hosts }
+        requires granule { granule < granule_total self.now.config }
+        ensures { ByEveryPast self.now (λ past. result ≡ holds host granule (effects past)) }
+    {
+        // There are 16 hosts at most.
+        let _hosts = self.config.hosts();
+        host_bits::has(self.state.holders.at(granule), host)
     }
 
     /// The state of each granule, in the order of the granules.

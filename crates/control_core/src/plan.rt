@@ -5,7 +5,7 @@ ghost use Rattle.std.specs.Prelude.{◌≡◌};
 use crate::planned::PlannedEntry;
 use dcd_base::Changes;
 use device_state::Update;
-use journal_core::Entry;
+use journal_core::{Effects, Entry};
 
 /// A step of the control with all the memory that it needs: `Control::apply` takes it.
 #[derive(Drop)]
@@ -28,6 +28,13 @@ impl Plan {
         ensures { result.now ≡ self.now.entry }
     {
         self.entry.entry()
+    }
+
+    /// The effects that its entry will have, as a list.
+    pub fn effects(&self) -> &Effects
+        ensures { result.now ≡ self.now.entry.effects }
+    {
+        &self.entry.effects
     }
 
     /// The runs whose holders it changes or whose words it zeroes, with the holders after it.

@@ -1,5 +1,6 @@
 //! What a control tells of its device: blocks, extents, granules and logs.
 
+ghost use Rattle.control_core.specs.Pasts.{IsPast};
 ghost use Rattle.device_rules.specs.Adding.{is_free_now, present as present_in, region_free_blocks};
 ghost use Rattle.device_rules.specs.Counts.{dirty_count, extent_count, free_count, granules_held, missed_of, records_of};
 ghost use Rattle.device_rules.specs.Hosts.{accepted_of, held_of, offers_of};
@@ -13,6 +14,7 @@ ghost use Rattle.journal_core.specs.declared.outcome.HeldKind.{HeldKind};
 ghost use Rattle.std.specs.Prelude.{◌≡◌, ◌<◌, Some, length, map, slice_get};
 
 use crate::control::Control;
+use crate::live::LiveControl;
 use dcd_base::{Extent, HostId, LogId, RegionId};
 use event_log::EventLog;
 use event_records::Event;
@@ -20,6 +22,14 @@ use granule_map::GranuleMap;
 use region_config::Config;
 
 impl Control {
+    /// What the device keeps, without the entries that led to it.
+    pub fn live(&self) -> &LiveControl
+        ensures config { result.now.config ≡ self.now.config }
+        ensures past { IsPast self.now.config self.now.entries result.now.state }
+    {
+        &self.live
+    }
+
     /// The configuration with the present block size of each region; `config` answers the first ones.
     pub fn present(&self) -> &Config
         ensures { result.now ≡ present_in self.now.config (effects self.now.entries) }
