@@ -1,6 +1,6 @@
 //! The control: a configuration and the commands and scrubs so far.
 
-ghost use Rattle.control_core.specs.Steps.{AreChangesOf, IsNextEntry, MayStep, journal_entry};
+ghost use Rattle.control_core.specs.Steps.{IsNextEntry, MayStep, journal_entry};
 ghost use Rattle.device_rules.specs.ChangedRuns.{AreChanges, LiesIn};
 ghost use Rattle.control_core.specs.Deciding.{AreShort, IsDecidedBy, IsShort};
 ghost use Rattle.control_core.specs.Decisions.{only_replied};
@@ -128,8 +128,8 @@ impl Control {
         self.take(entry, update);
     }
 
-    /// Takes a step at once, as `apply` does with a plan that `prepare` made, and answers the runs whose holders it
-    /// changes or whose words it zeroes, with the holders after it. Without memory the control is seen as before.
+    /// Takes a step at once, as `apply` does with a plan that `prepare` made, and answers its effects. Without memory the
+    /// control is seen as before.
     ///
     /// The act is a command or a scrub that fits its actor. It goes into the entry; without memory it is gone.
     pub fn step(
@@ -138,21 +138,20 @@ impl Control {
         line: u32,
         actor: Actor,
         act: Act,
-    ) -> Result<Changes, NoMemory>
+    ) -> Result<Effects, NoMemory>
         requires { MayStep self.old.config actor act }
         ensures config { self.new.config ≡ self.old.config }
         ensures entered { OnOk result (self.new.entries ≡ self.old.entries ++ journal_entry self.old.config self.old.entries pass line actor act ∷ []) }
         ensures kept { OnErr result (self.new.entries ≡ self.old.entries) }
         ensures short { OnOk result (IsShort (journal_entry self.old.config self.old.entries pass line actor act).reply) }
-        ensures changes { IfOk result (AreChangesOf self.old.config self.old.entries actor act) }
-        ensures inside { IfOk result (λ changes. All (LiesIn (granule_total self.old.config)) changes) }
+        ensures effects { IfOk result (λ effects. effects ≡ (answer_to self.old.config self.old.entries actor act).1) }
     {
         let room = self.take_room();
         match self.decide(&actor, &act, room)?.into_content() {
             DecisionContent::Reply(reply) => {
-                let changes = self.take_reply(pass, line, actor, &act, &reply)?;
+                let effects = self.take_reply(pass, line, actor, &act, &reply)?;
                 self.keep_room(reply);
-                Ok(changes)
+                Ok(effects)
             }
             DecisionContent::Step(decided) => self.take_step(pass, line, actor, &act, decided),
         }
@@ -187,17 +186,16 @@ impl Control {
         actor: Actor,
         act: &Act,
         reply: &Reply,
-    ) -> Result<Changes, NoMemory>
+    ) -> Result<Effects, NoMemory>
         requires may { MayStep self.old.config actor act.now }
         requires decided { IsDecidedBy self.old.config self.old.entries actor act.now (only_replied reply.now) }
         ensures config { self.new.config ≡ self.old.config }
         ensures entered { OnOk result (self.new.entries ≡ self.old.entries ++ journal_entry self.old.config self.old.entries pass line actor act.now ∷ []) }
         ensures kept { OnErr result (self.new.entries ≡ self.old.entries) }
-        ensures changes { IfOk result (AreChangesOf self.old.config self.old.entries actor act.now) }
-        ensures inside { IfOk result (λ changes. All (LiesIn (granule_total self.old.config)) changes) }
+        ensures effects { IfOk result (λ effects. effects ≡ (answer_to self.old.config self.old.entries actor act.now).1) }
     {
         self.entries.append_quiet(pass, line, actor, act, reply)?;
-        Ok(Changes::new(self.live.allocator()))
+        Ok(Effects::new(self.live.allocator()))
     }
 
     /// Takes a step that may change something, which is decided.
@@ -209,14 +207,13 @@ impl Control {
         actor: Actor,
         act: &Act,
         decided: Boxed<Decided>,
-    ) -> Result<Changes, NoMemory>
+    ) -> Result<Effects, NoMemory>
         requires may { MayStep self.old.config actor act.now }
         requires decided { IsDecidedBy self.old.config self.old.entries actor act.now decided }
         ensures config { self.new.config ≡ self.old.config }
         ensures entered { OnOk result (self.new.entries ≡ self.old.entries ++ journal_entry self.old.config self.old.entries pass line actor act.now ∷ []) }
         ensures kept { OnErr result (self.new.entries ≡ self.old.entries) }
-        ensures changes { IfOk result (AreChangesOf self.old.config self.old.entries actor act.now) }
-        ensures inside { IfOk result (λ changes. All (LiesIn (granule_total self.old.config)) changes) }
+        ensures effects { IfOk result (λ effects. effects ≡ (answer_to self.old.config self.old.entries actor act.now).1) }
     {
         self.make_room()?;
         let Decided {
@@ -224,9 +221,8 @@ impl Control {
             effects,
             update,
         } = decided.into_inner();
-        let changes = self.changes_by(&actor, act, &effects)?;
         self.append(pass, line, actor, act, &reply, &effects, update)?;
-        Ok(changes)
+        Ok(effects)
     }
 
     /// Enters a step that is decided so, with its next entry.

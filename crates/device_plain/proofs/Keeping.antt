@@ -10,11 +10,10 @@ use Rattle.std.proofs.lemmas.List.Elements.{All-nil, All-push, All-weaker}
 use Rattle.std.proofs.lemmas.List.Sums.{fold_push}
 use Rattle.dcd_base.specs.declared.failures.AccessFault.{AccessFault}
 use Rattle.dcd_base.specs.declared.ids.HostId.{HostId}
-use Rattle.dcd_base.specs.declared.media.Change.{Change}
 use Rattle.dcd_base.specs.declared.media.Place.{Place}
 use Rattle.dcd_base.specs.declared.steps.Actor.{Actor}
 use Rattle.dcd_base.specs.declared.steps.Stamp.{Stamp}
-use Rattle.granule_mem.specs.Contents.{IsFresh, Media, word_in}
+use Rattle.granule_mem.specs.Contents.{AreZero, word_kept}
 use Rattle.journal_core.specs.declared.acts.Act.{Act}
 use Rattle.journal_core.specs.declared.entries.Entry.{Entry}
 use Rattle.journal_core.specs.Entries.{effects, is_control}
@@ -27,13 +26,12 @@ use Rattle.region_config.specs.Granules.{granule_total}
 use Rattle.region_config.specs.Soundness.{IsSound}
 use Rattle.device_rules.specs.Hosts.{changes_of, moves}
 use Rattle.device_rules.specs.Legal.{Meets, word_by}
-use Rattle.device_rules.specs.ChangedRuns.{AreChanges}
 use Rattle.control_core.specs.Deciding.{IsShort}
 use Rattle.control_core.specs.Steps.{MayStep, journal_entry}
 use Rattle.journal_core.specs.Accesses.{access_entry, load_said}
-use Rattle.live_device.specs.Accesses.{AreMade, StoresAt, granted_place, store_said, word_from}
+use Rattle.live_device.specs.Accesses.{AreZeroed, Stored, StoresAt, granted_place, store_said, word_from}
 use Rattle.device_plain.specs.Keeping.{Keeps}
-use Rattle.live_device.proofs.MemorySteps.{effects_stay, fresh_holders, holders_made, holders_stay, load_right, store_right, words_made, words_stored, written}
+use Rattle.live_device.proofs.MemorySteps.{effects_stay, load_right, store_right, words_stored, words_zeroed, written}
 use Rattle.device_plain.specs.Numbering.{IsCounted, IsReachedBy, accesses_of}
 use Rattle.device_rules.proofs.Answered.{answer_same}
 use Rattle.device_plain.proofs.Numbered.{accesses-push, before_access, before_command, commands-push, reached_access, reached_command, since-push}
@@ -42,7 +40,7 @@ never : IsTrue false → ⊥
 never e = cc
 
 -- a fresh device
-pub keeps_first : (c : Configuration) (m : Media) → IsSound c → length m.holders ≡ granule_total c → IsFresh m → Keeps c [] m [] 0
+pub keeps_first : (c : Configuration) (m : Stored) → IsSound c → length m ≡ granule_total c → AreZero m → Keeps c [] m [] 0
 keeps_first c m sound granules fresh = record {
   sound = sound;
   legal = tt;
@@ -57,11 +55,10 @@ keeps_first c m sound granules fresh = record {
   few = omega arith;
   reached = All-nil (λ (x : Entry). IsReachedBy 0 0 x.stamp);
   granules = granules;
-  holders = fresh_holders c m fresh;
-  words = λ g w below. fresh.zeroed g w;
+  words = λ g w below. fresh g w;
 }
 
-module _ (c : Configuration) (control : List Entry) (m : Media) (journal : List Entry) (since : ℕ) (k : Keeps c control m journal since) where
+module _ (c : Configuration) (control : List Entry) (m : Stored) (journal : List Entry) (since : ℕ) (k : Keeps c control m journal since) where
   -- ---- a command or a scrub
 
   -- the answer over the commands and scrubs is that over all entries
@@ -89,9 +86,8 @@ module _ (c : Configuration) (control : List Entry) (m : Media) (journal : List 
     abbrev next : Entry
     next = journal_entry c control pass line actor act
 
-    pub keeps_command : IsShort next.reply → (changes : List Change) → AreChanges c (effects control) next.effects changes →
-        (made : Media) → AreMade m made changes → Keeps c (control ++ next ∷ []) made (journal ++ next ∷ []) 0
-    keeps_command short changes are made is = record {
+    pub keeps_command : IsShort next.reply → (made : Stored) → AreZeroed m made next.effects → length made ≡ length m → Keeps c (control ++ next ∷ []) made (journal ++ next ∷ []) 0
+    keeps_command short made is stay = record {
       sound = k.sound;
       legal = Each-push (Meets c) journal next k.legal (command_meets pass line actor act may);
       numbered = Numbered-push journal next k.numbered
@@ -116,9 +112,8 @@ module _ (c : Configuration) (control : List Entry) (m : Media) (journal : List 
           All-push (λ (x : Entry). IsReachedBy (length control + 1) 0 x.stamp) journal next
           (All-weaker (λ (x : Entry). IsReachedBy (length control) since x.stamp) (λ (x : Entry). IsReachedBy (length control + 1) 0 x.stamp) (λ x r. reached_command (length control) since x.stamp r) journal k.reached)
           (record { below = omega arith; count = λ e. omega arith }));
-      granules = is.granules ∙ k.granules;
-      holders = holders_made c journal m made next changes changed is k.holders;
-      words = words_made c journal m made next changes changed is may.control k.words;
+      granules = stay ∙ k.granules;
+      words = words_zeroed c journal m made next is may.control k.words;
     }
       where
         counted_is : length control ≡ commands_in journal
@@ -145,15 +140,12 @@ module _ (c : Configuration) (control : List Entry) (m : Media) (journal : List 
         moved : HostId → ℕ → Entry → ℕ
         moved h n x = if list_any (moves h) x.effects then n + 1 else n
 
-        changed : AreChanges c (effects journal) next.effects changes
-        changed = subst (λ es. AreChanges c es next.effects changes) k.effects_are are
-
   -- ---- a load or a store
   module _ (e : Entry) (meets : Meets c journal e) (access : is_control e.act ≡ false) (none : e.effects ≡ []) (short : IsShort e.reply)
       (stamp : e.stamp ≡ record { number = length control; count = since + 1 }) where
-    pub keeps_access : (new : Media) → new.holders ≡ m.holders →
-        ((g w : ℕ) → g < granule_total c → word_in new g w ≡ word_by c g w (word_in m g w) e.actor e.act e.reply) → Keeps c control new (journal ++ e ∷ []) (since + 1)
-    keeps_access new holders words = record {
+    pub keeps_access : (new : Stored) → length new ≡ length m →
+        ((g w : ℕ) → g < granule_total c → word_kept new g w ≡ word_by c g w (word_kept m g w) e.actor e.act e.reply) → Keeps c control new (journal ++ e ∷ []) (since + 1)
+    keeps_access new stay words = record {
       sound = k.sound;
       legal = Each-push (Meets c) journal e k.legal meets;
       numbered = Numbered-push journal e k.numbered
@@ -175,8 +167,7 @@ module _ (c : Configuration) (control : List Entry) (m : Media) (journal : List 
       reached = All-push (λ (x : Entry). IsReachedBy (length control) (since + 1) x.stamp) journal e
           (All-weaker (λ (x : Entry). IsReachedBy (length control) since x.stamp) (λ (x : Entry). IsReachedBy (length control) (since + 1) x.stamp) (λ x r. reached_access (length control) since x.stamp r) journal k.reached)
           (subst (IsReachedBy (length control) (since + 1)) (sym stamp) (record { below = omega arith; count = λ same. omega arith }));
-      granules = ap length holders ∙ k.granules;
-      holders = holders_stay c journal m new e none holders k.holders;
+      granules = stay ∙ k.granules;
       words = words_stored c journal m new e none words k.words;
     }
       where
@@ -204,29 +195,29 @@ module _ (c : Configuration) (control : List Entry) (m : Media) (journal : List 
         moved : HostId → ℕ → Entry → ℕ
         moved h n x = if list_any (moves h) x.effects then n + 1 else n
 
-  module _ (pass line : ℕ) (h : HostId) (d : ℕ) (host : h < c.hosts) (inside : IfOk (locate c h d) (λ (p : Place). p.granule < granule_total c)) where
-    pub keeps_load : (e : Entry) → e ≡ access_entry pass line h (Act.Load d) (load_said (word_from m (granted_place c m h d))) (record { number = length control; count = since + 1 }) →
+  module _ (pass line : ℕ) (h : HostId) (d : ℕ) (host : h < c.hosts) where
+    pub keeps_load : IfOk (locate c h d) (λ (p : Place). p.granule < granule_total c) → (e : Entry) → e ≡ access_entry pass line h (Act.Load d) (load_said (word_from m (granted_place c (effects control) h d))) (record { number = length control; count = since + 1 }) →
         Keeps c control m (journal ++ e ∷ []) (since + 1)
-    keeps_load e is = subst (λ x. Keeps c control m (journal ++ x ∷ []) (since + 1)) (sym is) (
-        keeps_access loaded (record { allowed = lt-ltb h c.hosts host; reply = load_right c journal m h host k.holders k.words d (locate c h d) inside; effects = refl })
-        refl refl (told (word_from m (granted_place c m h d))) refl m refl (λ g w below. refl))
+    keeps_load inside e is = subst (λ x. Keeps c control m (journal ++ x ∷ []) (since + 1)) (sym is) (
+        keeps_access loaded (record { allowed = lt-ltb h c.hosts host; reply = ap (λ es. load_said (word_from m (granted_place c es h d))) k.effects_are ∙ load_right c journal h m k.words d (locate c h d) inside; effects = refl })
+        refl refl (told (word_from m (granted_place c (effects control) h d))) refl m refl (λ g w below. refl))
       where
         loaded : Entry
-        loaded = access_entry pass line h (Act.Load d) (load_said (word_from m (granted_place c m h d))) (record { number = length control; count = since + 1 })
+        loaded = access_entry pass line h (Act.Load d) (load_said (word_from m (granted_place c (effects control) h d))) (record { number = length control; count = since + 1 })
 
         told : (r : Result ℕ AccessFault) → IsShort (load_said r)
         told (Ok word) = tt
         told (Err fault) = tt
 
-    pub keeps_store : (value : ℕ) (new : Media) → StoresAt m new (granted_place c m h d) value → new.holders ≡ m.holders →
-        (e : Entry) → e ≡ access_entry pass line h (Act.Store d value) (store_said (granted_place c m h d)) (record { number = length control; count = since + 1 }) →
+    pub keeps_store : (value : ℕ) (new : Stored) → StoresAt m new (granted_place c (effects control) h d) value → length new ≡ length m →
+        (e : Entry) → e ≡ access_entry pass line h (Act.Store d value) (store_said (granted_place c (effects control) h d)) (record { number = length control; count = since + 1 }) →
         Keeps c control new (journal ++ e ∷ []) (since + 1)
-    keeps_store value new stores holders e is = subst (λ x. Keeps c control new (journal ++ x ∷ []) (since + 1)) (sym is) (
-        keeps_access stored (record { allowed = lt-ltb h c.hosts host; reply = store_right c journal m h host k.holders d value (locate c h d) inside; effects = refl })
-        refl refl (told (granted_place c m h d)) refl new holders (λ g w below. stores g w ∙ written c m h d value g w (word_in m g w) (locate c h d) refl))
+    keeps_store value new stores stay e is = subst (λ x. Keeps c control new (journal ++ x ∷ []) (since + 1)) (sym is) (
+        keeps_access stored (record { allowed = lt-ltb h c.hosts host; reply = ap (λ es. store_said (granted_place c es h d)) k.effects_are ∙ store_right c journal h d value (locate c h d); effects = refl })
+        refl refl (told (granted_place c (effects control) h d)) refl new stay (λ g w below. stores g w ∙ written c (effects control) h d value g w (word_kept m g w) (locate c h d) refl))
       where
         stored : Entry
-        stored = access_entry pass line h (Act.Store d value) (store_said (granted_place c m h d)) (record { number = length control; count = since + 1 })
+        stored = access_entry pass line h (Act.Store d value) (store_said (granted_place c (effects control) h d)) (record { number = length control; count = since + 1 })
 
         told : (r : Result Place AccessFault) → IsShort (store_said r)
         told (Ok p) = tt

@@ -4,10 +4,9 @@ use Rattle.std.specs.Prelude.{All, IfOk, IsFalse, if◌then◌else◌}
 use Rattle.std.proofs.lemmas.List.Elements.{All-filter, All-weaker}
 use Rattle.std.proofs.lemmas.List.Kept.{AllPairs-filter}
 use Rattle.dcd_base.specs.declared.ids.HostId.{HostId}
-use Rattle.dcd_base.specs.declared.media.Change.{Change}
 use Rattle.dcd_base.specs.declared.media.Place.{Place}
 use Rattle.dcd_base.specs.declared.steps.Actor.{Actor}
-use Rattle.granule_mem.specs.Contents.{IsFresh, Media}
+use Rattle.granule_mem.specs.Contents.{AreZero}
 use Rattle.journal_core.specs.declared.acts.Act.{Act}
 use Rattle.journal_core.specs.declared.entries.Entry.{Entry}
 use Rattle.journal_core.specs.Accesses.{access_entry, load_said}
@@ -19,10 +18,9 @@ use Rattle.media_map.specs.Places.{locate}
 use Rattle.region_config.specs.Configurations.{Configuration}
 use Rattle.region_config.specs.Granules.{granule_total}
 use Rattle.region_config.specs.Soundness.{IsSound}
-use Rattle.device_rules.specs.ChangedRuns.{AreChanges}
 use Rattle.control_core.specs.Deciding.{IsShort}
 use Rattle.control_core.specs.Steps.{MayStep, journal_entry}
-use Rattle.live_device.specs.Accesses.{AreMade, StoresAt, granted_place, store_said, word_from}
+use Rattle.live_device.specs.Accesses.{AreZeroed, Stored, StoresAt, granted_place, store_said, word_from}
 use Rattle.device_plain.specs.Keeping.{Keeps, KeepsBoth}
 use Rattle.device_plain.specs.Numbering.{IsReachedBy, accesses_of}
 use Rattle.device_plain.proofs.Keeping.{keeps_command, keeps_first, keeps_load, keeps_store}
@@ -37,10 +35,10 @@ pub without_accesses : (control accesses : List Entry) → accesses ≡ [] → R
 without_accesses control accesses none rises = ap (λ (es : List Entry). merged control (es ∷ [])) none ∙ in_order_before_none control rises
 
 -- a fresh device
-pub both_first : (c : Configuration) (m : Media) → IsSound c → length m.holders ≡ granule_total c → IsFresh m → KeepsBoth c [] [] m 0
+pub both_first : (c : Configuration) (m : Stored) → IsSound c → length m ≡ granule_total c → AreZero m → KeepsBoth c [] [] m 0
 both_first c m sound granules fresh = record { keeps = keeps_first c m sound granules fresh; accesses_are = refl }
 
-module _ (c : Configuration) (control accesses : List Entry) (m : Media) (since : ℕ) (b : KeepsBoth c control accesses m since) where
+module _ (c : Configuration) (control accesses : List Entry) (m : Stored) (since : ℕ) (b : KeepsBoth c control accesses m since) where
   abbrev journal : List Entry
   journal = merged control (accesses ∷ [])
 
@@ -75,10 +73,9 @@ module _ (c : Configuration) (control accesses : List Entry) (m : Media) (since 
         (of_accesses (λ (f : Entry). is_later next.stamp f.stamp ≡ true)
         (All-weaker (λ (x : Entry). IsReachedBy (length control) since x.stamp) (λ (x : Entry). is_later next.stamp x.stamp ≡ true) (λ x r. command_behind (length control) since x.stamp r) journal b.keeps.reached))
 
-    pub both_command : IsShort next.reply → (changes : List Change) → AreChanges c (effects control) next.effects changes →
-        (made : Media) → AreMade m made changes → KeepsBoth c (control ++ next ∷ []) accesses made 0
-    both_command short changes are made is = record {
-      keeps = subst (λ es. Keeps c (control ++ next ∷ []) made es 0) (sym grown_command) (keeps_command c control m journal since b.keeps pass line actor act may short changes are made is);
+    pub both_command : IsShort next.reply → (made : Stored) → AreZeroed m made next.effects → length made ≡ length m → KeepsBoth c (control ++ next ∷ []) accesses made 0
+    both_command short made is stay = record {
+      keeps = subst (λ es. Keeps c (control ++ next ∷ []) made es 0) (sym grown_command) (keeps_command c control m journal since b.keeps pass line actor act may short made is stay);
       accesses_are = b.accesses_are ∙ sym (
           ap accesses_of grown_command ∙ accesses-push journal next
           ∙ ap (λ t. accesses_of journal ++ (if not t then next ∷ [] else [])) may.control ∙ append-nil (accesses_of journal));
@@ -92,7 +89,7 @@ module _ (c : Configuration) (control accesses : List Entry) (m : Media) (since 
         (All-weaker (λ (x : Entry). IsReachedBy (length control) since x.stamp) (λ (x : Entry). IsFalse (is_later x.stamp e.stamp))
         (λ x r. subst (λ s. IsFalse (is_later x.stamp s)) (sym stamp) (before_access (length control) since x.stamp r)) journal b.keeps.reached)
 
-    both_access : (new : Media) → Keeps c control new (journal ++ e ∷ []) (since + 1) → KeepsBoth c control (accesses ++ e ∷ []) new (since + 1)
+    both_access : (new : Stored) → Keeps c control new (journal ++ e ∷ []) (since + 1) → KeepsBoth c control (accesses ++ e ∷ []) new (since + 1)
     both_access new keeps = record {
       keeps = subst (λ es. Keeps c control new es (since + 1)) (sym grown_access) keeps;
       accesses_are = ap (λ es. es ++ e ∷ []) b.accesses_are ∙ sym (
@@ -100,12 +97,12 @@ module _ (c : Configuration) (control accesses : List Entry) (m : Media) (since 
           ∙ ap (λ t. accesses_of journal ++ (if not t then e ∷ [] else [])) access);
     }
 
-  module _ (pass line : ℕ) (h : HostId) (d : ℕ) (host : h < c.hosts) (inside : IfOk (locate c h d) (λ (p : Place). p.granule < granule_total c)) where
-    pub both_load : (e : Entry) → e ≡ access_entry pass line h (Act.Load d) (load_said (word_from m (granted_place c m h d))) (record { number = length control; count = since + 1 }) →
+  module _ (pass line : ℕ) (h : HostId) (d : ℕ) (host : h < c.hosts) where
+    pub both_load : IfOk (locate c h d) (λ (p : Place). p.granule < granule_total c) → (e : Entry) → e ≡ access_entry pass line h (Act.Load d) (load_said (word_from m (granted_place c (effects control) h d))) (record { number = length control; count = since + 1 }) →
         KeepsBoth c control (accesses ++ e ∷ []) m (since + 1)
-    both_load e is = both_access e (ap (λ (x : Entry). is_control x.act) is) (ap (λ (x : Entry). x.stamp) is) m (keeps_load c control m journal since b.keeps pass line h d host inside e is)
+    both_load inside e is = both_access e (ap (λ (x : Entry). is_control x.act) is) (ap (λ (x : Entry). x.stamp) is) m (keeps_load c control m journal since b.keeps pass line h d host inside e is)
 
-    pub both_store : (value : ℕ) (new : Media) → StoresAt m new (granted_place c m h d) value → new.holders ≡ m.holders →
-        (e : Entry) → e ≡ access_entry pass line h (Act.Store d value) (store_said (granted_place c m h d)) (record { number = length control; count = since + 1 }) →
+    pub both_store : (value : ℕ) (new : Stored) → StoresAt m new (granted_place c (effects control) h d) value → length new ≡ length m →
+        (e : Entry) → e ≡ access_entry pass line h (Act.Store d value) (store_said (granted_place c (effects control) h d)) (record { number = length control; count = since + 1 }) →
         KeepsBoth c control (accesses ++ e ∷ []) new (since + 1)
-    both_store value new stores holders e is = both_access e (ap (λ (x : Entry). is_control x.act) is) (ap (λ (x : Entry). x.stamp) is) new (keeps_store c control m journal since b.keeps pass line h d host inside value new stores holders e is)
+    both_store value new stores stay e is = both_access e (ap (λ (x : Entry). is_control x.act) is) (ap (λ (x : Entry). x.stamp) is) new (keeps_store c control m journal since b.keeps pass line h d host value new stores stay e is)

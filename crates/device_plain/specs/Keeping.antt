@@ -4,19 +4,19 @@ use Rattle.dcd_base.specs.declared.ids.HostId.{HostId}
 use Rattle.region_config.specs.Configurations.{Configuration}
 use Rattle.region_config.specs.Granules.{granule_total}
 use Rattle.region_config.specs.Soundness.{IsSound}
-use Rattle.granule_mem.specs.Contents.{Media, holders_in, word_in}
+use Rattle.granule_mem.specs.Contents.{word_kept}
 use Rattle.journal_core.specs.declared.entries.Entry.{Entry}
 use Rattle.journal_core.specs.Entries.{Each, effects}
 use Rattle.journal_core.specs.Merging.{Numbered, commands_in, merged}
 use Rattle.device_rules.specs.Hosts.{changes_of}
 use Rattle.device_rules.specs.Legal.{Legal, word_of}
-use Rattle.device_rules.specs.ChangedRuns.{AreHolders}
 use Rattle.control_core.specs.Deciding.{AreShort}
+use Rattle.live_device.specs.Accesses.{Stored}
 use Rattle.device_plain.specs.Numbering.{IsCounted, IsReachedBy, accesses_of, accesses_since, commands_of}
 
 -- The journal is legal and numbered; the control has its commands and scrubs, which have all its effects and changes
--- of hosts' lists; and the memory has the words that it stored and the holders that it gave.
-pub record Keeps (c : Configuration) (control : List Entry) (m : Media) (journal : List Entry) (accesses : ℕ) : Type 0 where
+-- of hosts' lists; and the words are those that it stored.
+pub record Keeps (c : Configuration) (control : List Entry) (m : Stored) (journal : List Entry) (accesses : ℕ) : Type 0 where
   pub sound : IsSound c
   pub legal : Legal c journal
   pub numbered : Numbered journal
@@ -29,11 +29,10 @@ pub record Keeps (c : Configuration) (control : List Entry) (m : Media) (journal
   pub since : accesses ≡ accesses_since journal
   pub few : accesses ≤ length (accesses_of journal)
   pub reached : All (λ (e : Entry). IsReachedBy (length control) accesses e.stamp) journal
-  pub granules : length m.holders ≡ granule_total c
-  pub holders : (g : ℕ) → g < granule_total c → AreHolders c g (effects journal) (holders_in m g)
-  pub words : (g w : ℕ) → g < granule_total c → word_in m g w ≡ word_of c journal g w
+  pub granules : length m ≡ granule_total c
+  pub words : (g w : ℕ) → g < granule_total c → word_kept m g w ≡ word_of c journal g w
 
 -- The journal is the merge of the control's entries and of the loads and stores, which are kept beside them.
-pub record KeepsBoth (c : Configuration) (control : List Entry) (accesses : List Entry) (m : Media) (since : ℕ) : Type 0 where
+pub record KeepsBoth (c : Configuration) (control : List Entry) (accesses : List Entry) (m : Stored) (since : ℕ) : Type 0 where
   pub keeps : Keeps c control m (merged control (accesses ∷ [])) since
   pub accesses_are : accesses ≡ accesses_of (merged control (accesses ∷ []))

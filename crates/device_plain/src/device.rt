@@ -14,10 +14,10 @@ ghost use Rattle.std.specs.Prelude.{◌≡◌, ◌<◌, ◌^◌, [], IfOk, IfSom
 use crate::accesses::{reserve, stamp_of};
 use control_core::Control;
 use dcd_base::{Actor, HostId, NoMemory};
-use granule_mem::Memory;
+use granule_mem::GranuleWords;
 use holding_laws::law_exclusive;
 use journal_core::{Access, Act, LentEntries, Reply, Whole, whole};
-use live_device::{granted, make_all, refused_by, store_at, word_at};
+use live_device::{granted, refused_by, store_at, word_at, zero_all};
 use region_config::Config;
 use std::alloc::Global;
 use std::marker::Model;
@@ -28,7 +28,7 @@ use std::marker::Model;
 #[derive(Drop)]
 pub struct Device {
     control: Control,
-    memory: Memory,
+    words: GranuleWords,
     /// The loads and stores, in order.
     accesses: Vec<Access>,
     /// How many of them came since the last command or scrub.
@@ -45,7 +45,7 @@ impl Model for Device {
 
     ghost view = { λ d. record { config = d.control.config; journal = merged d.control.entries (d.accesses.items ∷ []) } };
 
-    ghost invariant = { λ d. KeepsBoth d.control.config d.control.entries d.accesses.items d.memory d.since };
+    ghost invariant = { λ d. KeepsBoth d.control.config d.control.entries d.accesses.items d.words d.since };
 }
 
 impl Device {
@@ -56,10 +56,10 @@ impl Device {
     {
         // A configuration is sound.
         let _hosts = config.hosts();
-        let memory = Memory::new(alloc, config.granules())?;
+        let words = GranuleWords::new(alloc, config.granules())?;
         Ok(Device {
             control: Control::new(alloc, config)?,
-            memory,
+            words,
             accesses: Vec::new(alloc),
             since: 0,
         })
@@ -172,7 +172,7 @@ impl Device {
         let act = act.copy()?;
         let plan = self.control.prepare(pass, line, actor, act)?;
         let reply = plan.entry().reply.copy()?;
-        make_all(&mut self.memory, plan.changes().as_slice());
+        zero_all(&mut self.words, plan.effects().as_slice());
         self.control.apply(plan);
         self.since = 0;
         Ok(reply)
@@ -190,8 +190,8 @@ impl Device {
         ensures entered { OnOk result (Appends self.old self.new pass line actor act) }
         ensures kept { OnErr result (self.new ≡ self.old) }
     {
-        let changes = self.control.step(pass, line, actor, act)?;
-        make_all(&mut self.memory, changes.as_slice());
+        let effects = self.control.step(pass, line, actor, act)?;
+        zero_all(&mut self.words, effects.as_slice());
         self.since = 0;
         Ok(())
     }
@@ -203,8 +203,8 @@ impl Device {
         ensures kept { OnErr result (self.new ≡ self.old) }
     {
         reserve(&mut self.accesses)?;
-        let place = granted(self.control.config(), &self.memory, host, dpa);
-        let found = word_at(&self.memory, &place);
+        let place = granted(self.control.live(), host, dpa);
+        let found = word_at(&self.words, &place);
         let stamp = stamp_of(&self.control, self.since);
         let access = Access::load(pass, line, host, dpa, &found, stamp);
         let reply = access.reply();
@@ -227,8 +227,8 @@ impl Device {
         ensures kept { OnErr result (self.new ≡ self.old) }
     {
         reserve(&mut self.accesses)?;
-        let place = granted(self.control.config(), &self.memory, host, dpa);
-        store_at(&mut self.memory, &place, value)?;
+        let place = granted(self.control.live(), host, dpa);
+        store_at(&mut self.words, &place, value)?;
         let stamp = stamp_of(&self.control, self.since);
         let access = Access::store(pass, line, host, dpa, value, refused_by(&place), stamp);
         let reply = access.reply();

@@ -1,5 +1,5 @@
 pub mod Lasting
 pub mod LifeSteps
 pub mod Living
-pub mod MadeChanges
 pub mod MemorySteps
+pub mod ZeroedWords

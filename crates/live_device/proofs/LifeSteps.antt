@@ -1,11 +1,11 @@
 -- Each journal that leads to a device leads on with one more entry.
 use Rattle.std.proofs.Common.{◌≡◌, ℕ, ◌<◌, false, List, [], ◌∷◌, ◌++◌, refl, sym, ap, subst, ◌∙◌, length}
-use Rattle.std.specs.Prelude.{IfOk, IsTrue}
+use Rattle.std.specs.Prelude.{IsTrue}
 use Rattle.dcd_base.specs.declared.ids.HostId.{HostId}
-use Rattle.dcd_base.specs.declared.media.Change.{Change}
+use Rattle.dcd_base.specs.declared.failures.AccessFault.{AccessFault}
 use Rattle.dcd_base.specs.declared.media.Place.{Place}
 use Rattle.dcd_base.specs.declared.steps.Actor.{Actor}
-use Rattle.granule_mem.specs.Contents.{IsFresh, Media, word_in}
+use Rattle.granule_mem.specs.Contents.{AreZero, word_kept}
 use Rattle.journal_core.specs.Entries.{effects, fits, is_control}
 use Rattle.journal_core.specs.declared.acts.Act.{Act}
 use Rattle.journal_core.specs.declared.entries.Entry.{Entry}
@@ -19,7 +19,6 @@ use Rattle.device_rules.specs.Answers.{answer, host_result_in, manager_result, r
 use Rattle.device_rules.specs.Views.{view_of}
 use Rattle.std.specs.declared.result.Result.{Result}
 use Rattle.std.specs.declared.result.Result.TheVariants.{Ok, Err}
-use Rattle.device_rules.specs.ChangedRuns.{AreChanges}
 use Rattle.device_rules.specs.Legal.{Meets, right_answer, word_by}
 use Rattle.device_state.specs.Updates.{IsUpdate}
 use Rattle.device_state.specs.declared.state.State.{State}
@@ -29,17 +28,17 @@ use Rattle.control_core.specs.Pasts.{CanEnter, EntersStep, IsOfStep, IsPast, Liv
 use Rattle.control_core.specs.Steps.{MayStep, journal_entry}
 use Rattle.control_core.specs.declared.decided.Decided.{Decided}
 use Rattle.control_core.proofs.NextEntry.{next_meets}
-use Rattle.live_device.specs.Accesses.{AreMade, StoresAt, granted_place, store_said}
-use Rattle.live_device.specs.Lives.{CanTake, IsAlive, IsLife, IsReplyTo, Living, LivesOn, without_spare}
+use Rattle.live_device.specs.Accesses.{AreZeroed, Stored, StoresAt, granted_place, store_said}
+use Rattle.live_device.specs.Lives.{ByEveryLife, CanTake, IsAlive, IsLife, IsReplyTo, IsWhole, Living, LivesOn, living, without_spare}
 use Rattle.live_device.proofs.Lasting.{state_stays, state_with_room}
-use Rattle.live_device.proofs.MemorySteps.{fresh_holders, holders_made, holders_stay, store_right, words_made, words_stored, written}
+use Rattle.live_device.proofs.MemorySteps.{HasWords, store_right, words_stored, words_zeroed, written}
 
 never : IsTrue false → ⊥
 never e = cc
 
 -- what is seen of a device is the same but for the room for tags
-module _ (c : Configuration) (s : State) (m : Media) (life : List Entry) where
-  pub life_seen : IsLife life (record { config = c; state = s; memory = m }) → IsLife life (record { config = c; state = without_spare s; memory = m })
+module _ (c : Configuration) (s : State) (m : Stored) (life : List Entry) where
+  pub life_seen : IsLife life (living c s m) → IsLife life (living c (without_spare s) m)
   life_seen leads = record {
     sound = leads.sound;
     legal = leads.legal;
@@ -49,7 +48,7 @@ module _ (c : Configuration) (s : State) (m : Media) (life : List Entry) where
     words = leads.words;
   }
 
-  pub life_inside : IsLife life (record { config = c; state = without_spare s; memory = m }) → IsLife life (record { config = c; state = s; memory = m })
+  pub life_inside : IsLife life (living c (without_spare s) m) → IsLife life (living c s m)
   life_inside leads = record {
     sound = leads.sound;
     legal = leads.legal;
@@ -62,17 +61,20 @@ module _ (c : Configuration) (s : State) (m : Media) (life : List Entry) where
 pub past_of : (life : List Entry) (d : Living) → IsLife life d → IsPast d.config life d.state
 past_of life d leads = record { sound = leads.sound; legal = leads.legal; kept = leads.kept }
 
--- a fresh device
-pub life_first : (c : Configuration) (d : LiveControlled) (m : Media) → d.config ≡ c → IsPast c [] d.state → length m.holders ≡ granule_total c → IsFresh m →
-    IsLife [] (record { config = d.config; state = d.state; memory = m })
-life_first c d m same leads granules fresh = subst (λ k. IsLife [] (record { config = k; state = d.state; memory = m })) (sym same) (record {
+-- a past of what is kept leads to the device, if it stored the words
+pub life_of : (c : Configuration) (s : State) (m : Stored) (life : List Entry) → IsPast c life s → HasWords c life m → IsLife life (living c s m)
+life_of c s m life leads words = record {
   sound = leads.sound;
-  legal = tt;
+  legal = leads.legal;
   kept = leads.kept;
-  granules = granules;
-  holders = fresh_holders c m fresh;
-  words = λ g w below. fresh.zeroed g w;
-})
+  granules = leads.kept.holder_count;
+  holders = λ g below h host. leads.kept.held g h below host;
+  words = words;
+}
+
+-- a fresh device
+pub life_first : (c : Configuration) (d : LiveControlled) (m : Stored) → d.config ≡ c → IsPast c [] d.state → AreZero m → IsLife [] (living d.config d.state m)
+life_first c d m same leads fresh = subst (λ k. IsLife [] (living k d.state m)) (sym same) (life_of c d.state m [] leads (λ g w below. fresh g w))
 
 -- ---- a command or a scrub
 
@@ -97,7 +99,7 @@ can_take d life leads actor act may x decided = record {
   update = decided.update;
 }
 
-pub can_inside : (c : Configuration) (s : State) (m : Media) (new : List Effect) (u : NewParts) → CanTake (record { config = c; state = without_spare s; memory = m }) new u → CanTake (record { config = c; state = s; memory = m }) new u
+pub can_inside : (c : Configuration) (s : State) (m : Stored) (new : List Effect) (u : NewParts) → CanTake (living c (without_spare s) m) new u → CanTake (living c s m) new u
 can_inside c s m new u can = record {
   life = can.life;
   entry = can.entry;
@@ -108,8 +110,8 @@ can_inside c s m new u can = record {
   update = can.update;
 }
 
-pub step_of : (c : Configuration) (s : State) (m : Media) (new : List Effect) (u : NewParts) → CanTake (record { config = c; state = s; memory = m }) new u → IsOfStep (record { config = c; state = s }) new
-step_of c s m new u can = record { past = can.life; entry = can.entry; leads = past_of can.life (record { config = c; state = s; memory = m }) can.leads; meets = can.meets; effects_are = can.effects_are }
+pub step_of : (c : Configuration) (s : State) (m : Stored) (new : List Effect) (u : NewParts) → CanTake (living c s m) new u → IsOfStep (record { config = c; state = s }) new
+step_of c s m new u can = record { past = can.life; entry = can.entry; leads = past_of can.life (living c s m) can.leads; meets = can.meets; effects_are = can.effects_are }
 
 -- the entry that is asked for has what is decided
 pub effects_decided : (c : Configuration) (life : List Entry) (actor : Actor) (act : Act) → MayStep c actor act → (d : Decided) → IsDecidedBy c life actor act d →
@@ -118,8 +120,8 @@ effects_decided c life actor act may d decided e by does meets =
     meets.effects ∙ (λ i. (right_answer c life (by i) (does i)).1) ∙ ap (λ r. r.1) (right_is c life actor act may) ∙ sym decided.effects
 
 -- it may be entered with more room for tags
-pub can_with_room : (c : Configuration) (s : State) (m : Media) (d : LiveControlled) (new : List Effect) (u : NewParts) → d.config ≡ c → d.state ≡ record s { tags = d.state.tags } → d.state.tags.entries ≡ s.tags.entries →
-    CanTake (record { config = c; state = s; memory = m }) new u → CanEnter d new u
+pub can_with_room : (c : Configuration) (s : State) (m : Stored) (d : LiveControlled) (new : List Effect) (u : NewParts) → d.config ≡ c → d.state ≡ record s { tags = d.state.tags } → d.state.tags.entries ≡ s.tags.entries →
+    CanTake (living c s m) new u → CanEnter d new u
 can_with_room c s m d new u same kept tags can = subst (λ k. CanEnter (record { config = k; state = d.state }) new u) (sym same) (record {
   step = record {
     past = can.life;
@@ -132,27 +134,17 @@ can_with_room c s m d new u same kept tags can = subst (λ k. CanEnter (record {
 })
 
 -- it is entered
-module _ (c : Configuration) (s : State) (m made : Media) (room now : LiveControlled) (new : List Effect) (u : NewParts)
+module _ (c : Configuration) (s : State) (m made : Stored) (room now : LiveControlled) (new : List Effect) (u : NewParts)
     (same : room.config ≡ c) (kept : room.state ≡ record s { tags = room.state.tags }) (tags : room.state.tags.entries ≡ s.tags.entries)
-    (changes : List Change) (are : (past : List Entry) → IsPast c past s → AreChanges c (effects past) new changes) (is : AreMade m made changes)
-    (stays : now.config ≡ room.config) (enters : EntersStep room now new u) where
-  pub life_taken : (life : List Entry) → IsLife life (record { config = c; state = s; memory = m }) → IsUpdate c life new u → (e : Entry) → IsTrue (is_control e.act) →
-      Meets c life e → e.effects ≡ new → IsLife (life ++ e ∷ []) (record { config = now.config; state = now.state; memory = made })
+    (is : AreZeroed m made new) (stays : now.config ≡ room.config) (enters : EntersStep room now new u) where
+  pub life_taken : (life : List Entry) → IsLife life (living c s m) → IsUpdate c life new u → (e : Entry) → IsTrue (is_control e.act) →
+      Meets c life e → e.effects ≡ new → IsLife (life ++ e ∷ []) (living now.config now.state made)
   life_taken life leads update e control meets has =
-      subst (λ k. IsLife (life ++ e ∷ []) (record { config = k; state = now.state; memory = made })) (sym now_is) (record {
-        sound = leads.sound;
-        legal = Each-push (Meets c) life e leads.legal meets;
-        kept = on.kept;
-        granules = is.granules ∙ leads.granules;
-        holders = holders_made c life m made e changes changed is leads.holders;
-        words = words_made c life m made e changes changed is control leads.words;
-      })
+      subst (λ k. IsLife (life ++ e ∷ []) (living k now.state made)) (sym now_is)
+      (life_of c now.state made (life ++ e ∷ []) on (words_zeroed c life m made e (subst (AreZeroed m made) (sym has) is) control leads.words))
     where
       now_is : now.config ≡ c
       now_is = stays ∙ same
-
-      changed : AreChanges c (effects life) e.effects changes
-      changed = subst (λ (es : List Effect). AreChanges c (effects life) es changes) (sym has) (are life (record { sound = leads.sound; legal = leads.legal; kept = leads.kept }))
 
       before : IsPast room.config life room.state
       before = subst (λ k. IsPast k life room.state) (sym same) (record { sound = leads.sound; legal = leads.legal; kept = state_with_room c life s room.state kept tags leads.kept })
@@ -161,42 +153,41 @@ module _ (c : Configuration) (s : State) (m made : Media) (room now : LiveContro
       on = subst (λ k. IsPast k (life ++ e ∷ []) now.state) now_is
           (enters life before (subst (λ k. IsUpdate k life new u) (sym same) update) e (subst (λ k. Meets k life e) (sym same) meets) has)
 
-  pub alive_taken : CanTake (record { config = c; state = s; memory = m }) new u → IsAlive (record { config = now.config; state = now.state; memory = made })
-  alive_taken can = record { life = can.life ++ can.entry ∷ []; leads = life_taken can.life can.leads can.update can.entry can.control can.meets can.effects_are }
+  pub whole_taken : length m ≡ granule_total c → length made ≡ length m → CanTake (living c s m) new u → IsWhole (living now.config now.state made)
+  whole_taken all stay can = record {
+    alive = record { life = can.life ++ can.entry ∷ []; leads = life_taken can.life can.leads can.update can.entry can.control can.meets can.effects_are };
+    granules = stay ∙ all ∙ ap granule_total (sym (stays ∙ same));
+  }
 
 -- ---- a load or a store
 
-module _ (c : Configuration) (s : State) (m new : Media) (life : List Entry) (leads : IsLife life (record { config = c; state = s; memory = m })) (e : Entry) (meets : Meets c life e) (none : e.effects ≡ []) where
-  pub life_accessed : new.holders ≡ m.holders → ((g w : ℕ) → g < granule_total c → word_in new g w ≡ word_by c g w (word_in m g w) e.actor e.act e.reply) →
-      IsLife (life ++ e ∷ []) (record { config = c; state = s; memory = new })
-  life_accessed same stored = record {
-    sound = leads.sound;
-    legal = Each-push (Meets c) life e leads.legal meets;
-    kept = state_stays c life e s none leads.kept;
-    granules = ap length same ∙ leads.granules;
-    holders = holders_stay c life m new e none same leads.holders;
-    words = words_stored c life m new e none stored leads.words;
-  }
+pub life_accessed : (c : Configuration) (s : State) (m new : Stored) (life : List Entry) → IsLife life (living c s m) → (e : Entry) → Meets c life e → e.effects ≡ [] →
+    ((g w : ℕ) → g < granule_total c → word_kept new g w ≡ word_by c g w (word_kept m g w) e.actor e.act e.reply) → IsLife (life ++ e ∷ []) (living c s new)
+life_accessed c s m new life leads e meets none stored =
+    life_of c s new (life ++ e ∷ [])
+    (record { sound = leads.sound; legal = Each-push (Meets c) life e leads.legal meets; kept = state_stays c life e s none leads.kept })
+    (words_stored c life m new e none stored leads.words)
 
-pub life_loaded : (c : Configuration) (s : State) (m : Media) (h : HostId) (d : ℕ) → LivesOn (record { config = c; state = s; memory = m }) (record { config = c; state = s; memory = m }) (Actor.Host h) (Act.Load d)
+pub life_loaded : (c : Configuration) (s : State) (m : Stored) (h : HostId) (d : ℕ) → LivesOn (living c s m) (living c s m) (Actor.Host h) (Act.Load d)
 life_loaded c s m h d life leads e by does meets =
     life_accessed c s m m life leads e meets
-    (meets.effects ∙ (λ i. (right_answer c life (by i) (does i)).1)) refl
-    (λ g w below. sym (λ i. word_by c g w (word_in m g w) (by i) (does i) e.reply))
+    (meets.effects ∙ (λ i. (right_answer c life (by i) (does i)).1))
+    (λ g w below. sym (λ i. word_by c g w (word_kept m g w) (by i) (does i) e.reply))
 
-pub life_stored : (c : Configuration) (s : State) (m new : Media) (h : HostId) (d value : ℕ) → h < c.hosts → IfOk (locate c h d) (λ (p : Place). p.granule < granule_total c) →
-    StoresAt m new (granted_place c m h d) value → new.holders ≡ m.holders →
-    LivesOn (record { config = c; state = s; memory = m }) (record { config = c; state = s; memory = new }) (Actor.Host h) (Act.Store d value)
-life_stored c s m new h d value host inside stores same life leads e by does meets =
+pub life_stored : (c : Configuration) (s : State) (m new : Stored) (h : HostId) (d value : ℕ) (place : Result Place AccessFault) →
+    ByEveryLife (living c s m) (λ life. place ≡ granted_place c (effects life) h d) → StoresAt m new place value →
+    LivesOn (living c s m) (living c s new) (Actor.Host h) (Act.Store d value)
+life_stored c s m new h d value place is stores life leads e by does meets =
     life_accessed c s m new life leads e meets
-    (meets.effects ∙ (λ i. (right_answer c life (by i) (does i)).1)) same
+    (meets.effects ∙ (λ i. (right_answer c life (by i) (does i)).1))
     (λ g w below.
-    stores g w ∙ written c m h d value g w (word_in m g w) (locate c h d) refl
-    ∙ ap (word_by c g w (word_in m g w) (Actor.Host h) (Act.Store d value)) said
-    ∙ sym (λ i. word_by c g w (word_in m g w) (by i) (does i) e.reply))
+    subst (λ p. StoresAt m new p value) (is life leads) stores g w
+    ∙ written c (effects life) h d value g w (word_kept m g w) (locate c h d) refl
+    ∙ ap (word_by c g w (word_kept m g w) (Actor.Host h) (Act.Store d value)) said
+    ∙ sym (λ i. word_by c g w (word_kept m g w) (by i) (does i) e.reply))
   where
-    said : store_said (granted_place c m h d) ≡ e.reply
-    said = store_right c life m h host leads.holders d value (locate c h d) inside
+    said : store_said (granted_place c (effects life) h d) ≡ e.reply
+    said = store_right c life h d value (locate c h d)
         ∙ sym (meets.reply ∙ (λ i. (right_answer c life (by i) (does i)).0))
 
 -- where some journal leads to the device and each leads on, one leads to the device after it

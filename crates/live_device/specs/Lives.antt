@@ -18,6 +18,7 @@ use Rattle.device_state.specs.declared.state.State.{State}
 use Rattle.device_state.specs.declared.updates.NewParts.{NewParts}
 use Rattle.isolation_laws.specs.Laws.{Clean}
 use Rattle.isolation_laws.specs.Solo.{Isolated}
+use Rattle.live_device.specs.Accesses.{Stored}
 use Rattle.live_device.specs.declared.faults.StepFault.{StepFault}
 
 -- The configuration that the device was made with, what it keeps, and its words and their holders.
@@ -29,6 +30,10 @@ pub record Living : Type 0 where
 -- what is kept, where nothing is said of how many more tags there is room for
 abbrev pub without_spare : State → State
 without_spare s = record s { tags = record s.tags { spare = 0 } }
+
+-- the device that keeps this and has these words: its holders stand in what it keeps
+abbrev pub living : Configuration → State → Stored → Living
+living c s words = record { config = c; state = s; memory = record { words = words; holders = s.holders } }
 
 -- The journal leads to the device: it is legal, and all that the device keeps is what its entries say.
 pub record IsLife (life : List Entry) (d : Living) : Type 0 where
@@ -47,6 +52,11 @@ ByEveryLife d P = (life : List Entry) → IsLife life d → P life
 pub record IsAlive (d : Living) : Type 0 where
   pub life : List Entry
   pub leads : IsLife life d
+
+-- So it is of a device that has the words of all its granules.
+pub record IsWhole (d : Living) : Type 0 where
+  pub alive : IsAlive d
+  pub granules : length d.memory.words ≡ granule_total d.config
 
 -- ---- a step
 

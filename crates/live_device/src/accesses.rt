@@ -1,39 +1,33 @@
 //! Loads and stores of hosts: where they lie, what they find and change, and what is replied.
 
+ghost use Rattle.control_core.specs.Pasts.{ByEveryPast};
 ghost use Rattle.live_device.specs.Accesses.{StoresAt, granted_place, store_said, word_from};
 ghost use Rattle.dcd_base.specs.declared.failures.AccessFault.{AccessFault};
 ghost use Rattle.dcd_base.specs.declared.media.Place.{Place};
 ghost use Rattle.journal_core.specs.Accesses.{load_said, stored_unless};
+ghost use Rattle.journal_core.specs.Entries.{effects};
 ghost use Rattle.media_map.specs.Places.{locate};
 ghost use Rattle.region_config.specs.Granules.{granule_total};
 ghost use Rattle.std.specs.Prelude.{◌≡◌, ◌<◌, IfOk, OnErr, OnOk, length};
 
-use dcd_base::{AccessFault, HostId, NoMemory, Place, host_bits};
-use granule_mem::Memory;
+use control_core::LiveControl;
+use dcd_base::{AccessFault, HostId, NoMemory, Place};
+use granule_mem::GranuleWords;
 use journal_core::Reply;
 use media_map::locate;
-use region_config::Config;
 
 /// The place of the host's address, where the host holds it, or why there is none.
 #[inline(always)]
-#[tactic(auto, using(crate::proofs::MadeChanges::word_inside))]
-pub fn granted(
-    config: &Config,
-    memory: &Memory,
-    host: HostId,
-    dpa: u64,
-) -> Result<Place, AccessFault>
-    requires host { host < config.now.hosts }
-    requires granules { length memory.now.holders ≡ granule_total config.now }
-    ensures value { result ≡ granted_place config.now memory.now host dpa }
-    ensures inside { IfOk result (λ p. p.granule < granule_total config.now) }
-    ensures placed { IfOk (locate config.now host dpa) (λ p. p.granule < granule_total config.now) }
+#[tactic(auto, using(crate::proofs::ZeroedWords::word_inside))]
+pub fn granted(control: &LiveControl, host: HostId, dpa: u64) -> Result<Place, AccessFault>
+    requires { host < control.now.config.hosts }
+    ensures value { ByEveryPast control.now (λ past. result ≡ granted_place control.now.config (effects past) host dpa) }
+    ensures inside { IfOk result (λ p. p.granule < granule_total control.now.config) }
+    ensures placed { IfOk (locate control.now.config host dpa) (λ p. p.granule < granule_total control.now.config) }
 {
-    // There are 16 hosts at most.
-    let _hosts = config.hosts();
-    match locate(config, host, dpa) {
+    match locate(control.config(), host, dpa) {
         Ok(place) => {
-            if host_bits::has(memory.holders(place.granule), host) {
+            if control.holds(host, place.granule) {
                 Ok(place)
             } else {
                 Err(AccessFault::NotGranted)
@@ -44,29 +38,29 @@ pub fn granted(
 }
 
 /// The word at the place.
-pub fn word_at(memory: &Memory, place: &Result<Place, AccessFault>) -> Result<u64, AccessFault>
-    requires { IfOk place.now (λ p. p.granule < length memory.now.holders) }
-    ensures { result ≡ word_from memory.now place.now }
+pub fn word_at(words: &GranuleWords, place: &Result<Place, AccessFault>) -> Result<u64, AccessFault>
+    requires { IfOk place.now (λ p. p.granule < length words.now) }
+    ensures { result ≡ word_from words.now place.now }
 {
     match place {
-        Ok(place) => Ok(memory.read(place.granule, place.word)),
+        Ok(place) => Ok(words.read(place.granule, place.word)),
         Err(fault) => Err(*fault),
     }
 }
 
 /// Stores a word at the place, if there is one.
 pub fn store_at(
-    memory: &mut Memory,
+    words: &mut GranuleWords,
     place: &Result<Place, AccessFault>,
     value: u64,
 ) -> Result<(), NoMemory>
-    requires { IfOk place.now (λ p. p.granule < length memory.old.holders) }
-    ensures words { OnOk result (StoresAt memory.old memory.new place.now value) }
-    ensures holders { memory.new.holders ≡ memory.old.holders }
-    ensures kept { OnErr result (memory.new ≡ memory.old) }
+    requires { IfOk place.now (λ p. p.granule < length words.old) }
+    ensures words { OnOk result (StoresAt words.old words.new place.now value) }
+    ensures granules { length words.new ≡ length words.old }
+    ensures kept { OnErr result (words.new ≡ words.old) }
 {
     match place {
-        Ok(place) => memory.write(place.granule, place.word, value),
+        Ok(place) => words.write(place.granule, place.word, value),
         Err(_) => Ok(()),
     }
 }

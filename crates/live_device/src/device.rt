@@ -11,11 +11,11 @@ ghost use Rattle.std.specs.Prelude.{◌≡◌, ◌<◌, ◌≤◌, [], IfErr, If
 
 use crate::accesses::{granted, loaded, refused_by, store_at, stored, word_at};
 use crate::faults::StepFault;
-use crate::making::make_all;
+use crate::zeroing::zero_all;
 use control_core::{Decided, LiveControl};
 use dcd_base::{Actor, Bytes, HostId, NoMemory};
 use device_state::Update;
-use granule_mem::Memory;
+use granule_mem::GranuleWords;
 use journal_core::{Act, Effects, Reply};
 use region_config::Config;
 use std::alloc::Global;
@@ -31,17 +31,17 @@ const LONGEST: usize = 2048;
 #[derive(Drop)]
 pub struct LiveDevice {
     control: LiveControl,
-    memory: Memory,
+    words: GranuleWords,
 }
 
 impl Model for LiveDevice {
-    ghost use Rattle.live_device.specs.Lives.{IsAlive, Living, without_spare};
+    ghost use Rattle.live_device.specs.Lives.{IsWhole, Living, living, without_spare};
 
     ghost Value = { Living };
 
-    ghost view = { λ d. record { config = d.control.config; state = without_spare d.control.state; memory = d.memory } };
+    ghost view = { λ d. living d.control.config (without_spare d.control.state) d.words };
 
-    ghost invariant = { λ d. IsAlive (record { config = d.control.config; state = d.control.state; memory = d.memory }) };
+    ghost invariant = { λ d. IsWhole (living d.control.config d.control.state d.words) };
 }
 
 impl LiveDevice {
@@ -52,10 +52,10 @@ impl LiveDevice {
     {
         // A configuration is sound.
         let _hosts = config.hosts();
-        let memory = Memory::new(alloc, config.granules())?;
+        let words = GranuleWords::new(alloc, config.granules())?;
         Ok(LiveDevice {
             control: LiveControl::new(alloc, config)?,
-            memory,
+            words,
         })
     }
 
@@ -157,9 +157,8 @@ impl LiveDevice {
         ensures taken { OnOk result (TakesUpdate self.old self.new new.now update) }
         ensures kept { OnErr result (self.new ≡ self.old) }
     {
-        let changes = self.control.changes_by(new)?;
         self.control.make_room()?;
-        make_all(&mut self.memory, changes.as_slice());
+        zero_all(&mut self.words, new.as_slice());
         self.control.enter(new.as_slice(), update);
         Ok(())
     }
@@ -173,8 +172,8 @@ impl LiveDevice {
         ensures within { payload_length result ≡ 0 }
         ensures led { LivesOn self.now self.now (Actor.Host host) (Act.Load dpa) }
     {
-        let place = granted(self.control.config(), &self.memory, host, dpa);
-        loaded(&word_at(&self.memory, &place))
+        let place = granted(&self.control, host, dpa);
+        loaded(&word_at(&self.words, &place))
     }
 
     /// Takes a store of a host.
@@ -188,8 +187,8 @@ impl LiveDevice {
         ensures led { OnOk result (LivesOn self.old self.new (Actor.Host host) (Act.Store dpa value)) }
         ensures kept { OnErr result (self.new ≡ self.old) }
     {
-        let place = granted(self.control.config(), &self.memory, host, dpa);
-        store_at(&mut self.memory, &place, value)?;
+        let place = granted(&self.control, host, dpa);
+        store_at(&mut self.words, &place, value)?;
         Ok(stored(refused_by(&place)))
     }
 }

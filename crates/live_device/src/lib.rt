@@ -6,10 +6,10 @@ mod accesses;
 mod device;
 mod faults;
 mod laws;
-mod making;
+mod zeroing;
 
 pub use accesses::{granted, loaded, refused_by, store_at, stored, word_at};
 pub use device::LiveDevice;
 pub use faults::StepFault;
 pub use laws::law_lives;
-pub use making::make_all;
+pub use zeroing::zero_all;

@@ -1,20 +1,13 @@
-use Rattle.std.proofs.Common.{List, [], sym, subst}
-use Rattle.dcd_base.specs.declared.media.Change.{Change}
-use Rattle.journal_core.specs.Entries.{effects}
-use Rattle.device_rules.specs.ChangedRuns.{AreChanges}
+use Rattle.std.proofs.Common.{List, sym, subst, ◌∙◌}
 use Rattle.journal_core.specs.declared.entries.Entry.{Entry}
-use Rattle.journal_core.specs.declared.outcome.Effect.{Effect}
 use Rattle.control_core.specs.Deciding.{Holds, IsDecidedBy}
 use Rattle.control_core.specs.Decisions.{only_replied}
-use Rattle.control_core.specs.Steps.{AreChangesOf, Controlled, MayStep}
-use Rattle.control_core.proofs.NextEntry.{enters_nothing, holds_decided, no_changes}
+use Rattle.control_core.specs.Steps.{Controlled, MayStep}
+use Rattle.control_core.proofs.NextEntry.{enters_nothing, holds_decided}
 use Rattle.control_core.proofs.control.Control.take_reply.Goals as goal
 
-pub returns-clause-changes : goal.returns-clause-changes
-returns-clause-changes c =
-    let old = c.args.self.now in
-    subst (λ (changes : List Change). AreChangesOf old.config old.entries c.args.actor c.args.act.now changes) (sym c.new.ensures)
-    (subst (λ (es : List Effect). AreChanges old.config (effects old.entries) es []) c.requires.decided.effects (no_changes old.config (effects old.entries)))
+pub returns-clause-effects : goal.returns-clause-effects
+returns-clause-effects c = c.new.ensures ∙ c.requires.decided.effects
 
 pub invariant_of-self-2 : goal.invariant_of-self-2
 invariant_of-self-2 c =

@@ -1,12 +1,11 @@
 use Rattle.std.proofs.Common.{◌∷◌, ◌++◌, [], List, sym, subst, ap, refl, ◌∙◌}
 use Rattle.journal_core.specs.declared.acts.Act.{Act}
 use Rattle.journal_core.specs.declared.entries.Entry.{Entry}
-use Rattle.journal_core.specs.Entries.{effects}
 use Rattle.journal_core.specs.Merging.{merged}
 use Rattle.region_config.specs.Configurations.{Configuration}
-use Rattle.device_rules.specs.ChangedRuns.{AreChanges}
 use Rattle.control_core.specs.Deciding.{IsShort}
 use Rattle.control_core.specs.Steps.{MayStep, journal_entry}
+use Rattle.live_device.specs.Accesses.{AreZeroed}
 use Rattle.device_plain.specs.Devices.{Plain}
 use Rattle.device_plain.specs.Keeping.{KeepsBoth}
 use Rattle.device_plain.proofs.Merged.{both_command, grown_command}
@@ -22,12 +21,11 @@ invariant_of-self-2 c =
     let is = c.in_ok-plan.ensures.entry in
     let entries = c.apply.ensures.entered ∙ (λ i. c.in_ok-plan.ensures.entries i ++ is i ∷ []) in
     let short = subst (λ (e : Entry). IsShort e.reply) is c.in_ok-plan.ensures.short in
-    let changes = subst (λ (e : Entry). AreChanges in_it.control.config (effects before) e.effects c.as_slice.result.now) is
-    (rw (c.as_slice.ensures, c.changes.ensures) c.in_ok-plan.ensures.changes) in
-    subst (λ (cfg : Configuration). KeepsBoth cfg c.apply.new.self.entries in_it.accesses.items c.make_all.new.memory 0) (sym (c.apply.ensures.config ∙ c.in_ok-plan.ensures.config))
-    (subst (λ (es : List Entry). KeepsBoth in_it.control.config es in_it.accesses.items c.make_all.new.memory 0) (sym entries)
-    (both_command in_it.control.config before in_it.accesses.items in_it.memory in_it.since c.self.invariant c.args.pass c.args.line c.args.actor c.in_ok-act.act may
-    short c.as_slice.result.now changes c.make_all.new.memory c.make_all.ensures))
+    let zeroed = subst (AreZeroed in_it.words c.zero_all.new.words) (c.as_slice.ensures ∙ c.effects.ensures ∙ ap (λ (e : Entry). e.effects) is) c.zero_all.ensures.words in
+    subst (λ (cfg : Configuration). KeepsBoth cfg c.apply.new.self.entries in_it.accesses.items c.zero_all.new.words 0) (sym (c.apply.ensures.config ∙ c.in_ok-plan.ensures.config))
+    (subst (λ (es : List Entry). KeepsBoth in_it.control.config es in_it.accesses.items c.zero_all.new.words 0) (sym entries)
+    (both_command in_it.control.config before in_it.accesses.items in_it.words in_it.since c.self.invariant c.args.pass c.args.line c.args.actor c.in_ok-act.act may
+    short c.zero_all.new.words zeroed c.zero_all.ensures.granules))
 
 pub returns-clause-entered : goal.returns-clause-entered
 returns-clause-entered c =
@@ -47,6 +45,6 @@ returns-clause-entered c =
       reply = sym (c.in_ok-reply.ensures ∙ ap (λ (e : Entry). e.reply) (c.entry.ensures ∙ is));
       config = c.apply.ensures.config ∙ c.in_ok-plan.ensures.config ∙ ap (λ (d : Plain). d.config) c.self.view_is;
       journal = ap (λ (es : List Entry). merged es (in_it.accesses.items ∷ [])) entries
-          ∙ grown_command in_it.control.config before in_it.accesses.items in_it.memory in_it.since c.self.invariant c.args.pass c.args.line c.args.actor c.in_ok-act.act may
+          ∙ grown_command in_it.control.config before in_it.accesses.items in_it.words in_it.since c.self.invariant c.args.pass c.args.line c.args.actor c.in_ok-act.act may
           ∙ ap (λ (es : List Entry). es ++ next ∷ []) (ap (λ (d : Plain). d.journal) c.self.view_is);
     }

@@ -11,5 +11,5 @@ returns-then-is_empty-clause-all c =
     c.lend.ensures ∙ c.entries.ensures.value
     ∙ sym (without_accesses in_it.control.entries in_it.accesses.items
     (sym c.as_slice.ensures.value ∙ nil_from_length c.as_slice.result.now (eqb-true (length c.as_slice.result.now) 0 (sym c.if-is_empty.ensures)))
-    (control_rises in_it.control.config in_it.control.entries in_it.accesses.items in_it.memory in_it.since c.self.invariant))
+    (control_rises in_it.control.config in_it.control.entries in_it.accesses.items in_it.words in_it.since c.self.invariant))
     ∙ ap (λ (d : Plain). d.journal) c.self.view_is

@@ -3,6 +3,7 @@ use Rattle.journal_core.specs.declared.entries.Entry.{Entry}
 use Rattle.journal_core.specs.Merging.{merged}
 use Rattle.region_config.specs.Configurations.{Configuration}
 use Rattle.control_core.specs.Steps.{MayStep, journal_entry}
+use Rattle.live_device.specs.Accesses.{AreZeroed}
 use Rattle.device_plain.specs.Devices.{Plain}
 use Rattle.device_plain.specs.Keeping.{KeepsBoth}
 use Rattle.device_plain.proofs.Merged.{both_command, grown_command}
@@ -14,10 +15,11 @@ invariant_of-self-2 c =
     let before = in_it.control.entries in
     let may = subst (λ (d : Plain). MayStep d.config c.args.actor c.args.act) (sym c.self.view_is) c.requires in
     let next : Entry = journal_entry in_it.control.config before c.args.pass c.args.line c.args.actor c.args.act in
-    let kept = both_command in_it.control.config before in_it.accesses.items in_it.memory in_it.since c.self.invariant c.args.pass c.args.line c.args.actor c.args.act may
-    c.in_ok-changes.ensures.short c.as_slice.result.now (rw (c.as_slice.ensures) c.in_ok-changes.ensures.changes) c.make_all.new.memory c.make_all.ensures in
-    subst (λ (cfg : Configuration). KeepsBoth cfg c.step.new.self.entries in_it.accesses.items c.make_all.new.memory 0) (sym c.step.ensures.config)
-    (subst (λ (es : List Entry). KeepsBoth in_it.control.config es in_it.accesses.items c.make_all.new.memory 0) (sym c.in_ok-changes.ensures.entered) kept)
+    let kept = both_command in_it.control.config before in_it.accesses.items in_it.words in_it.since c.self.invariant c.args.pass c.args.line c.args.actor c.args.act may
+    c.in_ok-effects.ensures.short c.zero_all.new.words
+    (subst (AreZeroed in_it.words c.zero_all.new.words) (c.as_slice.ensures ∙ c.in_ok-effects.ensures.effects) c.zero_all.ensures.words) c.zero_all.ensures.granules in
+    subst (λ (cfg : Configuration). KeepsBoth cfg c.step.new.self.entries in_it.accesses.items c.zero_all.new.words 0) (sym c.step.ensures.config)
+    (subst (λ (es : List Entry). KeepsBoth in_it.control.config es in_it.accesses.items c.zero_all.new.words 0) (sym c.in_ok-effects.ensures.entered) kept)
 
 pub returns-clause-entered : goal.returns-clause-entered
 returns-clause-entered c =
@@ -34,8 +36,8 @@ returns-clause-entered c =
         act = refl;
         reply = refl;
         config = c.step.ensures.config ∙ ap (λ (d : Plain). d.config) c.self.view_is;
-        journal = ap (λ (es : List Entry). merged es (in_it.accesses.items ∷ [])) c.in_ok-changes.ensures.entered
-            ∙ grown_command in_it.control.config before in_it.accesses.items in_it.memory in_it.since c.self.invariant c.args.pass c.args.line c.args.actor c.args.act may
+        journal = ap (λ (es : List Entry). merged es (in_it.accesses.items ∷ [])) c.in_ok-effects.ensures.entered
+            ∙ grown_command in_it.control.config before in_it.accesses.items in_it.words in_it.since c.self.invariant c.args.pass c.args.line c.args.actor c.args.act may
             ∙ ap (λ (es : List Entry). es ++ next ∷ []) (ap (λ (d : Plain). d.journal) c.self.view_is);
       },
     )

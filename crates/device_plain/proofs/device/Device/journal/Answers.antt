@@ -8,12 +8,12 @@ use Rattle.device_plain.proofs.device.Device.journal.Goals as goal
 pub whole-requires-clause-control : goal.whole-requires-clause-control
 whole-requires-clause-control c =
     let in_it = c.self.inside in
-    subst Rising (sym c.entries.ensures.value) (control_rises in_it.control.config in_it.control.entries in_it.accesses.items in_it.memory in_it.since c.self.invariant)
+    subst Rising (sym c.entries.ensures.value) (control_rises in_it.control.config in_it.control.entries in_it.accesses.items in_it.words in_it.since c.self.invariant)
 
 pub whole-requires-clause-accesses : goal.whole-requires-clause-accesses
 whole-requires-clause-accesses c =
     let in_it = c.self.inside in
-    subst Rising (sym c.as_slice.ensures.value) (accesses_rise in_it.control.config in_it.control.entries in_it.accesses.items in_it.memory in_it.since c.self.invariant)
+    subst Rising (sym c.as_slice.ensures.value) (accesses_rise in_it.control.config in_it.control.entries in_it.accesses.items in_it.words in_it.since c.self.invariant)
 
 pub returns-clause-exclusive : goal.returns-clause-exclusive
 returns-clause-exclusive c =

@@ -6,26 +6,26 @@ use Rattle.journal_core.specs.declared.acts.Reply.{Reply}
 use Rattle.control_core.specs.Deciding.{IsDecidedBy}
 use Rattle.control_core.specs.declared.decided.Decided.{Decided}
 use Rattle.control_core.specs.Steps.{MayStep}
-use Rattle.live_device.specs.Lives.{CanTake, IsLife, IsReplyTo, Living, without_spare}
+use Rattle.live_device.specs.Lives.{CanTake, IsLife, IsReplyTo, Living, living, without_spare}
 use Rattle.live_device.proofs.LifeSteps.{answer_kind, can_take, effects_decided, life_inside, life_seen, past_of}
 use Rattle.live_device.proofs.device.LiveDevice.answered.Goals as goal
 
 pub take-requires : goal.take-requires
 take-requires c =
     let control = c.self.inside.control in
-    let inside : Living = record { config = control.config; state = control.state; memory = c.self.inside.memory } in
+    let inside : Living = living control.config control.state c.self.inside.words in
     let may = subst (λ (d : Living). MayStep d.config c.args.actor c.args.act.now) (sym c.self.view_is) (record { fits = c.requires.fits; control = c.requires.control }) in
-    let life = c.self.invariant.life in
-    let leads = c.self.invariant.leads in
+    let life = c.self.invariant.alive.life in
+    let leads = c.self.invariant.alive.leads in
     subst (λ (d : Living). CanTake d c.into_parts-reply.result.effects c.into_parts-reply.result.update) c.self.view_is
-    (can_take (record { config = control.config; state = without_spare control.state; memory = c.self.inside.memory }) life (life_seen control.config control.state c.self.inside.memory life leads)
+    (can_take (living control.config (without_spare control.state) c.self.inside.words) life (life_seen control.config control.state c.self.inside.words life leads)
     c.args.actor c.args.act.now may c.into_parts-reply.result (subst (λ (d : Decided). IsDecidedBy c.self.inside.control.config life c.args.actor c.args.act.now d) (sym c.into_parts-reply.ensures) (c.in_ok-decision.ensures life (past_of life inside leads))))
 
 pub returns-clause-led : goal.returns-clause-led
 returns-clause-led c life leads e by does meets =
     let control = c.self.inside.control in
-    let m = c.self.inside.memory in
-    let inside : Living = record { config = control.config; state = control.state; memory = m } in
+    let m = c.self.inside.words in
+    let inside : Living = living control.config control.state m in
     let seen = subst (IsLife life) (sym c.self.view_is) leads in
     let real = life_inside control.config control.state m life seen in
     let decided = subst (λ (d : Living). IsDecidedBy d.config life c.args.actor c.args.act.now c.into_parts-reply.result) c.self.view_is (subst (λ (d : Decided). IsDecidedBy c.self.inside.control.config life c.args.actor c.args.act.now d) (sym c.into_parts-reply.ensures) (c.in_ok-decision.ensures life (past_of life inside real))) in
@@ -36,8 +36,8 @@ returns-clause-led c life leads e by does meets =
 pub returns-clause-kind : goal.returns-clause-kind
 returns-clause-kind c =
     let control = c.self.inside.control in
-    let life = c.self.invariant.life in
-    let inside : Living = record { config = control.config; state = control.state; memory = c.self.inside.memory } in
+    let life = c.self.invariant.alive.life in
+    let inside : Living = living control.config control.state c.self.inside.words in
     let may = subst (λ (d : Living). MayStep d.config c.args.actor c.args.act.now) (sym c.self.view_is) (record { fits = c.requires.fits; control = c.requires.control }) in
-    let reply = ap (λ (d : Decided). d.reply) c.into_parts-reply.ensures ∙ (c.in_ok-decision.ensures life (past_of life inside c.self.invariant.leads)).reply in
+    let reply = ap (λ (d : Decided). d.reply) c.into_parts-reply.ensures ∙ (c.in_ok-decision.ensures life (past_of life inside c.self.invariant.alive.leads)).reply in
     subst (λ (r : Reply). IsReplyTo c.args.act.now r) (sym reply) (answer_kind control.config life c.args.actor c.args.act.now may)
