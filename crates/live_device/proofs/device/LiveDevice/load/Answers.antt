@@ -1,6 +1,4 @@
-use Rattle.std.proofs.Common.{ap, subst, sym, ◌<◌, ◌∙◌}
-use Rattle.std.specs.Prelude.{IfOk}
-use Rattle.dcd_base.specs.declared.media.Place.{Place}
+use Rattle.std.proofs.Common.{ap, subst, ◌∙◌}
 use Rattle.dcd_base.specs.declared.steps.Actor.{Actor}
 use Rattle.journal_core.specs.Accesses.{load_said}
 use Rattle.journal_core.specs.declared.acts.Act.{Act}
