@@ -19,4 +19,5 @@ pub mod Rows
 pub mod SetDcRegionConfiguration
 pub mod ShownRegions
 pub mod TagReadings
+pub mod TaggedRuns
 pub mod ZeroedGranules

@@ -125,15 +125,16 @@ policy_rule s a list = chosen_rule s a.host a.policy a.region a.length list
 abbrev pub new_offer : State → Asked → List Extent → List Extent
 new_offer s a list = offered_now s a.host a.policy a.region a.length a.tag list
 
--- the rules of so many bytes, the runs that are found, and the extents of the host that they are
+-- the rules of so many bytes, and the runs that are found
 abbrev pub length_rule : State → Asked → Option Rule
 length_rule s a = by_length_rule s.present (is_free_at s.granules.states) a.region a.policy a.length
 
 abbrev pub length_runs : State → Asked → List Run
 length_runs s a = by_length_runs s a.policy a.region a.length
 
-abbrev pub extents_by_length : State → Asked → List Extent
-extents_by_length s a = extents_of s.present a.host (length_runs s a)
+-- runs of granules as extents of the host, with the tag
+abbrev pub tagged_runs : State → Asked → Bool → List Run → List Extent
+tagged_runs s a shareable runs = with_tag shareable a.tag (extents_of s.present a.host runs)
 
 -- ---- by each history that the host's log shows
 

@@ -1,19 +1,18 @@
 //! Which extents an offer has, by the policy of 5604h.
 
-ghost use Rattle.device_commands.specs.InitiateDynamicCapacityAdd.{extents_by_length, length_rule, new_offer, policy_rule};
+ghost use Rattle.device_commands.specs.InitiateDynamicCapacityAdd.{length_rule, length_runs, new_offer, policy_rule, tagged_runs};
 ghost use Rattle.device_state.specs.Entered.{runs_in};
 ghost use Rattle.dcd_codes.specs.Rules.{ByRow};
-ghost use Rattle.device_rules.specs.Adding.{extents_of, with_tag};
-ghost use Rattle.media_map.specs.Places.{IsRun};
+ghost use Rattle.device_rules.specs.Adding.{with_tag};
+ghost use Rattle.media_map.specs.Places.{IsRun, extent_of};
 ghost use Rattle.region_config.specs.Granules.{granule_total};
 ghost use Rattle.std.specs.Prelude.{◌≡◌, ◌^◌, ◌<◌, ◌≤◌, All, IfOk, if◌then◌else◌, length};
 
 use crate::initiate_dynamic_capacity_add::{CONTIGUOUS, PRESCRIPTIVE};
-use dcd_base::{Extent, Extents, HostId, NoMemory, RegionId, Run, Tag, no_tag};
+use dcd_base::{Extent, Extents, HostId, NoMemory, RegionId, Run, Tag};
 use dcd_codes::{Refusal, Rule};
 use device_state::State;
 use media_map::extent_of;
-use region_config::Config;
 use std::alloc::Global;
 
 /// What is asked for, where host, policy and region are there.
@@ -49,34 +48,36 @@ pub(crate) fn new_extents(
             Err(refusal) => Err(refusal),
         }
     } else if asked.policy > CONTIGUOUS {
-        let shared = shared(alloc, state, asked)?;
-        Ok(with_tag(alloc, shareable, &asked.tag, shared.as_slice())?)
+        Ok(shared(alloc, state, asked, shareable)?)
     } else {
-        match free_extents(alloc, state, asked) {
-            Ok(free) => Ok(with_tag(alloc, shareable, &asked.tag, free.as_slice())?),
-            Err(refusal) => Err(refusal),
-        }
+        free_extents(alloc, state, asked, shareable)
     }
 }
 
-/// The granules of the tag.
-fn shared(alloc: Global, state: &State, asked: &Asked) -> Result<Extents, NoMemory>
+/// The granules of the tag, as extents of the host with the tag.
+fn shared(alloc: Global, state: &State, asked: &Asked, shareable: bool) -> Result<Extents, NoMemory>
     requires host { asked.now.host < state.now.present.hosts }
     requires runs { All (IsRun state.now.present) (runs_in state.now asked.now.tag) }
-    ensures { IfOk result (λ xs. xs ≡ extents_of state.now.present asked.now.host (runs_in state.now asked.now.tag)) }
+    requires few { length (runs_in state.now asked.now.tag) ≤ 4096 }
+    ensures { IfOk result (λ xs. xs ≡ tagged_runs state.now asked.now shareable (runs_in state.now asked.now.tag)) }
 {
     match state.tags.find(&asked.tag) {
-        Some(entry) => extents_of(alloc, &state.present, asked.host, entry.runs.as_slice()),
+        Some(entry) => tagged_runs(alloc, state, asked, shareable, entry.runs.as_slice()),
         None => Ok(Extents::new(alloc)),
     }
 }
 
-/// So many bytes of free blocks, as extents of the host.
-fn free_extents(alloc: Global, state: &State, asked: &Asked) -> Result<Extents, Refusal>
+/// So many bytes of free blocks, as extents of the host with the tag.
+fn free_extents(
+    alloc: Global,
+    state: &State,
+    asked: &Asked,
+    shareable: bool,
+) -> Result<Extents, Refusal>
     requires host { asked.now.host < state.now.present.hosts }
     requires region { asked.now.region < length state.now.present.regions }
     requires granules { length state.now.granules.states ≡ granule_total state.now.present }
-    ensures row { ByRow (length_rule state.now asked.now) (λ xs. xs ≡ extents_by_length state.now asked.now) result }
+    ensures row { ByRow (length_rule state.now asked.now) (λ xs. xs ≡ tagged_runs state.now asked.now shareable (length_runs state.now asked.now)) result }
     ensures few { IfOk result (λ xs. length xs ≤ 4096) }
 {
     // That runs are of the device rests on what every configuration keeps.
@@ -95,27 +96,40 @@ fn free_extents(alloc: Global, state: &State, asked: &Asked) -> Result<Extents, 
         selection::contiguous(alloc, map, area, per_block, blocks)
     };
     match found {
-        Ok(runs) => Ok(extents_of(alloc, &state.present, asked.host, runs.as_slice())?),
+        Ok(runs) => Ok(tagged_runs(alloc, state, asked, shareable, runs.as_slice())?),
         Err(refusal) => Err(refusal),
     }
 }
 
-/// Runs of granules as extents of the host.
-fn extents_of(
+/// Runs of granules as extents of the host with the tag, numbered from 1 where hosts can share it.
+fn tagged_runs(
     alloc: Global,
-    present: &Config,
-    host: HostId,
+    state: &State,
+    asked: &Asked,
+    shareable: bool,
     runs: &[Run],
 ) -> Result<Extents, NoMemory>
-    requires host { host < present.now.hosts }
-    requires runs { All (IsRun present.now) runs.now }
-    ensures { IfOk result (λ xs. xs ≡ extents_of present.now host runs.now) }
+    requires host { asked.now.host < state.now.present.hosts }
+    requires runs { All (IsRun state.now.present) runs.now }
+    requires few { length runs.now ≤ 4096 }
+    ensures { IfOk result (λ xs. xs ≡ tagged_runs state.now asked.now shareable runs.now) }
 {
     let mut extents = Vec::with_capacity(alloc, runs.len())?;
     for i in 0..runs.len() {
-        extents.push_reserved(extent_of(present, host, &runs[i], no_tag(), 0));
+        extents.push_reserved(tagged_run(state, asked, shareable, i as u16 + 1, &runs[i]));
     }
     Ok(Extents::from_vec(alloc, extents))
+}
+
+/// A run of granules as an extent of the host with the tag, and with its number where hosts can share it.
+#[inline(always)]
+fn tagged_run(state: &State, asked: &Asked, shareable: bool, number: u16, run: &Run) -> Extent
+    requires host { asked.now.host < state.now.present.hosts }
+    requires run { IsRun state.now.present run.now }
+    ensures { result ≡ extent_of state.now.present asked.now.host run.now asked.now.tag (if shareable then number else 0) }
+{
+    let sequence = if shareable { number } else { 0 };
+    extent_of(&state.present, asked.host, run, asked.tag, sequence)
 }
 
 /// Each extent with the tag, and numbered from 1 where hosts can share it.

@@ -1,28 +1,27 @@
 use Rattle.std.proofs.Common.{◌≡◌, ◌+◌, ◌%◌, ◌/◌, ◌==◌, ◌||◌, not, true, false, List, Result, Ok, Err, length, arith, ap, subst, sym, ◌∙◌}
 use Rattle.std.specs.Prelude.{All}
 use Rattle.std.proofs.lemmas.Bool.{eq-eqb, ne_eqb}
-use Rattle.std.proofs.lemmas.List.{length-map}
-use Rattle.dcd_base.specs.Words.{zero_tag}
 use Rattle.dcd_base.specs.declared.capacity.Extent.{Extent}
 use Rattle.dcd_base.specs.declared.media.Run.{Run}
 use Rattle.dcd_codes.specs.Rules.{ByRow}
 use Rattle.dcd_codes.specs.declared.refusals.Refusal.{Refusal}
-use Rattle.device_rules.specs.Adding.{area_of, extents_of}
+use Rattle.device_rules.specs.Adding.{area_of}
 use Rattle.granule_map.specs.Blocks.{free_block_count, longest_free_run}
 use Rattle.granule_map.specs.StateLists.{is_free_at}
-use Rattle.media_map.specs.Places.{IsRun, extent_of}
+use Rattle.media_map.specs.Places.{IsRun}
 use Rattle.region_config.specs.Granules.{first_granule, region_granules}
 use Rattle.region_config.specs.declared.region_spec.RegionSpec.{RegionSpec}
 use Rattle.region_config.proofs.Faultless.{granules_within}
 use Rattle.selection.specs.Selections.{contiguous_runs, free_runs, too_few_free}
-use Rattle.device_commands.specs.InitiateDynamicCapacityAdd.{extents_by_length, length_rule, length_runs}
+use Rattle.device_commands.specs.InitiateDynamicCapacityAdd.{length_rule, length_runs, tagged_runs}
 use Rattle.device_commands.proofs.BlockChoices.{LieInRegion, between_few, between_runs, found_free, found_in, found_together, of_length}
 use Rattle.device_commands.proofs.Rows.{refused}
+use Rattle.device_commands.proofs.TaggedRuns.{length-tagged_runs}
 use Rattle.device_commands.proofs.choosing.free_extents.Goals.{else-asked-eq0-2, then-asked-eq0-2}
 use Rattle.device_commands.proofs.choosing.free_extents.Goals as goal
 
-pub extents_of-requires-clause-runs : goal.extents_of-requires-clause-runs
-extents_of-requires-clause-runs c =
+pub tagged_runs-requires-clause-runs : goal.tagged_runs-requires-clause-runs
+tagged_runs-requires-clause-runs c =
     let present = c.args.state.now.present in
     let r = c.args.asked.now.region in
     let area_is : c.granules_of-area.result ≡ area_of present r = λ i. record { first = c.granules_of-area.ensures.first i; count = c.granules_of-area.ensures.count i } in
@@ -32,8 +31,25 @@ extents_of-requires-clause-runs c =
     ] in
     subst (All (IsRun present)) (sym c.as_slice.ensures) (between_runs present r (first_granule present r) c.in-Ok.runs c.requires.region (omega arith) within)
 
-pub returns-in_ok-extents_of-in-Ok-clause-row : goal.returns-in_ok-extents_of-in-Ok-clause-row
-returns-in_ok-extents_of-in-Ok-clause-row c =
+pub tagged_runs-requires-clause-few : goal.tagged_runs-requires-clause-few
+tagged_runs-requires-clause-few c =
+    let present = c.args.state.now.present in
+    let r = c.args.asked.now.region in
+    let area_is : c.granules_of-area.result ≡ area_of present r = λ i. record { first = c.granules_of-area.ensures.first i; count = c.granules_of-area.ensures.count i } in
+    let within : LieInRegion present r c.in-Ok.runs = elim c.if-asked-eq0-2.branch [
+      | then-asked-eq0-2 w ↦ found_in present r c.granules_of-area.result w.free-found.result c.in-Ok.runs area_is (sym w.found-is ∙ c.in-Ok.is) w.free-found.ensures.within
+      | else-asked-eq0-2 w ↦ found_in present r c.granules_of-area.result w.contiguous-found.result c.in-Ok.runs area_is (sym w.found-is ∙ c.in-Ok.is) w.contiguous-found.ensures.within
+    ] in
+    omega (
+      arith,
+      ap length c.as_slice.ensures,
+      between_few (first_granule present r) (first_granule present r + region_granules present r) c.in-Ok.runs within,
+      granules_within present r c.requires.region,
+      c.regions-regions.ensures.sound.granules,
+    )
+
+pub returns-in_ok-tagged_runs-in-Ok-clause-row : goal.returns-in_ok-tagged_runs-in-Ok-clause-row
+returns-in_ok-tagged_runs-in-Ok-clause-row c =
     let s = c.args.state.now in
     let a = c.args.asked.now in
     let r = a.region in
@@ -57,10 +73,10 @@ returns-in_ok-extents_of-in-Ok-clause-row c =
           (subst (λ (f : Result (List Run) Refusal). ByRow (too_few_free need (longest_free_run states area per)) (λ (runs : List Run). runs ≡ contiguous_runs (is_free_at states) area per need) f)
           (sym w.found-is ∙ c.in-Ok.is) w.contiguous-found.ensures.answer)
     ]) in
-    (row.0, c.in_ok-extents_of-in-Ok.ensures ∙ ap (extents_of s.present a.host) (c.as_slice.ensures ∙ row.1))
+    (row.0, c.in_ok-tagged_runs-in-Ok.ensures ∙ ap (tagged_runs s a c.args.shareable) (c.as_slice.ensures ∙ row.1))
 
-pub returns-in_ok-extents_of-in-Ok-clause-few : goal.returns-in_ok-extents_of-in-Ok-clause-few
-returns-in_ok-extents_of-in-Ok-clause-few c =
+pub returns-in_ok-tagged_runs-in-Ok-clause-few : goal.returns-in_ok-tagged_runs-in-Ok-clause-few
+returns-in_ok-tagged_runs-in-Ok-clause-few c =
     let present = c.args.state.now.present in
     let r = c.args.asked.now.region in
     let area_is : c.granules_of-area.result ≡ area_of present r = λ i. record { first = c.granules_of-area.ensures.first i; count = c.granules_of-area.ensures.count i } in
@@ -70,8 +86,8 @@ returns-in_ok-extents_of-in-Ok-clause-few c =
     ] in
     omega (
       arith,
-      ap length c.in_ok-extents_of-in-Ok.ensures,
-      length-map c.as_slice.result.now (λ run. extent_of present c.args.asked.now.host run zero_tag 0),
+      ap length c.in_ok-tagged_runs-in-Ok.ensures,
+      length-tagged_runs c.args.state.now c.args.asked.now c.args.shareable c.as_slice.result.now,
       ap length c.as_slice.ensures,
       between_few (first_granule present r) (first_granule present r + region_granules present r) c.in-Ok.runs within,
       granules_within present r c.requires.region,
@@ -103,4 +119,4 @@ returns-in-Err-clause-row c =
           (subst (λ (f : Result (List Run) Refusal). ByRow (too_few_free need (longest_free_run states area per)) (λ (runs : List Run). runs ≡ contiguous_runs (is_free_at states) area per need) f)
           (sym w.found-is ∙ c.in-Err.is) w.contiguous-found.ensures.answer)
     ]) in
-    refused (length_rule s a) (λ (runs : List Run). runs ≡ length_runs s a) (λ (xs : List Extent). xs ≡ extents_by_length s a) c.in-Err.refusal row
+    refused (length_rule s a) (λ (runs : List Run). runs ≡ length_runs s a) (λ (xs : List Extent). xs ≡ tagged_runs s a c.args.shareable (length_runs s a)) c.in-Err.refusal row
