@@ -20,6 +20,9 @@ pub(crate) fn ending(
     ensures { IfOk result (λ ended. ended ≡ ending_with host lists.now state.now.tags.entries tags.now) }
 {
     let mut ended = Seq::new(alloc);
+    if state.tags.is_empty() {
+        return Ok(ended);
+    }
     for i in 0..tags.len() {
         put_ending(state, host, lists, &tags[i], &mut ended)?;
     }
