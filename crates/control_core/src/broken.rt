@@ -120,7 +120,10 @@ fn manager_draft(
                 length: *length,
                 tag: *tag,
             };
-            add(alloc, config, state, &request, extents)
+            match add(alloc, config, state, &request, extents) {
+                Ok(parts) => Ok(Draft::of(alloc, parts)?),
+                Err(refusal) => Err(refusal),
+            }
         }
         FmRequest::Remove {
             host,
@@ -137,7 +140,10 @@ fn manager_draft(
                 length: *length,
                 tag: *tag,
             };
-            remove(alloc, config, state, &request, extents)
+            match remove(alloc, config, state, &request, extents) {
+                Ok(parts) => Ok(Draft::of(alloc, parts)?),
+                Err(refusal) => Err(refusal),
+            }
         }
         FmRequest::AddReference { tag } => add_reference(alloc, config, state, tag),
         FmRequest::RemoveReference { tag } => remove_reference(alloc, config, state, tag),

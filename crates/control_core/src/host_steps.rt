@@ -19,7 +19,8 @@ use cci_codec::Request;
 use dcd_base::{Boxed, Bytes, HostId, NoMemory, Seq, Tag};
 use dcd_codes::{Code, Refusal, Rule};
 use device_commands::{
-    Content, Draft, DraftParts, LogRecords, answer, dropped, host_draft, refused, told_change,
+    Content, Draft, DraftParts, LogRecords, ShortList, answer, dropped, host_draft, refused,
+    told_change,
 };
 use device_state::{NewLists, State, TagChange, Update};
 use host_lists::HostLists;
@@ -82,7 +83,7 @@ fn host_recorded(
 
 /// A command that breaks no rule, by whose draft the host has these lists, or the ones that it had.
 #[inline(always)]
-pub(crate) fn recorded(
+fn recorded(
     alloc: Global,
     state: &State,
     host: HostId,
@@ -120,7 +121,7 @@ fn recorded_boxed(
 
 /// A command that breaks no rule and may change something, by whose draft the host has these lists, or the ones that it
 /// had.
-fn recorded_parts(
+pub(crate) fn recorded_parts(
     alloc: Global,
     state: &State,
     host: HostId,
@@ -197,7 +198,7 @@ fn recorded_effects(
     lists: &HostLists,
     changes: Effects,
     tags: &Seq<Tag>,
-    log_records: &Seq<LogRecords>,
+    log_records: &ShortList<LogRecords>,
 ) -> Result<Effects, NoMemory>
     requires few { host < 16 }
     requires known { All (λ (n : LogRecords). IsOfLog (length state.now.hosts.items) n.log) log_records.now }

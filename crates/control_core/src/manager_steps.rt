@@ -20,7 +20,7 @@ ghost use Rattle.tag_refs.specs.Tables.{is_used, passes, with_reference};
 
 use crate::decided::{Decided, Decision, replied};
 use crate::fitting::request_fits;
-use crate::host_steps::recorded;
+use crate::host_steps::recorded_parts;
 use crate::recording::{put_ends, put_records_of_logs};
 use cci_codec::Request;
 use dcd_base::{Boxed, Bytes, Extents, HostId, NoMemory, RegionId, Seq, Tag};
@@ -194,10 +194,7 @@ fn decide_add(
     ensures { Manages config.now state.now request.now result }
 {
     match add(alloc, config, state, offer, extents) {
-        Ok(draft) => {
-            let parts = draft.into_parts(alloc);
-            Ok(added(alloc, config, state, request, offer, parts)?)
-        }
+        Ok(parts) => Ok(added(alloc, config, state, request, offer, parts)?),
         Err(refusal) => Err(refusal),
     }
 }
@@ -217,9 +214,9 @@ fn decide_remove(
     ensures { Manages config.now state.now request.now result }
 {
     match remove(alloc, config, state, removal, extents) {
-        Ok(draft) => {
+        Ok(parts) => {
             let host = HostId(removal.host as u8);
-            Ok(recorded(alloc, state, host, request, draft)?)
+            Ok(recorded_parts(alloc, state, host, request, parts)?)
         }
         Err(refusal) => Err(refusal),
     }

@@ -6,8 +6,8 @@ ghost use Rattle.device_commands.specs.declared.log_records.LogRecords.{LogRecor
 ghost use Rattle.journal_core.specs.declared.outcome.Effect.{Effect};
 ghost use Rattle.std.specs.Prelude.{◌≡◌, ◌++◌, ◌+◌, ◌-◌, ◌≤◌, ℕ, All, OnOk, length, map, vec_capacity, vec_len};
 
-use dcd_base::{Extent, LogId, NoMemory, Seq, Tag};
-use device_commands::LogRecords;
+use dcd_base::{Extent, LogId, NoMemory, Tag};
+use device_commands::{LogRecords, ShortList};
 use device_state::State;
 use event_log::{EventLog, handle_after};
 use event_records::Event;
@@ -27,14 +27,15 @@ pub(crate) fn put_ends(tags: &[Tag], effects: &mut Effects) -> Result<(), NoMemo
 /// Puts the records of all records behind the changes.
 pub(crate) fn put_records_of_logs(
     state: &State,
-    log_records: &Seq<LogRecords>,
+    log_records: &ShortList<LogRecords>,
     effects: &mut Effects,
 ) -> Result<(), NoMemory>
     requires known { All (λ (n : LogRecords). IsOfLog (length state.now.hosts.items) n.log) log_records.now }
     ensures { OnOk result (AreToldBehind state.now log_records.now effects.old effects.new) }
 {
-    for i in 0..log_records.len() {
-        put_records_of_log(state, &log_records.as_slice()[i], effects)?;
+    let told = log_records.as_slice();
+    for i in 0..told.len() {
+        put_records_of_log(state, &told[i], effects)?;
     }
     Ok(())
 }

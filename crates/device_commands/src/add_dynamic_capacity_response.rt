@@ -21,12 +21,13 @@ ghost use Rattle.media_map.specs.Places.{is_granular};
 ghost use Rattle.std.specs.Prelude.{◌≡◌, ◌++◌, ◌∷◌, ◌<◌, ◌≤◌, [], All, IfOk, IfSome, IsTrue, OnOk, length, map};
 
 use crate::draft::Draft;
-use crate::held_lists::{hold, unhold};
+use crate::held_lists::{hold, unhold, unhold_before};
 use crate::log_records::{LogRecords, event_for, no_extent, one_record, records_of_extents};
-use crate::rooms::with_room;
+use crate::rooms::effects_of;
 use crate::runs::run_of;
+use crate::short_list::ShortList;
 use crate::tags::tags_of;
-use dcd_base::{Extent, Extents, HostId, LogId, NoMemory, Seq};
+use dcd_base::{Extent, Extents, HostId, LogId, NoMemory};
 use dcd_codes::Refusal;
 use event_records::{Event, EventKind};
 use host_lists::{HostLists, Responded};
@@ -131,8 +132,8 @@ fn answered(
     requires granular { All (λ x. IsTrue (is_granular present.now host x.start x.length)) accepted.now }
     ensures { IfOk result (λ changes. changes ≡ answer_changes present.now host lists.now accepted.now) }
 {
-    let changes = unhold(alloc, host, HeldKind::Responses, lists.responses())?;
-    let mut changes = with_room(changes, accepted.len())?;
+    let (kind, held) = (HeldKind::Responses, lists.responses());
+    let mut changes = unhold_before(alloc, host, kind, held, effects_of(accepted.len()))?;
     changes.push(Effect::Answer(host, accepted.copy()?))?;
     put_takes(present, host, accepted.as_slice(), &mut changes)?;
     Ok(changes)
@@ -144,12 +145,12 @@ fn records_to_manager(
     host: HostId,
     after: &HostLists,
     accepted: &[Extent],
-) -> Result<Seq<LogRecords>, NoMemory>
+) -> Result<ShortList<LogRecords>, NoMemory>
     requires { extent_total after.now ≤ 64 }
     ensures { IfOk result (λ log_records. (w : View) → after.now ≡ lists_in w → map as_records log_records ≡ (LogId.Manager, told_of host w accepted.now) ∷ []) }
 {
     let events = told(alloc, host, after, accepted)?;
-    one_record(alloc, LogId::Manager, events)
+    Ok(one_record(LogId::Manager, events))
 }
 
 /// What the Fabric Manager is told: each accepted extent, or one of zeros where none is accepted.
@@ -158,24 +159,22 @@ fn told(
     host: HostId,
     after: &HostLists,
     accepted: &[Extent],
-) -> Result<Seq<Event>, NoMemory>
+) -> Result<ShortList<Event>, NoMemory>
     requires { extent_total after.now ≤ 64 }
     ensures { IfOk result (λ events. (w : View) → after.now ≡ lists_in w → events ≡ told_of host w accepted.now) }
 {
     if accepted.is_empty() {
-        return told_none(alloc, host, after);
+        return Ok(told_none(host, after));
     }
     records_of_extents(alloc, host, after, EventKind::AddResponse, accepted)
 }
 
 /// What the Fabric Manager is told where no extent is accepted.
-fn told_none(alloc: Global, host: HostId, after: &HostLists) -> Result<Seq<Event>, NoMemory>
+fn told_none(host: HostId, after: &HostLists) -> ShortList<Event>
     requires { extent_total after.now ≤ 64 }
-    ensures { IfOk result (λ events. (w : View) → after.now ≡ lists_in w → events ≡ told_of host w []) }
+    ensures { (w : View) → after.now ≡ lists_in w → result ≡ told_of host w [] }
 {
-    let mut events = Seq::new(alloc);
-    events.push(event_for(host, after, EventKind::AddResponse, false, &no_extent()))?;
-    Ok(events)
+    ShortList::of(event_for(host, after, EventKind::AddResponse, false, &no_extent()))
 }
 
 /// The host takes each of the extents.

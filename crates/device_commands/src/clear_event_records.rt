@@ -84,7 +84,7 @@ fn clear_whole(alloc: Global, id: &LogId, log: &EventLog) -> Result<Draft, Refus
     if log.missed() == 0 {
         return Err(Refusal::Broken(Rule::NotOverflowed));
     }
-    let mut changes = Effects::new(alloc);
+    let mut changes = Effects::with_capacity(alloc, 2)?;
     put_cleared(id, log.len() as usize, &mut changes)?;
     changes.push(reset_of(id))?;
     Ok(Draft::changing(alloc, changes)?)
@@ -103,7 +103,7 @@ fn clear_listed(
     if let Some(fault) = log.clear_fault(handles) {
         return Err(Refusal::Broken(rule_of(fault)));
     }
-    let mut changes = Effects::new(alloc);
+    let mut changes = Effects::with_capacity(alloc, 1)?;
     put_cleared(id, handles.len(), &mut changes)?;
     Ok(Draft::changing(alloc, changes)?)
 }

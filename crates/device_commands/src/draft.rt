@@ -5,6 +5,7 @@ ghost use Rattle.device_commands.specs.ListDrafts.{lists_changed};
 ghost use Rattle.std.specs.Prelude.{◌≡◌, [], IfOk, None, Some};
 
 use crate::log_records::LogRecords;
+use crate::short_list::ShortList;
 use dcd_base::{Boxed, Bytes, NoMemory, Seq, Tag};
 use host_lists::HostLists;
 use journal_core::Effects;
@@ -21,7 +22,7 @@ pub struct DraftParts {
     /// The tags that may end by it.
     pub tags: Seq<Tag>,
     /// What it tells, log by log.
-    pub log_records: Seq<LogRecords>,
+    pub log_records: ShortList<LogRecords>,
     /// The lists of the host after it, where it changes them.
     pub lists: Option<Boxed<HostLists>>,
 }
@@ -82,7 +83,7 @@ impl Draft {
                 payload: Bytes::new(alloc),
                 changes,
                 tags: Seq::new(alloc),
-                log_records: Seq::new(alloc),
+                log_records: ShortList::new(),
                 lists: None,
             },
         )
@@ -93,7 +94,7 @@ impl Draft {
         alloc: Global,
         changes: Effects,
         tags: Seq<Tag>,
-        log_records: Seq<LogRecords>,
+        log_records: ShortList<LogRecords>,
         lists: HostLists,
     ) -> Result<Draft, NoMemory>
         ensures { IfOk result (λ draft. draft ≡ record { payload = []; changes = changes; tags = tags; log_records = log_records; lists = Some lists }) }
@@ -115,7 +116,7 @@ impl Draft {
     pub fn relisting(alloc: Global, changes: Effects, lists: HostLists) -> Result<Draft, NoMemory>
         ensures { IfOk result (λ draft. draft ≡ lists_changed changes lists) }
     {
-        let (tags, log_records) = (Seq::new(alloc), Seq::new(alloc));
+        let (tags, log_records) = (Seq::new(alloc), ShortList::new());
         Draft::listing(alloc, changes, tags, log_records, lists)
     }
 
@@ -128,7 +129,7 @@ impl Draft {
                 payload,
                 changes: Effects::new(alloc),
                 tags: Seq::new(alloc),
-                log_records: Seq::new(alloc),
+                log_records: ShortList::new(),
                 lists: None,
             },
             Content::Parts(parts) => parts.into_inner(),

@@ -9,6 +9,7 @@ ghost use Rattle.fm_payloads.specs.declared.requests.FmRequest.{FmRequest};
 ghost use Rattle.journal_core.specs.declared.outcome.Effect.{Effect};
 
 use crate::draft::{Draft, DraftParts};
+use crate::short_list::ShortList;
 use dcd_base::{Bytes, Seq, Tag};
 use dcd_codes::{Refusal, Rule};
 use device_state::State;
@@ -38,7 +39,7 @@ pub fn remove_reference(
         payload: Bytes::new(alloc),
         changes,
         tags,
-        log_records: Seq::new(alloc),
+        log_records: ShortList::new(),
         lists: None,
     };
     Ok(Draft::of(alloc, parts)?)

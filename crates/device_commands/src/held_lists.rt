@@ -39,7 +39,23 @@ pub fn unhold(
 ) -> Result<Effects, NoMemory>
     ensures { IfOk result (λ changes. changes ≡ unhold host kind held.now) }
 {
-    let mut changes = Effects::new(alloc);
+    if held.is_empty() {
+        return Ok(Effects::new(alloc));
+    }
+    unhold_before(alloc, host, kind, held, 0)
+}
+
+/// What was held is held no longer, where anything was, with room for so many effects behind it.
+pub(crate) fn unhold_before(
+    alloc: Global,
+    host: HostId,
+    kind: HeldKind,
+    held: &Extents,
+    effects: usize,
+) -> Result<Effects, NoMemory>
+    ensures { IfOk result (λ changes. changes ≡ unhold host kind held.now) }
+{
+    let mut changes = Effects::with_capacity(alloc, effects.saturating_add(1))?;
     if !held.is_empty() {
         changes.push(Effect::Unhold(host, kind))?;
     }

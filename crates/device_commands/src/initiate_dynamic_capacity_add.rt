@@ -21,10 +21,13 @@ ghost use Rattle.tag_refs.specs.Tables.{passes};
 ghost use Rattle.tag_refs.specs.declared.entries.TagEntry.{TagEntry};
 
 use crate::choosing::{Asked, new_extents};
-use crate::draft::Draft;
+use crate::draft::DraftParts;
 use crate::log_records::{LogRecords, log_full, one_record, records_by_tags};
+use crate::short_list::ShortList;
 use dcd_base::limits::TAGS;
-use dcd_base::{Extent, Extents, HostId, LogId, NoMemory, RegionId, Seq, Tag, is_no_tag};
+use dcd_base::{
+    Boxed, Bytes, Extent, Extents, HostId, LogId, NoMemory, RegionId, Seq, Tag, is_no_tag,
+};
 use dcd_codes::{Refusal, Rule};
 use device_state::State;
 use event_records::EventKind;
@@ -64,7 +67,7 @@ pub fn add(
     state: &State,
     request: &AddRequest,
     list: &Extents,
-) -> Result<Draft, Refusal>
+) -> Result<DraftParts, Refusal>
     requires reached { IsReached config.now state.now }
     ensures { ManagerAnswers config.now state.now (add_request request.now list.now) result }
 {
@@ -90,7 +93,12 @@ pub fn add(
 }
 
 /// The extents are offered, where the host and its log have room for them.
-fn offer_of(alloc: Global, state: &State, asked: &Asked, extents: Extents) -> Result<Draft, Refusal>
+fn offer_of(
+    alloc: Global,
+    state: &State,
+    asked: &Asked,
+    extents: Extents,
+) -> Result<DraftParts, Refusal>
     requires part { asked.now.host < length state.now.hosts.items }
     requires few { extent_total (part_of state.now asked.now.host).lists ≤ 64 }
     requires listed { length extents < 2 ^ 16 }
@@ -258,7 +266,7 @@ fn offer_draft(
     asked: &Asked,
     extents: Extents,
     tags: u32,
-) -> Result<Draft, NoMemory>
+) -> Result<DraftParts, NoMemory>
     requires part { asked.now.host < length state.now.hosts.items }
     requires few { extent_total (part_of state.now asked.now.host).lists + length extents ≤ 64 }
     requires tags { tags ≡ length (real_tags (extents_of_lists (part_of state.now asked.now.host).lists ++ extents)) }
@@ -273,8 +281,13 @@ fn offer_draft(
         &extents,
     )?;
     let changes = offering(alloc, asked.host, extents)?;
-    let ended = Seq::new(alloc);
-    Draft::listing(alloc, changes, ended, log_records, lists)
+    Ok(DraftParts {
+        payload: Bytes::new(alloc),
+        changes,
+        tags: Seq::new(alloc),
+        log_records,
+        lists: Some(Boxed::new(alloc, lists)?),
+    })
 }
 
 /// The lists of the host with the offer.
@@ -294,21 +307,21 @@ fn offer_records(
     lists: &HostLists,
     tags_available: u32,
     extents: &Extents,
-) -> Result<Seq<LogRecords>, NoMemory>
+) -> Result<ShortList<LogRecords>, NoMemory>
     requires few { extent_total lists.now ≤ 64 }
     requires tags { tags_available ≡ tags_supported - length (real_tags (extents_of_lists lists.now)) }
     ensures { IfOk result (TellOf host EventKind.Add lists.now extents.now) }
 {
     let (kind, extents) = (EventKind::Add, extents.as_slice());
     let events = records_by_tags(alloc, host, lists, tags_available, kind, extents)?;
-    one_record(alloc, LogId::Host(host), events)
+    Ok(one_record(LogId::Host(host), events))
 }
 
-/// The change that an offer is.
+/// The change that an offer is, with room for a record of each extent behind it.
 fn offering(alloc: Global, host: HostId, extents: Extents) -> Result<Effects, NoMemory>
     ensures { IfOk result (λ changes. changes ≡ Effect.Offer host extents ∷ []) }
 {
-    let mut changes = Effects::new(alloc);
+    let mut changes = Effects::with_capacity(alloc, extents.len().saturating_add(1))?;
     changes.push(Effect::Offer(host, extents))?;
     Ok(changes)
 }

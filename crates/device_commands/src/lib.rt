@@ -4,7 +4,7 @@
 //! row that the command breaks; nothing that the device keeps is changed. In each room come, in this order, what is
 //! read, the first broken rule, the reply and the changes. `host_messages` and `manager_messages` say which command a
 //! message is. Beside the rooms stand what several share: `draft`, `log_records`, `held_lists`, `leaves`, `pages`,
-//! `rooms`, `runs`, `tags`, `tag_changes` and `responses`.
+//! `rooms`, `runs`, `short_list`, `tags`, `tag_changes` and `responses`.
 #![tactic(auto)]
 
 mod add_dynamic_capacity_response;
@@ -35,6 +35,7 @@ mod rooms;
 mod runs;
 mod scrub;
 mod set_dc_region_configuration;
+mod short_list;
 mod tag_changes;
 mod tags;
 
@@ -50,4 +51,5 @@ pub use manager_messages::quiet_draft;
 pub use responses::{answer, refused};
 pub use runs::run_of;
 pub use scrub::{Zeroed, zero_dirty};
+pub use short_list::ShortList;
 pub use tag_changes::{offer_change, told_change};

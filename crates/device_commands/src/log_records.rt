@@ -12,6 +12,7 @@ ghost use Rattle.dcd_base.specs.declared.steps.LogId.{LogId};
 ghost use Rattle.device_commands.specs.Drafts.{as_records};
 ghost use Rattle.event_log.specs.Logs.{Log};
 
+use crate::short_list::ShortList;
 use dcd_base::{Extent, HostId, LogId, NoMemory, Seq, no_tag};
 use dcd_codes::Rule;
 use device_state::State;
@@ -23,7 +24,7 @@ use std::alloc::Global;
 #[derive(Drop)]
 pub struct LogRecords {
     pub log: LogId,
-    pub events: Seq<Event>,
+    pub events: ShortList<Event>,
 }
 
 /// What is told of an extent, with what the host has available by these lists. The handle is 0.
@@ -37,6 +38,23 @@ pub fn event_for(
     requires { extent_total lists.now ≤ 64 }
     ensures { (v : View) → lists.now ≡ lists_in v → result ≡ record_for host v kind more extent.now }
 {
+    event_by_tags(host, lists, lists.tags_available(), kind, more, extent)
+}
+
+/// What is told of an extent, where it is known how many tags the host has available by these lists. The handle is 0.
+#[inline(always)]
+fn event_by_tags(
+    host: HostId,
+    lists: &HostLists,
+    tags_available: u32,
+    kind: EventKind,
+    more: bool,
+    extent: &Extent,
+) -> Event
+    requires few { extent_total lists.now ≤ 64 }
+    requires tags { tags_available ≡ tags_supported - length (real_tags (extents_of_lists lists.now)) }
+    ensures { (v : View) → lists.now ≡ lists_in v → result ≡ record_for host v kind more extent.now }
+{
     Event {
         handle: 0,
         kind,
@@ -45,7 +63,7 @@ pub fn event_for(
         more,
         extent: *extent,
         extents_available: lists.extents_available(),
-        tags_available: lists.tags_available(),
+        tags_available,
     }
 }
 
@@ -56,7 +74,7 @@ pub fn records_of_extents(
     lists: &HostLists,
     kind: EventKind,
     extents: &[Extent],
-) -> Result<Seq<Event>, NoMemory>
+) -> Result<ShortList<Event>, NoMemory>
     requires { extent_total lists.now ≤ 64 }
     ensures { IfOk result (λ events. (v : View) → lists.now ≡ lists_in v → events ≡ records_of_extents host v kind extents.now) }
 {
@@ -72,13 +90,17 @@ pub(crate) fn records_by_tags(
     tags_available: u32,
     kind: EventKind,
     extents: &[Extent],
-) -> Result<Seq<Event>, NoMemory>
+) -> Result<ShortList<Event>, NoMemory>
     requires few { extent_total lists.now ≤ 64 }
     requires tags { tags_available ≡ tags_supported - length (real_tags (extents_of_lists lists.now)) }
     ensures { IfOk result (λ events. (v : View) → lists.now ≡ lists_in v → events ≡ records_of_extents host v kind extents.now) }
 {
-    let extents_available = lists.extents_available();
+    if extents.len() == 1 {
+        let event = event_by_tags(host, lists, tags_available, kind, false, &extents[0]);
+        return Ok(ShortList::of(event));
+    }
     let mut events = Vec::with_capacity(alloc, extents.len())?;
+    let extents_available = lists.extents_available();
     for i in 0..extents.len() {
         events.push_reserved(Event {
             handle: 0,
@@ -91,7 +113,7 @@ pub(crate) fn records_by_tags(
             tags_available,
         });
     }
-    Ok(Seq::from_vec(alloc, events))
+    Ok(ShortList::of_list(Seq::from_vec(alloc, events)))
 }
 
 /// A record for each extent, for one log.
@@ -102,25 +124,19 @@ pub fn records_to(
     lists: &HostLists,
     kind: EventKind,
     extents: &[Extent],
-) -> Result<Seq<LogRecords>, NoMemory>
+) -> Result<ShortList<LogRecords>, NoMemory>
     requires { extent_total lists.now ≤ 64 }
     ensures { IfOk result (λ told. (v : View) → lists.now ≡ lists_in v → map as_records told ≡ (log, records_of_extents host v kind extents.now) ∷ []) }
 {
     let events = records_of_extents(alloc, host, lists, kind, extents)?;
-    one_record(alloc, log, events)
+    Ok(one_record(log, events))
 }
 
 /// One record alone.
-pub fn one_record(
-    alloc: Global,
-    log: LogId,
-    events: Seq<Event>,
-) -> Result<Seq<LogRecords>, NoMemory>
-    ensures { IfOk result (λ log_records. log_records ≡ record { log = log; events = events } ∷ []) }
+pub fn one_record(log: LogId, events: ShortList<Event>) -> ShortList<LogRecords>
+    ensures { result ≡ record { log = log; events = events } ∷ [] }
 {
-    let mut log_records = Seq::new(alloc);
-    log_records.push(LogRecords { log, events })?;
-    Ok(log_records)
+    ShortList::of(LogRecords { log, events })
 }
 
 /// An extent of zeros.

@@ -16,10 +16,10 @@ ghost use Rattle.media_map.specs.Places.{is_granular};
 ghost use Rattle.std.specs.Prelude.{◌≡◌, ◌<◌, ◌≤◌, All, IfOk, IfSome, IsTrue, false};
 
 use crate::draft::Draft;
-use crate::held_lists::{hold, unhold};
+use crate::held_lists::{hold, unhold_before};
 use crate::leaves::put_leaves;
 use crate::log_records::records_to;
-use crate::rooms::with_room;
+use crate::rooms::effects_of;
 use crate::tags::tags_of;
 use dcd_base::{Extent, Extents, HostId, LogId, NoMemory};
 use dcd_codes::Refusal;
@@ -95,8 +95,8 @@ fn extents_released(
     ensures drafts { IfOk result (IsReleased present.now host lists.now leaving.now after) }
     ensures few { IfOk result (λ draft. IfSome draft.lists (λ new. extent_total new ≤ 64)) }
 {
-    let changes = unhold(alloc, host, HeldKind::Releases, lists.releases())?;
-    let mut changes = with_room(changes, leaving.len())?;
+    let (kind, held) = (HeldKind::Releases, lists.releases());
+    let mut changes = unhold_before(alloc, host, kind, held, effects_of(leaving.len()))?;
     put_leaves(present, host, false, leaving, &mut changes)?;
     let tags = tags_of(alloc, leaving)?;
     let log_records = records_to(

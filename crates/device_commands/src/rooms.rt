@@ -3,7 +3,6 @@
 ghost use Rattle.std.specs.Prelude.{◌≡◌, [], IfOk};
 
 use dcd_base::{Bytes, NoMemory};
-use journal_core::Effects;
 
 /// The room without its bytes, in which a reply can be written.
 #[inline(always)]
@@ -27,12 +26,8 @@ pub(crate) fn emptied_for(room: Bytes, bytes: usize) -> Result<Bytes, NoMemory>
     Ok(Bytes::from_vec(alloc, items))
 }
 
-/// The same changes, with room for two effects for each of so many extents, and two more: an extent is changed, and told.
-pub(crate) fn with_room(changes: Effects, extents: usize) -> Result<Effects, NoMemory>
-    ensures { IfOk result (λ roomy. roomy ≡ changes) }
-{
-    let alloc = changes.allocator();
-    let mut items = changes.into_vec();
-    items.reserve(extents.saturating_mul(2).saturating_add(2))?;
-    Ok(Effects::from_vec(alloc, items))
+/// Room for two effects for each of so many extents, and two more: an extent is changed, and told.
+#[inline(always)]
+pub(crate) fn effects_of(extents: usize) -> usize {
+    extents.saturating_mul(2).saturating_add(2)
 }

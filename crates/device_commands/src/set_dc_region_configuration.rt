@@ -17,6 +17,7 @@ ghost use Rattle.std.specs.List.{range_with_len};
 
 use crate::draft::{Draft, DraftParts};
 use crate::log_records::{LogRecords, event_for, log_full, no_extent};
+use crate::short_list::ShortList;
 use dcd_base::{Bytes, Granule, HostId, LogId, NoMemory, RegionId, Seq};
 use dcd_codes::{Refusal, Rule};
 use device_state::State;
@@ -147,38 +148,31 @@ fn records_for_all(
     alloc: Global,
     state: &State,
     region: RegionId,
-) -> Result<Seq<LogRecords>, NoMemory>
+) -> Result<ShortList<LogRecords>, NoMemory>
     requires parts { length state.now.hosts.items ≡ state.now.present.hosts }
     requires few { (h : HostId) → h < state.now.present.hosts → extent_total (part_of state.now h).lists ≤ 64 }
     ensures { IfOk result (TellAll state.now region) }
 {
     let mut log_records = Seq::new(alloc);
     for host in 0..state.present.hosts() {
-        log_records.push(region_record_for(alloc, state, HostId(host), region)?)?;
+        log_records.push(region_record_for(state, HostId(host), region))?;
     }
-    Ok(log_records)
+    Ok(ShortList::of_list(log_records))
 }
 
 /// The record for a host.
-fn region_record_for(
-    alloc: Global,
-    state: &State,
-    host: HostId,
-    region: RegionId,
-) -> Result<LogRecords, NoMemory>
+fn region_record_for(state: &State, host: HostId, region: RegionId) -> LogRecords
     requires part { host < length state.now.hosts.items }
     requires few { extent_total (part_of state.now host).lists ≤ 64 }
-    ensures { IfOk result (TellsHost state.now region host) }
+    ensures { TellsHost state.now region host result }
 {
     let lists = &state.part(host).lists;
     let event = Event {
         region: region.0,
         ..event_for(host, lists, EventKind::RegionUpdated, false, &no_extent())
     };
-    let mut events = Seq::new(alloc);
-    events.push(event)?;
-    Ok(LogRecords {
+    LogRecords {
         log: LogId::Host(host),
-        events,
-    })
+        events: ShortList::of(event),
+    }
 }

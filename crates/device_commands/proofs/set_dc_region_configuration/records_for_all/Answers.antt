@@ -12,6 +12,6 @@ loop-host-preserved c view_for lists =
     let f = region_record view_for c.args.region in
     let below : i < c.args.state.now.present.hosts = omega (arith, c.loop-host-test.true, c.hosts-host-end.ensures.value) in
     ap (map as_records) c.in_ok-push.ensures.pushed
-    ∙ map-append as_records c.loop-host.log_records (c.in_ok-region_record_for.field-0 ∷ [])
-    ∙ (λ j. c.loop-host.invariant view_for lists j ++ c.in_ok-region_record_for.ensures view_for (lists i below) j ∷ [])
+    ∙ map-append as_records c.loop-host.log_records (c.region_record_for.result ∷ [])
+    ∙ (λ j. c.loop-host.invariant view_for lists j ++ c.region_record_for.ensures view_for (lists i below) j ∷ [])
     ∙ sym (ap (map f) (from_zero i) ∙ map-append f (range_with_len 0 i) (i ∷ []))
