@@ -44,6 +44,7 @@ impl Model for KeptList {
 }
 
 /// Puts the parts of a step behind the bytes. It takes no memory.
+#[inline(always)]
 fn put_parts(bytes: &mut Vec<u8>, parts: &Parts<'_>)
     requires { vec_len bytes.old + length (parts_bytes parts.now) ≤ vec_capacity bytes.old }
     ensures put { bytes.new.items ≡ bytes.old.items ++ parts_bytes parts.now }
@@ -122,6 +123,7 @@ impl KeptList {
     }
 
     /// Puts a step behind the others, its parts behind their bytes. It takes no memory.
+    #[inline(always)]
     pub(crate) fn put_step(&mut self, step: KeptStep, parts: &Parts<'_>)
         requires place { 0 < self.old.spare }
         requires width { step.width ≡ length (parts_bytes parts.now) }
