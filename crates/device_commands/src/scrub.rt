@@ -56,9 +56,9 @@ fn granules_of_runs(runs: &[Run]) -> u32
 fn zeroes(alloc: Global, runs: &[Run]) -> Result<Effects, NoMemory>
     ensures { IfOk result (λ effects. effects ≡ map Effect.Zero runs.now) }
 {
-    let mut effects = Effects::new(alloc);
+    let mut effects = Vec::with_capacity(alloc, runs.len())?;
     for i in 0..runs.len() {
-        effects.push(Effect::Zero(runs[i]))?;
+        effects.push_reserved(Effect::Zero(runs[i]));
     }
-    Ok(effects)
+    Ok(Effects::from_vec(alloc, effects))
 }
