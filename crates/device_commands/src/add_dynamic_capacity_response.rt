@@ -35,7 +35,6 @@ use journal_core::{Effect, Effects, HeldKind};
 use offer_core::broken_rule;
 use region_config::Config;
 use std::alloc::Global;
-use std::mem::replace;
 
 /// The host's response to its oldest offer: this list behind what it holds of earlier messages, and whether more
 /// messages are to follow (CXL 3.1, 8.2.9.9.9.3).
@@ -114,29 +113,33 @@ fn offer_answered(
     ensures drafts { IfOk result (IsAnswered present.now host lists.now accepted after) }
     ensures few { IfOk result (λ draft. IfSome draft.lists (λ new. extent_total new ≤ 64)) }
 {
-    let changes = answered(alloc, present, host, lists, &accepted)?;
     let tags = tags_of(alloc, lists.oldest())?;
     let log_records = records_to_manager(alloc, host, &after, accepted.as_slice())?;
+    let changes = answered(alloc, present, host, lists, accepted)?;
     Draft::listing(alloc, changes, tags, log_records, after)
 }
 
-/// What is held goes, the offer is answered, and the host takes the extents.
+/// What is held goes, the offer is answered, and the host takes the extents. Their list is not copied: it is put into
+/// its place once the runs are made of it.
 fn answered(
     alloc: Global,
     present: &Config,
     host: HostId,
     lists: &HostLists,
-    accepted: &Extents,
+    accepted: Extents,
 ) -> Result<Effects, NoMemory>
     requires host { host < present.now.hosts }
-    requires granular { All (λ x. IsTrue (is_granular present.now host x.start x.length)) accepted.now }
-    ensures { IfOk result (λ changes. changes ≡ answer_changes present.now host lists.now accepted.now) }
+    requires granular { All (λ x. IsTrue (is_granular present.now host x.start x.length)) accepted }
+    ensures { IfOk result (λ changes. changes ≡ answer_changes present.now host lists.now accepted) }
 {
     let (kind, held) = (HeldKind::Responses, lists.responses());
-    let mut changes = unhold_before(alloc, host, kind, held, effects_of(accepted.len()))?;
-    changes.push(Effect::Answer(host, accepted.copy()?))?;
+    let unheld = unhold_before(alloc, host, kind, held, effects_of(accepted.len()))?;
+    let at = unheld.len();
+    let mut changes = unheld.into_vec();
+    changes.push(Effect::Answer(host, Extents::new(alloc)))?;
     put_takes(present, host, accepted.as_slice(), &mut changes)?;
-    Ok(changes)
+    changes[at] = Effect::Answer(host, accepted);
+    Ok(Effects::from_vec(alloc, changes))
 }
 
 /// The record of what the Fabric Manager is told.
@@ -183,18 +186,15 @@ fn put_takes(
     present: &Config,
     host: HostId,
     extents: &[Extent],
-    changes: &mut Effects,
+    changes: &mut Vec<Effect>,
 ) -> Result<(), NoMemory>
     requires host { host < present.now.hosts }
     requires granular { All (λ x. IsTrue (is_granular present.now host x.start x.length)) extents.now }
-    ensures { OnOk result (changes.new ≡ changes.old ++ takes present.now host extents.now) }
+    ensures { OnOk result (changes.new.items ≡ changes.old.items ++ takes present.now host extents.now) }
 {
-    let alloc = changes.allocator();
-    let mut effects = replace(changes, Effects::new(alloc)).into_vec();
-    effects.reserve(extents.len())?;
+    changes.reserve(extents.len())?;
     for i in 0..extents.len() {
-        effects.push_reserved(Effect::Take(host, run_of(present, host, &extents[i])));
+        changes.push_reserved(Effect::Take(host, run_of(present, host, &extents[i])));
     }
-    *changes = Effects::from_vec(alloc, effects);
     Ok(())
 }

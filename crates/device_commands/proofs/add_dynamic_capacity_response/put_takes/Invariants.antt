@@ -5,6 +5,6 @@ use Rattle.device_commands.proofs.add_dynamic_capacity_response.put_takes.Given 
 -- The extents so far are taken, and there is room for the others.
 abbrev pub invariant-loop-i : goal.invariant-loop-i
 invariant-loop-i l = record {
-  put : l.effects.items ≡ l.fn.changes ++ takes l.present l.host (take l.i l.extents);
-  room : vec_len l.effects + length l.extents ≤ vec_capacity l.effects + l.i;
+  put : l.changes.items ≡ l.fn.changes.items ++ takes l.present l.host (take l.i l.extents);
+  room : vec_len l.changes + length l.extents ≤ vec_capacity l.changes + l.i;
 }
