@@ -40,7 +40,7 @@ pub fn add_reference(
 fn reference_to(alloc: Global, tags: &Tags, tag: &Tag) -> Result<Effects, NoMemory>
     ensures { IfOk result (λ changes. changes ≡ (if passes tag.now entry_referenced tags.now.entries then [] else Effect.Ref tag.now true ∷ [])) }
 {
-    let mut changes = Effects::new(alloc);
+    let mut changes = Effects::with_capacity(alloc, 1)?;
     if !tags.is_referenced(tag) {
         changes.push(Effect::Ref(*tag, true))?;
     }

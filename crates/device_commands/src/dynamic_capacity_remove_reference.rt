@@ -31,9 +31,9 @@ pub fn remove_reference(
     if !state.tags.is_referenced(tag) {
         return Err(Refusal::Broken(Rule::NoReference));
     }
-    let mut changes = Effects::new(alloc);
+    let mut changes = Effects::with_capacity(alloc, 2)?;
     changes.push(Effect::Ref(*tag, false))?;
-    let mut tags = Seq::new(alloc);
+    let mut tags = Seq::with_capacity(alloc, 1)?;
     tags.push(*tag)?;
     let parts = DraftParts {
         payload: Bytes::new(alloc),

@@ -131,7 +131,7 @@ fn region_draft(
     requires few { (h : HostId) → h < state.now.present.hosts → extent_total (part_of state.now h).lists ≤ 64 }
     ensures { IfOk result (IsSet state.now region block) }
 {
-    let mut changes = Effects::new(alloc);
+    let mut changes = Effects::with_capacity(alloc, usize::from(state.present.hosts()) + 1)?;
     changes.push(Effect::Block(region, block))?;
     let parts = DraftParts {
         payload: Bytes::new(alloc),

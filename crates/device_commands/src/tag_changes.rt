@@ -62,7 +62,7 @@ pub fn offer_change(
 fn told_again(alloc: Global, host: HostId, tag: &Tag) -> Result<TagChange, NoMemory>
     ensures { IfOk result (λ change. change ≡ TagChange.OfHost host (tag.now ∷ [])) }
 {
-    let mut tags = Seq::new(alloc);
+    let mut tags = Seq::with_capacity(alloc, 1)?;
     tags.push(*tag)?;
     Ok(TagChange::OfHost { host, tags })
 }
@@ -78,7 +78,7 @@ fn runs_of(
     requires granular { AreGranular config.now host extents.now }
     ensures { IfOk result (λ runs. runs ≡ map (run_of config.now host) extents.now) }
 {
-    let mut runs = Runs::new(alloc);
+    let mut runs = Runs::with_capacity(alloc, extents.len())?;
     for i in 0..extents.len() {
         runs.push(run_of(config, host, &extents.as_slice()[i]))?;
     }

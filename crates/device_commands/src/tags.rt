@@ -12,7 +12,7 @@ use std::alloc::Global;
 pub fn tags_of(alloc: Global, extents: &[Extent]) -> Result<Seq<Tag>, NoMemory>
     ensures { IfOk result (λ tags. tags ≡ tags_of extents.now) }
 {
-    let mut tags = Seq::new(alloc);
+    let mut tags = Seq::with_capacity(alloc, extents.len().min(1))?;
     for i in 0..extents.len() {
         put_tag(&extents[i].tag, &mut tags)?;
     }

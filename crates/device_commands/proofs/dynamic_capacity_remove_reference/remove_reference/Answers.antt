@@ -16,8 +16,8 @@ returns c journal legal kept = (
   ap (λ b. not b breaks Rule.NoReference) (tags_referenced c.args.config.now journal c.args.state.now.tags.entries c.requires.reached.sound legal kept.tags_are c.args.tag.now ∙ sym c.is_referenced.ensures ∙ c.if-not-is_referenced.false),
   subst (IsOutcome (record { payload = []; changes = Effect.Ref c.args.tag.now false ∷ []; tags = c.args.tag.now ∷ []; log_records = [] })) (sym c.in_ok-of.ensures) (record {
     payload = c.new.ensures;
-    changes = c.in_ok-push.ensures.pushed ∙ ap (λ (changes : List Effect). changes ++ Effect.Ref c.args.tag.now false ∷ []) c.new-changes.ensures;
-    tags = c.in_ok-push-2.ensures.pushed ∙ ap (λ (tags : List Tag). tags ++ c.args.tag.now ∷ []) c.new-tags.ensures;
+    changes = c.in_ok-push.ensures.pushed ∙ ap (λ (changes : List Effect). changes ++ Effect.Ref c.args.tag.now false ∷ []) c.in_ok-changes.ensures;
+    tags = c.in_ok-push-2.ensures.pushed ∙ ap (λ (tags : List Tag). tags ++ c.args.tag.now ∷ []) c.in_ok-tags.ensures;
     log_records = ap (map as_records) c.new-2.ensures;
     lists = refl;
   }),
