@@ -150,7 +150,7 @@ fn records_to_manager(
     accepted: &[Extent],
 ) -> Result<ShortList<LogRecords>, NoMemory>
     requires { extent_total after.now ≤ 64 }
-    ensures { IfOk result (λ log_records. (w : View) → after.now ≡ lists_in w → map as_records log_records ≡ (LogId.Manager, told_of host w accepted.now) ∷ []) }
+    ensures { IfOk result (λ records. (w : View) → after.now ≡ lists_in w → map as_records records ≡ (LogId.Manager, told_of host w accepted.now) ∷ []) }
 {
     let events = told(alloc, host, after, accepted)?;
     Ok(one_record(LogId::Manager, events))
