@@ -1,12 +1,16 @@
 -- What a turn of the sanitizer zeroes is what a scrub zeroes.
-use Rattle.std.proofs.Common.{◌≡◌, ℕ, ◌<◌, List, [], ◌∷◌, length, map, refl, ap, ◌∙◌, arith}
-use Rattle.std.proofs.lemmas.List.{get_or_default}
+use Rattle.std.proofs.Common.{◌≡◌, ℕ, zero, suc, ◌+◌, ◌<◌, min, cond, List, [], ◌∷◌, length, map, get_or, take, drop, refl, ap, sym, ◌∙◌, arith}
+use Rattle.std.specs.Prelude.{count_by}
+use Rattle.std.specs.List.{filter, range_with_len}
+use Rattle.std.proofs.Math.Seq.{drop-length}
+use Rattle.std.proofs.lemmas.List.{drop_more, get_or_default, take_min}
+use Rattle.std.proofs.lemmas.List.Sums.{length-filter, sum_by-cons}
 use Rattle.dcd_base.specs.declared.media.Run.{Run}
 use Rattle.region_config.specs.Configurations.{Configuration}
 use Rattle.region_config.specs.Granules.{granule_total, same_region}
 use Rattle.table_laws.specs.GranuleCells.{IsCell, status_of}
 use Rattle.granule_map.specs.Choices.{joined}
-use Rattle.granule_map.specs.StateLists.{is_dirty_at, is_dirty_state}
+use Rattle.granule_map.specs.StateLists.{count_of, is_dirty_at, is_dirty_state, same_state}
 use Rattle.granule_map.specs.declared.states.GranuleState.{GranuleState}
 use Rattle.granule_table.specs.Tables.{CellTable, cell_at}
 use Rattle.device_state.specs.StateAfter.{IsStateAfter}
@@ -37,6 +41,37 @@ same_dirty c past t g below is =
     ap is_dirty_state (get_or_default t.states g GranuleState.Free GranuleState.Dirty below)
     ∙ dirty_is (cell_at t g).state
     ∙ ap is_dirty is.status_is
+
+-- ---- how many are dirty
+
+dirty_one : (s : GranuleState) → same_state GranuleState.Dirty s ≡ is_dirty_state s
+dirty_one GranuleState.Free = refl
+dirty_one (GranuleState.Reserved h) = refl
+dirty_one (GranuleState.Held h) = refl
+dirty_one (GranuleState.Tagged t) = refl
+dirty_one GranuleState.Dirty = refl
+
+dirty_many : (states : List GranuleState) (a n : ℕ) → a + n ≡ length states →
+    count_by (is_dirty_at states) (range_with_len a n) ≡ count_by (same_state GranuleState.Dirty) (drop a states)
+dirty_many states a zero whole =
+    let end : length states ≡ a = omega (arith, whole) in
+    sym (ap (count_by (same_state GranuleState.Dirty)) (ap (λ m. drop m states) (sym end) ∙ drop-length states))
+dirty_many states a (suc n) whole =
+    let here = get_or states a GranuleState.Free in
+    sum_by-cons (λ g. cond (is_dirty_at states g) 1 0) a (range_with_len (a + 1) n)
+    ∙ ap (λ m. cond (is_dirty_at states a) 1 0 + m) (dirty_many states (a + 1) n (omega (arith, whole)))
+    ∙ ap (λ b. cond b 1 0 + count_by (same_state GranuleState.Dirty) (drop (a + 1) states)) (sym (dirty_one (get_or states a GranuleState.Free)))
+    ∙ sym (sum_by-cons (λ s. cond (same_state GranuleState.Dirty s) 1 0) here (drop (a + 1) states))
+    ∙ ap (count_by (same_state GranuleState.Dirty)) (sym (drop_more states a GranuleState.Free (omega (arith, whole))))
+
+-- no more are zeroed than are dirty
+pub no_more : (c : Configuration) (states : List GranuleState) (n many : ℕ) → length states ≡ granule_total c → many ≡ count_of states GranuleState.Dirty →
+    lowest_dirty c (is_dirty_at states) (min n many) ≡ lowest_dirty c (is_dirty_at states) n
+no_more c states n many long count =
+    let dirty = filter (is_dirty_at states) (range_with_len 0 (granule_total c)) in
+    let all : many ≡ length (filter (is_dirty_at states) (range_with_len 0 (granule_total c))) =
+    count ∙ sym (dirty_many states 0 (granule_total c) (omega (arith, long))) ∙ sym (length-filter (is_dirty_at states) (range_with_len 0 (granule_total c))) in
+    ap (λ m. take (min n m) dirty) all ∙ take_min n dirty
 
 -- ---- what is zeroed
 

@@ -33,7 +33,9 @@ pub fn zero_dirty(
     requires reached { IsReached config.now state.now }
     ensures { IfOk result (IsZeroed config.now state.now most) }
 {
-    let runs = dirty_runs(alloc, state.granules.states(), config, u32::from(most))?;
+    // No more are looked for than there are.
+    let wanted = u32::from(most).min(state.granules.dirty());
+    let runs = dirty_runs(alloc, state.granules.states(), config, wanted)?;
     Ok(Zeroed {
         granules: granules_of_runs(runs.as_slice()),
         changes: zeroes(alloc, runs.as_slice())?,
