@@ -35,7 +35,9 @@ use Rattle.tag_refs.specs.declared.entries.TagEntry.{TagEntry}
 use Rattle.control_core.specs.Doing.{IsDone, IsOfHost}
 use Rattle.device_commands.specs.TagChanges.{told_change}
 use Rattle.device_state.specs.Entered.{lists_by, lists_put, unheld}
-use Rattle.control_core.specs.Recording.{records_entered}
+use Rattle.control_core.specs.Offers.{lists_for}
+use Rattle.control_core.specs.Recording.{ending_with, lists_or_had, records_entered}
+use Rattle.device_commands.specs.DraftContents.{lists_alone}
 use Rattle.device_state.specs.Updates.{IsUpdate, lists_after}
 use Rattle.device_state.specs.declared.state.State.{State}
 use Rattle.device_state.specs.declared.updates.NewLists.{NewLists}
@@ -206,6 +208,14 @@ module _ (c : Configuration) (before : List Entry) (s : State) (kept : IsStateAf
         update = subst (λ (x : List Effect × List Tag). IsUpdate c before x.0 (record { lists = None; tags = told_change h x.1 }))
             (λ i. (sym effects_are i, sym drafts.tags i)) (told_less c before (effects_of c (effects before) o) None h o.tags (update_same c before h o of stay));
       }
+
+  -- so in both cases
+  pub done_either : (its : Option NewLists) → draft.lists ≡ lists_alone its → (reply : Reply) (new : List Effect) → reply ≡ response q Code.Success draft.payload →
+      (had : Lists) → had ≡ lists_in (view_of c h before) →
+      new ≡ (draft.changes ++ map Effect.TagEnd (ending_with h (lists_or_had had its) s.tags.entries draft.tags)) ++ records_entered (effects before) draft.log_records →
+      IsDone c before q o (record { reply = reply; effects = new; update = record { lists = lists_for h (lists_alone its); tags = told_change h draft.tags } })
+  done_either None none reply new answers had is_had is = done_same none reply new answers had is_had is
+  done_either (Some it) some reply new answers had is_had is = done_new it.lists some reply new answers is
 
 -- a reply alone is done
 pub replied_done : (c : Configuration) (before : List Entry) (s : State) → IsStateAfter c before s → (q : Request) (h : HostId) (o : Outcome) → IsOfHost c before h o → (payload : List ℕ)

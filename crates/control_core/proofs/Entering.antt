@@ -14,7 +14,7 @@ use Rattle.device_state.specs.Entered.{IsEntered}
 use Rattle.device_state.specs.StateAfter.{IsReached}
 use Rattle.device_state.specs.Updates.{IsOfDevice, IsUpdate}
 use Rattle.device_state.specs.declared.state.State.{State}
-use Rattle.device_state.specs.declared.updates.NewParts.{NewParts}
+use Rattle.device_state.specs.declared.updates.Update.{Update}
 use Rattle.device_state.proofs.EnteredSteps.{kept-entered, of_device}
 use Rattle.control_core.specs.Deciding.{Holds, IsShort}
 use Rattle.control_core.specs.Pasts.{CanEnter, EntersStep, IsOfStep, IsPast, LiveControlled}
@@ -51,7 +51,7 @@ step_of_device d new step = subst (All (IsOfDevice d.config)) step.effects_are (
 
 -- the entry behind a past leads to what is kept once it is entered
 pub past_entered : (c : Configuration) (past : List Entry) (old now : State) → IsPast c past old → (e : Entry) → Meets c past e → (new : List Effect) → e.effects ≡ new →
-    (u : NewParts) → IsUpdate c past new u → IsEntered c new u old now → IsPast c (past ++ e ∷ []) now
+    (u : Update) → IsUpdate c past new u → IsEntered c new u old now → IsPast c (past ++ e ∷ []) now
 past_entered c past old now leads e meets new are u update entered = record {
   sound = leads.sound;
   legal = Each-push (Meets c) past e leads.legal meets;
@@ -59,14 +59,14 @@ past_entered c past old now leads e meets new are u update entered = record {
       (subst (λ es. IsUpdate c past es u) (sym are) update) (subst (λ es. IsEntered c es u old now) (sym are) entered);
 }
 
-pub reached_entered : (d : LiveControlled) (now : State) (new : List Effect) (u : NewParts) → CanEnter d new u → IsEntered d.config new u d.state now → IsReached d.config now
+pub reached_entered : (d : LiveControlled) (now : State) (new : List Effect) (u : Update) → CanEnter d new u → IsEntered d.config new u d.state now → IsReached d.config now
 reached_entered d now new u can entered =
     reached_past d.config (can.step.past ++ can.step.entry ∷ []) now
     (past_entered d.config can.step.past d.state now can.step.leads can.step.entry can.step.meets new can.step.effects_are u can.update entered)
 
 -- so what every control keeps is kept
 pub holds_next : (old now : LiveControlled) (before : List Entry) → Holds old.config before old.state → (e : Entry) → Meets old.config before e → e.stamp ≡ next_stamp before → IsShort e.reply →
-    (new : List Effect) → e.effects ≡ new → (u : NewParts) → IsUpdate old.config before new u → EntersStep old now new u → Holds now.config (before ++ e ∷ []) now.state
+    (new : List Effect) → e.effects ≡ new → (u : Update) → IsUpdate old.config before new u → EntersStep old now new u → Holds now.config (before ++ e ∷ []) now.state
 holds_next old now before holds e meets stamp short new are u update enters =
     let leads = enters before (past_held old.config before old.state holds) update e meets are in record {
       sound = leads.sound;

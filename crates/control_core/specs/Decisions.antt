@@ -1,5 +1,6 @@
 -- What a decision has.
 use Rattle.std.specs.Prelude.{[], None}
+use Rattle.device_commands.specs.declared.draft.DraftedStep.{DraftedStep}
 use Rattle.control_core.specs.declared.decided.Decided.{Decided}
 use Rattle.control_core.specs.declared.decided.DecisionContent.{DecisionContent}
 use Rattle.journal_core.specs.declared.acts.Reply.{Reply}
@@ -9,7 +10,11 @@ use Rattle.device_state.specs.declared.updates.TagChange.{TagChange}
 abbrev pub only_replied : Reply → Decided
 only_replied reply = record { reply = reply; effects = []; update = record { lists = None; tags = TagChange.Nothing } }
 
+-- what a draft comes to, with what the step puts beside it
+abbrev pub decided_by : DraftedStep → Decided
+decided_by s = record { reply = s.reply; effects = s.effects; update = s.update }
+
 -- the parts: of a reply alone no effects, and nothing that is put in place
 abbrev pub decided_in : DecisionContent → Decided
 decided_in (DecisionContent.Reply reply) = only_replied reply
-decided_in (DecisionContent.Step decided) = decided
+decided_in (DecisionContent.Step step) = decided_by step.value

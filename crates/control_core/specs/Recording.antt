@@ -1,5 +1,5 @@
 -- The records of a step, by the logs that are kept.
-use Rattle.std.specs.Prelude.{ℕ, ◌-◌, ◌==◌, List, [], ◌∷◌, flat_map, if◌then◌else◌, ◌≡◌, ◌++◌, Bool, map, not}
+use Rattle.std.specs.Prelude.{ℕ, ◌-◌, ◌==◌, List, [], ◌∷◌, flat_map, if◌then◌else◌, ◌≡◌, ◌++◌, Bool, Option, Some, None, map, not}
 use Rattle.dcd_base.specs.declared.steps.LogId.{LogId}
 use Rattle.event_log.specs.LogStates.{handle_after}
 use Rattle.event_records.specs.declared.events.Event.{Event}
@@ -20,6 +20,7 @@ use Rattle.tag_refs.specs.Tables.{is_used, passes, set_by}
 use Rattle.tag_refs.specs.declared.entries.TagEntry.{TagEntry}
 use Rattle.device_state.specs.StateAfter.{IsStateAfter}
 use Rattle.device_state.specs.declared.state.State.{State}
+use Rattle.device_state.specs.declared.updates.NewLists.{NewLists}
 
 -- one record, by the next handle and the room of its log, and the next handle after it
 abbrev pub record_by : LogId → ℕ → ℕ → Event → Effect
@@ -43,6 +44,11 @@ ends_by_lists h l entries t = passes t (λ e. not (is_used (set_by h (has_extent
 
 abbrev pub ending_with : HostId → Lists → List TagEntry → List Tag → List Tag
 ending_with h l entries tags = ending h (λ t. has_extent_of t l.accepted) (λ t. list_any (has_extent_of t) l.offers) entries tags
+
+-- the lists of a host by an update, or those that it had
+abbrev pub lists_or_had : Lists → Option NewLists → Lists
+lists_or_had had None = had
+lists_or_had had (Some new) = new.lists
 
 -- ---- by each journal that leads to what is kept
 

@@ -120,10 +120,7 @@ fn manager_draft(
                 length: *length,
                 tag: *tag,
             };
-            match add(alloc, config, state, &request, extents) {
-                Ok(parts) => Ok(Draft::of(alloc, parts)?),
-                Err(refusal) => Err(refusal),
-            }
+            add(alloc, config, state, &request, extents)
         }
         FmRequest::Remove {
             host,
@@ -140,10 +137,7 @@ fn manager_draft(
                 length: *length,
                 tag: *tag,
             };
-            match remove(alloc, config, state, &request, extents) {
-                Ok(parts) => Ok(Draft::of(alloc, parts)?),
-                Err(refusal) => Err(refusal),
-            }
+            remove(alloc, config, state, &request, extents)
         }
         FmRequest::AddReference { tag } => add_reference(alloc, config, state, tag),
         FmRequest::RemoveReference { tag } => remove_reference(alloc, config, state, tag),

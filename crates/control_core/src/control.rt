@@ -3,7 +3,7 @@
 ghost use Rattle.control_core.specs.Steps.{IsNextEntry, MayStep, journal_entry};
 ghost use Rattle.device_rules.specs.ChangedRuns.{AreChanges, LiesIn};
 ghost use Rattle.control_core.specs.Deciding.{AreShort, IsDecidedBy, IsShort};
-ghost use Rattle.control_core.specs.Decisions.{only_replied};
+ghost use Rattle.control_core.specs.Decisions.{decided_by, only_replied};
 ghost use Rattle.device_rules.specs.Answers.{answer as answer_to};
 ghost use Rattle.device_rules.specs.Legal.{Legal};
 ghost use Rattle.device_state.specs.Updates.{IsUpdate};
@@ -17,6 +17,7 @@ use crate::live::LiveControl;
 use crate::plan::Plan;
 use crate::planned::PlannedEntry;
 use dcd_base::{Actor, Boxed, Bytes, Changes, NoMemory, Stamp};
+use device_commands::DraftedStep;
 use device_state::Update;
 use journal_core::{Act, Effects, Entry, EntryEffects, KeptEntries, Reply};
 use region_config::Config;
@@ -153,7 +154,7 @@ impl Control {
                 self.keep_room(reply);
                 Ok(effects)
             }
-            DecisionContent::Step(decided) => self.take_step(pass, line, actor, &act, decided),
+            DecisionContent::Step(step) => self.take_step(pass, line, actor, &act, step),
         }
     }
 
@@ -206,23 +207,20 @@ impl Control {
         line: u32,
         actor: Actor,
         act: &Act,
-        decided: Boxed<Decided>,
+        step: Box<DraftedStep>,
     ) -> Result<Effects, NoMemory>
         requires may { MayStep self.old.config actor act.now }
-        requires decided { IsDecidedBy self.old.config self.old.entries actor act.now decided }
+        requires decided { IsDecidedBy self.old.config self.old.entries actor act.now (decided_by step.value) }
         ensures config { self.new.config ≡ self.old.config }
         ensures entered { OnOk result (self.new.entries ≡ self.old.entries ++ journal_entry self.old.config self.old.entries pass line actor act.now ∷ []) }
         ensures kept { OnErr result (self.new.entries ≡ self.old.entries) }
         ensures effects { IfOk result (λ effects. effects ≡ (answer_to self.old.config self.old.entries actor act.now).1) }
     {
         self.make_room()?;
-        let Decided {
-            reply,
-            effects,
-            update,
-        } = decided.into_inner();
-        self.append(pass, line, actor, act, &reply, &effects, update)?;
-        Ok(effects)
+        let mut step = step;
+        self.append(pass, line, actor, act, step.as_mut())?;
+        let none = Effects::new(self.live.allocator());
+        Ok(replace(&mut step.as_mut().effects, none))
     }
 
     /// Enters a step that is decided so, with its next entry.
@@ -233,19 +231,19 @@ impl Control {
         line: u32,
         actor: Actor,
         act: &Act,
-        reply: &Reply,
-        effects: &Effects,
-        update: Update,
+        step: &mut DraftedStep,
     ) -> Result<(), NoMemory>
         requires room { 0 < self.old.spare }
         requires may { MayStep self.old.config actor act.now }
-        requires decided { IsDecidedBy self.old.config self.old.entries actor act.now (record { reply = reply.now; effects = effects.now; update = update }) }
+        requires decided { IsDecidedBy self.old.config self.old.entries actor act.now (decided_by step.old) }
         ensures config { self.new.config ≡ self.old.config }
+        ensures effects { step.new.effects ≡ step.old.effects }
         ensures entered { OnOk result (self.new.entries ≡ self.old.entries ++ journal_entry self.old.config self.old.entries pass line actor act.now ∷ []) }
         ensures kept { OnErr result (self.new.entries ≡ self.old.entries) }
     {
-        self.entries.append(pass, line, actor, act, reply, effects)?;
-        self.live.enter(effects.as_slice(), update);
+        self.entries
+            .append(pass, line, actor, act, &step.reply, &step.effects)?;
+        self.live.enter(step.effects.as_slice(), &mut step.update);
         Ok(())
     }
 
@@ -293,7 +291,8 @@ impl Control {
         ensures room_left { self.old.spare ≤ self.new.spare + 1 }
     {
         let PlannedEntry { entry, effects } = entry;
-        self.live.enter(effects.as_slice(), update);
+        let mut update = update;
+        self.live.enter(effects.as_slice(), &mut update);
         self.entries.push_reserved(entry);
     }
 

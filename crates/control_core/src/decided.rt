@@ -1,15 +1,15 @@
 //! What a step comes to.
 
-ghost use Rattle.control_core.specs.Decisions.{only_replied, decided_in};
+ghost use Rattle.control_core.specs.Decisions.{decided_by, decided_in, only_replied};
 ghost use Rattle.dcd_codes.specs.declared.codes.Code.{Code};
 ghost use Rattle.device_rules.specs.Answers.{response};
 ghost use Rattle.device_state.specs.declared.updates.TagChange.{TagChange};
 ghost use Rattle.std.specs.Prelude.{◌≡◌, [], IfOk, None};
 
 use cci_codec::Request;
-use dcd_base::{Boxed, Bytes, NoMemory};
+use dcd_base::{Bytes, NoMemory, Seq};
 use dcd_codes::Code;
-use device_commands::answer;
+use device_commands::{DraftedStep, answer};
 use device_state::Update;
 use journal_core::{Effects, Reply};
 use std::alloc::Global;
@@ -32,7 +32,7 @@ pub enum DecisionContent {
     /// A reply, and no more.
     Reply(Reply),
     /// All parts.
-    Step(Boxed<Decided>),
+    Step(Box<DraftedStep>),
 }
 
 /// What a step comes to.
@@ -64,6 +64,7 @@ impl Decision {
     }
 
     /// A reply and effects, beside which nothing is put in place. Without effects it takes no memory.
+    #[inline(always)]
     pub(crate) fn changing(
         alloc: Global,
         reply: Reply,
@@ -74,24 +75,18 @@ impl Decision {
         if effects.is_empty() {
             return Ok(Decision::only(reply));
         }
-        Decision::of(
-            alloc,
-            Decided {
-                reply,
-                effects,
-                update: Update::nothing(),
-            },
-        )
+        let step = changing_step(alloc, reply, effects)?;
+        Ok(Decision::step(step))
     }
 
-    /// A decision of these parts. Without memory they are let go.
-    pub(crate) fn of(alloc: Global, decided: Decided) -> Result<Decision, NoMemory>
-        ensures { IfOk result (λ decision. decision ≡ decided) }
+    /// What a draft comes to beside which the step has put its parts.
+    #[inline(always)]
+    pub(crate) fn step(step: Box<DraftedStep>) -> Decision
+        ensures { result ≡ decided_by step.value }
     {
-        let decided = Boxed::new(alloc, decided)?;
-        Ok(Decision {
-            content: DecisionContent::Step(decided),
-        })
+        Decision {
+            content: DecisionContent::Step(step),
+        }
     }
 
     /// Its parts, taken from the heap.
@@ -104,7 +99,7 @@ impl Decision {
                 effects: Effects::new(alloc),
                 update: Update::nothing(),
             },
-            DecisionContent::Step(decided) => decided.into_inner(),
+            DecisionContent::Step(step) => decided_of(Box::into_inner(step)),
         }
     }
 
@@ -114,6 +109,45 @@ impl Decision {
         ensures { decided_in result ≡ self }
     {
         self.content
+    }
+}
+
+/// A reply and effects on the heap. It stands apart, so that what has no effects makes no room for them.
+#[inline(never)]
+fn changing_step(
+    alloc: Global,
+    reply: Reply,
+    effects: Effects,
+) -> Result<Box<DraftedStep>, NoMemory>
+    ensures { IfOk result (λ step. decided_by step.value ≡ record { reply = reply; effects = effects; update = record { lists = None; tags = TagChange.Nothing } }) }
+{
+    let step = DraftedStep {
+        payload: Bytes::new(alloc),
+        effects,
+        tags: Seq::new(alloc),
+        log_records: Seq::new(alloc),
+        reply,
+        update: Update::nothing(),
+    };
+    Ok(Box::new(alloc, step)?)
+}
+
+/// What is decided by the parts of a step.
+fn decided_of(step: DraftedStep) -> Decided
+    ensures { result ≡ decided_by step }
+{
+    let DraftedStep {
+        payload: _,
+        effects,
+        tags: _,
+        log_records: _,
+        reply,
+        update,
+    } = step;
+    Decided {
+        reply,
+        effects,
+        update,
     }
 }
 

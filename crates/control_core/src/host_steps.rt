@@ -1,32 +1,33 @@
 //! What a message of a host comes to: its draft, recorded, or the refusal.
 
-ghost use Rattle.control_core.specs.Recording.{AreRecorded};
+ghost use Rattle.control_core.specs.Recording.{AreRecorded, lists_or_had};
 ghost use Rattle.control_core.specs.Deciding.{IsDecided};
 ghost use Rattle.control_core.specs.Doing.{Does, Drafted, Refuses};
-ghost use Rattle.device_commands.specs.TagChanges.{told_change};
-ghost use Rattle.device_state.specs.StateAfter.{IsReached};
+ghost use Rattle.control_core.specs.Decisions.{decided_by};
+ghost use Rattle.control_core.specs.Offers.{lists_for};
+ghost use Rattle.device_commands.specs.DraftContents.{draft_in, lists_alone};
+ghost use Rattle.device_state.specs.StateAfter.{IsReached, part_of};
 ghost use Rattle.device_state.specs.Updates.{IsOfLog};
 ghost use Rattle.dcd_base.specs.declared.steps.Actor.{Actor};
 ghost use Rattle.device_commands.specs.declared.log_records.LogRecords.{LogRecords};
 ghost use Rattle.journal_core.specs.declared.acts.Act.{Act};
-ghost use Rattle.std.specs.Prelude.{◌<◌, All, IfOk, length};
+ghost use Rattle.std.specs.Prelude.{◌≡◌, ◌<◌, All, IfOk, OnOk, length};
 
-use crate::decided::{Decided, Decision, replied};
+use crate::decided::{Decision, replied};
 use crate::ending::ending;
 use crate::fitting::part_fits;
 use crate::recording::{put_ends, put_records_of_logs};
 use cci_codec::Request;
-use dcd_base::{Boxed, Bytes, HostId, NoMemory, Seq, Tag};
+use dcd_base::{Bytes, HostId, NoMemory, Seq};
 use dcd_codes::{Code, Refusal, Rule};
 use device_commands::{
-    Content, Draft, DraftParts, LogRecords, ShortList, answer, dropped, host_draft, refused,
-    told_change,
+    Content, Draft, DraftedStep, answer, dropped, host_draft, refused, told_change,
 };
-use device_state::{NewLists, State, TagChange, Update};
+use device_state::{NewLists, State};
 use host_lists::HostLists;
-use journal_core::Effects;
 use region_config::Config;
 use std::alloc::Global;
+use std::mem::replace;
 
 /// What a message of a host comes to. A reply that has a payload is written in the room.
 ///
@@ -83,7 +84,7 @@ fn host_recorded(
 
 /// A command that breaks no rule, by whose draft the host has these lists, or the ones that it had.
 #[inline(always)]
-fn recorded(
+pub(crate) fn recorded(
     alloc: Global,
     state: &State,
     host: HostId,
@@ -109,106 +110,80 @@ fn recorded_boxed(
     state: &State,
     host: HostId,
     request: &Request,
-    parts: Boxed<DraftParts>,
+    parts: Box<DraftedStep>,
 ) -> Result<Decision, NoMemory>
     requires host { host < length state.now.hosts.items }
     requires few { host < 16 }
-    requires known { All (λ (n : LogRecords). IsOfLog (length state.now.hosts.items) n.log) parts.log_records }
-    ensures { IfOk result (Does state.now host request.now parts) }
+    requires known { All (λ (n : LogRecords). IsOfLog (length state.now.hosts.items) n.log) parts.value.log_records }
+    ensures { IfOk result (Does state.now host request.now (draft_in parts.value)) }
 {
-    recorded_parts(alloc, state, host, request, parts.into_inner())
+    let mut parts = parts;
+    put_recorded(alloc, state, host, request, parts.as_mut())?;
+    Ok(Decision::step(parts))
 }
 
-/// A command that breaks no rule and may change something, by whose draft the host has these lists, or the ones that it
-/// had.
-pub(crate) fn recorded_parts(
+/// A command that breaks no rule and may change something: beside its draft stands what the step adds, and the draft's
+/// changes are all effects of the step.
+fn put_recorded(
     alloc: Global,
     state: &State,
     host: HostId,
     request: &Request,
-    parts: DraftParts,
-) -> Result<Decision, NoMemory>
+    step: &mut DraftedStep,
+) -> Result<(), NoMemory>
     requires host { host < length state.now.hosts.items }
     requires few { host < 16 }
-    requires known { All (λ (n : LogRecords). IsOfLog (length state.now.hosts.items) n.log) parts.log_records }
-    ensures { IfOk result (Does state.now host request.now parts) }
+    requires known { All (λ (n : LogRecords). IsOfLog (length state.now.hosts.items) n.log) step.old.log_records }
+    ensures { OnOk result (Does state.now host request.now (draft_in step.old) (decided_by step.new)) }
 {
-    let DraftParts {
-        payload,
-        changes,
-        tags,
-        log_records,
-        lists,
-    } = parts;
-    match lists {
-        Some(lists) => {
-            let effects = recorded_effects(
-                alloc,
-                state,
-                host,
-                lists.get(),
-                changes,
-                &tags,
-                &log_records,
-            )?;
-            let change = told_change(host, tags);
-            let update = Update::new(alloc, Some(NewLists { host, lists }), change)?;
-            let reply = answer(request, Code::Success, payload);
-            let decision = Decision::of(
-                alloc,
-                Decided {
-                    reply,
-                    effects,
-                    update,
-                },
-            )?;
-            Ok(decision)
-        }
-        None => {
-            let lists = &state.part(host).lists;
-            let effects = recorded_effects(
-                alloc,
-                state,
-                host,
-                lists,
-                changes,
-                &tags,
-                &log_records,
-            )?;
-            let update = Update::new(alloc, None, told_change(host, tags))?;
-            let reply = answer(request, Code::Success, payload);
-            let decision = Decision::of(
-                alloc,
-                Decided {
-                    reply,
-                    effects,
-                    update,
-                },
-            )?;
-            Ok(decision)
-        }
-    }
+    put_effects(alloc, state, host, step)?;
+    put_host(&mut step.update.lists, host);
+    step.update.tags = told_change(host, replace(&mut step.tags, Seq::new(alloc)));
+    let payload = replace(&mut step.payload, Bytes::new(alloc));
+    step.reply = answer(request, Code::Success, payload);
+    Ok(())
 }
 
-/// The changes, the ends of those of the tags that end once the host has these lists, and the records.
-fn recorded_effects(
+/// Puts behind the changes the ends of those of the tags that end once the host has the new lists, or those that it had,
+/// and the records.
+fn put_effects(
     alloc: Global,
     state: &State,
     host: HostId,
-    lists: &HostLists,
-    changes: Effects,
-    tags: &Seq<Tag>,
-    log_records: &ShortList<LogRecords>,
-) -> Result<Effects, NoMemory>
+    step: &mut DraftedStep,
+) -> Result<(), NoMemory>
+    requires host { host < length state.now.hosts.items }
     requires few { host < 16 }
-    requires known { All (λ (n : LogRecords). IsOfLog (length state.now.hosts.items) n.log) log_records.now }
-    ensures { IfOk result (AreRecorded state.now host lists.now changes tags.now log_records.now) }
+    requires known { All (λ (n : LogRecords). IsOfLog (length state.now.hosts.items) n.log) step.old.log_records }
+    ensures effects { OnOk result (AreRecorded state.now host (lists_or_had (part_of state.now host).lists step.old.update.lists)
+        step.old.effects step.old.tags step.old.log_records step.new.effects) }
+    ensures kept { OnOk result (step.new ≡ record step.old { effects = step.new.effects }) }
 {
-    let mut effects = changes;
-    let ended = ending(alloc, state, host, lists, tags.as_slice())?;
-    put_ends(ended.as_slice(), &mut effects)?;
-    put_records_of_logs(state, log_records, &mut effects)?;
-    Ok(effects)
+    let lists = lists_or_had(state, host, &step.update.lists);
+    let ended = ending(alloc, state, host, lists, step.tags.as_slice())?;
+    put_ends(ended.as_slice(), &mut step.effects)?;
+    put_records_of_logs(state, &step.log_records, &mut step.effects)?;
+    Ok(())
+}
+
+/// The new lists, or those that the host has.
+fn lists_or_had<'a>(state: &'a State, host: HostId, lists: &'a Option<NewLists>) -> &'a HostLists
+    requires { host < length state.now.hosts.items }
+    ensures { result.now ≡ lists_or_had (part_of state.now host).lists lists.now }
+{
+    match lists {
+        Some(new) => &new.lists,
+        None => &state.part(host).lists,
+    }
+}
+
+/// The new lists are those of this host.
+pub(crate) fn put_host(lists: &mut Option<NewLists>, host: HostId)
+    ensures { lists.new ≡ lists_for host (lists_alone lists.old) }
+{
+    if let Some(new) = lists {
+        new.host = host;
+    }
 }
 
 /// A command that breaks a rule: where it is a response or a release, its held list ends.

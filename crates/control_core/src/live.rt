@@ -118,15 +118,16 @@ impl LiveControl {
         reserve_tag(&mut self.state)
     }
 
-    /// Enters the effects of a step and what has to be put in place beside them. It takes no memory.
+    /// Enters the effects of a step and what has to be put in place beside them, of which nothing of use is left. It takes no
+    /// memory.
     ///
     /// There is room for a tag, which it may use.
     #[inline(always)]
-    pub fn enter(&mut self, new: &[Effect], update: Update)
+    pub fn enter(&mut self, new: &[Effect], update: &mut Update)
         requires room { 0 < self.old.state.tags.spare }
-        requires step { CanEnter self.old new.now update }
+        requires step { CanEnter self.old new.now update.old }
         ensures config { self.new.config ≡ self.old.config }
-        ensures entered { EntersStep self.old self.new new.now update }
+        ensures entered { EntersStep self.old self.new new.now update.old }
         ensures room_left { self.old.state.tags.spare ≤ self.new.state.tags.spare + 1 }
     {
         self.state.enter(&self.config, new, update);

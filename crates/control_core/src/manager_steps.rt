@@ -2,10 +2,12 @@
 
 ghost use Rattle.control_core.specs.Deciding.{IsDecided};
 ghost use Rattle.device_state.specs.StateAfter.{IsReached};
+ghost use Rattle.control_core.specs.Decisions.{decided_by};
+ghost use Rattle.device_commands.specs.DraftContents.{draft_in};
 ghost use Rattle.control_core.specs.Managing.{EntersDraft, Manages};
 ghost use Rattle.device_commands.specs.ManagerMessages.{FewCleared};
 ghost use Rattle.device_commands.specs.TagChanges.{OffersGranular, offer_change};
-ghost use Rattle.control_core.specs.Offers.{Offers, lists_for};
+ghost use Rattle.control_core.specs.Offers.{Offers};
 ghost use Rattle.device_state.specs.Updates.{IsOfLog};
 ghost use Rattle.device_state.specs.declared.updates.TagChange.{TagChange};
 ghost use Rattle.dcd_base.specs.declared.steps.Actor.{Actor};
@@ -13,27 +15,27 @@ ghost use Rattle.fm_payloads.specs.ManagerPayloads.{manager_request};
 ghost use Rattle.fm_payloads.specs.declared.requests.FmRequest.{FmRequest};
 ghost use Rattle.device_commands.specs.declared.log_records.LogRecords.{LogRecords};
 ghost use Rattle.journal_core.specs.declared.acts.Act.{Act};
-ghost use Rattle.std.specs.Prelude.{◌≡◌, ◌<◌, ◌∷◌, [], All, IfOk, false, if◌then◌else◌, length, not, true};
+ghost use Rattle.std.specs.Prelude.{◌≡◌, ◌<◌, ◌∷◌, [], All, IfOk, OnOk, false, if◌then◌else◌, length, not, true};
 ghost use Rattle.std.specs.declared.result.Result.TheVariants.{Ok};
 ghost use Rattle.table_laws.specs.QuietRequests.{is_quiet_manager};
 ghost use Rattle.tag_refs.specs.Tables.{is_used, passes, with_reference};
 
-use crate::decided::{Decided, Decision, replied};
+use crate::decided::{Decision, replied};
 use crate::fitting::request_fits;
-use crate::host_steps::recorded_parts;
+use crate::host_steps::{put_host, recorded};
 use crate::recording::{put_ends, put_records_of_logs};
 use cci_codec::Request;
-use dcd_base::{Boxed, Bytes, Extents, HostId, NoMemory, RegionId, Seq, Tag};
+use dcd_base::{Bytes, Extents, HostId, NoMemory, RegionId, Seq, Tag};
 use dcd_codes::{Code, Refusal, Rule};
 use device_commands::{
-    AddRequest, Content, Draft, DraftParts, RemoveRequest, add, add_reference, answer,
+    AddRequest, Content, Draft, DraftedStep, RemoveRequest, add, add_reference, answer,
     offer_change, quiet_draft, refused, remove, remove_reference,
 };
-use device_state::{NewLists, State, TagChange, Update};
+use device_state::{State, TagChange};
 use fm_payloads::{FmRequest, PayloadFault, decode};
-use host_lists::HostLists;
 use region_config::Config;
 use std::alloc::Global;
+use std::mem::replace;
 
 /// What a message of the manager comes to. A reply that has a payload is written in the room. What changes extents or tags stands
 /// apart, so that one that only reads makes no room for what that needs.
@@ -190,11 +192,15 @@ fn decide_add(
     extents: &Extents,
 ) -> Result<Decision, Refusal>
     requires reached { IsReached config.now state.now }
-    requires asked { manager_request request.now.opcode request.now.payload ≡ Ok (FmRequest.Add offer.now.host offer.now.policy offer.now.region offer.now.length offer.now.tag extents.now) }
+    requires asked { manager_request request.now.opcode request.now.payload ≡
+        Ok (FmRequest.Add offer.now.host offer.now.policy offer.now.region offer.now.length offer.now.tag extents.now) }
     ensures { Manages config.now state.now request.now result }
 {
     match add(alloc, config, state, offer, extents) {
-        Ok(parts) => Ok(added(alloc, config, state, request, offer, parts)?),
+        Ok(draft) => {
+            let step = draft.into_step(alloc)?;
+            Ok(added(alloc, config, state, request, offer, step)?)
+        }
         Err(refusal) => Err(refusal),
     }
 }
@@ -210,13 +216,14 @@ fn decide_remove(
     extents: &Extents,
 ) -> Result<Decision, Refusal>
     requires reached { IsReached config.now state.now }
-    requires asked { manager_request request.now.opcode request.now.payload ≡ Ok (FmRequest.Remove removal.now.host removal.now.flags removal.now.region removal.now.length removal.now.tag extents.now) }
+    requires asked { manager_request request.now.opcode request.now.payload ≡
+        Ok (FmRequest.Remove removal.now.host removal.now.flags removal.now.region removal.now.length removal.now.tag extents.now) }
     ensures { Manages config.now state.now request.now result }
 {
     match remove(alloc, config, state, removal, extents) {
-        Ok(parts) => {
+        Ok(draft) => {
             let host = HostId(removal.host as u8);
-            Ok(recorded_parts(alloc, state, host, request, parts)?)
+            Ok(recorded(alloc, state, host, request, draft)?)
         }
         Err(refusal) => Err(refusal),
     }
@@ -263,12 +270,11 @@ fn entered_boxed(
     alloc: Global,
     state: &State,
     request: &Request,
-    parts: Boxed<DraftParts>,
+    parts: Box<DraftedStep>,
 ) -> Result<Decision, NoMemory>
-    requires known { All (λ (n : LogRecords). IsOfLog (length state.now.hosts.items) n.log) parts.log_records }
-    ensures { IfOk result (EntersDraft state.now request.now parts [] TagChange.Nothing) }
+    requires known { All (λ (n : LogRecords). IsOfLog (length state.now.hosts.items) n.log) parts.value.log_records }
+    ensures { IfOk result (EntersDraft state.now request.now (draft_in parts.value) [] TagChange.Nothing) }
 {
-    let parts = parts.into_inner();
     entered(alloc, state, request, parts, &[], TagChange::Nothing)
 }
 
@@ -287,8 +293,8 @@ fn decide_add_reference(
 {
     match add_reference(alloc, config, state, tag) {
         Ok(draft) => {
-            let parts = draft.into_parts(alloc);
-            Ok(entered(alloc, state, request, parts, &[], TagChange::Refer(*tag))?)
+            let step = draft.into_step(alloc)?;
+            Ok(entered(alloc, state, request, step, &[], TagChange::Refer(*tag))?)
         }
         Err(refusal) => Err(refusal),
     }
@@ -310,16 +316,9 @@ fn decide_remove_reference(
     let ended = ended_unreferenced(alloc, state, tag)?;
     match remove_reference(alloc, config, state, tag) {
         Ok(draft) => {
-            let parts = draft.into_parts(alloc);
+            let step = draft.into_step(alloc)?;
             let ended = ended.as_slice();
-            Ok(entered(
-                alloc,
-                state,
-                request,
-                parts,
-                ended,
-                TagChange::Unrefer(*tag),
-            )?)
+            Ok(entered(alloc, state, request, step, ended, TagChange::Unrefer(*tag))?)
         }
         Err(refusal) => Err(refusal),
     }
@@ -343,14 +342,35 @@ fn added(
     state: &State,
     request: &Request,
     asked: &AddRequest,
-    parts: DraftParts,
+    step: Box<DraftedStep>,
 ) -> Result<Decision, NoMemory>
     requires host { asked.now.host < config.now.hosts }
     requires byte { asked.now.host < 256 }
     requires region { asked.now.region < length config.now.regions }
-    requires granular { OffersGranular config.now asked.now.host parts.changes }
-    requires known { All (λ (n : LogRecords). IsOfLog (length state.now.hosts.items) n.log) parts.log_records }
-    ensures { IfOk result (Offers config.now state.now asked.now.host asked.now.region asked.now.tag request.now parts) }
+    requires granular { OffersGranular config.now asked.now.host step.value.effects }
+    requires known { All (λ (n : LogRecords). IsOfLog (length state.now.hosts.items) n.log) step.value.log_records }
+    ensures { IfOk result (Offers config.now state.now asked.now.host asked.now.region asked.now.tag request.now (draft_in step.value)) }
+{
+    let mut step = step;
+    put_added(alloc, config, state, request, asked, step.as_mut())?;
+    Ok(Decision::step(step))
+}
+
+/// Beside the draft of an offer stands what the step adds, and its changes are all effects of the step.
+fn put_added(
+    alloc: Global,
+    config: &Config,
+    state: &State,
+    request: &Request,
+    asked: &AddRequest,
+    step: &mut DraftedStep,
+) -> Result<(), NoMemory>
+    requires host { asked.now.host < config.now.hosts }
+    requires byte { asked.now.host < 256 }
+    requires region { asked.now.region < length config.now.regions }
+    requires granular { OffersGranular config.now asked.now.host step.old.effects }
+    requires known { All (λ (n : LogRecords). IsOfLog (length state.now.hosts.items) n.log) step.old.log_records }
+    ensures { OnOk result (Offers config.now state.now asked.now.host asked.now.region asked.now.tag request.now (draft_in step.old) (decided_by step.new)) }
 {
     let host = HostId(asked.host as u8);
     let region = RegionId(asked.region);
@@ -361,38 +381,14 @@ fn added(
         host,
         region,
         &asked.tag,
-        &parts.changes,
+        &step.effects,
     )?;
-    let DraftParts {
-        payload,
-        changes,
-        tags: _,
-        log_records,
-        lists,
-    } = parts;
-    let mut effects = changes;
-    put_records_of_logs(state, &log_records, &mut effects)?;
-    let update = Update::new(alloc, new_lists(host, lists), change)?;
-    let reply = answer(request, Code::Success, payload);
-    let decision = Decision::of(
-        alloc,
-        Decided {
-            reply,
-            effects,
-            update,
-        },
-    )?;
-    Ok(decision)
-}
-
-/// The lists of the host, where they are new.
-fn new_lists(host: HostId, lists: Option<Boxed<HostLists>>) -> Option<NewLists>
-    ensures { result ≡ lists_for host lists }
-{
-    match lists {
-        Some(lists) => Some(NewLists { host, lists }),
-        None => None,
-    }
+    put_records_of_logs(state, &step.log_records, &mut step.effects)?;
+    put_host(&mut step.update.lists, host);
+    step.update.tags = change;
+    let payload = replace(&mut step.payload, Bytes::new(alloc));
+    step.reply = answer(request, Code::Success, payload);
+    Ok(())
 }
 
 /// A command that changes no lists is entered, by which these tags end.
@@ -400,32 +396,36 @@ fn entered(
     alloc: Global,
     state: &State,
     request: &Request,
-    parts: DraftParts,
+    step: Box<DraftedStep>,
     ended: &[Tag],
     change: TagChange,
 ) -> Result<Decision, NoMemory>
-    requires known { All (λ (n : LogRecords). IsOfLog (length state.now.hosts.items) n.log) parts.log_records }
-    ensures { IfOk result (EntersDraft state.now request.now parts ended.now change) }
+    requires known { All (λ (n : LogRecords). IsOfLog (length state.now.hosts.items) n.log) step.value.log_records }
+    ensures { IfOk result (EntersDraft state.now request.now (draft_in step.value) ended.now change) }
 {
-    let DraftParts {
-        payload,
-        changes,
-        tags: _,
-        log_records,
-        lists: _,
-    } = parts;
-    let mut effects = changes;
-    put_ends(ended, &mut effects)?;
-    put_records_of_logs(state, &log_records, &mut effects)?;
-    let update = Update::new(alloc, None, change)?;
-    let reply = answer(request, Code::Success, payload);
-    let decision = Decision::of(
-        alloc,
-        Decided {
-            reply,
-            effects,
-            update,
-        },
-    )?;
-    Ok(decision)
+    let mut step = step;
+    put_entered(alloc, state, request, step.as_mut(), ended, change)?;
+    Ok(Decision::step(step))
+}
+
+/// Beside the draft of a command that changes no lists stands what the step adds, by which these tags end, and its changes
+/// are all effects of the step.
+fn put_entered(
+    alloc: Global,
+    state: &State,
+    request: &Request,
+    step: &mut DraftedStep,
+    ended: &[Tag],
+    change: TagChange,
+) -> Result<(), NoMemory>
+    requires known { All (λ (n : LogRecords). IsOfLog (length state.now.hosts.items) n.log) step.old.log_records }
+    ensures { OnOk result (EntersDraft state.now request.now (draft_in step.old) ended.now change (decided_by step.new)) }
+{
+    put_ends(ended, &mut step.effects)?;
+    put_records_of_logs(state, &step.log_records, &mut step.effects)?;
+    step.update.lists = None;
+    step.update.tags = change;
+    let payload = replace(&mut step.payload, Bytes::new(alloc));
+    step.reply = answer(request, Code::Success, payload);
+    Ok(())
 }

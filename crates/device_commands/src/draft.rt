@@ -1,14 +1,15 @@
 //! What a command does that breaks no rule.
 
-ghost use Rattle.device_commands.specs.DraftContents.{parts_of_content};
+ghost use Rattle.device_commands.specs.DraftContents.{draft_in, lists_alone, parts_of_content};
 ghost use Rattle.device_commands.specs.ListDrafts.{lists_changed};
 ghost use Rattle.std.specs.Prelude.{◌≡◌, [], IfOk, None, Some};
 
 use crate::log_records::LogRecords;
 use crate::short_list::ShortList;
-use dcd_base::{Boxed, Bytes, NoMemory, Seq, Tag};
+use dcd_base::{Bytes, HostId, NoMemory, Seq, Tag};
+use device_state::{NewLists, TagChange, Update};
 use host_lists::HostLists;
-use journal_core::Effects;
+use journal_core::{Effects, Reply};
 use std::alloc::Global;
 use std::marker::Model;
 
@@ -24,7 +25,24 @@ pub struct DraftParts {
     /// What it tells, log by log.
     pub log_records: ShortList<LogRecords>,
     /// The lists of the host after it, where it changes them.
-    pub lists: Option<Boxed<HostLists>>,
+    pub lists: Option<HostLists>,
+}
+
+/// The parts of a draft, and beside them those of the step that enters it, so that both lie in one piece of memory.
+#[derive(Drop)]
+pub struct DraftedStep {
+    /// The payload of the response, which the step moves into its reply.
+    pub payload: Bytes,
+    /// What a draft changes, and then all that the step does.
+    pub effects: Effects,
+    /// The tags that may end by it, which the step moves into its update.
+    pub tags: Seq<Tag>,
+    /// What it tells, log by log.
+    pub log_records: ShortList<LogRecords>,
+    /// What the step replies.
+    pub reply: Reply,
+    /// The lists after it, under any host before the step names it, and what the step changes of the open tags.
+    pub update: Update,
 }
 
 /// What a draft has.
@@ -32,8 +50,8 @@ pub struct DraftParts {
 pub enum Content {
     /// A payload, and no more.
     Reply(Bytes),
-    /// All parts.
-    Parts(Boxed<DraftParts>),
+    /// All parts, with room for what the step adds.
+    Parts(Box<DraftedStep>),
 }
 
 /// What a command replies, changes and tells, before it is entered in the journal.
@@ -53,6 +71,76 @@ impl Model for Draft {
     ghost view = { λ draft. parts_of_content draft.content };
 }
 
+impl DraftedStep {
+    /// The parts of a draft alone.
+    fn of(parts: DraftParts) -> DraftedStep
+        ensures { draft_in result ≡ parts }
+    {
+        let DraftParts {
+            payload,
+            changes,
+            tags,
+            log_records,
+            lists,
+        } = parts;
+        DraftedStep {
+            payload,
+            effects: changes,
+            tags,
+            log_records,
+            reply: Reply::Stored,
+            update: Update {
+                lists: under_a_host(lists),
+                tags: TagChange::Nothing,
+            },
+        }
+    }
+
+    /// The parts of the draft.
+    fn into_draft(self) -> DraftParts
+        ensures { result ≡ draft_in self }
+    {
+        let DraftedStep {
+            payload,
+            effects,
+            tags,
+            log_records,
+            reply: _,
+            update,
+        } = self;
+        DraftParts {
+            payload,
+            changes: effects,
+            tags,
+            log_records,
+            lists: lists_alone(update.lists),
+        }
+    }
+}
+
+/// The lists under some host.
+fn under_a_host(lists: Option<HostLists>) -> Option<NewLists>
+    ensures { lists_alone result ≡ lists }
+{
+    match lists {
+        Some(lists) => Some(NewLists {
+            host: HostId(0),
+            lists,
+        }),
+        None => None,
+    }
+}
+
+/// The lists without their host.
+fn lists_alone(lists: Option<NewLists>) -> Option<HostLists>
+    ensures { result ≡ lists_alone lists }
+{
+    match lists {
+        Some(new) => Some(new.lists),
+        None => None,
+    }
+}
+
 impl Draft {
     /// A payload, and no more. It takes no memory.
     pub fn only(payload: Bytes) -> Draft
@@ -64,16 +152,18 @@ impl Draft {
     }
 
     /// A draft of these parts. Without memory they are let go.
+    #[inline(always)]
     pub fn of(alloc: Global, parts: DraftParts) -> Result<Draft, NoMemory>
         ensures { IfOk result (λ draft. draft ≡ parts) }
     {
-        let parts = Boxed::new(alloc, parts)?;
+        let step = Box::new(alloc, DraftedStep::of(parts))?;
         Ok(Draft {
-            content: Content::Parts(parts),
+            content: Content::Parts(step),
         })
     }
 
     /// Changes, and no more.
+    #[inline(always)]
     pub fn changing(alloc: Global, changes: Effects) -> Result<Draft, NoMemory>
         ensures { IfOk result (λ draft. draft ≡ record { payload = []; changes = changes; tags = []; log_records = []; lists = None }) }
     {
@@ -90,6 +180,7 @@ impl Draft {
     }
 
     /// Changes, the tags that may end by them, what is told, and the lists after them.
+    #[inline(always)]
     pub fn listing(
         alloc: Global,
         changes: Effects,
@@ -99,7 +190,6 @@ impl Draft {
     ) -> Result<Draft, NoMemory>
         ensures { IfOk result (λ draft. draft ≡ record { payload = []; changes = changes; tags = tags; log_records = log_records; lists = Some lists }) }
     {
-        let lists = Boxed::new(alloc, lists)?;
         Draft::of(
             alloc,
             DraftParts {
@@ -132,7 +222,26 @@ impl Draft {
                 log_records: ShortList::new(),
                 lists: None,
             },
-            Content::Parts(parts) => parts.into_inner(),
+            Content::Parts(step) => Box::into_inner(step).into_draft(),
+        }
+    }
+
+    /// Its parts where they lie on the heap, with room for what the step adds.
+    pub fn into_step(self, alloc: Global) -> Result<Box<DraftedStep>, NoMemory>
+        ensures { IfOk result (λ step. draft_in step.value ≡ self) }
+    {
+        match self.content {
+            Content::Reply(payload) => {
+                let parts = DraftParts {
+                    payload,
+                    changes: Effects::new(alloc),
+                    tags: Seq::new(alloc),
+                    log_records: ShortList::new(),
+                    lists: None,
+                };
+                Ok(Box::new(alloc, DraftedStep::of(parts))?)
+            }
+            Content::Parts(step) => Ok(step),
         }
     }
 

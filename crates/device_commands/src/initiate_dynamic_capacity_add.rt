@@ -21,13 +21,11 @@ ghost use Rattle.tag_refs.specs.Tables.{passes};
 ghost use Rattle.tag_refs.specs.declared.entries.TagEntry.{TagEntry};
 
 use crate::choosing::{Asked, new_extents};
-use crate::draft::DraftParts;
+use crate::draft::Draft;
 use crate::log_records::{LogRecords, log_full, one_record, records_by_tags};
 use crate::short_list::ShortList;
 use dcd_base::limits::TAGS;
-use dcd_base::{
-    Boxed, Bytes, Extent, Extents, HostId, LogId, NoMemory, RegionId, Seq, Tag, is_no_tag,
-};
+use dcd_base::{Extent, Extents, HostId, LogId, NoMemory, RegionId, Seq, Tag, is_no_tag};
 use dcd_codes::{Refusal, Rule};
 use device_state::State;
 use event_records::EventKind;
@@ -67,7 +65,7 @@ pub fn add(
     state: &State,
     request: &AddRequest,
     list: &Extents,
-) -> Result<DraftParts, Refusal>
+) -> Result<Draft, Refusal>
     requires reached { IsReached config.now state.now }
     ensures { ManagerAnswers config.now state.now (add_request request.now list.now) result }
 {
@@ -98,7 +96,7 @@ fn offer_of(
     state: &State,
     asked: &Asked,
     extents: Extents,
-) -> Result<DraftParts, Refusal>
+) -> Result<Draft, Refusal>
     requires part { asked.now.host < length state.now.hosts.items }
     requires few { extent_total (part_of state.now asked.now.host).lists ≤ 64 }
     requires listed { length extents < 2 ^ 16 }
@@ -266,7 +264,7 @@ fn offer_draft(
     asked: &Asked,
     extents: Extents,
     tags: u32,
-) -> Result<DraftParts, NoMemory>
+) -> Result<Draft, NoMemory>
     requires part { asked.now.host < length state.now.hosts.items }
     requires few { extent_total (part_of state.now asked.now.host).lists + length extents ≤ 64 }
     requires tags { tags ≡ length (real_tags (extents_of_lists (part_of state.now asked.now.host).lists ++ extents)) }
@@ -281,13 +279,8 @@ fn offer_draft(
         &extents,
     )?;
     let changes = offering(alloc, asked.host, extents)?;
-    Ok(DraftParts {
-        payload: Bytes::new(alloc),
-        changes,
-        tags: Seq::new(alloc),
-        log_records,
-        lists: Some(Boxed::new(alloc, lists)?),
-    })
+    let ended = Seq::new(alloc);
+    Draft::listing(alloc, changes, ended, log_records, lists)
 }
 
 /// The lists of the host with the offer.

@@ -16,13 +16,13 @@ ghost use Rattle.event_records.specs.declared.events.EventKind.{EventKind};
 ghost use Rattle.host_lists.specs.Lists.{extent_total};
 ghost use Rattle.std.specs.Prelude.{◌≡◌, ◌<◌, ◌≤◌, IfOk, Option, length, true};
 
-use crate::draft::DraftParts;
+use crate::draft::{Draft, DraftParts};
 use crate::leaves::put_leaves;
 use crate::log_records::{LogRecords, log_full, records_to};
 use crate::rooms::effects_of;
 use crate::short_list::ShortList;
 use crate::tags::tags_of;
-use dcd_base::{Boxed, Bytes, Extents, HostId, LogId, NoMemory, RegionId, Tag};
+use dcd_base::{Bytes, Extents, HostId, LogId, NoMemory, RegionId, Tag};
 use dcd_codes::{Refusal, Rule};
 use device_state::State;
 use event_records::EventKind;
@@ -62,7 +62,7 @@ pub fn remove(
     state: &State,
     request: &RemoveRequest,
     list: &Extents,
-) -> Result<DraftParts, Refusal>
+) -> Result<Draft, Refusal>
     requires reached { IsReached config.now state.now }
     ensures { ManagerAnswers config.now state.now (remove_request request.now list.now) result }
 {
@@ -136,7 +136,7 @@ fn removal_of(
     host: HostId,
     flags: u8,
     leaving: Extents,
-) -> Result<DraftParts, Refusal>
+) -> Result<Draft, Refusal>
     requires reached { IsReached config.now state.now }
     requires host { host < state.now.present.hosts }
     requires few { length leaving ≤ 64 }
@@ -161,7 +161,7 @@ fn by_force(
     host: HostId,
     cleaning: bool,
     leaving: Extents,
-) -> Result<DraftParts, NoMemory>
+) -> Result<Draft, NoMemory>
     requires host { host < config.now.hosts }
     requires part { host < length state.now.hosts.items }
     requires departs { Departs config.now host (part_of state.now host).lists cleaning leaving }
@@ -172,13 +172,7 @@ fn by_force(
     put_leaves(config, host, cleaning, leaving.as_slice(), &mut changes)?;
     let tags = tags_of(alloc, leaving.as_slice())?;
     let log_records = removal_records(alloc, host, &lists, EventKind::Forced, &leaving)?;
-    Ok(DraftParts {
-        payload: Bytes::new(alloc),
-        changes,
-        tags,
-        log_records,
-        lists: Some(Boxed::new(alloc, lists)?),
-    })
+    Draft::listing(alloc, changes, tags, log_records, lists)
 }
 
 /// The lists of the host once the extents have left.
@@ -219,18 +213,19 @@ fn by_request(
     state: &State,
     host: HostId,
     leaving: Extents,
-) -> Result<DraftParts, NoMemory>
+) -> Result<Draft, NoMemory>
     requires part { host < length state.now.hosts.items }
     requires few { extent_total (part_of state.now host).lists ≤ 64 }
     ensures { IfOk result (IsAskedFor host (part_of state.now host).lists leaving) }
 {
     let lists = &state.part(host).lists;
     let log_records = removal_records(alloc, host, lists, EventKind::Release, &leaving)?;
-    Ok(DraftParts {
+    let parts = DraftParts {
         payload: Bytes::new(alloc),
         changes: Effects::new(alloc),
         tags: tags_of(alloc, leaving.as_slice())?,
         log_records,
         lists: None,
-    })
+    };
+    Draft::of(alloc, parts)
 }

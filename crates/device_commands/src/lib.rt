@@ -39,7 +39,7 @@ mod short_list;
 mod tag_changes;
 mod tags;
 
-pub use draft::{Content, Draft, DraftParts};
+pub use draft::{Content, Draft, DraftParts, DraftedStep};
 pub use dynamic_capacity_add_reference::add_reference;
 pub use dynamic_capacity_remove_reference::remove_reference;
 pub use held_lists::dropped;

@@ -10,14 +10,14 @@ use Rattle.device_state.specs.Entered.{IsEntered}
 use Rattle.device_state.specs.StateAfter.{IsStateAfter}
 use Rattle.device_state.specs.Updates.{IsOfDevice, IsUpdate}
 use Rattle.device_state.specs.declared.state.State.{State}
-use Rattle.device_state.specs.declared.updates.NewParts.{NewParts}
+use Rattle.device_state.specs.declared.updates.Update.{Update}
 use Rattle.device_state.proofs.DeviceEffects.{of_device as legal_of_device}
 use Rattle.device_state.proofs.Keeping.{kept-entered as step_kept}
 
 pub of_device : (c : Configuration) → IsSound c → (before : List Entry) → Legal c before → (e : Entry) → Meets c before e → All (IsOfDevice c) e.effects
 of_device c sound before legal e meets = legal_of_device c before e legal meets
 
-pub kept-entered : (c : Configuration) → IsSound c → (before : List Entry) → Legal c before → (e : Entry) → Meets c before e → (u : NewParts) → (old now : State) →
+pub kept-entered : (c : Configuration) → IsSound c → (before : List Entry) → Legal c before → (e : Entry) → Meets c before e → (u : Update) → (old now : State) →
     IsStateAfter c before old → IsUpdate c before e.effects u → IsEntered c e.effects u old now → IsStateAfter c (before ++ e ∷ []) now
 kept-entered c sound before legal e meets u old now kept update entered =
     step_kept c sound before legal e meets old now u kept update entered (granules_kept c sound before legal e meets)

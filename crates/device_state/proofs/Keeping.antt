@@ -49,7 +49,7 @@ use Rattle.device_state.specs.Updates.{CanChange, IsOfDevice, IsUpdate, lists_af
 use Rattle.device_state.specs.declared.parts.HostPart.{HostPart}
 use Rattle.device_state.specs.declared.state.State.{State}
 use Rattle.device_state.specs.declared.updates.TagChange.{TagChange}
-use Rattle.device_state.specs.declared.updates.NewParts.{NewParts}
+use Rattle.device_state.specs.declared.updates.Update.{Update}
 
 -- ---- the present configuration
 
@@ -101,7 +101,7 @@ put_alike hosts (TagChange.Unrefer tag) f g entries can same = refl
 -- ---- one more entry
 
 module _ (c : Configuration) (sound : IsSound c) (before : List Entry) (legal : Legal c before) (e : Entry) (meets : Meets c before e)
-    (old now : State) (u : NewParts) (kept : IsStateAfter c before old) (update : IsUpdate c before e.effects u) (step : IsEntered c e.effects u old now) where
+    (old now : State) (u : Update) (kept : IsStateAfter c before old) (update : IsUpdate c before e.effects u) (step : IsEntered c e.effects u old now) where
   past : List Effect
   past = effects before
 

@@ -28,7 +28,7 @@ use Rattle.device_state.specs.declared.parts.HostPart.{HostPart}
 use Rattle.device_state.specs.declared.state.State.{State}
 use Rattle.device_state.specs.declared.updates.NewLists.{NewLists}
 use Rattle.device_state.specs.declared.updates.TagChange.{TagChange}
-use Rattle.device_state.specs.declared.updates.NewParts.{NewParts}
+use Rattle.device_state.specs.declared.updates.Update.{Update}
 
 -- each host's oldest offer, and the runs of the open tags
 abbrev pub oldest_in : State → HostId → List Extent
@@ -90,7 +90,7 @@ tags_put (TagChange.Refer tag) lists entries = entries_changed tag (with_referen
 tags_put (TagChange.Unrefer tag) lists entries = still_used (entries_changed tag (with_reference false) entries)
 
 -- Each part is changed by the effects, and by what is put in place.
-pub record IsEntered (c : Configuration) (new : List Effect) (u : NewParts) (old now : State) : Type 0 where
+pub record IsEntered (c : Configuration) (new : List Effect) (u : Update) (old now : State) : Type 0 where
   pub present_is : now.present ≡ fold present_by old.present new
   pub host_count : length now.hosts.items ≡ length old.hosts.items
   pub granule_count : length now.granules.states ≡ length old.granules.states

@@ -2,7 +2,6 @@ pub mod Changes
 pub mod Entered
 pub mod Granules
 pub mod StateAfter
-pub mod Placing
 pub mod Rooms
 pub mod Stages
 pub mod Updates

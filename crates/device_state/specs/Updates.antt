@@ -18,7 +18,7 @@ use Rattle.event_log.specs.LogStates.{LogState}
 use Rattle.device_state.specs.declared.state.State.{State}
 use Rattle.device_state.specs.declared.updates.NewLists.{NewLists}
 use Rattle.device_state.specs.declared.updates.TagChange.{TagChange}
-use Rattle.device_state.specs.declared.updates.NewParts.{NewParts}
+use Rattle.device_state.specs.declared.updates.Update.{Update}
 
 -- the lists of a host after more effects
 abbrev pub lists_after : Configuration → HostId → List Entry → List Effect → Lists
@@ -36,7 +36,7 @@ CanChange hosts (TagChange.OfHost host tags) entries = host < hosts
 CanChange hosts change entries = Unit {0}
 
 -- What is put in place is what the effects make of each host's lists and of the open tags.
-pub record IsUpdate (c : Configuration) (before : List Entry) (new : List Effect) (u : NewParts) : Type 0 where
+pub record IsUpdate (c : Configuration) (before : List Entry) (new : List Effect) (u : Update) : Type 0 where
   pub of_hosts : IsOfHosts c.hosts u.lists
   pub lists : (h : HostId) → h < c.hosts → lists_put u.lists h (fold (lists_by h) (lists_in (view_of c h before)) new) ≡ lists_after c h before new
   pub can_change : (entries : List TagEntry) → IsTable c (effects before) entries → CanChange c.hosts u.tags entries
@@ -69,5 +69,5 @@ log_in s LogId.Manager = s.manager
 
 -- Where what is kept is what the entries say, and one more is entered with the update that its effects ask for, it is so after it.
 abbrev pub KeepsEntered : Configuration → List Entry → Entry → Type 0
-KeepsEntered c before e = (u : NewParts) → (old now : State) → IsStateAfter c before old → IsUpdate c before e.effects u →
+KeepsEntered c before e = (u : Update) → (old now : State) → IsStateAfter c before old → IsUpdate c before e.effects u →
     IsEntered c e.effects u old now → IsStateAfter c (before ++ e ∷ []) now

@@ -9,23 +9,25 @@ ghost use Rattle.std.specs.Prelude.{◌≡◌, ◌+◌, ◌<◌, ◌≤◌, All,
 ghost use Rattle.tag_refs.specs.Tables.{entries_changed, still_used, with_reference};
 
 use crate::state::State;
-use crate::updates::{NewLists, NewParts, TagChange, Update};
-use dcd_base::{HostId, Tag};
+use crate::updates::{NewLists, TagChange, Update};
+use dcd_base::{HostId, Runs, Tag};
 use journal_core::Effect;
 use region_config::Config;
+use std::mem::{replace, swap};
 use tag_refs::Tags;
 
 impl State {
-    /// Changes every part of what is kept by the effects of a step, and puts its update in place. Takes no memory.
-    pub fn enter(&mut self, config: &Config, effects: &[Effect], update: Update)
+    /// Changes every part of what is kept by the effects of a step, and puts its update in place, of which nothing of use
+    /// is left. Takes no memory.
+    pub fn enter(&mut self, config: &Config, effects: &[Effect], update: &mut Update)
         requires hosts { length self.old.hosts.items ≡ config.now.hosts }
         requires granules { length self.old.granules.states ≡ granule_total config.now }
         requires present { self.old.present ≡ with_blocks config.now (λ r. (region_spec self.old.present r).block) }
         requires of_device { All (IsOfDevice config.now) effects.now }
-        requires of_hosts { IsOfHosts config.now.hosts update.lists }
-        requires can_change { CanChange config.now.hosts update.tags self.old.tags.entries }
+        requires of_hosts { IsOfHosts config.now.hosts update.old.lists }
+        requires can_change { CanChange config.now.hosts update.old.tags self.old.tags.entries }
         requires spare { 0 < self.old.tags.spare }
-        ensures entered { IsEntered config.now effects.now update self.old self.new }
+        ensures entered { IsEntered config.now effects.now update.old self.old self.new }
         ensures spare { self.old.tags.spare ≤ self.new.tags.spare + 1 }
     {
         // There are 16 hosts at most.
@@ -35,41 +37,38 @@ impl State {
     }
 
     /// Puts an update in place.
-    fn put(&mut self, update: Update)
+    fn put(&mut self, update: &mut Update)
         requires few { length self.old.hosts.items ≤ 16 }
-        requires of_hosts { IsOfHosts (length self.old.hosts.items) update.lists }
-        requires can_change { CanChange (length self.old.hosts.items) update.tags self.old.tags.entries }
+        requires of_hosts { IsOfHosts (length self.old.hosts.items) update.old.lists }
+        requires can_change { CanChange (length self.old.hosts.items) update.old.tags self.old.tags.entries }
         requires spare { 0 < self.old.tags.spare }
-        ensures lists { ListsPut update.lists self.old self.new }
-        ensures tags { self.new.tags.entries ≡ tags_put update.tags (λ h. (part_of self.new h).lists) self.old.tags.entries }
+        ensures lists { ListsPut update.old.lists self.old self.new }
+        ensures tags { self.new.tags.entries ≡ tags_put update.old.tags (λ h. (part_of self.new h).lists) self.old.tags.entries }
         ensures spare { self.old.tags.spare ≤ self.new.tags.spare + 1 }
         ensures kept { self.new ≡ record self.old { hosts = self.new.hosts; tags = self.new.tags } }
     {
-        if let Some(parts) = update.parts {
-            let NewParts { lists, tags } = parts.into_inner();
-            self.put_lists(lists);
-            self.put_tags(tags);
-        }
+        self.put_lists(&mut update.lists);
+        self.put_tags(&mut update.tags);
     }
 
-    /// Puts the new lists of a host in place.
-    fn put_lists(&mut self, lists: Option<NewLists>)
-        requires { IsOfHosts (length self.old.hosts.items) lists }
-        ensures lists { ListsPut lists self.old self.new }
+    /// Puts the new lists of a host in place, and those that it had in theirs.
+    fn put_lists(&mut self, lists: &mut Option<NewLists>)
+        requires { IsOfHosts (length self.old.hosts.items) lists.old }
+        ensures lists { ListsPut lists.old self.old self.new }
         ensures kept { self.new ≡ record self.old { hosts = self.new.hosts } }
     {
         if let Some(new) = lists {
-            let NewLists { host, lists } = new;
-            self.hosts[usize::from(host.0)].lists = lists.into_inner();
+            let host = usize::from(new.host.0);
+            swap(&mut self.hosts[host].lists, &mut new.lists);
         }
     }
 
     /// Changes the open tags.
-    fn put_tags(&mut self, change: TagChange)
+    fn put_tags(&mut self, change: &mut TagChange)
         requires few { length self.old.hosts.items ≤ 16 }
-        requires can_change { CanChange (length self.old.hosts.items) change self.old.tags.entries }
+        requires can_change { CanChange (length self.old.hosts.items) change.old self.old.tags.entries }
         requires spare { 0 < self.old.tags.spare }
-        ensures tags { self.new.tags.entries ≡ tags_put change (λ h. (part_of self.old h).lists) self.old.tags.entries }
+        ensures tags { self.new.tags.entries ≡ tags_put change.old (λ h. (part_of self.old h).lists) self.old.tags.entries }
         ensures spare { self.old.tags.spare ≤ self.new.tags.spare + 1 }
         ensures kept { self.new ≡ record self.old { tags = self.new.tags } }
     {
@@ -81,11 +80,13 @@ impl State {
                 runs,
                 host,
             } => {
-                let _ = self.tags.begin(tag, region, runs, host);
+                let alloc = runs.allocator();
+                let runs = replace(runs, Runs::new(alloc));
+                let _ = self.tags.begin(*tag, *region, runs, *host);
             }
-            TagChange::OfHost { host, tags } => self.set_host_of_tags(host, tags.as_slice()),
-            TagChange::Refer(tag) => refer(&mut self.tags, &tag),
-            TagChange::Unrefer(tag) => unrefer(&mut self.tags, &tag),
+            TagChange::OfHost { host, tags } => self.set_host_of_tags(*host, tags.as_slice()),
+            TagChange::Refer(tag) => refer(&mut self.tags, tag),
+            TagChange::Unrefer(tag) => unrefer(&mut self.tags, tag),
         }
     }
 

@@ -22,4 +22,4 @@ pub use laws::law_kept_entered;
 pub use parts::HostPart;
 pub use records::change_log_named;
 pub use state::State;
-pub use updates::{NewLists, NewParts, TagChange, Update};
+pub use updates::{NewLists, TagChange, Update};

@@ -102,7 +102,7 @@ impl Alone {
         } = draft.into_parts(alloc);
         self.change(host, changes.as_slice());
         if let Some(lists) = lists {
-            self.lists = lists.into_inner();
+            self.lists = lists;
         }
         answer(request, Code::Success, payload)
     }

@@ -22,7 +22,7 @@ use Rattle.std.specs.declared.result.Result.TheVariants.{Ok, Err}
 use Rattle.device_rules.specs.Legal.{Meets, right_answer, word_by}
 use Rattle.device_state.specs.Updates.{IsUpdate}
 use Rattle.device_state.specs.declared.state.State.{State}
-use Rattle.device_state.specs.declared.updates.NewParts.{NewParts}
+use Rattle.device_state.specs.declared.updates.Update.{Update}
 use Rattle.control_core.specs.Deciding.{IsDecidedBy}
 use Rattle.control_core.specs.Pasts.{CanEnter, EntersStep, IsOfStep, IsPast, LiveControlled}
 use Rattle.control_core.specs.Steps.{MayStep, journal_entry}
@@ -99,7 +99,7 @@ can_take d life leads actor act may x decided = record {
   update = decided.update;
 }
 
-pub can_inside : (c : Configuration) (s : State) (m : Stored) (new : List Effect) (u : NewParts) → CanTake (living c (without_spare s) m) new u → CanTake (living c s m) new u
+pub can_inside : (c : Configuration) (s : State) (m : Stored) (new : List Effect) (u : Update) → CanTake (living c (without_spare s) m) new u → CanTake (living c s m) new u
 can_inside c s m new u can = record {
   life = can.life;
   entry = can.entry;
@@ -110,7 +110,7 @@ can_inside c s m new u can = record {
   update = can.update;
 }
 
-pub step_of : (c : Configuration) (s : State) (m : Stored) (new : List Effect) (u : NewParts) → CanTake (living c s m) new u → IsOfStep (record { config = c; state = s }) new
+pub step_of : (c : Configuration) (s : State) (m : Stored) (new : List Effect) (u : Update) → CanTake (living c s m) new u → IsOfStep (record { config = c; state = s }) new
 step_of c s m new u can = record { past = can.life; entry = can.entry; leads = past_of can.life (living c s m) can.leads; meets = can.meets; effects_are = can.effects_are }
 
 -- the entry that is asked for has what is decided
@@ -120,7 +120,7 @@ effects_decided c life actor act may d decided e by does meets =
     meets.effects ∙ (λ i. (right_answer c life (by i) (does i)).1) ∙ ap (λ r. r.1) (right_is c life actor act may) ∙ sym decided.effects
 
 -- it may be entered with more room for tags
-pub can_with_room : (c : Configuration) (s : State) (m : Stored) (d : LiveControlled) (new : List Effect) (u : NewParts) → d.config ≡ c → d.state ≡ record s { tags = d.state.tags } → d.state.tags.entries ≡ s.tags.entries →
+pub can_with_room : (c : Configuration) (s : State) (m : Stored) (d : LiveControlled) (new : List Effect) (u : Update) → d.config ≡ c → d.state ≡ record s { tags = d.state.tags } → d.state.tags.entries ≡ s.tags.entries →
     CanTake (living c s m) new u → CanEnter d new u
 can_with_room c s m d new u same kept tags can = subst (λ k. CanEnter (record { config = k; state = d.state }) new u) (sym same) (record {
   step = record {
@@ -134,7 +134,7 @@ can_with_room c s m d new u same kept tags can = subst (λ k. CanEnter (record {
 })
 
 -- it is entered
-module _ (c : Configuration) (s : State) (m made : Stored) (room now : LiveControlled) (new : List Effect) (u : NewParts)
+module _ (c : Configuration) (s : State) (m made : Stored) (room now : LiveControlled) (new : List Effect) (u : Update)
     (same : room.config ≡ c) (kept : room.state ≡ record s { tags = room.state.tags }) (tags : room.state.tags.entries ≡ s.tags.entries)
     (is : AreZeroed m made new) (stays : now.config ≡ room.config) (enters : EntersStep room now new u) where
   pub life_taken : (life : List Entry) → IsLife life (living c s m) → IsUpdate c life new u → (e : Entry) → IsTrue (is_control e.act) →

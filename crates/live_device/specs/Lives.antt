@@ -15,7 +15,7 @@ use Rattle.device_rules.specs.Legal.{Exclusive, Legal, Meets, right_answer, word
 use Rattle.device_state.specs.StateAfter.{IsStateAfter}
 use Rattle.device_state.specs.Updates.{IsUpdate}
 use Rattle.device_state.specs.declared.state.State.{State}
-use Rattle.device_state.specs.declared.updates.NewParts.{NewParts}
+use Rattle.device_state.specs.declared.updates.Update.{Update}
 use Rattle.isolation_laws.specs.Laws.{Clean}
 use Rattle.isolation_laws.specs.Solo.{Isolated}
 use Rattle.live_device.specs.Accesses.{Stored}
@@ -90,7 +90,7 @@ IsTooLong d actor act most (StepFault.TooLong n) = (most < n) × (n ≤ 2048) ×
 IsTooLong d actor act most StepFault.NoMemory = Unit {0}
 
 -- The effects and the update are those of a command or a scrub, by some journal that leads here.
-pub record CanTake (d : Living) (new : List Effect) (u : NewParts) : Type 0 where
+pub record CanTake (d : Living) (new : List Effect) (u : Update) : Type 0 where
   pub life : List Entry
   pub entry : Entry
   pub leads : IsLife life d
@@ -100,7 +100,7 @@ pub record CanTake (d : Living) (new : List Effect) (u : NewParts) : Type 0 wher
   pub update : IsUpdate d.config life new u
 
 -- They are entered: with the entry of a command or a scrub that has them, each journal leads to the device after it.
-abbrev pub TakesUpdate : Living → Living → List Effect → NewParts → Type 0
+abbrev pub TakesUpdate : Living → Living → List Effect → Update → Type 0
 TakesUpdate old now new u = (life : List Entry) → IsLife life old → IsUpdate old.config life new u → (e : Entry) → IsTrue (is_control e.act) →
     Meets old.config life e → e.effects ≡ new → IsLife (life ++ e ∷ []) now
 

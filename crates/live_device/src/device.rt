@@ -159,7 +159,8 @@ impl LiveDevice {
     {
         self.control.make_room()?;
         zero_all(&mut self.words, new.as_slice());
-        self.control.enter(new.as_slice(), update);
+        let mut update = update;
+        self.control.enter(new.as_slice(), &mut update);
         Ok(())
     }
 

@@ -1,6 +1,7 @@
 use Rattle.std.proofs.Common.{arith, subst, sym}
 use Rattle.fm_payloads.specs.declared.requests.FmRequest.{FmRequest}
 use Rattle.journal_core.specs.Entries.{effects}
+use Rattle.device_commands.specs.DraftContents.{draft_in}
 use Rattle.device_commands.specs.Drafts.{Drafts}
 use Rattle.device_commands.specs.TagChanges.{OffersGranular}
 use Rattle.device_rules.specs.Adding.{offered}
@@ -15,16 +16,20 @@ added-requires-clause-granular c =
     let cfg = c.args.config.now in
     let o = c.args.offer.now in
     let reached = c.requires.reached in
+    let q = FmRequest.Add o.host o.policy o.region o.length o.tag c.args.extents.now in
     let it = c.in-Ok.ensures reached.journal reached.legal reached.kept in
-    subst (OffersGranular cfg o.host) (sym it.1.changes) (add_granular cfg reached.sound reached.journal reached.legal o.host o.policy o.region o.length o.tag c.args.extents.now it.0)
+    let drafts = subst (Drafts cfg o.host (view_of cfg o.host reached.journal) (manager_outcome cfg (effects reached.journal) (λ h. view_of cfg h reached.journal) q)) (sym c.in_ok-step-in-Ok.ensures) it.1 in
+    subst (OffersGranular cfg o.host) (sym drafts.changes) (add_granular cfg reached.sound reached.journal reached.legal o.host o.policy o.region o.length o.tag c.args.extents.now it.0)
 
 pub added-requires-clause-known : goal.added-requires-clause-known
 added-requires-clause-known c =
     let cfg = c.args.config.now in
     let o = c.args.offer.now in
     let reached = c.requires.reached in
+    let q = FmRequest.Add o.host o.policy o.region o.length o.tag c.args.extents.now in
     let it = c.in-Ok.ensures reached.journal reached.legal reached.kept in
-    add_known cfg reached.sound reached.journal reached.legal o.host o.policy o.region o.length o.tag c.args.extents.now it.0 c.args.state.now reached.kept c.in-Ok.parts it.1.log_records
+    let drafts = subst (Drafts cfg o.host (view_of cfg o.host reached.journal) (manager_outcome cfg (effects reached.journal) (λ h. view_of cfg h reached.journal) q)) (sym c.in_ok-step-in-Ok.ensures) it.1 in
+    add_known cfg reached.sound reached.journal reached.legal o.host o.policy o.region o.length o.tag c.args.extents.now it.0 c.args.state.now reached.kept (draft_in c.in_ok-step-in-Ok.step.value) drafts.log_records
 
 pub returns-in-Err : goal.returns-in-Err
 returns-in-Err c =
@@ -44,5 +49,6 @@ returns-in_ok-added-in-Ok c = λ before legal kept.
     decided_manager cfg before c.args.request.now q c.requires.asked it.0 c.in_ok-added-in-Ok.field-0
     (c.in_ok-added-in-Ok.ensures before (offered cfg (effects before) o.host o.policy o.region o.length o.tag xs)
     (manager_outcome cfg (effects before) (λ h. view_of cfg h before) q) kept
-    (add_of cfg c.requires.reached.sound before legal o.host o.policy o.region o.length o.tag xs it.0) it.1)
+    (add_of cfg c.requires.reached.sound before legal o.host o.policy o.region o.length o.tag xs it.0)
+    (subst (Drafts cfg o.host (view_of cfg o.host before) (manager_outcome cfg (effects before) (λ h. view_of cfg h before) q)) (sym c.in_ok-step-in-Ok.ensures) it.1))
     (omega arith)

@@ -1,5 +1,6 @@
 use Rattle.std.proofs.Common.{arith, length, subst, sym}
 use Rattle.fm_payloads.specs.declared.requests.FmRequest.{FmRequest}
+use Rattle.device_commands.specs.DraftContents.{draft_in}
 use Rattle.device_commands.specs.Drafts.{IsOutcome}
 use Rattle.journal_core.specs.Entries.{effects}
 use Rattle.device_rules.specs.Answers.{manager_outcome}
@@ -12,9 +13,9 @@ entered-requires c = record {
   known =
       let cfg = c.args.config.now in
       let reached = c.requires.reached in
-      let is = subst (IsOutcome (manager_outcome cfg (effects reached.journal) (λ h. view_of cfg h reached.journal) (FmRequest.AddReference c.args.tag.now))) (sym c.into_parts-parts.ensures)
+      let is = subst (IsOutcome (manager_outcome cfg (effects reached.journal) (λ h. view_of cfg h reached.journal) (FmRequest.AddReference c.args.tag.now))) (sym c.in_ok-step-in-Ok.ensures)
       (c.in-Ok.ensures reached.journal reached.legal reached.kept).1 in
-      no_log_records (length c.args.state.now.hosts.items) c.into_parts-parts.result is.log_records;
+      no_log_records (length c.args.state.now.hosts.items) (draft_in c.in_ok-step-in-Ok.step.value) is.log_records;
 }
 
 pub returns-in-Err : goal.returns-in-Err
@@ -31,5 +32,5 @@ returns-in_ok-entered-in-Ok c = λ before legal kept.
     let it = c.in-Ok.ensures before legal kept in
     decided_manager cfg before c.args.request.now q c.requires.asked it.0 c.in_ok-entered-in-Ok.field-0
     (c.in_ok-entered-in-Ok.ensures cfg before (manager_outcome cfg (effects before) (λ h. view_of cfg h before) q) kept (refer_of cfg before c.args.tag.now)
-    (subst (IsOutcome (manager_outcome cfg (effects before) (λ h. view_of cfg h before) q)) (sym c.into_parts-parts.ensures) it.1))
+    (subst (IsOutcome (manager_outcome cfg (effects before) (λ h. view_of cfg h before) q)) (sym c.in_ok-step-in-Ok.ensures) it.1))
     (omega arith)

@@ -1,15 +1,13 @@
-use Rattle.std.proofs.Common.{◌++◌, ◌∙◌, ap, subst, sym}
-use Rattle.journal_core.specs.Entries.{effects}
-use Rattle.control_core.specs.Doing.{IsDone}
-use Rattle.control_core.specs.Recording.{records_entered}
+use Rattle.std.proofs.Common.{subst, sym}
+use Rattle.device_commands.specs.DraftContents.{draft_in}
+use Rattle.device_commands.specs.declared.draft.DraftedStep.{DraftedStep}
+use Rattle.control_core.specs.Decisions.{decided_by}
+use Rattle.control_core.specs.Managing.{EntersDraft}
 use Rattle.control_core.specs.declared.decided.Decided.{Decided}
-use Rattle.device_state.specs.declared.updates.NewParts.{NewParts}
-use Rattle.control_core.proofs.Managed.{entered_done}
 use Rattle.control_core.proofs.manager_steps.entered.Goals as goal
 
 pub returns : goal.returns
-returns c = λ cfg before o kept of is.
-    subst (λ (d : Decided). IsDone cfg before c.args.request.now o d) (sym c.in_ok-decision.ensures)
-    (subst (λ (u : NewParts). IsDone cfg before c.args.request.now o (record { reply = c.answer-reply.result; effects = c.put_records_of_logs.new.effects; update = u })) (sym c.in_ok-update.ensures)
-    (entered_done cfg before c.args.request.now o c.args.ended.now c.args.change of c.args.parts is c.answer-reply.result c.put_records_of_logs.new.effects c.answer-reply.ensures
-    (c.in_ok-put_records_of_logs.ensures cfg before kept ∙ ap (λ es. es ++ records_entered (effects before) c.args.parts.log_records) c.in_ok-put_ends.ensures)))
+returns c =
+    subst (λ (d : Decided). EntersDraft c.args.state.now c.args.request.now (draft_in c.args.step.value) c.args.ended.now c.args.change d) (sym c.step.ensures)
+    (subst (λ (s : DraftedStep). EntersDraft c.args.state.now c.args.request.now (draft_in s) c.args.ended.now c.args.change (decided_by c.put_entered.new.step)) c.as_mut.ensures.value
+    c.in_ok-put_entered.ensures)

@@ -18,15 +18,15 @@ enter-requires-clause-of_device c =
 
 pub enter-requires-clause-can_change : goal.enter-requires-clause-can_change
 enter-requires-clause-can_change c =
-    let can = subst (λ (d : LiveControlled). CanEnter d c.args.new.now c.args.update) (sym c.self.view_is) c.requires.step in
+    let can = subst (λ (d : LiveControlled). CanEnter d c.args.new.now c.args.update.now) (sym c.self.view_is) c.requires.step in
     can.update.can_change c.self.inside.state.tags.entries can.step.leads.kept.tags_are
 
 pub invariant_of-self : goal.invariant_of-self
 invariant_of-self c =
-    let can = subst (λ (d : LiveControlled). CanEnter d c.args.new.now c.args.update) (sym c.self.view_is) c.requires.step in
-    reached_entered (record { config = c.self.inside.config; state = c.self.inside.state }) c.enter.new.self c.args.new.now c.args.update can c.enter.ensures.entered
+    let can = subst (λ (d : LiveControlled). CanEnter d c.args.new.now c.args.update.now) (sym c.self.view_is) c.requires.step in
+    reached_entered (record { config = c.self.inside.config; state = c.self.inside.state }) c.enter.new.self c.args.new.now c.args.update.now can c.enter.ensures.entered
 
 pub returns-clause-entered : goal.returns-clause-entered
 returns-clause-entered c =
-    subst (λ (d : LiveControlled). EntersStep d (record { config = c.self.inside.config; state = c.enter.new.self }) c.args.new.now c.args.update) c.self.view_is
-    (λ past leads update e meets are. past_entered c.self.inside.config past c.self.inside.state c.enter.new.self leads e meets c.args.new.now are c.args.update update c.enter.ensures.entered)
+    subst (λ (d : LiveControlled). EntersStep d (record { config = c.self.inside.config; state = c.enter.new.self }) c.args.new.now c.args.update.now) c.self.view_is
+    (λ past leads update e meets are. past_entered c.self.inside.config past c.self.inside.state c.enter.new.self leads e meets c.args.new.now are c.args.update.now update c.enter.ensures.entered)

@@ -1,0 +1,15 @@
+use Rattle.std.proofs.Common.{◌++◌, ◌∙◌, ap}
+use Rattle.dcd_codes.specs.declared.codes.Code.{Code}
+use Rattle.device_commands.specs.DraftContents.{draft_in}
+use Rattle.device_rules.specs.Answers.{response}
+use Rattle.journal_core.specs.Entries.{effects}
+use Rattle.control_core.specs.Recording.{records_entered}
+use Rattle.control_core.proofs.Managed.{entered_done}
+use Rattle.control_core.proofs.manager_steps.put_entered.Goals as goal
+
+pub returns : goal.returns
+returns c = λ cfg before o kept of is.
+    let q = c.args.request.now in
+    entered_done cfg before q o c.args.ended.now c.args.change of (draft_in c.args.step.now) is
+    c.answer.result c.put_records_of_logs.new.effects (c.answer.ensures ∙ ap (response q Code.Success) c.replace-payload.ensures.value)
+    (c.in_ok-put_records_of_logs.ensures cfg before kept ∙ ap (λ es. es ++ records_entered (effects before) c.args.step.now.log_records) c.in_ok-put_ends.ensures)
