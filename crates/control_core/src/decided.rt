@@ -9,7 +9,7 @@ ghost use Rattle.std.specs.Prelude.{◌≡◌, [], IfOk, None};
 use cci_codec::Request;
 use dcd_base::{Bytes, NoMemory, Seq};
 use dcd_codes::Code;
-use device_commands::{DraftedStep, answer};
+use device_commands::{DraftedStep, ShortList, answer};
 use device_state::Update;
 use journal_core::{Effects, Reply};
 use std::alloc::Global;
@@ -125,7 +125,7 @@ fn changing_step(
         payload: Bytes::new(alloc),
         effects,
         tags: Seq::new(alloc),
-        log_records: Seq::new(alloc),
+        log_records: ShortList::new(),
         reply,
         update: Update::nothing(),
     };
