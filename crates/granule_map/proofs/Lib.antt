@@ -4,6 +4,7 @@ pub mod Joining
 pub mod Kept
 pub mod Marked
 pub mod NextOfLanes
+pub mod NoneFree
 pub mod Ranges
 pub mod PartsReplaced
 pub mod RunSteps

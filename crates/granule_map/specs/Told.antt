@@ -1,5 +1,6 @@
 -- How the states of granules are kept: by a mark for each, beside the host and the tag that it may name.
-use Rattle.std.specs.Prelude.{◌≡◌, ℕ, ◌+◌, List, ◌++◌, take, drop, replicate, length, map, slice_index_or}
+use Rattle.std.specs.Prelude.{◌≡◌, ℕ, ◌+◌, ◌<◌, false, List, ◌++◌, take, drop, replicate, length, map, slice_index_or}
+use Rattle.memchr.specs.Find.{is_byte}
 use Rattle.std.specs.List.{range_with_len}
 use Rattle.dcd_base.specs.Words.{zero_tag}
 use Rattle.dcd_base.specs.declared.capacity.Tag.{Tag}
@@ -26,3 +27,12 @@ pub record AreKept (marks hosts : List ℕ) (tags : List Tag) : Type 0 where
   pub hosts_long : length hosts ≡ length marks
   pub tags_long : length tags ≡ length marks
   pub marked : AreMarked (states_of marks hosts tags) marks
+
+-- No granule below a number has the mark of a free one.
+abbrev pub NoneBelow : List ℕ → ℕ → Type 0
+NoneBelow marks lowest = (g : ℕ) → g < lowest → is_byte 0 (slice_index_or marks g 0) ≡ false
+
+-- What is kept of each granule, and a number below which none is free.
+pub record IsKept (marks hosts : List ℕ) (tags : List Tag) (lowest : ℕ) : Type 0 where
+  pub kept : AreKept marks hosts tags
+  pub none_below : NoneBelow marks lowest

@@ -5,6 +5,7 @@
 #![tactic(auto)]
 
 mod blocks;
+mod lowest;
 mod map;
 mod marks;
 mod replacing;

@@ -7,6 +7,7 @@ ghost use Rattle.std.specs.List.{find, list_all, prefix_len, range_with_len};
 ghost use Rattle.std.specs.Prelude.{◌≡◌, ◌↔◌, ◌+◌, ◌-◌, ◌<◌, ◌≤◌, IfOk, IsNone, OnErr, OnOk, Some, length, replicate, slice_get, slice_set, count_by, ◌++◌, take, drop};
 
 use crate::blocks::{count_free_blocks, free_from, longest_run_of, lowest_block, next_free};
+use crate::lowest::{low_between, lowest_after};
 use crate::marks::{count_with, next_other, next_with};
 use crate::replacing::{Replaced, replace_both, write_tag};
 use crate::states::{DIRTY, FREE, GranuleState, is_same_state, told};
@@ -21,17 +22,19 @@ use std::marker::Model;
 ///
 /// A state is kept as a mark, a byte that says what it is, beside the host and the tag that it may name. Searches read the
 /// marks alone, many at a time, so what a question costs goes by the runs that it passes and not by the granules in them.
+/// No granule below `lowest` is free, so that a search for free ones passes by all of them at once.
 #[derive(Debug, Drop)]
 pub struct GranuleMap {
     alloc: Global,
     marks: Vec<u8>,
     hosts: Vec<u8>,
     tags: Vec<Tag>,
+    lowest: u32,
 }
 
 impl Model for GranuleMap {
     ghost use Rattle.granule_map.specs.StateLists.{States};
-    ghost use Rattle.granule_map.specs.Told.{AreKept, states_of};
+    ghost use Rattle.granule_map.specs.Told.{IsKept, states_of};
     ghost use Rattle.std.specs.Prelude.{◌^◌, ◌-◌};
 
     ghost Value = { States };
@@ -39,7 +42,7 @@ impl Model for GranuleMap {
     // A place is kept for each granule, so a change takes no memory and there is spare for any number of them.
     ghost view = { λ map. record { states = states_of map.marks.items map.hosts.items map.tags.items; spare = 2 ^ 64 - 1 } };
 
-    ghost invariant = { λ map. AreKept map.marks.items map.hosts.items map.tags.items };
+    ghost invariant = { λ map. IsKept map.marks.items map.hosts.items map.tags.items map.lowest };
 }
 
 impl GranuleMap {
@@ -53,6 +56,7 @@ impl GranuleMap {
             marks: vec![in alloc; FREE; count as usize]?,
             hosts: vec![in alloc; 0u8; count as usize]?,
             tags: vec![in alloc; Tag([0; 16]); count as usize]?,
+            lowest: 0,
         })
     }
 
@@ -65,6 +69,7 @@ impl GranuleMap {
             marks: Vec::from_slice(self.alloc, self.marks.as_slice())?,
             hosts: Vec::from_slice(self.alloc, self.hosts.as_slice())?,
             tags: Vec::from_slice(self.alloc, self.tags.as_slice())?,
+            lowest: self.lowest,
         })
     }
 
@@ -119,12 +124,15 @@ impl GranuleMap {
         ensures free { result.free ≡ count_by is_free_state (part_of self.old.states run) }
         ensures dirty { result.dirty ≡ count_by is_dirty_state (part_of self.old.states run) }
     {
+        let _granules = self.len();
+        let mark = state.mark();
+        self.lowest = lowest_after(self.lowest, &run, mark);
         write_tag(self.tags.as_mut_slice(), &run, &state);
         replace_both(
             self.marks.as_mut_slice(),
             self.hosts.as_mut_slice(),
             &run,
-            state.mark(),
+            mark,
             state.host(),
         )
     }
@@ -266,7 +274,8 @@ impl GranuleMap {
         ensures { IsNext (is_free_at self.now.states) from end result }
     {
         let _granules = self.len();
-        next_with(self.marks.as_slice(), FREE, from as usize, end as usize) as u32
+        let low = low_between(self.lowest, from, end);
+        next_with(self.marks.as_slice(), FREE, low as usize, end as usize) as u32
     }
 
     /// The lowest granule from one on that is not free, or the end where each below it is.

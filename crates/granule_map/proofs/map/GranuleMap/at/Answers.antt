@@ -19,9 +19,9 @@ returns c =
     let mark : c.index.result.now ≡ get_or c.self.inside.marks.items c.args.granule 0 =
     item_read marks c.args.granule c.index.result.now 0 known (subst (λ n. c.index.result.now ≡ get_or c.self.inside.marks.items n c.index.result.now) place c.index.ensures) in
     let host : c.index-2.result.now ≡ get_or c.self.inside.hosts.items c.args.granule 0 =
-    item_read hosts c.args.granule c.index-2.result.now 0 (omega (arith, known, c.self.invariant.hosts_long)) (subst (λ n. c.index-2.result.now ≡ get_or c.self.inside.hosts.items n c.index-2.result.now) place c.index-2.ensures) in
+    item_read hosts c.args.granule c.index-2.result.now 0 (omega (arith, known, c.self.invariant.kept.hosts_long)) (subst (λ n. c.index-2.result.now ≡ get_or c.self.inside.hosts.items n c.index-2.result.now) place c.index-2.ensures) in
     let tag : c.index-3.result.now ≡ get_or c.self.inside.tags.items c.args.granule zero_tag =
-    item_read tags c.args.granule c.index-3.result.now zero_tag (omega (arith, known, c.self.invariant.tags_long)) (subst (λ n. c.index-3.result.now ≡ get_or c.self.inside.tags.items n c.index-3.result.now) place c.index-3.ensures) in
+    item_read tags c.args.granule c.index-3.result.now zero_tag (omega (arith, known, c.self.invariant.kept.tags_long)) (subst (λ n. c.index-3.result.now ≡ get_or c.self.inside.tags.items n c.index-3.result.now) place c.index-3.ensures) in
     let told_is = c.told.ensures
     ∙ ap (λ m. told m c.index-2.result.now c.index-3.result.now) mark
     ∙ ap (λ h. told (get_or c.self.inside.marks.items c.args.granule 0) h c.index-3.result.now) host

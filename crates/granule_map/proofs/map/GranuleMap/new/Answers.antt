@@ -1,4 +1,4 @@
-use Rattle.std.proofs.Common.{◌≡◌, ◌∙◌, List, ℕ, replicate, ap, sym, subst, rules}
+use Rattle.std.proofs.Common.{◌≡◌, ◌∙◌, List, ℕ, replicate, ap, sym, subst, arith, rules}
 use Rattle.dcd_base.specs.Words.{zero_tag}
 use Rattle.dcd_base.specs.declared.capacity.Tag.{Tag}
 use Rattle.granule_map.specs.Told.{AreKept, states_of}
@@ -10,10 +10,13 @@ invariant_of-result c =
     let marks : c.in_ok-vec.field-0.items ≡ replicate c.args.count 0 = search rules in
     let hosts : c.in_ok-vec-2.field-0.items ≡ replicate c.args.count 0 = search rules in
     let tags : c.in_ok-vec-3.field-0.items ≡ replicate c.args.count zero_tag = search rules in
-    subst (λ (ms : List ℕ). AreKept ms c.in_ok-vec-2.field-0.items c.in_ok-vec-3.field-0.items) (sym marks)
-    (subst (λ (hs : List ℕ). AreKept (replicate c.args.count 0) hs c.in_ok-vec-3.field-0.items) (sym hosts)
-    (subst (λ (ts : List Tag). AreKept (replicate c.args.count 0) (replicate c.args.count 0) ts) (sym tags)
-    (free_kept c.args.count c.ranges.count.fits)))
+    record {
+      kept = subst (λ (ms : List ℕ). AreKept ms c.in_ok-vec-2.field-0.items c.in_ok-vec-3.field-0.items) (sym marks)
+          (subst (λ (hs : List ℕ). AreKept (replicate c.args.count 0) hs c.in_ok-vec-3.field-0.items) (sym hosts)
+          (subst (λ (ts : List Tag). AreKept (replicate c.args.count 0) (replicate c.args.count 0) ts) (sym tags)
+          (free_kept c.args.count c.ranges.count.fits)));
+      none_below = λ g below. absurd (omega (arith, below));
+    }
 
 pub returns-clause-states : goal.returns-clause-states
 returns-clause-states c =

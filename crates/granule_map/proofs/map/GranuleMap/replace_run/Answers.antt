@@ -1,11 +1,12 @@
-use Rattle.std.proofs.Common.{◌≡◌, ◌+◌, ◌≤◌, ◌++◌, ◌∙◌, List, ℕ, ap, length, take, drop, arith, rules}
+use Rattle.std.proofs.Common.{◌≡◌, ◌+◌, ◌≤◌, ◌++◌, ◌∙◌, List, ℕ, ap, length, subst, sym, take, drop, arith, rules}
 use Rattle.std.proofs.Math.Seq.{take-append_seam}
 use Rattle.dcd_base.specs.declared.capacity.Tag.{Tag}
-use Rattle.granule_map.specs.StateLists.{States, with_run}
-use Rattle.granule_map.specs.Told.{states_of, tags_with, with_item}
+use Rattle.granule_map.specs.StateLists.{States, mark_of, with_run}
+use Rattle.granule_map.specs.Told.{NoneBelow, states_of, tags_with, with_item}
 use Rattle.granule_map.specs.declared.states.GranuleState.{GranuleState}
 use Rattle.granule_map.proofs.Kept.{kept_by, length_by, states_by, states_long}
 use Rattle.granule_map.proofs.Marked.{dirty_counted, free_counted}
+use Rattle.granule_map.proofs.NoneFree.{none_after}
 use Rattle.granule_map.proofs.map.GranuleMap.replace_run.Goals as goal
 
 pub invariant_of-self : goal.invariant_of-self
@@ -15,8 +16,8 @@ invariant_of-self c =
     let all_tags : c.self.inside.tags.len ≡ length c.write_tag.new.tags = search rules in
     let marks = ap (λ n. take n (c.replace_both.new.marks ++ drop (length c.replace_both.new.marks) c.self.inside.marks.items)) all_marks
     ∙ take-append_seam c.replace_both.new.marks (drop (length c.replace_both.new.marks) c.self.inside.marks.items) ∙ c.replace_both.ensures.marks
-    ∙ ap (λ (old : List ℕ). with_item c.args.run c.mark.result old) c.as_mut_slice-2.ensures.value
-    ∙ ap (λ m. with_item c.args.run m c.self.inside.marks.items) c.mark.ensures in
+    ∙ ap (λ (old : List ℕ). with_item c.args.run c.mark-mark.result old) c.as_mut_slice-2.ensures.value
+    ∙ ap (λ m. with_item c.args.run m c.self.inside.marks.items) c.mark-mark.ensures in
     let hosts = ap (λ n. take n (c.replace_both.new.hosts ++ drop (length c.replace_both.new.hosts) c.self.inside.hosts.items)) all_hosts
     ∙ take-append_seam c.replace_both.new.hosts (drop (length c.replace_both.new.hosts) c.self.inside.hosts.items) ∙ c.replace_both.ensures.hosts
     ∙ ap (λ (old : List ℕ). with_item c.args.run c.host.result old) c.as_mut_slice-3.ensures.value
@@ -26,7 +27,12 @@ invariant_of-self c =
     ∙ ap (λ (old : List Tag). tags_with c.args.run c.args.state old) c.as_mut_slice.ensures.value in
     let seen = ap (λ (s : States). s.states) c.self.view_is in
     let within : c.args.run.first + c.args.run.count ≤ length c.self.inside.marks.items = omega (arith, c.requires.within, ap (λ (ss : List GranuleState). length ss) seen, states_long c.self.inside.marks.items c.self.inside.hosts.items c.self.inside.tags.items) in
-    kept_by c.self.inside.marks.items c.self.inside.hosts.items c.self.inside.tags.items c.args.run c.args.state c.self.invariant within _ _ _ marks hosts tags
+    record {
+      kept = kept_by c.self.inside.marks.items c.self.inside.hosts.items c.self.inside.tags.items c.args.run c.args.state c.self.invariant.kept within _ _ _ marks hosts tags;
+      none_below = subst (λ (ms : List ℕ). NoneBelow ms c.lowest_after-self-inside.result) (sym marks)
+          (none_after c.self.inside.marks.items c.args.run (mark_of c.args.state) c.self.inside.lowest c.lowest_after-self-inside.result within c.self.invariant.none_below
+          (λ is. c.lowest_after-self-inside.ensures.free (c.mark-mark.ensures ∙ is)) c.lowest_after-self-inside.ensures.covered c.lowest_after-self-inside.ensures.ends);
+    }
 
 pub returns-clause-states : goal.returns-clause-states
 returns-clause-states c =
@@ -35,8 +41,8 @@ returns-clause-states c =
     let all_tags : c.self.inside.tags.len ≡ length c.write_tag.new.tags = search rules in
     let marks = ap (λ n. take n (c.replace_both.new.marks ++ drop (length c.replace_both.new.marks) c.self.inside.marks.items)) all_marks
     ∙ take-append_seam c.replace_both.new.marks (drop (length c.replace_both.new.marks) c.self.inside.marks.items) ∙ c.replace_both.ensures.marks
-    ∙ ap (λ (old : List ℕ). with_item c.args.run c.mark.result old) c.as_mut_slice-2.ensures.value
-    ∙ ap (λ m. with_item c.args.run m c.self.inside.marks.items) c.mark.ensures in
+    ∙ ap (λ (old : List ℕ). with_item c.args.run c.mark-mark.result old) c.as_mut_slice-2.ensures.value
+    ∙ ap (λ m. with_item c.args.run m c.self.inside.marks.items) c.mark-mark.ensures in
     let hosts = ap (λ n. take n (c.replace_both.new.hosts ++ drop (length c.replace_both.new.hosts) c.self.inside.hosts.items)) all_hosts
     ∙ take-append_seam c.replace_both.new.hosts (drop (length c.replace_both.new.hosts) c.self.inside.hosts.items) ∙ c.replace_both.ensures.hosts
     ∙ ap (λ (old : List ℕ). with_item c.args.run c.host.result old) c.as_mut_slice-3.ensures.value
@@ -46,7 +52,7 @@ returns-clause-states c =
     ∙ ap (λ (old : List Tag). tags_with c.args.run c.args.state old) c.as_mut_slice.ensures.value in
     let seen = ap (λ (s : States). s.states) c.self.view_is in
     let within : c.args.run.first + c.args.run.count ≤ length c.self.inside.marks.items = omega (arith, c.requires.within, ap (λ (ss : List GranuleState). length ss) seen, states_long c.self.inside.marks.items c.self.inside.hosts.items c.self.inside.tags.items) in
-    states_by c.self.inside.marks.items c.self.inside.hosts.items c.self.inside.tags.items c.args.run c.args.state c.self.invariant within _ _ _ marks hosts tags
+    states_by c.self.inside.marks.items c.self.inside.hosts.items c.self.inside.tags.items c.args.run c.args.state c.self.invariant.kept within _ _ _ marks hosts tags
     ∙ ap (λ (ss : List GranuleState). with_run ss c.args.run c.args.state) seen
 
 pub returns-clause-granules : goal.returns-clause-granules
@@ -54,18 +60,18 @@ returns-clause-granules c =
     let all_marks : c.self.inside.marks.len ≡ length c.replace_both.new.marks = search rules in
     let marks = ap (λ n. take n (c.replace_both.new.marks ++ drop (length c.replace_both.new.marks) c.self.inside.marks.items)) all_marks
     ∙ take-append_seam c.replace_both.new.marks (drop (length c.replace_both.new.marks) c.self.inside.marks.items) ∙ c.replace_both.ensures.marks
-    ∙ ap (λ (old : List ℕ). with_item c.args.run c.mark.result old) c.as_mut_slice-2.ensures.value in
+    ∙ ap (λ (old : List ℕ). with_item c.args.run c.mark-mark.result old) c.as_mut_slice-2.ensures.value in
     let seen = ap (λ (s : States). s.states) c.self.view_is in
-    length_by c.self.inside.marks.items c.self.inside.hosts.items c.self.inside.tags.items c.args.self.now.states c.args.run c.mark.result seen c.requires.within _ _ _ marks
+    length_by c.self.inside.marks.items c.self.inside.hosts.items c.self.inside.tags.items c.args.self.now.states c.args.run c.mark-mark.result seen c.requires.within _ _ _ marks
 
 pub returns-clause-free : goal.returns-clause-free
 returns-clause-free c =
     c.replace_both.ensures.free
-    ∙ free_counted (states_of c.self.inside.marks.items c.self.inside.hosts.items c.self.inside.tags.items) c.args.self.now.states c.self.inside.marks.items c.as_mut_slice-2.result.now c.self.invariant.marked
+    ∙ free_counted (states_of c.self.inside.marks.items c.self.inside.hosts.items c.self.inside.tags.items) c.args.self.now.states c.self.inside.marks.items c.as_mut_slice-2.result.now c.self.invariant.kept.marked
     (ap (λ (s : States). s.states) c.self.view_is) c.as_mut_slice-2.ensures.value c.args.run
 
 pub returns-clause-dirty : goal.returns-clause-dirty
 returns-clause-dirty c =
     c.replace_both.ensures.dirty
-    ∙ dirty_counted (states_of c.self.inside.marks.items c.self.inside.hosts.items c.self.inside.tags.items) c.args.self.now.states c.self.inside.marks.items c.as_mut_slice-2.result.now c.self.invariant.marked
+    ∙ dirty_counted (states_of c.self.inside.marks.items c.self.inside.hosts.items c.self.inside.tags.items) c.args.self.now.states c.self.inside.marks.items c.as_mut_slice-2.result.now c.self.invariant.kept.marked
     (ap (λ (s : States). s.states) c.self.view_is) c.as_mut_slice-2.ensures.value c.args.run
