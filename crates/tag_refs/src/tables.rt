@@ -75,6 +75,9 @@ impl Tags {
     pub fn find(&self, tag: &Tag) -> Option<&TagEntry>
         ensures { option_copied result ≡ entry_with tag.now self.now.entries }
     {
+        if self.is_empty() {
+            return None;
+        }
         self.entries.get(tag)
     }
 
