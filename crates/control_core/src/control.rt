@@ -219,8 +219,7 @@ impl Control {
         self.make_room()?;
         let mut step = step;
         self.append(pass, line, actor, act, step.as_mut())?;
-        let none = Effects::new(self.live.allocator());
-        Ok(replace(&mut step.as_mut().effects, none))
+        Ok(Box::into_inner(step).effects)
     }
 
     /// Enters a step that is decided so, with its next entry.
