@@ -1,5 +1,5 @@
 -- The entry that comes next meets what the entries before it ask.
-use Rattle.std.proofs.Common.{◌≡◌, ℕ, ◌<◌, false, List, [], ◌∷◌, ◌++◌, append-nil, length, None, ◌+◌, refl, sym, subst, arith}
+use Rattle.std.proofs.Common.{◌≡◌, ℕ, ◌<◌, false, List, [], ◌∷◌, ◌++◌, length, None, ◌+◌, refl, sym, subst, arith}
 use Rattle.std.specs.Prelude.{IsTrue}
 use Rattle.std.proofs.lemmas.Bool.{ltb-true}
 use Rattle.dcd_base.specs.declared.ids.HostId.{HostId}
@@ -10,7 +10,6 @@ use Rattle.journal_core.specs.declared.outcome.Effect.{Effect}
 use Rattle.region_config.specs.Configurations.{Configuration}
 use Rattle.journal_core.proofs.Lists.{rising_none}
 use Rattle.device_rules.specs.Answers.{answer}
-use Rattle.device_rules.specs.ChangedRuns.{AreChanges, AreHolders}
 use Rattle.device_rules.specs.Legal.{Meets}
 use Rattle.control_core.specs.Deciding.{AreStamped, Holds, IsDecidedBy, IsShort}
 use Rattle.control_core.specs.Pasts.{CanEnter, EntersStep, IsOfStep, IsPast, LiveControlled}
@@ -105,12 +104,3 @@ enters_nothing d = λ past leads update e meets are.
       lists = λ h below. refl;
       tags_are = refl;
     })
-
--- It changes no holders and no words.
-pub no_changes : (c : Configuration) (past : List Effect) → AreChanges c past [] []
-no_changes c past = record {
-  holders = λ g below bits are. subst (λ es. AreHolders c g es bits) (sym (append-nil past)) are;
-  zeroed = λ g below. refl;
-  touched = λ g below. refl;
-  sound = λ k d below. absurd (omega (arith, below));
-}
