@@ -3,22 +3,8 @@ use Rattle.std.proofs.Common.{◌≡◌, ℕ, ◌+◌, ◌<◌, ◌≤◌, false
 use Rattle.std.proofs.lemmas.Bool.{and_right, cases_lt, le-leb, le-ltb, lt-leb, lt-ltb, ne_eqb}
 use Rattle.dcd_base.specs.declared.media.Run.{Run}
 use Rattle.memchr.specs.Find.{is_byte}
-use Rattle.granule_map.specs.Stretches.{IsNext}
 use Rattle.granule_map.specs.Told.{NoneBelow, with_item}
 use Rattle.granule_map.proofs.Changes.{item_after_run}
-
--- a search may begin behind numbers that do not pass
-pub next_from : (marks read : List ℕ) (lowest from low end k : ℕ) → read ≡ marks → NoneBelow marks lowest → from ≤ low → (from < low → low ≤ lowest)
-    → IsNext (λ j. is_byte 0 (get_or read j 0)) low end k → IsNext (λ j. is_byte 0 (get_or read j 0)) from end k
-next_from marks read lowest from low end k read_is none least passed next = record {
-  from_below = omega (arith, least, next.from_below);
-  within = next.within;
-  none_before = λ j high below. elim (cases_lt j low) [
-    | inl early ↦ ap (λ (ms : List ℕ). is_byte 0 (get_or ms j 0)) read_is ∙ none j (omega (arith, early, passed (omega (arith, high, early))))
-    | inr late ↦ next.none_before j late below
-  ];
-  passes = next.passes;
-}
 
 module _ (marks : List ℕ) (run : Run) (m lowest new : ℕ) (within : run.first + run.count ≤ length marks) (none : NoneBelow marks lowest)
     (free : m ≡ 0 → new ≤ run.first) (covered : lowest < new → run.first ≤ lowest) (ends : lowest < new → new ≤ run.first + run.count) where

@@ -28,7 +28,7 @@ pub record AreKept (marks hosts : List ℕ) (tags : List Tag) : Type 0 where
   pub tags_long : length tags ≡ length marks
   pub marked : AreMarked (states_of marks hosts tags) marks
 
--- No granule below a number has the mark of a free one.
+-- No granule below a number has the mark of a free one, and past the last stands that mark, so it is at most how many there are.
 abbrev pub NoneBelow : List ℕ → ℕ → Type 0
 NoneBelow marks lowest = (g : ℕ) → g < lowest → is_byte 0 (slice_index_or marks g 0) ≡ false
 

@@ -1,7 +1,10 @@
 //! The number below which no granule is free.
 
-ghost use Rattle.std.specs.Prelude.{◌≡◌, ◌+◌, ◌^◌, ◌<◌, ◌≤◌};
+ghost use Rattle.granule_map.specs.Stretches.{IsNext};
+ghost use Rattle.memchr.specs.Find.{is_byte};
+ghost use Rattle.std.specs.Prelude.{◌≡◌, ◌+◌, ◌^◌, ◌<◌, ◌≤◌, ℕ, false, length, slice_index};
 
+use crate::marks::{LANES, far_with, next_of_16};
 use crate::states::FREE;
 use dcd_base::Run;
 
@@ -15,28 +18,47 @@ pub(crate) fn lowest_after(lowest: u32, run: &Run, mark: u8) -> u32
     ensures ends { lowest < result → result ≤ run.now.first + run.now.count }
 {
     let first = run.first.0;
+    if lowest < first {
+        return lowest;
+    }
     let end = first + run.count;
     if mark == FREE {
-        if first < lowest { first } else { lowest }
-    } else if first <= lowest && lowest < end {
+        first
+    } else if lowest < end {
         end
     } else {
         lowest
     }
 }
 
-/// Where a search from one number to another may begin.
-#[inline(always)]
-pub(crate) fn low_between(lowest: u32, from: u32, end: u32) -> u32
-    requires { from ≤ end }
-    ensures from { from ≤ result }
-    ensures within { result ≤ end }
-    ensures passed { from < result → result ≤ lowest }
+/// The lowest place from one on that has the mark, or the end where none below it has, where none below `lowest` has.
+pub(crate) fn next_behind(marks: &[u8], mark: u8, lowest: usize, from: usize, end: usize) -> usize
+    requires ordered { from ≤ end }
+    requires within { end ≤ length marks.now }
+    requires none { (g : ℕ) → g < lowest → is_byte mark (slice_index marks.now g) ≡ false }
+    ensures { IsNext (λ k. is_byte mark (slice_index marks.now k)) from end result }
+{
+    if end - from < LANES {
+        return far_with(marks, mark, from, end);
+    }
+    let place = next_of_16(marks, mark, from);
+    if place < from + LANES {
+        return place;
+    }
+    far_behind(marks, mark, lowest, place, end)
+}
+
+/// The same, many places at a time.
+fn far_behind(marks: &[u8], mark: u8, lowest: usize, from: usize, end: usize) -> usize
+    requires ordered { from ≤ end }
+    requires within { end ≤ length marks.now }
+    requires none { (g : ℕ) → g < lowest → is_byte mark (slice_index marks.now g) ≡ false }
+    ensures { IsNext (λ k. is_byte mark (slice_index marks.now k)) from end result }
 {
     if lowest <= from {
-        from
+        far_with(marks, mark, from, end)
     } else if lowest < end {
-        lowest
+        far_with(marks, mark, lowest, end)
     } else {
         end
     }

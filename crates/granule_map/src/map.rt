@@ -7,7 +7,7 @@ ghost use Rattle.std.specs.List.{find, list_all, prefix_len, range_with_len};
 ghost use Rattle.std.specs.Prelude.{◌≡◌, ◌↔◌, ◌+◌, ◌-◌, ◌<◌, ◌≤◌, IfOk, IsNone, OnErr, OnOk, Some, length, replicate, slice_get, slice_set, count_by, ◌++◌, take, drop};
 
 use crate::blocks::{count_free_blocks, free_from, longest_run_of, lowest_block, next_free};
-use crate::lowest::{low_between, lowest_after};
+use crate::lowest::{lowest_after, next_behind};
 use crate::marks::{count_with, next_other, next_with};
 use crate::replacing::{Replaced, replace_both, write_tag};
 use crate::states::{DIRTY, FREE, GranuleState, is_same_state, told};
@@ -274,8 +274,13 @@ impl GranuleMap {
         ensures { IsNext (is_free_at self.now.states) from end result }
     {
         let _granules = self.len();
-        let low = low_between(self.lowest, from, end);
-        next_with(self.marks.as_slice(), FREE, low as usize, end as usize) as u32
+        next_behind(
+            self.marks.as_slice(),
+            FREE,
+            self.lowest as usize,
+            from as usize,
+            end as usize,
+        ) as u32
     }
 
     /// The lowest granule from one on that is not free, or the end where each below it is.

@@ -28,7 +28,7 @@ pub(crate) fn next_with(marks: &[u8], mark: u8, from: usize, end: usize) -> usiz
 }
 
 /// The lowest of 16 places from one on that has the mark, or the one behind them where none has.
-fn next_of_16(marks: &[u8], mark: u8, from: usize) -> usize
+pub(crate) fn next_of_16(marks: &[u8], mark: u8, from: usize) -> usize
     requires { from + 16 ≤ length marks.now }
     ensures { IsNext (λ k. is_byte mark (slice_index marks.now k)) from (from + 16) result }
 {
@@ -43,7 +43,7 @@ fn next_of_16(marks: &[u8], mark: u8, from: usize) -> usize
 }
 
 /// The same, many places at a time.
-fn far_with(marks: &[u8], mark: u8, from: usize, end: usize) -> usize
+pub(crate) fn far_with(marks: &[u8], mark: u8, from: usize, end: usize) -> usize
     requires ordered { from ≤ end }
     requires within { end ≤ length marks.now }
     ensures { IsNext (λ k. is_byte mark (slice_index marks.now k)) from end result }

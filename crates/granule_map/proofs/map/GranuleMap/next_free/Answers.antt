@@ -1,13 +1,10 @@
 use Rattle.std.proofs.Common.{ap}
 use Rattle.granule_map.specs.StateLists.{States}
 use Rattle.granule_map.specs.Told.{states_of}
-use Rattle.granule_map.proofs.NoneFree.{next_from}
 use Rattle.granule_map.proofs.Marked.{free_next}
 use Rattle.granule_map.proofs.map.GranuleMap.next_free.Goals as goal
 
 pub returns : goal.returns
 returns c =
     free_next (states_of c.self.inside.marks.items c.self.inside.hosts.items c.self.inside.tags.items) c.args.self.now.states c.self.inside.marks.items c.as_slice.result.now c.self.invariant.kept.marked
-    (ap (λ (s : States). s.states) c.self.view_is) c.as_slice.ensures.value c.args.from c.args.end c.next_with.result c.requires.within
-    (next_from c.self.inside.marks.items c.as_slice.result.now c.self.inside.lowest c.args.from c.low_between-low.result c.args.end c.next_with.result c.as_slice.ensures.value c.self.invariant.none_below
-    c.low_between-low.ensures.from c.low_between-low.ensures.passed c.next_with.ensures)
+    (ap (λ (s : States). s.states) c.self.view_is) c.as_slice.ensures.value c.args.from c.args.end c.next_behind.result c.requires.within c.next_behind.ensures
