@@ -91,12 +91,7 @@ pub fn add(
 }
 
 /// The extents are offered, where the host and its log have room for them.
-fn offer_of(
-    alloc: Global,
-    state: &State,
-    asked: &Asked,
-    extents: Extents,
-) -> Result<Draft, Refusal>
+fn offer_of(alloc: Global, state: &State, asked: &Asked, extents: Extents) -> Result<Draft, Refusal>
     requires part { asked.now.host < length state.now.hosts.items }
     requires few { extent_total (part_of state.now asked.now.host).lists ≤ 64 }
     requires listed { length extents < 2 ^ 16 }
