@@ -1,7 +1,7 @@
 //! The unanswered offers of a host, and what it has answered so far.
 
 ghost use Rattle.extent_list.specs.ExtentLists.{count_in};
-ghost use Rattle.offer_core.specs.Offerings.{lists_of, oldest_of};
+ghost use Rattle.offer_core.specs.Offerings.{lists_of, oldest_of, IsPopped};
 ghost use Rattle.std.specs.Prelude.{◌≡◌, ◌==◌, ◌++◌, ◌∷◌, ◌+◌, ◌^◌, ◌<◌, ◌≤◌, [], IfOk, OnErr, OnOk, Some, drop, length, slice_get};
 
 use crate::offer::Offer;
@@ -12,25 +12,27 @@ use std::marker::Model;
 
 /// The unanswered offers of one host, the oldest first, and the list that it holds.
 ///
-/// Contracts see the offers, the held list and the spare: how many more offers it takes without memory.
+/// Most hosts have one offer at most, which lies in the value itself. Contracts see the offers, the held list and the
+/// spare: how many more offers it takes without memory.
 #[derive(Debug, Drop)]
 pub struct Offers {
     alloc: Global,
-    pub(crate) waiting: VecDeque<Offer>,
+    first: Option<Offer>,
+    later: VecDeque<Offer>,
     pub(crate) held: Extents,
 }
 
 impl Model for Offers {
     ghost use Rattle.offer_core.specs.Offerings.{Offering};
-    ghost use Rattle.std.specs.Prelude.{◌-◌};
+    ghost use Rattle.std.specs.Prelude.{◌-◌, ◌++◌, option_to_list};
     ghost use Rattle.std.specs.VecDeque.{deque_capacity, deque_len};
 
     ghost Value = { Offering };
 
     ghost view = { λ o. record {
-      offers = o.waiting.items;
+      offers = option_to_list o.first ++ o.later.items;
       held = o.held;
-      spare = deque_capacity o.waiting - deque_len o.waiting;
+      spare = deque_capacity o.later - deque_len o.later;
     } };
 }
 
@@ -42,7 +44,8 @@ impl Offers {
     {
         Offers {
             alloc,
-            waiting: VecDeque::new(alloc),
+            first: None,
+            later: VecDeque::new(alloc),
             held: Extents::new(alloc),
         }
     }
@@ -52,13 +55,10 @@ impl Offers {
         ensures offers { IfOk result (λ copy. copy.offers ≡ self.now.offers) }
         ensures held { IfOk result (λ copy. copy.held ≡ self.now.held) }
     {
-        let mut waiting = VecDeque::with_capacity(self.alloc, self.waiting.len())?;
-        for offer in self.waiting.iter() {
-            waiting.push_back(offer.copy()?)?;
-        }
         Ok(Offers {
             alloc: self.alloc,
-            waiting,
+            first: copy_of_one(&self.first)?,
+            later: copy_of_all(self.alloc, &self.later)?,
             held: self.held.copy()?,
         })
     }
@@ -73,7 +73,7 @@ impl Offers {
         }
         let mut later = self.copy()?;
         later.held.clear();
-        let _oldest = later.waiting.pop_front();
+        let _oldest = later.pop();
         Ok(later)
     }
 
@@ -86,16 +86,16 @@ impl Offers {
         ensures few { OnErr result (self.old.spare < n) }
         ensures kept { OnErr result (self.new ≡ self.old) }
     {
-        let len = self.waiting.len();
-        if self.waiting.capacity() - len < n {
+        let len = self.later.len();
+        if self.later.capacity() - len < n {
             // Doubled at least, so that many pushes take memory few times.
-            self.waiting.reserve_exact(n.max(len))?;
+            self.later.reserve_exact(n.max(len))?;
         }
         Ok(())
     }
 
-    /// Puts an offer behind the others. With spare it takes no memory and uses one of the spare; without memory the
-    /// offer is let go and nothing changes.
+    /// Puts an offer behind the others. Where there is none, or with spare, it takes no memory; it uses one of the spare at
+    /// most. Without memory the offer is let go and nothing changes.
     #[tactic(auto, using(crate::proofs::Counting::count_in_push))]
     pub fn push(&mut self, offer: Offer) -> Result<(), NoMemory>
         ensures pushed { OnOk result (self.new.offers ≡ self.old.offers ++ offer ∷ []) }
@@ -106,23 +106,64 @@ impl Offers {
         ensures full { OnErr result (self.old.spare ≡ 0) }
         ensures kept { OnErr result (self.new ≡ self.old) }
     {
+        if self.is_empty() {
+            self.first = Some(offer);
+            return Ok(());
+        }
         self.reserve(1)?;
-        self.waiting.push_back_reserved(offer);
+        self.later.push_back_reserved(offer);
         Ok(())
+    }
+
+    /// Lets all offers go and puts this one in their place. The held list stays. It takes no memory.
+    pub fn put_alone(&mut self, offer: Offer)
+        ensures offers { self.new.offers ≡ offer ∷ [] }
+        ensures held { self.new.held ≡ self.old.held }
+    {
+        self.first = Some(offer);
+        self.later.clear();
+    }
+
+    /// Lets all offers and the held list go. It takes no memory.
+    pub fn clear(&mut self)
+        ensures offers { self.new.offers ≡ [] }
+        ensures held { self.new.held ≡ [] }
+    {
+        self.first = None;
+        self.later.clear();
+        self.held.clear();
+    }
+
+    /// Takes the oldest offer out, where there is one.
+    pub(crate) fn pop(&mut self) -> Option<Offer>
+        ensures popped { IsPopped self.old.offers self.new.offers result }
+        ensures held { self.new.held ≡ self.old.held }
+        ensures spare { self.old.spare ≤ self.new.spare }
+    {
+        match self.first.take() {
+            Some(offer) => {
+                self.first = self.later.pop_front();
+                Some(offer)
+            }
+            None => self.later.pop_front(),
+        }
     }
 
     /// How many offers are unanswered.
     pub fn len(&self) -> usize
         ensures { result ≡ length self.now.offers }
     {
-        self.waiting.len()
+        match self.first {
+            Some(_) => self.later.len() + 1,
+            None => self.later.len(),
+        }
     }
 
     /// Whether every offer is answered.
     pub fn is_empty(&self) -> bool
         ensures { result ≡ (length self.now.offers == 0) }
     {
-        self.waiting.is_empty()
+        self.first.is_none() && self.later.is_empty()
     }
 
     /// The offer at an index below the length; the oldest has the index 0.
@@ -130,7 +171,16 @@ impl Offers {
         requires { index < length self.now.offers }
         ensures { slice_get self.now.offers index ≡ Some result.now }
     {
-        &self.waiting[index]
+        match &self.first {
+            Some(first) => {
+                if index == 0 {
+                    first
+                } else {
+                    &self.later[index - 1]
+                }
+            }
+            None => &self.later[index],
+        }
     }
 
     /// The held list.
@@ -145,20 +195,19 @@ impl Offers {
         requires { count_in (lists_of self.now.offers) < 2 ^ 64 }
         ensures { result ≡ count_in (lists_of self.now.offers) }
     {
-        let mut extents = 0;
-        for offer in self.waiting.iter() {
-            extents += offer.extents.len();
+        match &self.first {
+            Some(first) => first.extents.len() + extents_of_all(&self.later),
+            None => extents_of_all(&self.later),
         }
-        extents
     }
 
     /// The extents of the oldest offer; none where there is no offer.
     pub(crate) fn oldest(&self) -> &[Extent]
         ensures { result.now ≡ oldest_of (lists_of self.now.offers) }
     {
-        match self.waiting.front() {
-            Some(offer) => offer.extents.as_slice(),
-            None => &[],
+        match &self.first {
+            Some(first) => first.extents.as_slice(),
+            None => extents_of_first(&self.later),
         }
     }
 
@@ -167,5 +216,48 @@ impl Offers {
         ensures { self.new ≡ record self.old { held = [] } }
     {
         self.held.clear();
+    }
+}
+
+/// An equal offer of its own, where there is one.
+fn copy_of_one(offer: &Option<Offer>) -> Result<Option<Offer>, NoMemory>
+    ensures { IfOk result (λ copy. copy ≡ offer.now) }
+{
+    match offer {
+        Some(offer) => Ok(Some(offer.copy()?)),
+        None => Ok(None),
+    }
+}
+
+/// Equal offers of their own. For none it takes no memory.
+fn copy_of_all(alloc: Global, offers: &VecDeque<Offer>) -> Result<VecDeque<Offer>, NoMemory>
+    ensures { IfOk result (λ copy. copy.items ≡ offers.now.items) }
+{
+    let mut copy = VecDeque::with_capacity(alloc, offers.len())?;
+    for offer in offers.iter() {
+        copy.push_back(offer.copy()?)?;
+    }
+    Ok(copy)
+}
+
+/// How many extents the offers have together; below 2^64.
+fn extents_of_all(offers: &VecDeque<Offer>) -> usize
+    requires { count_in (lists_of offers.now.items) < 2 ^ 64 }
+    ensures { result ≡ count_in (lists_of offers.now.items) }
+{
+    let mut extents = 0;
+    for offer in offers.iter() {
+        extents += offer.extents.len();
+    }
+    extents
+}
+
+/// The extents of the first of the offers; none where there is no offer.
+fn extents_of_first(offers: &VecDeque<Offer>) -> &[Extent]
+    ensures { result.now ≡ oldest_of (lists_of offers.now.items) }
+{
+    match offers.front() {
+        Some(offer) => offer.extents.as_slice(),
+        None => &[],
     }
 }

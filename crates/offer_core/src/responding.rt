@@ -4,7 +4,7 @@ ghost use Rattle.extent_list.specs.ExtentLists.{count_in, marked};
 ghost use Rattle.offer_core.specs.Answers.{AnswersOldest, Leaves, NeverBroken, Responds};
 ghost use Rattle.offer_core.specs.InOrder.{IsInOrder};
 ghost use Rattle.offer_core.specs.Offerings.{lists_of, oldest_of};
-ghost use Rattle.std.specs.Prelude.{◌≡◌, ◌++◌, ◌+◌, ◌<◌, ◌≤◌, [], IfOk, OnErr, false, map};
+ghost use Rattle.std.specs.Prelude.{◌≡◌, ◌++◌, ◌+◌, ◌<◌, ◌≤◌, [], IfOk, OnErr, OnOk, false, map};
 
 use crate::answered::Answered;
 use crate::offers::Offers;
@@ -71,10 +71,19 @@ impl Offers {
         }
         let accepted = self.accepted_of(list)?;
         self.held.clear();
-        match self.waiting.pop_front() {
+        match self.pop() {
             Some(offer) => Ok(Answered::Done { offer, accepted }),
             None => Ok(Answered::Nothing),
         }
+    }
+
+    /// Holds the list of a message behind the held one. Without memory nothing changes.
+    pub fn hold(&mut self, list: &[Extent]) -> Result<(), NoMemory>
+        ensures held { OnOk result (self.new ≡ record self.old { held = self.old.held ++ list.now }) }
+        ensures kept { OnErr result (self.new ≡ self.old) }
+    {
+        self.held.extend_from_slice(list)?;
+        Ok(())
     }
 
     /// What a response accepts of the oldest offer with this list of a message behind the held one: each extent with the
