@@ -1,5 +1,5 @@
 -- What a host is offered, and what it has answered so far.
-use Rattle.std.specs.Prelude.{◌≡◌, ℕ, List, [], ◌∷◌, map, Option, Some, None}
+use Rattle.std.specs.Prelude.{ℕ, List, [], ◌∷◌, map}
 use Rattle.dcd_base.specs.declared.capacity.Extent.{Extent}
 use Rattle.offer_core.specs.declared.offer.Offer.{Offer}
 
@@ -18,8 +18,3 @@ lists_of offers = map (λ (offer : Offer). offer.extents) offers
 abbrev pub oldest_of : List (List Extent) → List Extent
 oldest_of [] = []
 oldest_of (offer ∷ later) = offer
-
--- The oldest offer is taken out, where there is one.
-abbrev pub IsPopped : List Offer → List Offer → Option Offer → Type 0
-IsPopped old new None = (old ≡ []) × (new ≡ [])
-IsPopped old new (Some offer) = old ≡ offer ∷ new

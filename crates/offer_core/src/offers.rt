@@ -1,7 +1,8 @@
 //! The unanswered offers of a host, and what it has answered so far.
 
 ghost use Rattle.extent_list.specs.ExtentLists.{count_in};
-ghost use Rattle.offer_core.specs.Offerings.{lists_of, oldest_of, IsPopped};
+ghost use Rattle.offer_core.specs.Offerings.{lists_of, oldest_of};
+ghost use Rattle.offer_core.specs.Popped.{IsPopped};
 ghost use Rattle.std.specs.Prelude.{◌≡◌, ◌==◌, ◌++◌, ◌∷◌, ◌+◌, ◌^◌, ◌<◌, ◌≤◌, [], IfOk, OnErr, OnOk, Some, drop, length, slice_get};
 
 use crate::offer::Offer;
