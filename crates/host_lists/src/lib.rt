@@ -1,16 +1,21 @@
 //! All lists that the device keeps of one host.
 //!
 //! They are its accepted extents, its unanswered offers, what it holds of responses and releases with More, and how
-//! often its accepted list changed. Each call does to them what one command makes of them. They are small: a host
-//! has 64 extents at most, accepted and offered together, so that a command may change a copy.
+//! often its accepted list changed. Each call does to them what one command makes of them, or answers what the command
+//! would change of them: a change has no more than what it changes, and is put in place without memory.
 #![tactic(auto)]
 
+mod changed;
 mod changes;
+mod drafting;
 mod lists;
+mod lists_change;
 mod offering;
 mod releasing;
 mod responded;
 mod tag_counts;
 
+pub use changed::Changed;
 pub use lists::HostLists;
+pub use lists_change::{ListsChange, OffersChange};
 pub use responded::Responded;

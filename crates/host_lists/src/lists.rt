@@ -6,11 +6,11 @@ ghost use Rattle.host_lists.specs.Lists.{extent_total, extents_of_lists, no_list
 ghost use Rattle.host_lists.specs.Tags.{capped, tag_count};
 ghost use Rattle.offer_core.specs.Offerings.{lists_of, oldest_of};
 ghost use Rattle.std.specs.List.{list_any};
-ghost use Rattle.std.specs.Prelude.{◌≡◌, ◌++◌, ◌+◌, ◌-◌, ◌^◌, ◌<◌, ◌≤◌, [], IfOk, Some, length, slice_get};
+ghost use Rattle.std.specs.Prelude.{◌≡◌, ◌++◌, ◌+◌, ◌-◌, ◌^◌, ◌<◌, ◌≤◌, [], Some, length, slice_get};
 
-use crate::tag_counts::{has_in_offers, more_tags};
+use crate::tag_counts::{all_tags, has_in_offers, more_tags};
 use dcd_base::limits::{EXTENTS, TAGS};
-use dcd_base::{Extent, Extents, NoMemory, Tag};
+use dcd_base::{Extent, Extents, Tag};
 use extent_list::{ExtentList, has_extent_of};
 use offer_core::Offers;
 use release_core::Releases;
@@ -52,30 +52,6 @@ impl HostLists {
             releases: Releases::new(alloc),
             generation: 0,
         }
-    }
-
-    /// Equal lists of their own.
-    pub fn copy(&self) -> Result<HostLists, NoMemory>
-        ensures { IfOk result (λ copy. copy ≡ self.now) }
-    {
-        Ok(HostLists {
-            accepted: self.accepted.copy()?,
-            offers: self.offers.copy()?,
-            releases: self.releases.copy()?,
-            generation: self.generation,
-        })
-    }
-
-    /// Equal lists of their own, which have their memory for so many more accepted extents from the start.
-    pub fn copy_with_room(&self, more: usize) -> Result<HostLists, NoMemory>
-        ensures { IfOk result (λ copy. copy ≡ self.now) }
-    {
-        Ok(HostLists {
-            accepted: self.accepted.copy_with_room(more)?,
-            offers: self.offers.copy()?,
-            releases: self.releases.copy()?,
-            generation: self.generation,
-        })
     }
 
     /// The extents that the host has accepted, in the order in which it did.
@@ -173,13 +149,7 @@ impl HostLists {
     fn tags(&self) -> u32
         ensures { result ≡ capped (tag_count (extents_of_lists self.now)) }
     {
-        let accepted = self.accepted.as_slice();
-        let mut tags = more_tags(0, &[], &self.offers, 0, accepted);
-        for i in 0..self.offers.len() {
-            let offer = self.offers.at(i).extents.as_slice();
-            tags = more_tags(tags, accepted, &self.offers, i, offer);
-        }
-        tags
+        all_tags(self.accepted.as_slice(), &self.offers)
     }
 
     /// How many more tags the host may get; none where it has more than it may.

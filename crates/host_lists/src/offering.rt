@@ -1,13 +1,13 @@
 //! Offers to a host, and its responses to them.
 
-ghost use Rattle.host_lists.specs.Answers.{ListsAnswerResponse, LeavesResponses, HostResponds, after_accepting};
+ghost use Rattle.host_lists.specs.Answers.{ListsAnswerResponse, LeavesResponses, HostResponds};
 ghost use Rattle.host_lists.specs.Lists.{extent_total};
 ghost use Rattle.std.specs.Prelude.{◌≡◌, ◌++◌, ◌∷◌, ◌<◌, ◌≤◌, [], IfOk, OnErr, OnOk, false};
 
 use crate::changes::{add_all, generation_after};
 use crate::lists::HostLists;
 use crate::responded::Responded;
-use dcd_base::{Extent, Extents, HostId, NoMemory, RegionId};
+use dcd_base::{Extents, HostId, NoMemory, RegionId};
 use dcd_codes::Refusal;
 use offer_core::{Answered, Offer, broken_rule};
 use region_config::Config;
@@ -72,48 +72,5 @@ impl HostLists {
                 Ok(Responded::Done(accepted))
             }
         }
-    }
-
-    /// The lists after such an answer, and what it comes to. These lists stay, and of theirs only what the answer leaves is
-    /// copied.
-    pub fn after_answer(
-        &self,
-        list: &Extents,
-        more: bool,
-    ) -> Result<(HostLists, Responded), NoMemory>
-        requires offered { more ≡ false → self.now.offers ≡ [] → self.now.responses ++ list.now ≡ [] }
-        ensures { IfOk result (λ done. HostResponds self.now more list.now done.0 done.1) }
-    {
-        if more || self.offers.is_empty() {
-            return self.copied_answer(list, more);
-        }
-        let accepted = self.offers.accepted_of(list)?;
-        let lists = self.after_accepting(accepted.as_slice())?;
-        Ok((lists, Responded::Done(accepted)))
-    }
-
-    /// The answer to a copy of the lists, and the copy.
-    fn copied_answer(&self, list: &Extents, more: bool) -> Result<(HostLists, Responded), NoMemory>
-        requires offered { more ≡ false → self.now.offers ≡ [] → self.now.responses ++ list.now ≡ [] }
-        ensures { IfOk result (λ done. HostResponds self.now more list.now done.0 done.1) }
-    {
-        let mut lists = self.copy()?;
-        let responded = lists.answer(list, more)?;
-        Ok((lists, responded))
-    }
-
-    /// The lists once these extents are accepted of the oldest offer.
-    fn after_accepting(&self, extents: &[Extent]) -> Result<HostLists, NoMemory>
-        ensures { IfOk result (λ lists. lists ≡ after_accepting extents.now self.now) }
-    {
-        let mut accepted = self.accepted.copy_with_room(extents.len())?;
-        accepted.reserve(extents.len())?;
-        add_all(&mut accepted, extents);
-        Ok(HostLists {
-            accepted,
-            offers: self.offers.copy_behind_oldest()?,
-            releases: self.releases.copy()?,
-            generation: generation_after(extents, self.generation),
-        })
     }
 }

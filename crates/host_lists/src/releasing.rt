@@ -1,12 +1,12 @@
 //! Extents that leave a host: given back by it, or taken from it.
 
 ghost use Rattle.extent_list.specs.ExtentLists.{cut_all};
-ghost use Rattle.host_lists.specs.Answers.{ListsAnswerRelease, GivesUp, LeavesReleases, generation_after, lists_less, lists_without};
+ghost use Rattle.host_lists.specs.Answers.{ListsAnswerRelease, GivesUp, LeavesReleases, lists_less};
 ghost use Rattle.host_lists.specs.Lists.{extent_total, next_generation};
 ghost use Rattle.release_core.specs.Leaving.{AllCanLeave};
 ghost use Rattle.std.specs.Prelude.{◌≡◌, ◌++◌, ◌+◌, ◌^◌, ◌<◌, ◌≤◌, All, IfOk, OnErr, OnOk, false};
 
-use crate::changes::{generation_after, next_generation};
+use crate::changes::next_generation;
 use crate::lists::HostLists;
 use dcd_base::{Extents, HostId, NoMemory};
 use dcd_codes::Refusal;
@@ -71,19 +71,6 @@ impl HostLists {
                 Ok(GivenBack::Done(leaving))
             }
         }
-    }
-
-    /// Takes these extents out of the accepted ones by force, which counts as one change unless there are none.
-    /// Without memory nothing changes.
-    pub fn remove(&mut self, leaving: &Extents) -> Result<(), NoMemory>
-        requires leaving { AllCanLeave self.old.accepted leaving.now }
-        ensures removed { OnOk result (self.new ≡ lists_without leaving.now self.old) }
-        ensures kept { OnErr result (self.new ≡ self.old) }
-    {
-        self.accepted.reserve(leaving.len())?;
-        self.accepted.cut_all(leaving.as_slice());
-        self.generation = generation_after(leaving.as_slice(), self.generation);
-        Ok(())
     }
 
     /// Takes those of these extents out of the accepted ones that lie in one when their turn comes, which counts as

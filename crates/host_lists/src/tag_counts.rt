@@ -4,7 +4,7 @@ ghost use Rattle.extent_list.specs.ExtentLists.{has_extent_of};
 ghost use Rattle.host_lists.specs.Tags.{capped, extents_before, is_new, tag_count};
 ghost use Rattle.offer_core.specs.Offerings.{lists_of};
 ghost use Rattle.std.specs.List.{list_any};
-ghost use Rattle.std.specs.Prelude.{◌≡◌, ◌++◌, ◌≤◌, List, length, take, true};
+ghost use Rattle.std.specs.Prelude.{◌≡◌, ◌++◌, ◌≤◌, List, flat_map, length, take, true};
 
 use dcd_base::{Extent, Tag, no_tag};
 use extent_list::{has_extent_of, has_no_tags, same_tag};
@@ -101,4 +101,24 @@ pub(crate) fn more_tags(
         }
     }
     tags
+}
+
+/// How many tags these extents have and those of all offers, up to the end of 32 bits.
+pub(crate) fn all_tags(accepted: &[Extent], offers: &Offers) -> u32
+    ensures { result ≡ capped (tag_count (accepted.now ++ flat_map (λ xs. xs) (lists_of offers.now.offers))) }
+{
+    let mut tags = more_tags(0, &[], offers, 0, accepted);
+    for i in 0..offers.len() {
+        let offer = offers.at(i).extents.as_slice();
+        tags = more_tags(tags, accepted, offers, i, offer);
+    }
+    tags
+}
+
+/// How many tags these extents and those have, up to the end of 32 bits. No offer is looked at.
+pub(crate) fn tags_of_two(accepted: &[Extent], offers: &Offers, more: &[Extent]) -> u32
+    ensures { result ≡ capped (tag_count (accepted.now ++ more.now)) }
+{
+    let tags = more_tags(0, &[], offers, 0, accepted);
+    more_tags(tags, accepted, offers, 0, more)
 }

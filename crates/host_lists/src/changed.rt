@@ -1,0 +1,112 @@
+//! A host's lists as a change would leave them.
+
+ghost use Rattle.dcd_base.specs.Limits.{extents_supported, tags_supported};
+ghost use Rattle.extent_list.specs.ExtentLists.{count_in, has_extent_of, real_tags};
+ghost use Rattle.host_lists.specs.Changes.{changed_by};
+ghost use Rattle.host_lists.specs.Lists.{extent_total, extents_of_lists};
+ghost use Rattle.host_lists.specs.Tags.{capped, tag_count};
+ghost use Rattle.std.specs.List.{list_any};
+ghost use Rattle.std.specs.Prelude.{◌≡◌, ◌-◌, ◌≤◌, length};
+
+use crate::lists::HostLists;
+use crate::lists_change::{ListsChange, OffersChange};
+use crate::tag_counts::{all_tags, has_in_offers, tags_of_two};
+use dcd_base::limits::{EXTENTS, TAGS};
+use dcd_base::{Extent, Tag};
+use extent_list::has_extent_of;
+use std::marker::Model;
+
+/// The lists of a host as a change would leave them, without a copy. Contracts see those lists.
+#[derive(Debug, Drop)]
+pub struct Changed<'a> {
+    lists: &'a HostLists,
+    change: &'a ListsChange,
+}
+
+impl<'a> Model for Changed<'a> {
+    ghost use Rattle.host_lists.specs.Changes.{changed_by};
+    ghost use Rattle.host_lists.specs.Lists.{Lists};
+
+    ghost Value = { Lists };
+
+    ghost view = { λ c. changed_by c.change.now c.lists.now };
+}
+
+impl<'a> Changed<'a> {
+    /// These lists with this change.
+    pub fn of(lists: &'a HostLists, change: &'a ListsChange) -> Changed<'a>
+        ensures { result ≡ changed_by change.now lists.now }
+    {
+        Changed { lists, change }
+    }
+
+    /// The extents that the host has accepted then.
+    fn accepted(&self) -> &[Extent]
+        ensures { result.now ≡ self.now.accepted }
+    {
+        match &self.change.accepted {
+            Some(accepted) => accepted.as_slice(),
+            None => self.lists.accepted().as_slice(),
+        }
+    }
+
+    /// Whether an accepted extent has the tag.
+    pub fn has_accepted(&self, tag: &Tag) -> bool
+        ensures { result ≡ has_extent_of tag.now self.now.accepted }
+    {
+        has_extent_of(tag, self.accepted())
+    }
+
+    /// Whether an extent of an unanswered offer has the tag.
+    pub fn has_offered(&self, tag: &Tag) -> bool
+        ensures { result ≡ list_any (has_extent_of tag.now) self.now.offers }
+    {
+        match &self.change.offers {
+            OffersChange::Nothing => self.lists.has_offered(tag),
+            OffersChange::Only(offer) => has_extent_of(tag, offer.extents.as_slice()),
+            OffersChange::Gone => false,
+            OffersChange::Whole(offers) => has_in_offers(tag, offers, offers.len()),
+        }
+    }
+
+    /// How many extents all unanswered offers have together.
+    fn offered(&self) -> usize
+        requires few { count_in self.now.offers ≤ 64 }
+        ensures { result ≡ count_in self.now.offers }
+    {
+        match &self.change.offers {
+            OffersChange::Nothing => self.lists.offers().extents(),
+            OffersChange::Only(offer) => offer.extents.len(),
+            OffersChange::Gone => 0,
+            OffersChange::Whole(offers) => offers.extents(),
+        }
+    }
+
+    /// How many tags the extents have that the host has accepted or is offered, up to the end of 32 bits.
+    fn tags(&self) -> u32
+        ensures { result ≡ capped (tag_count (extents_of_lists self.now)) }
+    {
+        let (accepted, had) = (self.accepted(), self.lists.offers());
+        match &self.change.offers {
+            OffersChange::Nothing => all_tags(accepted, had),
+            OffersChange::Only(offer) => tags_of_two(accepted, had, offer.extents.as_slice()),
+            OffersChange::Gone => tags_of_two(accepted, had, &[]),
+            OffersChange::Whole(offers) => all_tags(accepted, offers),
+        }
+    }
+
+    /// How many more extents the host may get.
+    pub fn extents_available(&self) -> u32
+        requires few { extent_total self.now ≤ 64 }
+        ensures { result ≡ extents_supported - length (extents_of_lists self.now) }
+    {
+        (EXTENTS - (self.accepted().len() + self.offered())) as u32
+    }
+
+    /// How many more tags the host may get; none where it has more than it may.
+    pub fn tags_available(&self) -> u32
+        ensures { result ≡ tags_supported - length (real_tags (extents_of_lists self.now)) }
+    {
+        TAGS.saturating_sub(self.tags())
+    }
+}
