@@ -12,6 +12,7 @@ use Rattle.event_records.specs.declared.events.Event.{Event}
 use Rattle.extent_list.specs.ExtentLists.{has_extent_of}
 use Rattle.table_laws.specs.GranuleCells.{cell_over}
 use Rattle.granule_table.specs.Tables.{cell_at}
+use Rattle.host_lists.specs.Changes.{changed_by}
 use Rattle.host_lists.specs.Lists.{Lists}
 use Rattle.journal_core.specs.declared.outcome.Effect.{Effect}
 use Rattle.journal_core.specs.declared.outcome.HeldKind.{HeldKind}
@@ -75,12 +76,12 @@ holders_by bits (Effect.Take h run) = held_in (λ b. with_host b h) run bits
 holders_by bits (Effect.Leave h run) = held_in (λ b. without_host b h) run bits
 holders_by bits e = bits
 
--- the new lists of a host take the place of the old ones
+-- the lists of a host, where they change by what is put in place
 abbrev pub lists_put : Option NewLists → HostId → Lists → Lists
 lists_put None h l = l
-lists_put (Some new) h l = if new.host == h then new.lists else l
+lists_put (Some new) h l = if new.host == h then changed_by new.change l else l
 
--- the open tags after their change, by the new lists
+-- the open tags after their change, by the lists then
 abbrev pub tags_put : TagChange → (HostId → Lists) → List TagEntry → List TagEntry
 tags_put TagChange.Nothing lists entries = entries
 tags_put (TagChange.Begin tag region runs host) lists entries = entries ++ opened tag region runs host ∷ []

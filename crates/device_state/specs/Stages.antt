@@ -1,4 +1,4 @@
--- What the effects of a step make of the hosts' parts, and what new lists make of them.
+-- What the effects of a step make of the hosts' parts, and what changed lists make of them.
 use Rattle.std.specs.Prelude.{◌≡◌, ◌<◌, List, fold, length, Option}
 use Rattle.dcd_base.specs.declared.ids.HostId.{HostId}
 use Rattle.dcd_base.specs.declared.steps.LogId.{LogId}
@@ -21,7 +21,7 @@ pub record PartsOver (new : List Effect) (old now : State) : Type 0 where
   pub logs : (h : HostId) → h < length old.hosts.items → (part_of now h).log ≡ fold (log_by (LogId.Host h)) (part_of old h).log new
   pub lists : (h : HostId) → h < length old.hosts.items → (part_of now h).lists ≡ fold (lists_by h) (part_of old h).lists new
 
--- The new lists of a host are in place, and nothing else of any host is changed.
+-- What changes of a host's lists is in place, and nothing else of any host is changed.
 pub record ListsPut (new : Option NewLists) (old now : State) : Type 0 where
   pub hosts : length now.hosts.items ≡ length old.hosts.items
   pub lists : (h : HostId) → h < length old.hosts.items → (part_of now h).lists ≡ lists_put new h (part_of old h).lists

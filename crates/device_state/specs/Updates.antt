@@ -24,7 +24,7 @@ use Rattle.device_state.specs.declared.updates.Update.{Update}
 abbrev pub lists_after : Configuration → HostId → List Entry → List Effect → Lists
 lists_after c h before new = lists_in (view_after c h (view_of c h before) new)
 
--- The host of new lists, and the host of which tags are told, are of the device.
+-- The host of changed lists, and the host of which tags are told, are of the device.
 abbrev pub IsOfHosts : ℕ → Option NewLists → Type 0
 IsOfHosts hosts None = Unit {0}
 IsOfHosts hosts (Some new) = new.host < hosts

@@ -13,7 +13,7 @@ use crate::updates::{NewLists, TagChange, Update};
 use dcd_base::{HostId, Runs, Tag};
 use journal_core::Effect;
 use region_config::Config;
-use std::mem::{replace, swap};
+use std::mem::replace;
 use tag_refs::Tags;
 
 impl State {
@@ -51,7 +51,7 @@ impl State {
         self.put_tags(&mut update.tags);
     }
 
-    /// Puts the new lists of a host in place, and those that it had in theirs.
+    /// Puts what changes of a host's lists in place.
     fn put_lists(&mut self, lists: &mut Option<NewLists>)
         requires { IsOfHosts (length self.old.hosts.items) lists.old }
         ensures lists { ListsPut lists.old self.old self.new }
@@ -59,7 +59,7 @@ impl State {
     {
         if let Some(new) = lists {
             let host = usize::from(new.host.0);
-            swap(&mut self.hosts[host].lists, &mut new.lists);
+            self.hosts[host].lists.change(&mut new.change);
         }
     }
 

@@ -4,20 +4,20 @@ ghost use Rattle.device_state.specs.declared.updates.TagChange.{TagChange};
 ghost use Rattle.std.specs.Prelude.{◌≡◌, None};
 
 use dcd_base::{HostId, RegionId, Runs, Seq, Tag};
-use host_lists::HostLists;
+use host_lists::ListsChange;
 
-/// What a step puts in place beside what its effects change: the new lists of a host, and what changes of the open tags.
+/// What a step puts in place beside what its effects change: what changes of a host's lists, and of the open tags.
 #[derive(Drop)]
 pub struct Update {
     pub lists: Option<NewLists>,
     pub tags: TagChange,
 }
 
-/// The lists of a host after a step.
+/// What a step changes of the lists of a host.
 #[derive(Drop)]
 pub struct NewLists {
     pub host: HostId,
-    pub lists: HostLists,
+    pub change: ListsChange,
 }
 
 /// What a step changes of the open tags.
@@ -32,7 +32,7 @@ pub enum TagChange {
         runs: Runs,
         host: HostId,
     },
-    /// What the host has of these tags is told by its new lists.
+    /// What the host has of these tags is told by its lists after the step.
     OfHost {
         host: HostId,
         tags: Seq<Tag>,
