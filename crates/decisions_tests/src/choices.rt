@@ -9,7 +9,7 @@ use dcd_base::{HostId, NoMemory, RegionId, Run, Runs, Tag};
 use dcd_codes::{Refusal, Rule};
 use granule_map::{GranuleMap, GranuleState};
 use region_config::Config;
-use selection::{contiguous, free, prescriptive};
+use selection::{contiguous, free, prescriptive_rule};
 use std::alloc::Global;
 use std::process::Abort;
 use std::test::Fail;
@@ -74,11 +74,13 @@ fn see_choices(rt: &impl Abort, alloc: Global, map: &GranuleMap)
     requires { length map.now.states ≡ 16 }
 {
     for (first, block, need, expected) in &FREE {
-        let answer = free(alloc, map, run(*first, 16 - *first), *block, *need);
+        let area = run(*first, 16 - *first);
+        let answer = free(map, area, *block, *need, Runs::new(alloc));
         see(rt, &(*need, is_chosen(&answer, *expected)), &(*need, true));
     }
     for (first, block, need, expected) in &CONTIGUOUS {
-        let answer = contiguous(alloc, map, run(*first, 16 - *first), *block, *need);
+        let area = run(*first, 16 - *first);
+        let answer = contiguous(map, area, *block, *need, Runs::new(alloc));
         see(rt, &(*need, is_chosen(&answer, *expected)), &(*need, true));
     }
 }
@@ -93,8 +95,8 @@ fn the_lowest_free_blocks_on_the_grid_are_chosen(rt: HostRuntime) -> Result<(), 
 fn see_parts(rt: &impl Abort, alloc: Global, map: &GranuleMap)
     requires { length map.now.states ≡ 128 }
 {
-    let one = free(alloc, map, run(0, 128), 1, 1);
-    let all = free(alloc, map, run(0, 128), 1, 127);
+    let one = free(map, run(0, 128), 1, 1, Runs::new(alloc));
+    let all = free(map, run(0, 128), 1, 127, Runs::new(alloc));
     see(rt, &is_chosen(&one, Ok(&[(0, 1)])), &true);
     see(rt, &is_chosen(&all, Ok(&[(0, 1), (2, 126)])), &true);
 }
@@ -121,75 +123,64 @@ const GOOD: (u64, u64) = (6 * M, 4 * M);
 
 const LOW: (u64, u64) = (2 * M, 2 * M);
 
-/// The region, the list of host 0, and what Prescriptive chooses.
-static PRESCRIBED: [(u8, &[(u64, u64)], Chosen); 15] = [
-    (0, &[GOOD, LOW], Ok(&[(6, 4), (2, 2)])),
-    (1, &[(BASE, 8 * M)], Ok(&[(16, 8)])),
-    (0, &[], Err(Rule::EmptyList)),
-    (0, &[(0, 0); 64], Err(Rule::ZeroLength(0))),
-    (0, &[(0, 0); 65], Err(Rule::TooManyListed(65))),
-    (2, &[(2 * BASE, M)], Err(Rule::OutsideRegion(0))),
+/// The region, the list of host 0, and the rule that Prescriptive finds broken.
+static PRESCRIBED: [(u8, &[(u64, u64)], Option<Rule>); 15] = [
+    (0, &[GOOD, LOW], None),
+    (1, &[(BASE, 8 * M)], None),
+    (0, &[], Some(Rule::EmptyList)),
+    (0, &[(0, 0); 64], Some(Rule::ZeroLength(0))),
+    (0, &[(0, 0); 65], Some(Rule::TooManyListed(65))),
+    (2, &[(2 * BASE, M)], Some(Rule::OutsideRegion(0))),
     (
         0,
         &[GOOD, GOOD, (0, 0)],
-        Err(Rule::Overlap { index: 1, with: 0 }),
+        Some(Rule::Overlap { index: 1, with: 0 }),
     ),
-    (0, &[GOOD, (0, 0), GOOD], Err(Rule::ZeroLength(1))),
+    (0, &[GOOD, (0, 0), GOOD], Some(Rule::ZeroLength(1))),
     (
         0,
         &[GOOD, LOW, (15 * M, 2 * M)],
-        Err(Rule::OutsideRegion(2)),
+        Some(Rule::OutsideRegion(2)),
     ),
-    (0, &[(BASE, 2 * M), GOOD], Err(Rule::OutsideRegion(0))),
-    (0, &[GOOD, (M, 2 * M), GOOD], Err(Rule::Unaligned(1))),
-    (0, &[GOOD, (0, 3 * M), GOOD], Err(Rule::Unaligned(1))),
-    (0, &[(4 * M, 4 * M), GOOD, GOOD], Err(Rule::NotFree(0))),
-    (0, &[GOOD, (4 * M, 4 * M), GOOD], Err(Rule::NotFree(1))),
+    (0, &[(BASE, 2 * M), GOOD], Some(Rule::OutsideRegion(0))),
+    (0, &[GOOD, (M, 2 * M), GOOD], Some(Rule::Unaligned(1))),
+    (0, &[GOOD, (0, 3 * M), GOOD], Some(Rule::Unaligned(1))),
+    (0, &[(4 * M, 4 * M), GOOD, GOOD], Some(Rule::NotFree(0))),
+    (0, &[GOOD, (4 * M, 4 * M), GOOD], Some(Rule::NotFree(1))),
     (
         0,
         &[(12 * M, 2 * M), GOOD, (8 * M, 6 * M)],
-        Err(Rule::Overlap { index: 2, with: 0 }),
+        Some(Rule::Overlap { index: 2, with: 0 }),
     ),
 ];
 
-/// What is chosen of a list of host 0.
-fn prescribed(
+/// Sees which rule each list of the table breaks, as a list of host 0.
+fn see_prescribed(
+    rt: &impl Abort,
     alloc: Global,
     map: &GranuleMap,
     config: &Config,
-    region: u8,
-    ranges: &[(u64, u64)],
-) -> Result<Runs, Refusal>
-    requires host { config.now.hosts ≡ 2 }
-    requires granules { length map.now.states ≡ granule_total config.now }
-{
-    let list = listed(alloc, ranges)?;
-    prescriptive(alloc, map, config, HostId(0), RegionId(region), &list)
-}
-
-/// Sees what is chosen of each list of the table.
-fn see_prescribed(rt: &impl Abort, alloc: Global, map: &GranuleMap, config: &Config)
+) -> Result<(), NoMemory>
     requires host { config.now.hosts ≡ 2 }
     requires granules { length map.now.states ≡ granule_total config.now }
 {
     for (i, (region, ranges, expected)) in PRESCRIBED.iter().enumerate() {
-        let answer = prescribed(alloc, map, config, *region, ranges);
-        see(rt, &(i, is_chosen(&answer, *expected)), &(i, true));
+        let list = listed(alloc, ranges)?;
+        let found = prescriptive_rule(map, config, HostId(0), RegionId(*region), &list);
+        see(rt, &(i, found == *expected), &(i, true));
     }
+    Ok(())
 }
 
 /// Sees what is chosen of the device's granules.
 fn see_lists(rt: &impl Abort, alloc: Global, config: &Config) -> Result<(), NoMemory>
     requires { config.now.hosts ≡ 2 }
 {
-    see_prescribed(rt, alloc, &map_of(alloc, config)?, config);
-    Ok(())
+    see_prescribed(rt, alloc, &map_of(alloc, config)?, config)
 }
 
 #[test]
-fn a_prescribed_list_is_taken_in_its_order_or_breaks_its_first_rule(
-    rt: HostRuntime,
-) -> Result<(), Fail> {
+fn a_prescribed_list_breaks_its_first_rule_or_none(rt: HostRuntime) -> Result<(), Fail> {
     see_lists(&rt, rt.alloc(), &two_regions(rt.alloc(), 2 * M)?)?;
     Ok(())
 }

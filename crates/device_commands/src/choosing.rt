@@ -9,11 +9,12 @@ ghost use Rattle.region_config.specs.Granules.{granule_total};
 ghost use Rattle.std.specs.Prelude.{◌≡◌, ◌^◌, ◌<◌, ◌≤◌, All, IfOk, if◌then◌else◌, length};
 
 use crate::initiate_dynamic_capacity_add::{CONTIGUOUS, PRESCRIPTIVE};
-use dcd_base::{Extent, Extents, HostId, NoMemory, RegionId, Run, Tag};
+use dcd_base::{Extent, Extents, HostId, NoMemory, RegionId, Run, Runs, Tag};
 use dcd_codes::{Refusal, Rule};
 use device_state::State;
 use media_map::extent_of;
 use std::alloc::Global;
+use std::mem::replace;
 
 /// What is asked for, where host, policy and region are there.
 #[derive(Clone, Copy, Debug)]
@@ -40,17 +41,18 @@ pub(crate) fn new_extents(
     ensures row { ByRow (policy_rule state.now asked.now list.now) (λ new. new ≡ new_offer state.now asked.now list.now) result }
     ensures few { IfOk result (λ new. length new < 2 ^ 16) }
 {
+    let mut room = Runs::new(alloc);
     let shareable = state.present.region(asked.region).shareable;
     if asked.policy == PRESCRIPTIVE {
-        let map = state.granules.states();
-        match selection::prescriptive(alloc, map, &state.present, asked.host, asked.region, list) {
-            Ok(_runs) => Ok(with_tag(alloc, shareable, &asked.tag, list.as_slice())?),
-            Err(refusal) => Err(refusal),
+        let (map, present) = (state.granules.states(), &state.present);
+        match selection::prescriptive_rule(map, present, asked.host, asked.region, list) {
+            None => Ok(with_tag(alloc, shareable, &asked.tag, list.as_slice())?),
+            Some(rule) => Err(Refusal::Broken(rule)),
         }
     } else if asked.policy > CONTIGUOUS {
         Ok(shared(alloc, state, asked, shareable)?)
     } else {
-        free_extents(alloc, state, asked, shareable)
+        free_extents(alloc, state, asked, shareable, &mut room)
     }
 }
 
@@ -67,12 +69,14 @@ fn shared(alloc: Global, state: &State, asked: &Asked, shareable: bool) -> Resul
     }
 }
 
-/// So many bytes of free blocks, as extents of the host with the tag.
+/// So many bytes of free blocks, as extents of the host with the tag. The runs of these are put in the memory of `room`,
+/// whatever it holds, and stay there.
 fn free_extents(
     alloc: Global,
     state: &State,
     asked: &Asked,
     shareable: bool,
+    room: &mut Runs,
 ) -> Result<Extents, Refusal>
     requires host { asked.now.host < state.now.present.hosts }
     requires region { asked.now.region < length state.now.present.regions }
@@ -90,13 +94,18 @@ fn free_extents(
     let area = state.present.granules_of(asked.region);
     let per_block = state.present.per_block(asked.region);
     let map = state.granules.states();
+    let memory = replace(room, Runs::new(alloc));
     let found = if asked.policy == 0 {
-        selection::free(alloc, map, area, per_block, blocks)
+        selection::free(map, area, per_block, blocks, memory)
     } else {
-        selection::contiguous(alloc, map, area, per_block, blocks)
+        selection::contiguous(map, area, per_block, blocks, memory)
     };
     match found {
-        Ok(runs) => Ok(tagged_runs(alloc, state, asked, shareable, runs.as_slice())?),
+        Ok(runs) => {
+            let extents = tagged_runs(alloc, state, asked, shareable, runs.as_slice())?;
+            *room = runs;
+            Ok(extents)
+        }
         Err(refusal) => Err(refusal),
     }
 }

@@ -9,19 +9,20 @@ ghost use Rattle.std.specs.Prelude.{◌≡◌, ◌+◌, ◌<◌, IfOk, IsTrue, l
 use dcd_base::{Run, Runs};
 use dcd_codes::{Refusal, Rule};
 use granule_map::GranuleMap;
-use std::alloc::Global;
 
 /// The lowest free blocks of the area that lie together, so many, as one run of granules.
 ///
 /// The area is made of blocks of `per_block` granules from its first granule on, and a block is free where all
 /// its granules are. `TooFewFree` comes exactly where no so many free blocks lie together, with the number asked
 /// for and the most that do. `NoMemory` may come in place of any answer (profile).
+///
+/// The run is put in the memory of `room`, whatever it holds, which is let go where it is refused.
 pub fn contiguous(
-    alloc: Global,
     map: &GranuleMap,
     area: Run,
     per_block: u32,
     blocks: u64,
+    mut room: Runs,
 ) -> Result<Runs, Refusal>
     requires area { IsArea map.now.states area per_block }
     requires some { 0 < blocks }
@@ -37,13 +38,13 @@ pub fn contiguous(
             have: u64::from(have),
         }));
     }
-    let mut runs = Runs::new(alloc);
+    room.clear();
     match map.lowest_run(area, per_block, blocks as u32) {
         Some(run) => {
-            runs.push(run)?;
-            Ok(runs)
+            room.push(run)?;
+            Ok(room)
         }
-        None => Ok(runs),
+        None => Ok(room),
     }
 }
 

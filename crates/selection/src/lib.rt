@@ -1,6 +1,7 @@
 //! Which capacity an offer is made of: the three policies by which the manager has blocks selected.
 //!
-//! Each call answers runs of granules in the order of the offer, or the first rule that the request breaks.
+//! Free and Contiguous answer runs of granules in the order of the offer, in memory that they are given, or the rule
+//! that the request breaks. Prescriptive answers the first rule that a list breaks, since the list itself is the offer.
 //! The map of states is read and never changed.
 #![tactic(auto)]
 
@@ -10,5 +11,5 @@ mod listed;
 mod lowest;
 
 pub use adjacent::contiguous;
-pub use listed::prescriptive;
+pub use listed::prescriptive_rule;
 pub use lowest::free;

@@ -13,19 +13,20 @@ use crate::blocks::run_of_blocks;
 use dcd_base::{Granule, NoMemory, Run, Runs};
 use dcd_codes::{Refusal, Rule};
 use granule_map::GranuleMap;
-use std::alloc::Global;
 
 /// The lowest free blocks of the area, so many, adjacent ones joined: runs of granules in rising order.
 ///
 /// The area is made of blocks of `per_block` granules from its first granule on, and a block is free where all
 /// its granules are. `TooFewFree` comes exactly where fewer blocks are free than asked for, with both numbers.
 /// `NoMemory` may come in place of any answer (profile).
+///
+/// The runs are put in the memory of `room`, whatever it holds, which is let go where they are refused.
 pub fn free(
-    alloc: Global,
     map: &GranuleMap,
     area: Run,
     per_block: u32,
     blocks: u64,
+    mut room: Runs,
 ) -> Result<Runs, Refusal>
     requires area { IsArea map.now.states area per_block }
     requires some { 0 < blocks }
@@ -38,11 +39,11 @@ pub fn free(
     if blocks > u64::from(area.count / per_block) {
         return Err(too_few(map, &area, per_block, blocks));
     }
-    let mut runs = Runs::new(alloc);
-    if find_lowest(map, &area, per_block, blocks as u32, &mut runs)? > 0 {
+    room.clear();
+    if find_lowest(map, &area, per_block, blocks as u32, &mut room)? > 0 {
         return Err(too_few(map, &area, per_block, blocks));
     }
-    Ok(runs)
+    Ok(room)
 }
 
 /// The refusal of a request for more blocks than are free.

@@ -1,6 +1,6 @@
 use Rattle.std.proofs.Common.{sym, ◌∙◌}
 use Rattle.selection.proofs.Placed.{is_made_of_granules, placed}
-use Rattle.selection.proofs.listed.try_extent.Goals as goal
+use Rattle.selection.proofs.listed.extent_rule.Goals as goal
 
 pub run_of-run-requires-clause-granular : goal.run_of-run-requires-clause-granular
 run_of-run-requires-clause-granular c =
