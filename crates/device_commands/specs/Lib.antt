@@ -16,6 +16,5 @@ pub mod ManagerMessages
 pub mod ReleaseDynamicCapacity
 pub mod Scrub
 pub mod SetDcRegionConfiguration
-pub mod ShortLists
 pub mod ShownFlags
 pub mod TagChanges

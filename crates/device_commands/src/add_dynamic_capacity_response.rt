@@ -25,7 +25,6 @@ use crate::held_lists::{hold, unhold, unhold_before};
 use crate::log_records::{LogRecords, event_for, no_extent, one_record, records_of_extents};
 use crate::rooms::effects_of;
 use crate::runs::run_of;
-use crate::short_list::ShortList;
 use crate::tags::tags_of;
 use dcd_base::{Extent, Extents, HostId, LogId, NoMemory};
 use dcd_codes::Refusal;
@@ -34,6 +33,7 @@ use host_lists::{HostLists, Responded};
 use journal_core::{Effect, Effects, HeldKind};
 use offer_core::broken_rule;
 use region_config::Config;
+use short_list::ShortList;
 use std::alloc::Global;
 
 /// The host's response to its oldest offer: this list behind what it holds of earlier messages, and whether more

@@ -13,10 +13,11 @@ ghost use Rattle.std.specs.Prelude.{◌≡◌, ◌++◌, ◌≤◌, [], IfOk, No
 
 use crate::draft::Draft;
 use crate::get_event_records::{DYNAMIC_CAPACITY, LOGS};
-use dcd_base::{Handles, LogId, NoMemory};
+use dcd_base::{LogId, NoMemory};
 use dcd_codes::{Refusal, Rule};
 use event_log::{ClearFault, EventLog};
 use journal_core::{Effect, Effects};
+use short_list::ShortList;
 use std::alloc::Global;
 
 /// Takes the records of these handles out of the log, or all of them.
@@ -30,7 +31,7 @@ pub fn clear_events(
     number: u8,
     log: &EventLog,
     all: bool,
-    handles: &Handles,
+    handles: &ShortList<u16>,
 ) -> Result<Draft, Refusal>
     requires { length handles.now ≤ 255 }
     ensures drafts { AnswersClear id number log.now all handles.now result }

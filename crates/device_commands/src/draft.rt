@@ -5,11 +5,11 @@ ghost use Rattle.device_commands.specs.ListDrafts.{lists_changed};
 ghost use Rattle.std.specs.Prelude.{◌≡◌, [], IfOk, None, Some};
 
 use crate::log_records::LogRecords;
-use crate::short_list::ShortList;
 use dcd_base::{Bytes, HostId, NoMemory, Seq, Tag};
 use device_state::{NewLists, TagChange, Update};
 use host_lists::HostLists;
 use journal_core::{Effects, Reply};
+use short_list::ShortList;
 use std::alloc::Global;
 use std::marker::Model;
 

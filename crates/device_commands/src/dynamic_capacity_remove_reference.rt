@@ -9,12 +9,12 @@ ghost use Rattle.fm_payloads.specs.declared.requests.FmRequest.{FmRequest};
 ghost use Rattle.journal_core.specs.declared.outcome.Effect.{Effect};
 
 use crate::draft::{Draft, DraftParts};
-use crate::short_list::ShortList;
 use dcd_base::{Bytes, Seq, Tag};
 use dcd_codes::{Refusal, Rule};
 use device_state::State;
 use journal_core::{Effect, Effects};
 use region_config::Config;
+use short_list::ShortList;
 use std::alloc::Global;
 
 /// The manager refers to the tag no longer, which ends where nothing else keeps it (profile). `NoReference` comes

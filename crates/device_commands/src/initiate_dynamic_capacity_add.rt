@@ -23,7 +23,6 @@ ghost use Rattle.tag_refs.specs.declared.entries.TagEntry.{TagEntry};
 use crate::choosing::{Asked, new_extents};
 use crate::draft::Draft;
 use crate::log_records::{LogRecords, log_full, one_record, records_by_tags};
-use crate::short_list::ShortList;
 use dcd_base::limits::TAGS;
 use dcd_base::{Extent, Extents, HostId, LogId, NoMemory, RegionId, Seq, Tag, is_no_tag};
 use dcd_codes::{Refusal, Rule};
@@ -34,6 +33,7 @@ use host_lists::HostLists;
 use journal_core::{Effect, Effects};
 use list_rules::too_many_extents;
 use region_config::Config;
+use short_list::ShortList;
 use std::alloc::Global;
 
 /// The policies above 0 Free.

@@ -20,7 +20,6 @@ use crate::draft::{Draft, DraftParts};
 use crate::leaves::put_leaves;
 use crate::log_records::{LogRecords, log_full, records_to};
 use crate::rooms::effects_of;
-use crate::short_list::ShortList;
 use crate::tags::tags_of;
 use dcd_base::{Bytes, Extents, HostId, LogId, NoMemory, RegionId, Tag};
 use dcd_codes::{Refusal, Rule};
@@ -30,6 +29,7 @@ use host_lists::HostLists;
 use journal_core::Effects;
 use region_config::Config;
 use release_core::{by_tag, removal};
+use short_list::ShortList;
 use std::alloc::Global;
 
 /// The bits of the flags: the policy, forced, and cleaning.

@@ -4,7 +4,7 @@
 //! row that the command breaks; nothing that the device keeps is changed. In each room come, in this order, what is
 //! read, the first broken rule, the reply and the changes. `host_messages` and `manager_messages` say which command a
 //! message is. Beside the rooms stand what several share: `draft`, `log_records`, `held_lists`, `leaves`, `pages`,
-//! `rooms`, `runs`, `short_list`, `tags`, `tag_changes` and `responses`.
+//! `rooms`, `runs`, `tags`, `tag_changes` and `responses`.
 #![tactic(auto)]
 
 mod add_dynamic_capacity_response;
@@ -35,7 +35,6 @@ mod rooms;
 mod runs;
 mod scrub;
 mod set_dc_region_configuration;
-mod short_list;
 mod tag_changes;
 mod tags;
 

@@ -12,12 +12,12 @@ ghost use Rattle.dcd_base.specs.declared.steps.LogId.{LogId};
 ghost use Rattle.device_commands.specs.Drafts.{as_records};
 ghost use Rattle.event_log.specs.Logs.{Log};
 
-use crate::short_list::ShortList;
 use dcd_base::{Extent, HostId, LogId, NoMemory, Seq, no_tag};
 use dcd_codes::Rule;
 use device_state::State;
 use event_records::{Event, EventKind};
 use host_lists::HostLists;
+use short_list::ShortList;
 use std::alloc::Global;
 
 /// Records for one log, in order. The log gives each its handle.

@@ -17,13 +17,13 @@ ghost use Rattle.std.specs.List.{range_with_len};
 
 use crate::draft::{Draft, DraftParts};
 use crate::log_records::{LogRecords, event_for, log_full, no_extent};
-use crate::short_list::ShortList;
 use dcd_base::{Bytes, Granule, HostId, LogId, NoMemory, RegionId, Seq};
 use dcd_codes::{Refusal, Rule};
 use device_state::State;
 use event_records::{Event, EventKind};
 use journal_core::{Effect, Effects};
 use region_config::{BlockFault, Config};
+use short_list::ShortList;
 use std::alloc::Global;
 
 /// Gives a region blocks of another size, in bytes (profile). Each host is told, also where the size is the old one.

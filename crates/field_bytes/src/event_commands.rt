@@ -9,6 +9,7 @@ use crate::lengths::zeros;
 use crate::reading::u16_at;
 use crate::writing::{put_flag, put_u8, put_u16, put_zeros};
 use dcd_base::{Bytes, Handles, NoMemory};
+use short_list::ShortList;
 use std::alloc::Global;
 
 /// The length of a list of handles to clear: 6 bytes and 2 for each handle of its count.
@@ -22,8 +23,22 @@ pub fn clear_length(payload: &[u8]) -> u64
     }
 }
 
-/// So many handles of two bytes each.
-pub fn handles_of(alloc: Global, count: usize, bytes: &[u8]) -> Result<Handles, NoMemory>
+/// So many handles of two bytes each. It takes memory only for several.
+pub fn handles_of(alloc: Global, count: usize, bytes: &[u8]) -> Result<ShortList<u16>, NoMemory>
+    requires { 2 * count ≤ length bytes.now }
+    ensures { IfOk result (λ handles. handles ≡ map u16_in (pieces 2 count bytes.now)) }
+{
+    if count == 0 {
+        return Ok(ShortList::new());
+    }
+    if count == 1 {
+        return Ok(ShortList::of(u16_at(bytes, 0)));
+    }
+    Ok(ShortList::of_list(several_handles(alloc, count, bytes)?))
+}
+
+/// So many handles of two bytes each, as a list of their own.
+fn several_handles(alloc: Global, count: usize, bytes: &[u8]) -> Result<Handles, NoMemory>
     requires { 2 * count ≤ length bytes.now }
     ensures { IfOk result (λ handles. handles ≡ map u16_in (pieces 2 count bytes.now)) }
 {

@@ -1,6 +1,7 @@
 //! The commands of the Fabric Manager.
 
-use dcd_base::{Extents, Handles, Tag};
+use dcd_base::{Extents, Tag};
+use short_list::ShortList;
 
 /// What the Fabric Manager asks of the device, the payload of its message.
 ///
@@ -15,7 +16,7 @@ pub enum FmRequest {
     ClearEvents {
         log: u8,
         all: bool,
-        handles: Handles,
+        handles: ShortList<u16>,
     },
     /// Get DCD Info, 5600h (profile).
     GetInfo,

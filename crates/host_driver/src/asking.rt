@@ -11,6 +11,7 @@ use crate::tables::listed;
 use cci_codec::{Payload, Request};
 use dcd_base::{Bytes, Extents, Handles, NoMemory};
 use host_payloads::{HostRequest, encode};
+use short_list::ShortList;
 use std::alloc::Global;
 
 /// The log of Dynamic Capacity events.
@@ -36,11 +37,11 @@ fn driver_message(alloc: Global, opcode: u16, request: &HostRequest) -> Result<R
 }
 
 /// The first handles of a page, as many as one request has.
-fn first_handles(alloc: Global, handles: &Handles) -> Result<Handles, NoMemory>
+fn first_handles(alloc: Global, handles: &Handles) -> Result<ShortList<u16>, NoMemory>
     ensures { IfOk result (λ first. first ≡ take most_handles handles.now) }
 {
     let (front, _) = handles.as_slice().split_at(MOST_HANDLES.min(handles.len()));
-    Handles::from_slice(alloc, front)
+    ShortList::of_slice(alloc, front)
 }
 
 impl Kept {

@@ -1,6 +1,7 @@
 //! The commands of a host.
 
-use dcd_base::{Extents, Handles};
+use dcd_base::Extents;
+use short_list::ShortList;
 
 /// What a host asks of the device, the payload of its message.
 #[derive(Debug, Drop)]
@@ -13,7 +14,7 @@ pub enum HostRequest {
     ClearEvents {
         log: u8,
         all: bool,
-        handles: Handles,
+        handles: ShortList<u16>,
     },
     /// Get Dynamic Capacity Configuration, 4800h (CXL 3.1, 8.2.9.9.9.1): at most `count` regions from `first` on.
     GetConfiguration {

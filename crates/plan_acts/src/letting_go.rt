@@ -7,6 +7,7 @@ use crate::messages::{PlanStep, by_host, by_manager};
 use dcd_base::{Extents, Handles, HostId, NoMemory, RegionId, no_tag};
 use fm_payloads::FmRequest;
 use host_payloads::HostRequest;
+use short_list::ShortList;
 use std::alloc::Global;
 
 /// The log of Dynamic Capacity events.
@@ -23,7 +24,7 @@ pub fn clear_step(alloc: Global, host: HostId, handles: Handles) -> Result<PlanS
     let request = HostRequest::ClearEvents {
         log: LOG,
         all: false,
-        handles,
+        handles: ShortList::of_list(handles),
     };
     by_host(alloc, host, 0x0101, &request)
 }

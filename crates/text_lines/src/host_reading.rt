@@ -13,6 +13,7 @@ use crate::forms::{Clearing, Listing, Page};
 use crate::keywords::Keyword;
 use crate::lists::{extents, handles};
 use host_payloads::HostRequest;
+use short_list::ShortList;
 use std::alloc::Global;
 use text_words::Words;
 
@@ -70,6 +71,7 @@ pub fn host_request(
         }
         HostCommand::ClearEventRecords => {
             let Clearing { log, all, handles } = clearing(alloc, words)?;
+            let handles = ShortList::of_list(handles);
             Ok(HostRequest::ClearEvents { log, all, handles })
         }
         HostCommand::GetConfiguration => {

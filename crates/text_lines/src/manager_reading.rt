@@ -15,6 +15,7 @@ use crate::keywords::Keyword;
 use crate::lists::extents;
 use crate::policies::{add_policy, release_flags};
 use fm_payloads::FmRequest;
+use short_list::ShortList;
 use std::alloc::Global;
 use text_words::Words;
 
@@ -134,6 +135,7 @@ pub fn manager_request(
         }
         ManagerCommand::ClearEventRecords => {
             let Clearing { log, all, handles } = clearing(alloc, words)?;
+            let handles = ShortList::of_list(handles);
             Ok(FmRequest::ClearEvents { log, all, handles })
         }
         ManagerCommand::GetInfo => Ok(FmRequest::GetInfo),

@@ -6,4 +6,4 @@ pub returns : goal.returns
 returns c =
     let front : c.split_at.result.0.now ≡ take 255 c.args.handles.now =
     rw (c.split_at.ensures.front, c.min.ensures, c.len.ensures, c.as_slice.ensures) (take_min 255 c.args.handles.now) in
-    subst (λ xs. IfOk c.from_slice.result (λ first. first ≡ xs)) front c.from_slice.ensures
+    subst (λ xs. IfOk c.of_slice.result (λ first. first ≡ xs)) front c.of_slice.ensures

@@ -1,7 +1,7 @@
 use Rattle.std.proofs.Common.{arith}
 use Rattle.std.specs.Int.{from_le_bytes, w16}
 use Rattle.field_bytes.proofs.Pieces.{pieces-goes_on}
-use Rattle.field_bytes.proofs.event_commands.handles_of.Goals as goal
+use Rattle.field_bytes.proofs.event_commands.several_handles.Goals as goal
 
 pub loop-preserved : goal.loop-preserved
 loop-preserved c = record {

@@ -1,7 +1,7 @@
 use Rattle.std.proofs.Common.{◌≡◌, ◌++◌, ◌*◌, ◌-◌, ◌≤◌, length, map}
 use Rattle.field_bytes.specs.Layouts.{pieces}
 use Rattle.std.specs.Int.{from_le_bytes, w16}
-use Rattle.field_bytes.proofs.event_commands.handles_of.Given as goal
+use Rattle.field_bytes.proofs.event_commands.several_handles.Given as goal
 
 abbrev pub invariant-loop : goal.invariant-loop
 invariant-loop l = record {

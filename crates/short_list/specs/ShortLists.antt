@@ -1,6 +1,6 @@
 -- What a short list has.
 use Rattle.std.specs.Prelude.{List, []}
-use Rattle.device_commands.specs.declared.short_list.Kept.{Kept}
+use Rattle.short_list.specs.declared.lists.Kept.{Kept}
 
 -- its items in order
 abbrev pub items_of : {T : Type 0} → Kept T → List T

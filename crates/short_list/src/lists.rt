@@ -1,22 +1,23 @@
-//! Lists that mostly have one item, or none.
+//! The list.
 
-ghost use Rattle.device_commands.specs.ShortLists.{items_of};
-ghost use Rattle.std.specs.Prelude.{◌≡◌, ◌∷◌, [], length};
+ghost use Rattle.short_list.specs.ShortLists.{items_of};
+ghost use Rattle.std.specs.Prelude.{◌≡◌, ◌==◌, ◌∷◌, [], IfOk, length};
 
-use dcd_base::Seq;
+use dcd_base::{NoMemory, Seq};
+use std::alloc::Global;
 use std::marker::Model;
 
 /// A list whose items lie in the value itself where it has one, or none. Only where it was made of several do they lie on
 /// the heap.
 ///
 /// Contracts see its items in order.
-#[derive(Drop)]
+#[derive(Debug, Drop)]
 pub struct ShortList<T> {
     kept: Kept<T>,
 }
 
 /// What a short list keeps.
-#[derive(Drop)]
+#[derive(Debug, Drop)]
 pub(crate) enum Kept<T> {
     Nothing,
     One([T; 1]),
@@ -24,7 +25,7 @@ pub(crate) enum Kept<T> {
 }
 
 impl<T> Model for ShortList<T> {
-    ghost use Rattle.device_commands.specs.ShortLists.{items_of};
+    ghost use Rattle.short_list.specs.ShortLists.{items_of};
     ghost use Rattle.std.specs.Prelude.{List};
 
     ghost Value = { List T };
@@ -69,6 +70,33 @@ impl<T> ShortList<T> {
             Kept::Nothing => &[],
             Kept::One(items) => items,
             Kept::Several(items) => items.as_slice(),
+        }
+    }
+
+    /// How many items it has.
+    pub fn len(&self) -> usize
+        ensures { result ≡ length self.now }
+    {
+        self.as_slice().len()
+    }
+
+    /// Whether it has none.
+    pub fn is_empty(&self) -> bool
+        ensures { result ≡ (length self.now == 0) }
+    {
+        self.as_slice().is_empty()
+    }
+}
+
+impl<T: Copy> ShortList<T> {
+    /// A list of the same items as the slice. It takes memory only for several.
+    pub fn of_slice(alloc: Global, items: &[T]) -> Result<ShortList<T>, NoMemory>
+        ensures { IfOk result (λ list. list ≡ items.now) }
+    {
+        match items {
+            [] => Ok(ShortList::new()),
+            [item] => Ok(ShortList::of(*item)),
+            _ => Ok(ShortList::of_list(Seq::from_slice(alloc, items)?)),
         }
     }
 }
