@@ -17,8 +17,7 @@ use offer_core::Offer;
 use release_core::{GivenBack, Releases};
 
 impl HostLists {
-    /// The change by an offer of these extents of the region, behind all other offers. Where there is no other, it takes no
-    /// memory.
+    /// The change by an offer of these extents of the region, behind all other offers.
     pub fn offering(&self, region: RegionId, extents: Extents) -> Result<ListsChange, NoMemory>
         ensures { IfOk result (λ change. changed_by change self.now ≡ record self.now { offers = self.now.offers ++ extents ∷ [] }) }
     {
@@ -169,7 +168,7 @@ impl HostLists {
         Ok(Some(accepted))
     }
 
-    /// The offers behind the oldest, and nothing held. Where there are none, it takes no memory.
+    /// The offers behind the oldest, and nothing held.
     fn offers_behind(&self) -> Result<OffersChange, NoMemory>
         ensures offers { IfOk result (λ change. offers_with change self.now.offers ≡ drop 1 self.now.offers) }
         ensures held { IfOk result (λ change. (was : List Extent) → responses_with change was ≡ []) }

@@ -64,7 +64,7 @@ impl Offers {
         })
     }
 
-    /// Equal offers of their own behind the oldest, and nothing held. Where there is none behind it, it takes no memory.
+    /// Equal offers of their own behind the oldest, and nothing held.
     pub fn copy_behind_oldest(&self) -> Result<Offers, NoMemory>
         ensures offers { IfOk result (λ copy. copy.offers ≡ drop 1 self.now.offers) }
         ensures held { IfOk result (λ copy. copy.held ≡ []) }
@@ -95,8 +95,8 @@ impl Offers {
         Ok(())
     }
 
-    /// Puts an offer behind the others. Where there is none, or with spare, it takes no memory; it uses one of the spare at
-    /// most. Without memory the offer is let go and nothing changes.
+    /// Puts an offer behind the others. With spare it takes no memory; it uses one of the spare at most. Without memory the
+    /// offer is let go and nothing changes.
     #[tactic(auto, using(crate::proofs::Counting::count_in_push))]
     pub fn push(&mut self, offer: Offer) -> Result<(), NoMemory>
         ensures pushed { OnOk result (self.new.offers ≡ self.old.offers ++ offer ∷ []) }
@@ -230,7 +230,7 @@ fn copy_of_one(offer: &Option<Offer>) -> Result<Option<Offer>, NoMemory>
     }
 }
 
-/// Equal offers of their own. For none it takes no memory.
+/// Equal offers of their own.
 fn copy_of_all(alloc: Global, offers: &VecDeque<Offer>) -> Result<VecDeque<Offer>, NoMemory>
     ensures { IfOk result (λ copy. copy.items ≡ offers.now.items) }
 {
