@@ -23,11 +23,15 @@ fn one_offer(alloc: Global) -> Result<HostLists, NoMemory>
     Ok(lists)
 }
 
-/// A copy of the lists with that offer.
-fn copied(alloc: Global) -> Result<HostLists, NoMemory>
+/// The lists with that offer, which came as a change of none.
+fn offered_by_change(alloc: Global) -> Result<HostLists, NoMemory>
     ensures { IfOk result (λ lists. extent_total lists ≤ 64) }
 {
-    one_offer(alloc)?.copy()
+    let mut lists = HostLists::new(alloc);
+    let extents = [extent(0, 6 * M, 7, 0), extent(8 * M, 2 * M, 0, 0)];
+    let mut change = lists.offering(RegionId(0), Extents::from_slice(alloc, &extents)?)?;
+    lists.change(&mut change);
+    Ok(lists)
 }
 
 /// The extents of the oldest offer and of all, those that more may come, the tags that may, and the tags with three
@@ -62,7 +66,7 @@ fn see_counts(rt: &impl Abort, lists: &HostLists)
 
 #[test]
 fn offers_are_counted_with_their_tags(rt: HostRuntime) -> Result<(), Fail> {
-    see_counts(&rt, &copied(rt.alloc())?);
+    see_counts(&rt, &offered_by_change(rt.alloc())?);
     Ok(())
 }
 
