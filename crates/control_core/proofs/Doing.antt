@@ -12,7 +12,9 @@ use Rattle.dcd_base.specs.declared.ids.HostId.{HostId}
 use Rattle.dcd_codes.specs.declared.codes.Code.{Code}
 use Rattle.extent_list.specs.ExtentLists.{has_extent_of}
 use Rattle.region_config.specs.Configurations.{Configuration}
+use Rattle.host_lists.specs.Changes.{changed_by}
 use Rattle.host_lists.specs.Lists.{Lists}
+use Rattle.host_lists.specs.declared.lists_change.ListsChange.{ListsChange}
 use Rattle.journal_core.specs.Entries.{effects}
 use Rattle.journal_core.specs.declared.acts.Reply.{Reply}
 use Rattle.journal_core.specs.declared.entries.Entry.{Entry}
@@ -144,8 +146,9 @@ module _ (c : Configuration) (before : List Entry) (h : HostId) (o : Outcome) (o
   other_lists : (k : HostId) → h ≢ k → fold (lists_by k) (lists_in (view_of c k before)) (effects_of c (effects before) o) ≡ lists_after c k before (effects_of c (effects before) o)
   other_lists k other = others_stay c k (view_of c k before) (effects_of c (effects before) o) (of.others k other)
 
-  pub update_new : (lists : Lists) → lists ≡ its → IsUpdate c before (effects_of c (effects before) o) (record { lists = Some (record { host = h; lists = lists }); tags = TagChange.OfHost h o.tags })
-  update_new lists is = record {
+  pub update_new : (change : ListsChange) → changed_by change (fold (lists_by h) (lists_in (view_of c h before)) o.changes) ≡ its →
+      IsUpdate c before (effects_of c (effects before) o) (record { lists = Some (record { host = h; change = change }); tags = TagChange.OfHost h o.tags })
+  update_new change is = record {
     of_hosts = of.host;
     lists = λ k known. by k (cases_eq h k);
     can_change = λ entries table. of.host;
@@ -153,10 +156,11 @@ module _ (c : Configuration) (before : List Entry) (h : HostId) (o : Outcome) (o
   }
     where
       by : (k : HostId) → (h ≡ k) ⊎ (h ≡ k → ⊥) →
-          lists_put (Some (record { host = h; lists = lists })) k (fold (lists_by k) (lists_in (view_of c k before)) (effects_of c (effects before) o)) ≡ lists_after c k before (effects_of c (effects before) o)
-      by k (inl same) = subst (λ m. lists_put (Some (record { host = h; lists = lists })) m (fold (lists_by m) (lists_in (view_of c m before)) (effects_of c (effects before) o)) ≡ lists_after c m before (effects_of c (effects before) o)) same
-          (ap (λ b. if b then lists else fold (lists_by h) (lists_in (view_of c h before)) (effects_of c (effects before) o)) (eq-eqb h h refl) ∙ is ∙ sym own_after)
-      by k (inr other) = ap (λ b. if b then lists else fold (lists_by k) (lists_in (view_of c k before)) (effects_of c (effects before) o)) (ne_eqb h k other) ∙ other_lists k other
+          lists_put (Some (record { host = h; change = change })) k (fold (lists_by k) (lists_in (view_of c k before)) (effects_of c (effects before) o)) ≡ lists_after c k before (effects_of c (effects before) o)
+      by k (inl same) = subst (λ m. lists_put (Some (record { host = h; change = change })) m (fold (lists_by m) (lists_in (view_of c m before)) (effects_of c (effects before) o)) ≡ lists_after c m before (effects_of c (effects before) o)) same
+          (ap (λ b. if b then changed_by change (fold (lists_by h) (lists_in (view_of c h before)) (effects_of c (effects before) o)) else fold (lists_by h) (lists_in (view_of c h before)) (effects_of c (effects before) o)) (eq-eqb h h refl)
+          ∙ ap (changed_by change) (unheld_over c (effects before) o h (lists_in (view_of c h before))) ∙ is ∙ sym own_after)
+      by k (inr other) = ap (λ b. if b then changed_by change (fold (lists_by k) (lists_in (view_of c k before)) (effects_of c (effects before) o)) else fold (lists_by k) (lists_in (view_of c k before)) (effects_of c (effects before) o)) (ne_eqb h k other) ∙ other_lists k other
 
   pub update_same : its ≡ lists_in (view_of c h before) → IsUpdate c before (effects_of c (effects before) o) (record { lists = None; tags = TagChange.OfHost h o.tags })
   update_same stay = record {
@@ -184,16 +188,18 @@ module _ (c : Configuration) (before : List Entry) (s : State) (kept : IsStateAf
       (λ i. (drafts.changes i ++ map Effect.TagEnd (ending h (λ t. has_extent_of t lists.accepted) (λ t. list_any (has_extent_of t) lists.offers) s.tags.entries (drafts.tags i))) ++ told_is (effects before) draft.log_records i)
       ∙ (λ i. (o.changes ++ map Effect.TagEnd (its_ended c before h o of s.tags.entries kept.tags_are lists is i)) ++ flat_map (λ n. entered_all n.0 (log_of n.0 (effects before)) n.1) (drafts.log_records i))
 
-  pub done_new : (lists : Lists) → draft.lists ≡ Some lists → (reply : Reply) (new : List Effect) → reply ≡ response q Code.Success draft.payload →
+  pub done_new : (change : ListsChange) → draft.lists ≡ Some change → (reply : Reply) (new : List Effect) → reply ≡ response q Code.Success draft.payload →
+      (lists : Lists) → lists ≡ changed_by change (lists_in (view_of c h before)) →
       new ≡ (draft.changes ++ map Effect.TagEnd (ending h (λ t. has_extent_of t lists.accepted) (λ t. list_any (has_extent_of t) lists.offers) s.tags.entries draft.tags)) ++ records_entered (effects before) draft.log_records →
-      IsDone c before q o (record { reply = reply; effects = new; update = record { lists = Some (record { host = h; lists = lists }); tags = told_change h draft.tags } })
-  done_new lists some reply new answers is =
-      let its_lists : lists ≡ lists_in (view_after c h (view_of c h before) o.changes) = subst (AreAfter c h (view_of c h before) o) some drafts.lists in
+      IsDone c before q o (record { reply = reply; effects = new; update = record { lists = Some (record { host = h; change = change }); tags = told_change h draft.tags } })
+  done_new change some reply new answers lists are is =
+      let leads : AreAfter c h (view_of c h before) o (Some change) = subst (AreAfter c h (view_of c h before) o) some drafts.lists in
+      let its_lists : lists ≡ lists_in (view_after c h (view_of c h before) o.changes) = are ∙ leads.0 in
       let effects_are : new ≡ effects_of c (effects before) o = is ∙ all_effects lists its_lists in record {
         reply = answers ∙ ap (response q Code.Success) drafts.payload;
         effects = effects_are;
-        update = subst (λ (x : List Effect × List Tag). IsUpdate c before x.0 (record { lists = Some (record { host = h; lists = lists }); tags = told_change h x.1 }))
-            (λ i. (sym effects_are i, sym drafts.tags i)) (told_less c before (effects_of c (effects before) o) (Some (record { host = h; lists = lists })) h o.tags (update_new c before h o of lists its_lists));
+        update = subst (λ (x : List Effect × List Tag). IsUpdate c before x.0 (record { lists = Some (record { host = h; change = change }); tags = told_change h x.1 }))
+            (λ i. (sym effects_are i, sym drafts.tags i)) (told_less c before (effects_of c (effects before) o) (Some (record { host = h; change = change })) h o.tags (update_new c before h o of change leads.1));
       }
 
   pub done_same : draft.lists ≡ None → (reply : Reply) (new : List Effect) → reply ≡ response q Code.Success draft.payload →
@@ -215,7 +221,7 @@ module _ (c : Configuration) (before : List Entry) (s : State) (kept : IsStateAf
       new ≡ (draft.changes ++ map Effect.TagEnd (ending_with h (lists_or_had had its) s.tags.entries draft.tags)) ++ records_entered (effects before) draft.log_records →
       IsDone c before q o (record { reply = reply; effects = new; update = record { lists = lists_for h (lists_alone its); tags = told_change h draft.tags } })
   done_either None none reply new answers had is_had is = done_same none reply new answers had is_had is
-  done_either (Some it) some reply new answers had is_had is = done_new it.lists some reply new answers is
+  done_either (Some it) some reply new answers had is_had is = done_new it.change some reply new answers (changed_by it.change had) (ap (changed_by it.change) is_had) is
 
 -- a reply alone is done
 pub replied_done : (c : Configuration) (before : List Entry) (s : State) → IsStateAfter c before s → (q : Request) (h : HostId) (o : Outcome) → IsOfHost c before h o → (payload : List ℕ)

@@ -13,7 +13,9 @@ use Rattle.dcd_base.specs.declared.ids.HostId.{HostId}
 use Rattle.dcd_codes.specs.declared.codes.Code.{Code}
 use Rattle.extent_list.specs.ExtentLists.{has_extent_of}
 use Rattle.fm_payloads.specs.declared.requests.FmRequest.{FmRequest}
+use Rattle.host_lists.specs.Changes.{changed_by}
 use Rattle.host_lists.specs.Lists.{Lists}
+use Rattle.host_lists.specs.declared.lists_change.ListsChange.{ListsChange}
 use Rattle.device_commands.specs.Drafts.{AreAfter, Drafts, as_records}
 use Rattle.device_state.specs.StateAfter.{lists_in, IsStateAfter}
 use Rattle.device_commands.specs.declared.draft.DraftParts.{DraftParts}
@@ -74,20 +76,21 @@ module _ (c : Configuration) (before : List Entry) (s : State) (kept : IsStateAf
   own_are : fold (lists_by h) (lists_in (view_of c h before)) (effects_of c (effects before) o) ≡ lists_in (view_of c h before)
   own_are = unheld_over c (effects before) o h (lists_in (view_of c h before)) ∙ ap (fold (lists_by h) (lists_in (view_of c h before))) of.changes
 
-  its_lists : (lists : Option Lists) → AreAfter c h (view_of c h before) o lists → (k : HostId) →
+  its_lists : (lists : Option ListsChange) → AreAfter c h (view_of c h before) o lists → (k : HostId) →
       lists_put (lists_for h lists) k (fold (lists_by k) (lists_in (view_of c k before)) (effects_of c (effects before) o)) ≡ lists_after c k before (effects_of c (effects before) o)
   its_lists None after k = elim (cases_eq h k) [
     | inl same ↦ subst (λ m. fold (lists_by m) (lists_in (view_of c m before)) (effects_of c (effects before) o) ≡ lists_after c m before (effects_of c (effects before) o)) same
         (own_are ∙ sym after ∙ sym own_after)
     | inr other ↦ others_are k other
   ]
-  its_lists (Some lists) after k = elim (cases_eq h k) [
-    | inl same ↦ subst (λ m. lists_put (Some (record { host = h; lists = lists })) m (fold (lists_by m) (lists_in (view_of c m before)) (effects_of c (effects before) o)) ≡ lists_after c m before (effects_of c (effects before) o)) same
-        (ap (λ b. if b then lists else fold (lists_by h) (lists_in (view_of c h before)) (effects_of c (effects before) o)) (eq-eqb h h refl) ∙ after ∙ sym own_after)
-    | inr other ↦ ap (λ b. if b then lists else fold (lists_by k) (lists_in (view_of c k before)) (effects_of c (effects before) o)) (ne_eqb h k other) ∙ others_are k other
+  its_lists (Some change) after k = elim (cases_eq h k) [
+    | inl same ↦ subst (λ m. lists_put (Some (record { host = h; change = change })) m (fold (lists_by m) (lists_in (view_of c m before)) (effects_of c (effects before) o)) ≡ lists_after c m before (effects_of c (effects before) o)) same
+        (ap (λ b. if b then changed_by change (fold (lists_by h) (lists_in (view_of c h before)) (effects_of c (effects before) o)) else fold (lists_by h) (lists_in (view_of c h before)) (effects_of c (effects before) o)) (eq-eqb h h refl)
+        ∙ ap (changed_by change) (unheld_over c (effects before) o h (lists_in (view_of c h before))) ∙ after.1 ∙ sym own_after)
+    | inr other ↦ ap (λ b. if b then changed_by change (fold (lists_by k) (lists_in (view_of c k before)) (effects_of c (effects before) o)) else fold (lists_by k) (lists_in (view_of c k before)) (effects_of c (effects before) o)) (ne_eqb h k other) ∙ others_are k other
   ]
 
-  its_host : (lists : Option Lists) → IsOfHosts c.hosts (lists_for h lists)
+  its_host : (lists : Option ListsChange) → IsOfHosts c.hosts (lists_for h lists)
   its_host None = tt
   its_host (Some lists) = of.host
 

@@ -1,9 +1,11 @@
 -- What a decision has.
-use Rattle.std.specs.Prelude.{[], None}
+use Rattle.std.specs.Prelude.{List, [], None}
 use Rattle.device_commands.specs.declared.draft.DraftedStep.{DraftedStep}
 use Rattle.control_core.specs.declared.decided.Decided.{Decided}
 use Rattle.control_core.specs.declared.decided.DecisionContent.{DecisionContent}
+use Rattle.control_core.specs.declared.step_effects.TakenStep.{TakenStep}
 use Rattle.journal_core.specs.declared.acts.Reply.{Reply}
+use Rattle.journal_core.specs.declared.outcome.Effect.{Effect}
 use Rattle.device_state.specs.declared.updates.TagChange.{TagChange}
 
 -- what a step comes to that only replies
@@ -18,3 +20,8 @@ decided_by s = record { reply = s.reply; effects = s.effects; update = s.update 
 abbrev pub decided_in : DecisionContent → Decided
 decided_in (DecisionContent.Reply reply) = only_replied reply
 decided_in (DecisionContent.Step step) = decided_by step.value
+
+-- the effects of a step that was taken
+abbrev pub effects_taken : TakenStep → List Effect
+effects_taken TakenStep.Quiet = []
+effects_taken (TakenStep.Parts step) = step.value.effects

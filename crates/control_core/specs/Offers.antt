@@ -6,7 +6,7 @@ use Rattle.dcd_base.specs.declared.capacity.Extent.{Extent}
 use Rattle.dcd_base.specs.declared.capacity.Tag.{Tag}
 use Rattle.dcd_base.specs.declared.ids.HostId.{HostId}
 use Rattle.extent_list.specs.ExtentLists.{has_extent_of}
-use Rattle.host_lists.specs.Lists.{Lists}
+use Rattle.host_lists.specs.declared.lists_change.ListsChange.{ListsChange}
 use Rattle.region_config.specs.Configurations.{Configuration}
 use Rattle.journal_core.specs.Entries.{effects}
 use Rattle.journal_core.specs.declared.entries.Entry.{Entry}
@@ -25,10 +25,10 @@ use Rattle.control_core.specs.declared.decided.Decided.{Decided}
 use Rattle.device_state.specs.declared.state.State.{State}
 use Rattle.device_state.specs.declared.updates.NewLists.{NewLists}
 
--- the new lists of the host, where there are some
-abbrev pub lists_for : HostId → Option Lists → Option NewLists
+-- what changes of the host's lists, where anything does
+abbrev pub lists_for : HostId → Option ListsChange → Option NewLists
 lists_for h None = None
-lists_for h (Some lists) = Some (record { host = h; lists = lists })
+lists_for h (Some change) = Some (record { host = h; change = change })
 
 -- The outcome is the offer of these extents with the tag, and the table of open tags follows it.
 pub record IsOfOffer (c : Configuration) (before : List Entry) (h : HostId) (r : ℕ) (tag : Tag) (new : List Extent) (o : Outcome) : Type 0 where

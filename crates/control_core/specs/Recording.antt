@@ -11,6 +11,7 @@ use Rattle.std.specs.List.{list_any}
 use Rattle.dcd_base.specs.declared.capacity.Tag.{Tag}
 use Rattle.dcd_base.specs.declared.ids.HostId.{HostId}
 use Rattle.extent_list.specs.ExtentLists.{has_extent_of}
+use Rattle.host_lists.specs.Changes.{changed_by}
 use Rattle.host_lists.specs.Lists.{Lists}
 use Rattle.journal_core.specs.Entries.{effects}
 use Rattle.journal_core.specs.declared.entries.Entry.{Entry}
@@ -45,10 +46,10 @@ ends_by_lists h l entries t = passes t (λ e. not (is_used (set_by h (has_extent
 abbrev pub ending_with : HostId → Lists → List TagEntry → List Tag → List Tag
 ending_with h l entries tags = ending h (λ t. has_extent_of t l.accepted) (λ t. list_any (has_extent_of t) l.offers) entries tags
 
--- the lists of a host by an update, or those that it had
+-- the lists of a host by an update, where it changes them, or those that it had
 abbrev pub lists_or_had : Lists → Option NewLists → Lists
 lists_or_had had None = had
-lists_or_had had (Some new) = new.lists
+lists_or_had had (Some new) = changed_by new.change had
 
 -- ---- by each journal that leads to what is kept
 

@@ -14,10 +14,10 @@ ghost use Rattle.std.specs.Prelude.{◌≡◌, ◌<◌, IfOk, Option};
 use crate::control::Control;
 use crate::live::LiveControl;
 use cci_codec::Request;
-use dcd_base::{Actor, Bytes, HostId, NoMemory};
+use dcd_base::{Actor, HostId, NoMemory};
 use dcd_codes::{Refusal, Rule};
 use device_commands::{
-    AddRequest, Draft, RemoveRequest, add, add_reference, host_draft, quiet_draft, remove,
+    AddRequest, Draft, RemoveRequest, Room, add, add_reference, host_draft, quiet_draft, remove,
     remove_reference,
 };
 use device_state::State;
@@ -66,6 +66,7 @@ impl LiveControl {
     {
         let (config, state) = (&self.config, &self.state);
         let part = state.part(host);
+        let mut room = Room::new(self.alloc);
         rule_of(host_draft(
             self.alloc,
             config,
@@ -74,7 +75,7 @@ impl LiveControl {
             &part.lists,
             &part.log,
             request,
-            Bytes::new(self.alloc),
+            &mut room,
         ))
     }
 
@@ -83,7 +84,10 @@ impl LiveControl {
         ensures { IfOk result (λ rule. ByEveryPast self.now (λ past. rule ≡ broken_by self.now.config past Actor.Manager (Act.Command request.now))) }
     {
         match decode(self.alloc, request.opcode, request.payload.as_slice()) {
-            Ok(asked) => rule_of(manager_draft(self.alloc, &self.config, &self.state, &asked)),
+            Ok(asked) => {
+                let mut room = Room::new(self.alloc);
+                rule_of(manager_draft(self.alloc, &self.config, &self.state, &asked, &mut room))
+            }
             Err(PayloadFault::UnknownOpcode(opcode)) => Ok(Some(Rule::UnknownOpcode(opcode))),
             Err(PayloadFault::WrongLength { need, have }) => {
                 Ok(Some(Rule::WrongLength { need, have }))
@@ -99,6 +103,7 @@ fn manager_draft(
     config: &Config,
     state: &State,
     asked: &FmRequest,
+    room: &mut Room,
 ) -> Result<Draft, Refusal>
     requires reached { IsReached config.now state.now }
     requires few { FewCleared asked.now }
@@ -120,7 +125,7 @@ fn manager_draft(
                 length: *length,
                 tag: *tag,
             };
-            add(alloc, config, state, &request, extents)
+            add(alloc, config, state, &request, extents, room)
         }
         FmRequest::Remove {
             host,
@@ -137,11 +142,11 @@ fn manager_draft(
                 length: *length,
                 tag: *tag,
             };
-            remove(alloc, config, state, &request, extents)
+            remove(alloc, config, state, &request, extents, room)
         }
-        FmRequest::AddReference { tag } => add_reference(alloc, config, state, tag),
-        FmRequest::RemoveReference { tag } => remove_reference(alloc, config, state, tag),
-        _ => quiet_draft(alloc, config, state, asked, Bytes::new(alloc)),
+        FmRequest::AddReference { tag } => add_reference(config, state, tag, room),
+        FmRequest::RemoveReference { tag } => remove_reference(alloc, config, state, tag, room),
+        _ => quiet_draft(alloc, config, state, asked, room),
     }
 }
 

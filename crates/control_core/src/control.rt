@@ -16,14 +16,14 @@ use crate::decided::{Decided, Decision, DecisionContent};
 use crate::live::LiveControl;
 use crate::plan::Plan;
 use crate::planned::PlannedEntry;
-use dcd_base::{Actor, Boxed, Bytes, Changes, NoMemory, Stamp};
-use device_commands::DraftedStep;
+use crate::step_effects::{StepEffects, TakenStep};
+use dcd_base::{Actor, Boxed, Changes, NoMemory, Stamp};
+use device_commands::{DraftedStep, Room};
 use device_state::Update;
 use journal_core::{Act, Effects, Entry, EntryEffects, KeptEntries, Reply};
 use region_config::Config;
 use std::alloc::Global;
 use std::marker::Model;
-use std::mem::replace;
 
 /// The commands and scrubs of a device, in order, each with what it replied.
 ///
@@ -32,8 +32,8 @@ use std::mem::replace;
 pub struct Control {
     pub(crate) live: LiveControl,
     entries: KeptEntries,
-    /// The room in which the next reply is written, with bytes of no meaning.
-    room: Bytes,
+    /// The memory that the next step uses.
+    room: Room,
 }
 
 impl Model for Control {
@@ -61,7 +61,7 @@ impl Control {
         Ok(Control {
             live: LiveControl::new(alloc, config)?,
             entries: KeptEntries::new(alloc),
-            room: Bytes::new(alloc),
+            room: Room::new(alloc),
         })
     }
 
@@ -139,7 +139,7 @@ impl Control {
         line: u32,
         actor: Actor,
         act: Act,
-    ) -> Result<Effects, NoMemory>
+    ) -> Result<StepEffects, NoMemory>
         requires { MayStep self.old.config actor act }
         ensures config { self.new.config ≡ self.old.config }
         ensures entered { OnOk result (self.new.entries ≡ self.old.entries ++ journal_entry self.old.config self.old.entries pass line actor act ∷ []) }
@@ -147,34 +147,45 @@ impl Control {
         ensures short { OnOk result (IsShort (journal_entry self.old.config self.old.entries pass line actor act).reply) }
         ensures effects { IfOk result (λ effects. effects ≡ (answer_to self.old.config self.old.entries actor act).1) }
     {
-        let room = self.take_room();
-        match self.decide(&actor, &act, room)?.into_content() {
+        match self.decide_in_room(&actor, &act)?.into_content() {
             DecisionContent::Reply(reply) => {
                 let effects = self.take_reply(pass, line, actor, &act, &reply)?;
-                self.keep_room(reply);
+                self.keep_reply(reply);
                 Ok(effects)
             }
             DecisionContent::Step(step) => self.take_step(pass, line, actor, &act, step),
         }
     }
 
-    /// The room in which a reply can be written, which is gone then.
+    /// Takes back the effects that `step` answered, so that a later step has their memory. The control is seen as before.
     #[inline(always)]
-    fn take_room(&mut self) -> Bytes
-        ensures config { self.new.config ≡ self.old.config }
-        ensures entries { self.new.entries ≡ self.old.entries }
+    pub fn give_back(&mut self, effects: StepEffects)
+        ensures { self.new ≡ self.old }
     {
-        replace(&mut self.room, Bytes::new(self.live.alloc))
+        if let TakenStep::Parts(step) = effects.into_taken() {
+            self.room.keep_step(step);
+        }
     }
 
-    /// Keeps the payload of a reply that was entered, as the room for the next one.
+    /// What a step comes to, with the memory of the room.
     #[inline(always)]
-    fn keep_room(&mut self, reply: Reply)
+    fn decide_in_room(&mut self, actor: &Actor, act: &Act) -> Result<Decision, NoMemory>
+        requires { MayStep self.old.config actor.now act.now }
+        ensures config { self.new.config ≡ self.old.config }
+        ensures entries { self.new.entries ≡ self.old.entries }
+        ensures decided { IfOk result (λ d. IsDecidedBy self.new.config self.new.entries actor.now act.now d) }
+    {
+        self.live.decide(actor, act, &mut self.room)
+    }
+
+    /// Keeps the memory of the payload of a reply that was entered.
+    #[inline(always)]
+    fn keep_reply(&mut self, reply: Reply)
         ensures config { self.new.config ≡ self.old.config }
         ensures entries { self.new.entries ≡ self.old.entries }
     {
         if let Reply::Answer(response) = reply {
-            self.room = response.payload;
+            self.room.keep_payload(response.payload);
         }
     }
 
@@ -187,7 +198,7 @@ impl Control {
         actor: Actor,
         act: &Act,
         reply: &Reply,
-    ) -> Result<Effects, NoMemory>
+    ) -> Result<StepEffects, NoMemory>
         requires may { MayStep self.old.config actor act.now }
         requires decided { IsDecidedBy self.old.config self.old.entries actor act.now (only_replied reply.now) }
         ensures config { self.new.config ≡ self.old.config }
@@ -196,7 +207,7 @@ impl Control {
         ensures effects { IfOk result (λ effects. effects ≡ (answer_to self.old.config self.old.entries actor act.now).1) }
     {
         self.entries.append_quiet(pass, line, actor, act, reply)?;
-        Ok(Effects::new(self.live.allocator()))
+        Ok(StepEffects::none())
     }
 
     /// Takes a step that may change something, which is decided.
@@ -208,7 +219,7 @@ impl Control {
         actor: Actor,
         act: &Act,
         step: Box<DraftedStep>,
-    ) -> Result<Effects, NoMemory>
+    ) -> Result<StepEffects, NoMemory>
         requires may { MayStep self.old.config actor act.now }
         requires decided { IsDecidedBy self.old.config self.old.entries actor act.now (decided_by step.value) }
         ensures config { self.new.config ≡ self.old.config }
@@ -219,7 +230,7 @@ impl Control {
         self.make_room()?;
         let mut step = step;
         self.append(pass, line, actor, act, step.as_mut())?;
-        Ok(Box::into_inner(step).effects)
+        Ok(StepEffects::of(step))
     }
 
     /// Enters a step that is decided so, with its next entry.
@@ -325,15 +336,14 @@ impl Control {
         ensures update { IfOk result (λ plan. IsUpdate self.now.config self.now.entries plan.entry.effects plan.update) }
     {
         let alloc = self.live.alloc;
-        let decided = self
-            .decide(&actor, &act, Bytes::new(alloc))?
-            .into_parts(alloc);
+        let mut room = Room::new(alloc);
+        let decided = self.decide(&actor, &act, &mut room)?.into_parts(&mut room);
         self.plan(pass, line, actor, act, decided)
     }
 
-    /// What a step comes to, its reply written in the room.
+    /// What a step comes to, with the memory of this room.
     #[inline(always)]
-    fn decide(&self, actor: &Actor, act: &Act, room: Bytes) -> Result<Decision, NoMemory>
+    fn decide(&self, actor: &Actor, act: &Act, room: &mut Room) -> Result<Decision, NoMemory>
         requires { MayStep self.now.config actor.now act.now }
         ensures { IfOk result (λ d. IsDecidedBy self.now.config self.now.entries actor.now act.now d) }
     {

@@ -9,11 +9,12 @@ ghost use Rattle.std.specs.Prelude.{◌≡◌, [], IfOk, None};
 use cci_codec::Request;
 use dcd_base::{Bytes, NoMemory, Seq};
 use dcd_codes::Code;
-use device_commands::{DraftedStep, ShortList, answer};
+use device_commands::{DraftedStep, Room, ShortList, answer};
 use device_state::Update;
 use journal_core::{Effects, Reply};
 use std::alloc::Global;
 use std::marker::Model;
+use std::mem::replace;
 
 /// The reply to a step, its effects, and what is put in place beside them.
 #[derive(Drop)]
@@ -66,7 +67,7 @@ impl Decision {
     /// A reply and effects, beside which nothing is put in place. Without effects it takes no memory.
     #[inline(always)]
     pub(crate) fn changing(
-        alloc: Global,
+        room: &mut Room,
         reply: Reply,
         effects: Effects,
     ) -> Result<Decision, NoMemory>
@@ -75,7 +76,7 @@ impl Decision {
         if effects.is_empty() {
             return Ok(Decision::only(reply));
         }
-        let step = changing_step(alloc, reply, effects)?;
+        let step = changing_step(room, reply, effects)?;
         Ok(Decision::step(step))
     }
 
@@ -89,17 +90,22 @@ impl Decision {
         }
     }
 
-    /// Its parts, taken from the heap.
-    pub fn into_parts(self, alloc: Global) -> Decided
+    /// Its parts, taken from the heap. The memory that they had there stays in the room.
+    pub fn into_parts(self, room: &mut Room) -> Decided
         ensures { result ≡ self }
     {
         match self.content {
             DecisionContent::Reply(reply) => Decided {
                 reply,
-                effects: Effects::new(alloc),
+                effects: Effects::new(room.allocator()),
                 update: Update::nothing(),
             },
-            DecisionContent::Step(step) => decided_of(Box::into_inner(step)),
+            DecisionContent::Step(step) => {
+                let mut step = step;
+                let decided = decided_of(step.as_mut(), room.allocator());
+                room.keep_step(step);
+                decided
+            }
         }
     }
 
@@ -115,12 +121,13 @@ impl Decision {
 /// A reply and effects on the heap. It stands apart, so that what has no effects makes no room for them.
 #[inline(never)]
 fn changing_step(
-    alloc: Global,
+    room: &mut Room,
     reply: Reply,
     effects: Effects,
 ) -> Result<Box<DraftedStep>, NoMemory>
     ensures { IfOk result (λ step. decided_by step.value ≡ record { reply = reply; effects = effects; update = record { lists = None; tags = TagChange.Nothing } }) }
 {
+    let alloc = room.allocator();
     let step = DraftedStep {
         payload: Bytes::new(alloc),
         effects,
@@ -129,25 +136,17 @@ fn changing_step(
         reply,
         update: Update::nothing(),
     };
-    Ok(Box::new(alloc, step)?)
+    room.put(step)
 }
 
-/// What is decided by the parts of a step.
-fn decided_of(step: DraftedStep) -> Decided
-    ensures { result ≡ decided_by step }
+/// What is decided by the parts of a step, in which nothing of use is left.
+fn decided_of(step: &mut DraftedStep, alloc: Global) -> Decided
+    ensures { result ≡ decided_by step.old }
 {
-    let DraftedStep {
-        payload: _,
-        effects,
-        tags: _,
-        log_records: _,
-        reply,
-        update,
-    } = step;
     Decided {
-        reply,
-        effects,
-        update,
+        reply: replace(&mut step.reply, Reply::Stored),
+        effects: replace(&mut step.effects, Effects::new(alloc)),
+        update: replace(&mut step.update, Update::nothing()),
     }
 }
 

@@ -5,7 +5,7 @@ ghost use Rattle.std.specs.Prelude.{◌≡◌, ◌<◌, ◌++◌, ◌∷◌, [],
 
 use dcd_base::{HostId, NoMemory, Seq, Tag};
 use device_state::State;
-use host_lists::HostLists;
+use host_lists::Changed;
 use std::alloc::Global;
 
 /// Of these tags those that end once the host has these lists.
@@ -13,16 +13,13 @@ pub(crate) fn ending(
     alloc: Global,
     state: &State,
     host: HostId,
-    lists: &HostLists,
+    lists: &Changed,
     tags: &[Tag],
 ) -> Result<Seq<Tag>, NoMemory>
     requires few { host < 16 }
     ensures { IfOk result (λ ended. ended ≡ ending_with host lists.now state.now.tags.entries tags.now) }
 {
     let mut ended = Seq::new(alloc);
-    if state.tags.is_empty() {
-        return Ok(ended);
-    }
     for i in 0..tags.len() {
         put_ending(state, host, lists, &tags[i], &mut ended)?;
     }
@@ -33,7 +30,7 @@ pub(crate) fn ending(
 fn put_ending(
     state: &State,
     host: HostId,
-    lists: &HostLists,
+    lists: &Changed,
     tag: &Tag,
     ended: &mut Seq<Tag>,
 ) -> Result<(), NoMemory>
@@ -47,7 +44,7 @@ fn put_ending(
 }
 
 /// Whether the tag is open and ends once the host has these lists.
-fn ends(state: &State, host: HostId, lists: &HostLists, tag: &Tag) -> bool
+fn ends(state: &State, host: HostId, lists: &Changed, tag: &Tag) -> bool
     requires few { host < 16 }
     ensures { result ≡ ends_by_lists host lists.now state.now.tags.entries tag.now }
 {

@@ -1,6 +1,6 @@
 //! What a message of a host comes to: its draft, recorded, or the refusal.
 
-ghost use Rattle.control_core.specs.Recording.{AreRecorded, lists_or_had};
+ghost use Rattle.control_core.specs.Recording.{AreRecorded, ending_with, lists_or_had};
 ghost use Rattle.control_core.specs.Deciding.{IsDecided};
 ghost use Rattle.control_core.specs.Doing.{Does, Drafted, Refuses};
 ghost use Rattle.control_core.specs.Decisions.{decided_by};
@@ -8,6 +8,7 @@ ghost use Rattle.control_core.specs.Offers.{lists_for};
 ghost use Rattle.device_commands.specs.DraftContents.{draft_in, lists_alone};
 ghost use Rattle.device_state.specs.StateAfter.{IsReached, part_of};
 ghost use Rattle.device_state.specs.Updates.{IsOfLog};
+ghost use Rattle.host_lists.specs.Changes.{changed_by};
 ghost use Rattle.dcd_base.specs.declared.steps.Actor.{Actor};
 ghost use Rattle.device_commands.specs.declared.log_records.LogRecords.{LogRecords};
 ghost use Rattle.journal_core.specs.declared.acts.Act.{Act};
@@ -18,18 +19,18 @@ use crate::ending::ending;
 use crate::fitting::part_fits;
 use crate::recording::{put_ends, put_records_of_logs};
 use cci_codec::Request;
-use dcd_base::{Bytes, HostId, NoMemory, Seq};
+use dcd_base::{Bytes, HostId, NoMemory, Seq, Tag};
 use dcd_codes::{Code, Refusal, Rule};
 use device_commands::{
-    Content, Draft, DraftedStep, answer, dropped, host_draft, refused, told_change,
+    Content, Draft, DraftedStep, Room, answer, dropped, host_draft, refused, told_change,
 };
 use device_state::{NewLists, State};
-use host_lists::HostLists;
+use host_lists::{Changed, HostLists, ListsChange};
 use region_config::Config;
 use std::alloc::Global;
 use std::mem::replace;
 
-/// What a message of a host comes to. A reply that has a payload is written in the room.
+/// What a message of a host comes to.
 ///
 /// It stands apart, as the steps of the others do, so that none makes room for what another needs.
 #[inline(never)]
@@ -39,7 +40,7 @@ pub(crate) fn host_step(
     state: &State,
     host: HostId,
     request: &Request,
-    room: Bytes,
+    room: &mut Room,
 ) -> Result<Decision, NoMemory>
     requires host { host < config.now.hosts }
     requires reached { IsReached config.now state.now }
@@ -56,7 +57,7 @@ pub(crate) fn host_step(
         request,
         room,
     );
-    host_recorded(alloc, config, state, host, request, drafted)
+    host_recorded(alloc, config, state, host, request, drafted, room)
 }
 
 /// What a message of a host comes to, where it is drafted so or breaks this rule first.
@@ -68,6 +69,7 @@ fn host_recorded(
     host: HostId,
     request: &Request,
     drafted: Result<Draft, Refusal>,
+    room: &mut Room,
 ) -> Result<Decision, NoMemory>
     requires host { host < config.now.hosts }
     requires reached { IsReached config.now state.now }
@@ -77,12 +79,12 @@ fn host_recorded(
     part_fits(state.part(host));
     match drafted {
         Ok(draft) => recorded(alloc, state, host, request, draft),
-        Err(Refusal::Broken(rule)) => refused_by(alloc, config, state, host, request, &rule),
+        Err(Refusal::Broken(rule)) => refused_by(alloc, config, state, host, request, &rule, room),
         Err(Refusal::NoMemory) => Err(NoMemory),
     }
 }
 
-/// A command that breaks no rule, by whose draft the host has these lists, or the ones that it had.
+/// A command that breaks no rule, by whose draft the host's lists change, or stay as they are.
 #[inline(always)]
 pub(crate) fn recorded(
     alloc: Global,
@@ -138,13 +140,13 @@ fn put_recorded(
 {
     put_effects(alloc, state, host, step)?;
     put_host(&mut step.update.lists, host);
-    step.update.tags = told_change(host, replace(&mut step.tags, Seq::new(alloc)));
+    step.update.tags = told_change(host, &mut step.tags);
     let payload = replace(&mut step.payload, Bytes::new(alloc));
     step.reply = answer(request, Code::Success, payload);
     Ok(())
 }
 
-/// Puts behind the changes the ends of those of the tags that end once the host has the new lists, or those that it had,
+/// Puts behind the changes the ends of those of the tags that end once the host has the lists after it,
 /// and the records.
 fn put_effects(
     alloc: Global,
@@ -159,25 +161,51 @@ fn put_effects(
         step.old.effects step.old.tags step.old.log_records step.new.effects) }
     ensures kept { OnOk result (step.new ≡ record step.old { effects = step.new.effects }) }
 {
-    let lists = lists_or_had(state, host, &step.update.lists);
-    let ended = ending(alloc, state, host, lists, step.tags.as_slice())?;
+    let ended = ended_by(alloc, state, host, &step.update.lists, step.tags.as_slice())?;
     put_ends(ended.as_slice(), &mut step.effects)?;
     put_records_of_logs(state, &step.log_records, &mut step.effects)?;
     Ok(())
 }
 
-/// The new lists, or those that the host has.
-fn lists_or_had<'a>(state: &'a State, host: HostId, lists: &'a Option<NewLists>) -> &'a HostLists
-    requires { host < length state.now.hosts.items }
-    ensures { result.now ≡ lists_or_had (part_of state.now host).lists lists.now }
+/// Of these tags those that end once the host's lists are changed so, or stay as they are.
+#[inline(always)]
+fn ended_by(
+    alloc: Global,
+    state: &State,
+    host: HostId,
+    lists: &Option<NewLists>,
+    tags: &[Tag],
+) -> Result<Seq<Tag>, NoMemory>
+    requires host { host < length state.now.hosts.items }
+    requires few { host < 16 }
+    ensures { IfOk result (λ ended. ended ≡ ending_with host (lists_or_had (part_of state.now host).lists lists.now) state.now.tags.entries tags.now) }
+{
+    if state.tags.is_empty() {
+        return Ok(Seq::new(alloc));
+    }
+    let had = &state.part(host).lists;
+    let same = had.unchanged();
+    let lists = lists_or_had(had, &same, lists);
+    let ended = ending(alloc, state, host, &lists, tags)?;
+    Ok(ended)
+}
+
+/// The lists as they are once they are changed so, or as the host had them, which `same` leaves.
+fn lists_or_had<'a>(
+    had: &'a HostLists,
+    same: &'a ListsChange,
+    lists: &'a Option<NewLists>,
+) -> Changed<'a>
+    requires { changed_by same.now had.now ≡ had.now }
+    ensures { result ≡ lists_or_had had.now lists.now }
 {
     match lists {
-        Some(new) => &new.lists,
-        None => &state.part(host).lists,
+        Some(new) => Changed::of(had, &new.change),
+        None => Changed::of(had, same),
     }
 }
 
-/// The new lists are those of this host.
+/// The lists that change are those of this host.
 pub(crate) fn put_host(lists: &mut Option<NewLists>, host: HostId)
     ensures { lists.new ≡ lists_for host (lists_alone lists.old) }
 {
@@ -194,6 +222,7 @@ fn refused_by(
     host: HostId,
     request: &Request,
     rule: &Rule,
+    room: &mut Room,
 ) -> Result<Decision, NoMemory>
     requires host { host < config.now.hosts }
     requires reached { IsReached config.now state.now }
@@ -201,7 +230,7 @@ fn refused_by(
 {
     let lists = &state.part(host).lists;
     let reply = refused(alloc, request, rule);
-    let effects = dropped(alloc, host, lists, request.opcode)?;
-    let decision = Decision::changing(alloc, reply, effects)?;
+    let effects = dropped(host, lists, request.opcode, room)?;
+    let decision = Decision::changing(room, reply, effects)?;
     Ok(decision)
 }

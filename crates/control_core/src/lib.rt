@@ -20,8 +20,10 @@ mod planned;
 mod readers;
 mod recording;
 mod scrub_steps;
+mod step_effects;
 
 pub use control::Control;
 pub use decided::{Decided, Decision, DecisionContent};
 pub use live::LiveControl;
 pub use plan::Plan;
+pub use step_effects::StepEffects;

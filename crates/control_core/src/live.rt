@@ -13,7 +13,8 @@ use crate::decided::Decision;
 use crate::host_steps::host_step;
 use crate::manager_steps::manager_step;
 use crate::scrub_steps::scrub_step;
-use dcd_base::{Actor, Bytes, Changes, NoMemory};
+use dcd_base::{Actor, Changes, NoMemory};
+use device_commands::Room;
 use device_state::{State, Update};
 use journal_core::{Act, Effect, Effects};
 use region_config::Config;
@@ -70,10 +71,10 @@ impl LiveControl {
         self.alloc
     }
 
-    /// What a command or a scrub that fits its actor comes to. A reply that has a payload is written in the room, whatever
-    /// bytes it holds.
+    /// What a command or a scrub that fits its actor comes to. A payload, effects and parts on the heap have the memory of the
+    /// room, as far as it goes.
     #[inline(always)]
-    pub fn decide(&self, actor: &Actor, act: &Act, room: Bytes) -> Result<Decision, NoMemory>
+    pub fn decide(&self, actor: &Actor, act: &Act, room: &mut Room) -> Result<Decision, NoMemory>
         requires { MayStep self.now.config actor.now act.now }
         ensures { IfOk result (λ d. ByEveryPast self.now (λ past. IsDecidedBy self.now.config past actor.now act.now d)) }
     {
@@ -91,7 +92,7 @@ impl LiveControl {
                 _ => unreachable!(),
             },
             Actor::Sanitizer => match act {
-                Act::Scrub(most) => scrub_step(self.alloc, &self.config, &self.state, *most),
+                Act::Scrub(most) => scrub_step(self.alloc, &self.config, &self.state, *most, room),
                 _ => unreachable!(),
             },
         }

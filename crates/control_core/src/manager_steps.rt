@@ -28,7 +28,7 @@ use cci_codec::Request;
 use dcd_base::{Bytes, Extents, HostId, NoMemory, RegionId, Seq, Tag};
 use dcd_codes::{Code, Refusal, Rule};
 use device_commands::{
-    AddRequest, Content, Draft, DraftedStep, RemoveRequest, add, add_reference, answer,
+    AddRequest, Content, Draft, DraftedStep, RemoveRequest, Room, add, add_reference, answer,
     offer_change, quiet_draft, refused, remove, remove_reference,
 };
 use device_state::{State, TagChange};
@@ -37,15 +37,14 @@ use region_config::Config;
 use std::alloc::Global;
 use std::mem::replace;
 
-/// What a message of the manager comes to. A reply that has a payload is written in the room. What changes extents or tags stands
-/// apart, so that one that only reads makes no room for what that needs.
+/// What a message of the manager comes to. What changes extents or tags stands apart, so that one that only reads makes no room for what that needs.
 #[inline(never)]
 pub(crate) fn manager_step(
     alloc: Global,
     config: &Config,
     state: &State,
     request: &Request,
-    room: Bytes,
+    room: &mut Room,
 ) -> Result<Decision, NoMemory>
     requires reached { IsReached config.now state.now }
     ensures { IfOk result (IsDecided config.now state.now Actor.Manager (Act.Command request.now)) }
@@ -56,7 +55,7 @@ pub(crate) fn manager_step(
                 let managed = decide_quiet(alloc, config, state, request, &asked, room);
                 manager_recorded(alloc, config, state, request, managed)
             } else {
-                changing_step(alloc, config, state, request, asked)
+                changing_step(alloc, config, state, request, asked, room)
             }
         }
         Err(PayloadFault::UnknownOpcode(opcode)) => {
@@ -112,13 +111,14 @@ fn changing_step(
     state: &State,
     request: &Request,
     asked: FmRequest,
+    room: &mut Room,
 ) -> Result<Decision, NoMemory>
     requires reached { IsReached config.now state.now }
     requires asked { manager_request request.now.opcode request.now.payload ≡ Ok asked }
     requires changing { is_quiet_manager asked ≡ false }
     ensures { IfOk result (IsDecided config.now state.now Actor.Manager (Act.Command request.now)) }
 {
-    let managed = changing_command(alloc, config, state, request, asked);
+    let managed = changing_command(alloc, config, state, request, asked, room);
     manager_recorded(alloc, config, state, request, managed)
 }
 
@@ -130,6 +130,7 @@ fn changing_command(
     state: &State,
     request: &Request,
     asked: FmRequest,
+    room: &mut Room,
 ) -> Result<Decision, Refusal>
     requires reached { IsReached config.now state.now }
     requires asked { manager_request request.now.opcode request.now.payload ≡ Ok asked }
@@ -152,7 +153,7 @@ fn changing_command(
                 length,
                 tag,
             };
-            decide_add(alloc, config, state, request, &offer, &extents)
+            decide_add(alloc, config, state, request, &offer, &extents, room)
         }
         FmRequest::Remove {
             host,
@@ -169,13 +170,13 @@ fn changing_command(
                 length,
                 tag,
             };
-            decide_remove(alloc, config, state, request, &removal, &extents)
+            decide_remove(alloc, config, state, request, &removal, &extents, room)
         }
         FmRequest::AddReference { tag } => {
-            decide_add_reference(alloc, config, state, request, &tag)
+            decide_add_reference(alloc, config, state, request, &tag, room)
         }
         FmRequest::RemoveReference { tag } => {
-            decide_remove_reference(alloc, config, state, request, &tag)
+            decide_remove_reference(alloc, config, state, request, &tag, room)
         }
         _ => unreachable!(),
     }
@@ -190,15 +191,16 @@ fn decide_add(
     request: &Request,
     offer: &AddRequest,
     extents: &Extents,
+    room: &mut Room,
 ) -> Result<Decision, Refusal>
     requires reached { IsReached config.now state.now }
     requires asked { manager_request request.now.opcode request.now.payload ≡
         Ok (FmRequest.Add offer.now.host offer.now.policy offer.now.region offer.now.length offer.now.tag extents.now) }
     ensures { Manages config.now state.now request.now result }
 {
-    match add(alloc, config, state, offer, extents) {
+    match add(alloc, config, state, offer, extents, room) {
         Ok(draft) => {
-            let step = draft.into_step(alloc)?;
+            let step = draft.into_step(room)?;
             Ok(added(alloc, config, state, request, offer, step)?)
         }
         Err(refusal) => Err(refusal),
@@ -214,13 +216,14 @@ fn decide_remove(
     request: &Request,
     removal: &RemoveRequest,
     extents: &Extents,
+    room: &mut Room,
 ) -> Result<Decision, Refusal>
     requires reached { IsReached config.now state.now }
     requires asked { manager_request request.now.opcode request.now.payload ≡
         Ok (FmRequest.Remove removal.now.host removal.now.flags removal.now.region removal.now.length removal.now.tag extents.now) }
     ensures { Manages config.now state.now request.now result }
 {
-    match remove(alloc, config, state, removal, extents) {
+    match remove(alloc, config, state, removal, extents, room) {
         Ok(draft) => {
             let host = HostId(removal.host as u8);
             Ok(recorded(alloc, state, host, request, draft)?)
@@ -236,7 +239,7 @@ fn decide_quiet(
     state: &State,
     request: &Request,
     asked: &FmRequest,
-    room: Bytes,
+    room: &mut Room,
 ) -> Result<Decision, Refusal>
     requires reached { IsReached config.now state.now }
     requires asked { manager_request request.now.opcode request.now.payload ≡ Ok asked.now }
@@ -286,14 +289,15 @@ fn decide_add_reference(
     state: &State,
     request: &Request,
     tag: &Tag,
+    room: &mut Room,
 ) -> Result<Decision, Refusal>
     requires reached { IsReached config.now state.now }
     requires asked { manager_request request.now.opcode request.now.payload ≡ Ok (FmRequest.AddReference tag.now) }
     ensures { Manages config.now state.now request.now result }
 {
-    match add_reference(alloc, config, state, tag) {
+    match add_reference(config, state, tag, room) {
         Ok(draft) => {
-            let step = draft.into_step(alloc)?;
+            let step = draft.into_step(room)?;
             Ok(entered(alloc, state, request, step, &[], TagChange::Refer(*tag))?)
         }
         Err(refusal) => Err(refusal),
@@ -308,15 +312,16 @@ fn decide_remove_reference(
     state: &State,
     request: &Request,
     tag: &Tag,
+    room: &mut Room,
 ) -> Result<Decision, Refusal>
     requires reached { IsReached config.now state.now }
     requires asked { manager_request request.now.opcode request.now.payload ≡ Ok (FmRequest.RemoveReference tag.now) }
     ensures { Manages config.now state.now request.now result }
 {
     let ended = ended_unreferenced(alloc, state, tag)?;
-    match remove_reference(alloc, config, state, tag) {
+    match remove_reference(alloc, config, state, tag, room) {
         Ok(draft) => {
-            let step = draft.into_step(alloc)?;
+            let step = draft.into_step(room)?;
             let ended = ended.as_slice();
             Ok(entered(alloc, state, request, step, ended, TagChange::Unrefer(*tag))?)
         }

@@ -8,7 +8,7 @@ ghost use Rattle.std.specs.Prelude.{IfOk};
 
 use crate::decided::Decision;
 use dcd_base::NoMemory;
-use device_commands::zero_dirty;
+use device_commands::{Room, zero_dirty};
 use device_state::State;
 use journal_core::Reply;
 use region_config::Config;
@@ -21,12 +21,13 @@ pub(crate) fn scrub_step(
     config: &Config,
     state: &State,
     most: u16,
+    room: &mut Room,
 ) -> Result<Decision, NoMemory>
     requires reached { IsReached config.now state.now }
     ensures { IfOk result (IsDecided config.now state.now Actor.Sanitizer (Act.Scrub most)) }
 {
-    let zeroed = zero_dirty(alloc, config, state, most)?;
+    let zeroed = zero_dirty(alloc, config, state, most, room)?;
     let reply = Reply::Scrubbed(zeroed.granules);
-    let decision = Decision::changing(alloc, reply, zeroed.changes)?;
+    let decision = Decision::changing(room, reply, zeroed.changes)?;
     Ok(decision)
 }

@@ -1,5 +1,5 @@
 -- A response that breaks no rule is its outcome.
-use Rattle.std.proofs.Common.{◌≡◌, ℕ, ◌+◌, ◌%◌, ◌^◌, ◌<◌, ◌≤◌, Bool, true, false, not, List, [], ◌∷◌, ◌++◌, length, map, Option, None, refl, ap, sym, subst, ◌∙◌}
+use Rattle.std.proofs.Common.{◌≡◌, ℕ, ◌+◌, ◌%◌, ◌^◌, ◌<◌, ◌≤◌, Bool, true, false, not, List, [], ◌∷◌, ◌++◌, length, map, Some, None, refl, ap, sym, subst, ◌∙◌}
 use Rattle.std.specs.Prelude.{All, fold, if◌then◌else◌}
 use Rattle.std.specs.List.{list_any}
 use Rattle.std.proofs.lemmas.Bool.{eq-eqb}
@@ -18,18 +18,21 @@ use Rattle.extent_list.specs.ExtentLists.{count_in, marked, tags_of}
 use Rattle.offer_core.specs.Offerings.{oldest_of}
 use Rattle.offer_core.specs.Responses.{respond_rule}
 use Rattle.host_lists.specs.Answers.{IsAccepted, generation_after}
+use Rattle.host_lists.specs.Changes.{changed_by}
 use Rattle.host_lists.specs.Lists.{Lists, extent_total}
+use Rattle.host_lists.specs.declared.lists_change.ListsChange.{ListsChange}
 use Rattle.device_rules.specs.Hosts.{accepted_after, held_after, moves, offers_after}
-use Rattle.device_rules.specs.ResponseOutcomes.{hold, respond_changes, respond_outcome, response_records, unhold}
+use Rattle.device_rules.specs.ResponseOutcomes.{answered, hold, respond_changes, respond_outcome, response_records, unhold}
 use Rattle.device_rules.specs.Views.{View, generation_in, view_after}
 use Rattle.holding_laws.proofs.Homes.{run_same}
 use Rattle.device_commands.specs.declared.draft.DraftParts.{DraftParts}
-use Rattle.device_commands.specs.Drafts.{AreAfter, Drafts}
+use Rattle.device_commands.specs.Drafts.{Drafts, LeadsTo}
+use Rattle.device_state.specs.Entered.{lists_by}
 use Rattle.device_state.specs.StateAfter.{lists_in}
 use Rattle.device_commands.specs.ListDrafts.{Tells, lists_changed}
 use Rattle.device_commands.specs.AddDynamicCapacityResponse.{takes, told_of}
 use Rattle.device_commands.proofs.ListedExtents.{Granular, marked_granular, response_few, response_granular}
-use Rattle.device_commands.proofs.ListsAfter.{hold_changes, hold_joins, hold_moves, none_changes, none_moves, once_more, other_joins, other_stays, unhold_changes, unhold_empties, unhold_moves}
+use Rattle.device_commands.proofs.ListsAfter.{empty_front, hold_changes, hold_joins, hold_moves, none_changes, none_moves, once_more, other_joins, other_stays, lets_responses_go, unhold_changes, unhold_empties, unhold_moves}
 
 -- the same runs are taken
 takes_same : (c : Configuration) (b : ℕ → ℕ) (h : HostId) (offer xs : List Extent) → takes (with_blocks c b) h (map (marked offer) xs) ≡ map (λ x. Effect.Take h (run_of c h x)) xs
@@ -109,25 +112,26 @@ module _ (c : Configuration) (h : HostId) (v : View) where
         releases = v.releases;
         generation = generation_after (map (marked offer) (v.responses ++ list)) (generation_in v);
       }
-      → Tells (unhold h HeldKind.Responses v.responses ++ Effect.Answer h (map (marked offer) (v.responses ++ list)) ∷ takes (with_blocks c v.block) h (map (marked offer) (v.responses ++ list)))
-      (tags_of offer) (λ w. told_of h w (map (marked offer) (v.responses ++ list))) after d
+      → Tells h (unhold h HeldKind.Responses v.responses ++ Effect.Answer h (map (marked offer) (v.responses ++ list)) ∷ takes (with_blocks c v.block) h (map (marked offer) (v.responses ++ list)))
+      (tags_of offer) (λ w. told_of h w (map (marked offer) (v.responses ++ list))) (lists_in (record v { offers = offer ∷ later })) after d
       → Drafts c h (record v { offers = offer ∷ later }) (respond_outcome c h (record v { offers = offer ∷ later }) false list) d
   answers offer later list after d is t =
       let all : List Extent = v.responses ++ list in
       let w : View = view_after c h (record v { offers = offer ∷ later }) (respond_changes c h (offer ∷ later) v.responses false list) in
       let after_is : after ≡ lists_in w = is ∙ sym (answered_lists offer later all) in
+      let same = ap (λ es. unhold h HeldKind.Responses v.responses ++ Effect.Answer h (map (marked offer) all) ∷ es) (takes_same c v.block h offer all) in
       record {
         payload = t.payload;
-        changes = t.changes_are ∙ ap (λ es. unhold h HeldKind.Responses v.responses ++ Effect.Answer h (map (marked offer) all) ∷ es) (takes_same c v.block h offer all);
+        changes = t.changes_are ∙ same;
         tags = t.tags_are;
         log_records = t.log_records w after_is ∙ told_same c h w offer later all;
-        lists = subst (λ (ls : Option Lists). AreAfter c h (record v { offers = offer ∷ later }) (respond_outcome c h (record v { offers = offer ∷ later }) false list) ls) (sym t.lists_are) after_is;
+        lists = subst (λ (x : List Effect × Lists). LeadsTo h x.0 (lists_in (record v { offers = offer ∷ later })) x.1 d.lists) (λ i. (same i, after_is i)) t.lists_are;
       }
 
 -- the oldest offer is answered
 pub answered_drafts : (c p : Configuration) (h : HostId) (v : View) (lists after : Lists) (list accepted : List Extent) (more : Bool) (d : DraftParts)
     → p ≡ with_blocks c v.block → lists ≡ lists_in v → more ≡ false → IsAccepted lists list after accepted
-    → Tells (unhold h HeldKind.Responses lists.responses ++ Effect.Answer h accepted ∷ takes p h accepted) (tags_of (oldest_of lists.offers)) (λ w. told_of h w accepted) after d
+    → Tells h (unhold h HeldKind.Responses lists.responses ++ Effect.Answer h accepted ∷ takes p h accepted) (tags_of (oldest_of lists.offers)) (λ w. told_of h w accepted) lists after d
     → Drafts c h v (respond_outcome c h v more list) d
 answered_drafts c p h v lists after list accepted more d present shows last a tells =
     let offer : List Extent = a.offer in
@@ -138,19 +142,19 @@ answered_drafts c p h v lists after list accepted more d present shows last a te
     let marks : accepted ≡ map (marked offer) all = a.marked ∙ ap (λ xs. map (marked a.offer) (xs ++ list)) held in
     let left : after ≡ record { accepted = v.accepted ++ map (marked a.offer) (v.responses ++ list); offers = a.later; responses = []; releases = v.releases; generation = generation_after (map (marked a.offer) (v.responses ++ list)) (generation_in v) } =
     a.is ∙ (λ i. record { accepted = (shows i).accepted ++ marks i; offers = later; responses = []; releases = (shows i).releases; generation = generation_after (marks i) (shows i).generation }) in
-    let told = subst (λ (q : Configuration × (List Extent × (List Extent × List Extent))). Tells (unhold h HeldKind.Responses q.1.0 ++ Effect.Answer h q.1.1.0 ∷ takes q.0 h q.1.1.0) (tags_of q.1.1.1) (λ w. told_of h w q.1.1.0) after d)
-    (λ i. (present i, (held i, (marks i, oldest_of ((ap (λ (ls : Lists). ls.offers) shows ∙ offers) i))))) tells in
     let at_offer : View = record v { offers = a.offer ∷ a.later } in
     let same : v ≡ record v { offers = a.offer ∷ a.later } = λ i. record v { offers = offers i } in
+    let told = subst (λ (q : Configuration × (List Extent × (List Extent × (List Extent × Lists)))). Tells h (unhold h HeldKind.Responses q.1.0 ++ Effect.Answer h q.1.1.0 ∷ takes q.0 h q.1.1.0) (tags_of q.1.1.1.0) (λ w. told_of h w q.1.1.0) q.1.1.1.1 after d)
+    (λ i. (present i, (held i, (marks i, (oldest_of ((ap (λ (ls : Lists). ls.offers) shows ∙ offers) i), (shows ∙ ap lists_in same) i))))) tells in
     subst (λ (b : Bool). Drafts c h v (respond_outcome c h v b list) d) (sym last)
     (subst (λ (u : View). Drafts c h u (respond_outcome c h u false list) d) (sym same) (answers c h v offer later list after d left told))
 
 -- more is to come
-pub held_response : (c : Configuration) (h : HostId) (v : View) (lists after : Lists) (list : List Extent) (more : Bool) (d : DraftParts)
-    → lists ≡ lists_in v → more ≡ true → after ≡ record lists { responses = lists.responses ++ list } → d ≡ lists_changed (hold h HeldKind.Responses list) after
+pub held_response : (c : Configuration) (h : HostId) (v : View) (lists : Lists) (change : ListsChange) (list : List Extent) (more : Bool) (d : DraftParts)
+    → lists ≡ lists_in v → more ≡ true → changed_by change lists ≡ record lists { responses = lists.responses ++ list } → d ≡ lists_changed (hold h HeldKind.Responses list) change
     → Drafts c h v (respond_outcome c h v more list) d
-held_response c h v lists after list more d shows goes_on is drafts =
-    let left : after ≡ lists_in (view_after c h v (hold h HeldKind.Responses list)) = is
+held_response c h v lists change list more d shows goes_on is drafts =
+    let left : changed_by change (lists_in v) ≡ lists_in (view_after c h v (hold h HeldKind.Responses list)) = ap (changed_by change) (sym shows) ∙ is
     ∙ (λ i. record { accepted = (shows i).accepted; offers = (shows i).offers; responses = (shows i).responses ++ list; releases = (shows i).releases; generation = (shows i).generation })
     ∙ sym (λ i. record {
       accepted = hold_changes (accepted_after c h) h HeldKind.Responses (λ y xs. refl) list v.accepted i;
@@ -161,7 +165,32 @@ held_response c h v lists after list more d shows goes_on is drafts =
     }) in
     subst (λ (b : Bool). Drafts c h v (respond_outcome c h v b list) d) (sym goes_on)
     (subst (λ (e : DraftParts). Drafts c h v (respond_outcome c h v true list) e) (sym drafts)
-    (record { payload = refl; changes = refl; tags = refl; log_records = refl; lists = left }))
+    (record { payload = refl; changes = refl; tags = refl; log_records = refl; lists = (left, ap (changed_by change) (hold_changes (lists_by h) h HeldKind.Responses (λ y xs. refl) list (lists_in v)) ∙ left) }))
+
+-- there is no offer, and nothing is listed
+pub nothing_response : (c : Configuration) (h : HostId) (v : View) (lists : Lists) (change : ListsChange) (list : List Extent) (more : Bool) (d : DraftParts)
+    → lists ≡ lists_in v → more ≡ false → lists.offers ≡ [] → lists.responses ++ list ≡ [] → changed_by change lists ≡ record lists { responses = [] }
+    → d ≡ lists_changed (unhold h HeldKind.Responses lists.responses) change → Drafts c h v (respond_outcome c h v more list) d
+nothing_response c h v lists change list more d shows last none empty is drafts =
+    let offers : v.offers ≡ [] = ap (λ (ls : Lists). ls.offers) (sym shows) ∙ none in
+    let no_held : lists.responses ≡ [] = empty_front lists.responses list empty in
+    let held : v.responses ≡ [] = ap (λ (ls : Lists). ls.responses) (sym shows) ∙ no_held in
+    let es : respond_changes c h v.offers v.responses false list ≡ [] = λ i. unhold h HeldKind.Responses (held i) ++ answered c h (offers i) (v.responses ++ list) in
+    let same : changed_by change (lists_in v) ≡ lists_in v = ap (changed_by change) (sym shows) ∙ is ∙ (λ i. record lists { responses = sym no_held i }) ∙ shows in
+    let leads = subst (λ (changes : List Effect). LeadsTo h changes (lists_in v) (lists_in (view_after c h v changes)) (Some change)) (sym es) (same, same) in
+    subst (λ (b : Bool). Drafts c h v (respond_outcome c h v b list) d) (sym last)
+    (subst (λ (e : DraftParts). Drafts c h v (respond_outcome c h v false list) e) (sym drafts) (record {
+      payload = refl;
+      changes = ap (unhold h HeldKind.Responses) no_held ∙ sym es;
+      tags = sym (ap (λ (os : List (List Extent)). tags_of (oldest_of os)) offers);
+      log_records = sym (ap (λ (os : List (List Extent)). response_records c h (view_after c h v (respond_changes c h v.offers v.responses false list)) os (v.responses ++ list)) offers);
+      lists = leads;
+    }))
+
+-- what is held of responses goes, and nothing else, before the answer
+pub answer_lets_go : (p : Configuration) (h : HostId) (lists : Lists) (accepted : List Extent) → fold (lists_by h) lists (unhold h HeldKind.Responses lists.responses ++ Effect.Answer h accepted ∷ takes p h accepted) ≡ record lists { responses = [] }
+answer_lets_go p h lists accepted =
+    lets_responses_go h lists (Effect.Answer h accepted ∷ takes p h accepted) (none_changes (lists_by h) (λ x. Effect.Take h (run_of p h x)) (λ y x. refl) accepted) lists.responses refl
 
 -- ---- what the lists' answer gives
 

@@ -50,7 +50,7 @@ use Rattle.device_state.specs.StateAfter.{IsStateAfter, IsReached, part_of, list
 use Rattle.device_commands.specs.InitiateDynamicCapacityRelease.{Departs, IsDrafted, flags_rule, meant_rule, removal_outcome, removed_lists}
 use Rattle.device_state.specs.declared.state.State.{State}
 use Rattle.device_commands.specs.declared.draft.DraftParts.{DraftParts}
-use Rattle.device_commands.specs.Drafts.{AreAfter, Drafts}
+use Rattle.device_commands.specs.Drafts.{Drafts, LeadsTo}
 
 each_at : (P : Extent → Type 0) (xs : List Extent) → AllByRecursion P xs → All P xs
 each_at P [] each i d known = absurd (omega (arith, known))
@@ -235,7 +235,7 @@ meant_departs c s reached h host flags r tag list leaving forced row is =
 
 pub drafts_taken : (c : Configuration) (h : HostId) (v : View) (flags : ℕ) (leaving : List Extent) (l : Lists) (d : DraftParts) → l ≡ lists_in v → is_forced flags ≡ true →
     Departs c h l (is_cleaning flags) leaving →
-    IsDrafted h EventKind.Forced (removals c h (is_cleaning flags) leaving) (removed_lists l leaving) (Some (removed_lists l leaving)) leaving d →
+    IsDrafted h EventKind.Forced (removals c h (is_cleaning flags) leaving) l (removed_lists l leaving) leaving d →
     Drafts c h v (removal_outcome c h v flags leaving) d
 drafts_taken c h v flags leaving l d own forced departs is =
     let changes : (if is_forced flags then removals c h (is_cleaning flags) leaving else []) ≡ removals c h (is_cleaning flags) leaving = ap (λ b. if b then removals c h (is_cleaning flags) leaving else []) forced in
@@ -248,7 +248,7 @@ drafts_taken c h v flags leaving l d own forced departs is =
       tags = is.tags;
       log_records = is.log_records (view_after c h v (if is_forced flags then removals c h (is_cleaning flags) leaving else [])) after
           ∙ ap (λ b. (LogId.Host h, records_of_extents h (view_after c h v (if is_forced flags then removals c h (is_cleaning flags) leaving else [])) (if b then EventKind.Forced else EventKind.Release) leaving) ∷ []) (sym forced);
-      lists = subst (AreAfter c h v (removal_outcome c h v flags leaving)) (sym is.lists_are) after;
+      lists = subst (λ (x : List Effect × (Lists × Lists)). LeadsTo h x.0 x.1.0 x.1.1 d.lists) (λ i. (sym changes i, (own i, after i))) is.lists_are;
     }
 
 -- ---- the row

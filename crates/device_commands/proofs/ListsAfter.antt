@@ -10,7 +10,8 @@ use Rattle.journal_core.specs.declared.outcome.Effect.{Effect}
 use Rattle.journal_core.specs.declared.outcome.HeldKind.{HeldKind}
 use Rattle.device_rules.specs.Hosts.{held_after, moves, same_kind}
 use Rattle.device_rules.specs.ResponseOutcomes.{hold, unhold}
-use Rattle.host_lists.specs.Lists.{next_generation}
+use Rattle.device_state.specs.Entered.{lists_by}
+use Rattle.host_lists.specs.Lists.{Lists, next_generation}
 
 -- effects that change nothing
 pub none_changes : {X Y : Type 0} (f : Y → Effect → Y) (g : X → Effect) → ((y : Y) (x : X) → f y (g x) ≡ y) → (xs : List X) (y : Y) → fold f y (map g xs) ≡ y
@@ -61,3 +62,19 @@ hold_moves h kind (x ∷ xs) = refl
 
 pub once_more : (n : ℕ) → (n + 1) % 2 ^ 32 ≡ next_generation (n % 2 ^ 32)
 once_more n = sym (mod-add-mod n (2 ^ 32) 1)
+
+pub empty_front : (xs ys : List Extent) → xs ++ ys ≡ [] → xs ≡ []
+empty_front [] ys none = refl
+empty_front (x ∷ xs) ys none = absurd (cc)
+
+-- ---- what a step lets go of the lists that are kept, before effects that let nothing go
+
+pub lets_responses_go : (h : HostId) (l : Lists) (es : List Effect) → ((y : Lists) → fold (lists_by h) y es ≡ y) → (held : List Extent) → l.responses ≡ held
+    → fold (lists_by h) l (unhold h HeldKind.Responses held ++ es) ≡ record l { responses = [] }
+lets_responses_go h l es stays [] none = stays l ∙ (λ i. record l { responses = none i })
+lets_responses_go h l es stays (x ∷ xs) some = rw (eq-eqb h h refl) (stays (record l { responses = [] }))
+
+pub lets_releases_go : (h : HostId) (l : Lists) (es : List Effect) → ((y : Lists) → fold (lists_by h) y es ≡ y) → (held : List Extent) → l.releases ≡ held
+    → fold (lists_by h) l (unhold h HeldKind.Releases held ++ es) ≡ record l { releases = [] }
+lets_releases_go h l es stays [] none = stays l ∙ (λ i. record l { releases = none i })
+lets_releases_go h l es stays (x ∷ xs) some = rw (eq-eqb h h refl) (stays (record l { releases = [] }))

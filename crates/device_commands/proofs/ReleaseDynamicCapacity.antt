@@ -1,8 +1,9 @@
 -- A release that breaks no rule is its outcome.
-use Rattle.std.proofs.Common.{◌≡◌, ◌≢◌, ℕ, ◌+◌, ◌%◌, ◌^◌, ◌<◌, Bool, true, false, List, [], ◌∷◌, ◌++◌, map, Option, Some, None, refl, ap, sym, subst, ◌∙◌}
+use Rattle.std.proofs.Common.{◌≡◌, ◌≢◌, ℕ, ◌+◌, ◌%◌, ◌^◌, ◌<◌, Bool, true, false, List, [], ◌∷◌, ◌++◌, map, Some, None, refl, ap, sym, subst, ◌∙◌}
 use Rattle.std.specs.Prelude.{All, fold, if◌then◌else◌}
 use Rattle.std.specs.List.{AllByRecursion, list_any}
 use Rattle.std.proofs.lemmas.Bool.{eq-eqb}
+use Rattle.dcd_base.specs.declared.steps.LogId.{LogId}
 use Rattle.dcd_base.specs.declared.ids.HostId.{HostId}
 use Rattle.dcd_base.specs.declared.capacity.Extent.{Extent}
 use Rattle.event_records.specs.declared.events.EventKind.{EventKind}
@@ -16,20 +17,23 @@ use Rattle.media_map.proofs.RunLemmas.{run_told}
 use Rattle.selection.proofs.Placed.{granular_run}
 use Rattle.extent_list.specs.ExtentLists.{count_in, cut, cut_all, marked, tags_of}
 use Rattle.host_lists.specs.Answers.{given_up}
+use Rattle.host_lists.specs.Changes.{changed_by}
 use Rattle.host_lists.specs.Lists.{Lists}
+use Rattle.host_lists.specs.declared.lists_change.ListsChange.{ListsChange}
 use Rattle.release_core.specs.Releases.{give_back_rule}
 use Rattle.device_rules.specs.Hosts.{accepted_after, held_after, moves, offers_after}
 use Rattle.device_rules.specs.Outcomes.{records_of_extents}
-use Rattle.device_rules.specs.ReleaseOutcomes.{give_back_outcome, leaves, removals}
+use Rattle.device_rules.specs.ReleaseOutcomes.{give_back_changes, give_back_outcome, leaves, removals}
 use Rattle.device_rules.specs.ResponseOutcomes.{hold, unhold}
 use Rattle.device_rules.specs.Views.{View, view_after}
 use Rattle.holding_laws.proofs.Homes.{bytes_same, run_same, start_same}
 use Rattle.device_commands.specs.declared.draft.DraftParts.{DraftParts}
-use Rattle.device_commands.specs.Drafts.{AreAfter, Drafts}
+use Rattle.device_commands.specs.Drafts.{Drafts, LeadsTo}
+use Rattle.device_state.specs.Entered.{lists_by}
 use Rattle.device_state.specs.StateAfter.{lists_in}
 use Rattle.device_commands.specs.ListDrafts.{Tells, lists_changed}
 use Rattle.device_commands.proofs.ListedExtents.{Granular, marked_granular, release_granular}
-use Rattle.device_commands.proofs.ListsAfter.{hold_changes, hold_joins, hold_moves, none_changes, once_more, other_joins, other_stays, unhold_changes, unhold_empties, unhold_moves}
+use Rattle.device_commands.proofs.ListsAfter.{empty_front, hold_changes, hold_joins, hold_moves, none_changes, once_more, other_joins, other_stays, lets_releases_go, unhold_changes, unhold_empties, unhold_moves}
 
 -- the same runs leave
 removals_same : (c : Configuration) (b : ℕ → ℕ) (h : HostId) (owners xs : List Extent) → removals (with_blocks c b) h false (map (marked owners) xs) ≡ leaves c h xs
@@ -76,7 +80,7 @@ pub given_drafts : (c p : Configuration) (h : HostId) (v : View) (lists after : 
     → p ≡ with_blocks c v.block → lists ≡ lists_in v → more ≡ false → IsSound p → h < c.hosts
     → lists.releases ++ list ≢ [] → AllByRecursion (Granular p h) (lists.releases ++ list)
     → leaving ≡ map (marked lists.accepted) (lists.releases ++ list) → after ≡ given_up lists (lists.releases ++ list)
-    → Tells (unhold h HeldKind.Releases lists.releases ++ removals p h false leaving) (tags_of leaving) (λ w. records_of_extents h w EventKind.Released leaving) after d
+    → Tells h (unhold h HeldKind.Releases lists.releases ++ removals p h false leaving) (tags_of leaving) (λ w. records_of_extents h w EventKind.Released leaving) lists after d
     → Drafts c h v (give_back_outcome c h v more list) d
 given_drafts c p h v lists after list leaving more d present shows last sound host some made marks is tells =
     let sound_now : IsSound (with_blocks c v.block) = subst (λ q. IsSound q) present sound in
@@ -87,22 +91,23 @@ given_drafts c p h v lists after list leaving more d present shows last sound ho
     let marks_now : leaving ≡ map (marked v.accepted) (v.releases ++ list) = marks ∙ ap (λ (ls : Lists). map (marked ls.accepted) (ls.releases ++ list)) shows in
     let w : View = view_after c h v (unhold h HeldKind.Releases v.releases ++ leaves c h (v.releases ++ list)) in
     let left : after ≡ lists_in w = is ∙ ap (λ (ls : Lists). given_up ls (ls.releases ++ list)) shows ∙ sym (given_lists c h v sound_now host (v.releases ++ list) some_now made_now) in
-    let t = subst (λ (q : Configuration × (Lists × List Extent)). Tells (unhold h HeldKind.Releases q.1.0.releases ++ removals q.0 h false q.1.1) (tags_of q.1.1) (λ u. records_of_extents h u EventKind.Released q.1.1) after d)
+    let t = subst (λ (q : Configuration × (Lists × List Extent)). Tells h (unhold h HeldKind.Releases q.1.0.releases ++ removals q.0 h false q.1.1) (tags_of q.1.1) (λ u. records_of_extents h u EventKind.Released q.1.1) q.1.0 after d)
     (λ i. (present i, (shows i, marks_now i))) tells in
+    let same = ap (λ es. unhold h HeldKind.Releases v.releases ++ es) (removals_same c v.block h v.accepted (v.releases ++ list)) in
     subst (λ (m : Bool). Drafts c h v (give_back_outcome c h v m list) d) (sym last) (record {
       payload = t.payload;
-      changes = t.changes_are ∙ ap (λ es. unhold h HeldKind.Releases v.releases ++ es) (removals_same c v.block h v.accepted (v.releases ++ list));
+      changes = t.changes_are ∙ same;
       tags = t.tags_are;
       log_records = t.log_records w left;
-      lists = subst (λ (ls : Option Lists). AreAfter c h v (give_back_outcome c h v false list) ls) (sym t.lists_are) left;
+      lists = subst (λ (x : List Effect × Lists). LeadsTo h x.0 (lists_in v) x.1 d.lists) (λ i. (same i, left i)) t.lists_are;
     })
 
 -- more is to come
-pub held_release : (c : Configuration) (h : HostId) (v : View) (lists after : Lists) (list : List Extent) (more : Bool) (d : DraftParts)
-    → lists ≡ lists_in v → more ≡ true → after ≡ record lists { releases = lists.releases ++ list } → d ≡ lists_changed (hold h HeldKind.Releases list) after
+pub held_release : (c : Configuration) (h : HostId) (v : View) (lists : Lists) (change : ListsChange) (list : List Extent) (more : Bool) (d : DraftParts)
+    → lists ≡ lists_in v → more ≡ true → changed_by change lists ≡ record lists { releases = lists.releases ++ list } → d ≡ lists_changed (hold h HeldKind.Releases list) change
     → Drafts c h v (give_back_outcome c h v more list) d
-held_release c h v lists after list more d shows goes_on is drafts =
-    let left : after ≡ lists_in (view_after c h v (hold h HeldKind.Releases list)) = is
+held_release c h v lists change list more d shows goes_on is drafts =
+    let left : changed_by change (lists_in v) ≡ lists_in (view_after c h v (hold h HeldKind.Releases list)) = ap (changed_by change) (sym shows) ∙ is
     ∙ (λ i. record { accepted = (shows i).accepted; offers = (shows i).offers; responses = (shows i).responses; releases = (shows i).releases ++ list; generation = (shows i).generation })
     ∙ sym (λ i. record {
       accepted = hold_changes (accepted_after c h) h HeldKind.Releases (λ y xs. refl) list v.accepted i;
@@ -113,7 +118,39 @@ held_release c h v lists after list more d shows goes_on is drafts =
     }) in
     subst (λ (b : Bool). Drafts c h v (give_back_outcome c h v b list) d) (sym goes_on)
     (subst (λ (e : DraftParts). Drafts c h v (give_back_outcome c h v true list) e) (sym drafts)
-    (record { payload = refl; changes = refl; tags = refl; log_records = refl; lists = left }))
+    (record { payload = refl; changes = refl; tags = refl; log_records = refl; lists = (left, ap (changed_by change) (hold_changes (lists_by h) h HeldKind.Releases (λ y xs. refl) list (lists_in v)) ∙ left) }))
+
+-- nothing is given back
+pub nothing_given : (c p : Configuration) (h : HostId) (v : View) (lists after : Lists) (list leaving : List Extent) (more : Bool) (d : DraftParts)
+    → lists ≡ lists_in v → more ≡ false → lists.releases ++ list ≡ [] → leaving ≡ [] → after ≡ record lists { releases = [] }
+    → Tells h (unhold h HeldKind.Releases lists.releases ++ removals p h false leaving) (tags_of leaving) (λ w. records_of_extents h w EventKind.Released leaving) lists after d
+    → Drafts c h v (give_back_outcome c h v more list) d
+nothing_given c p h v lists after list leaving more d shows last empty gone is t =
+    let no_held : lists.releases ≡ [] = empty_front lists.releases list empty in
+    let all : v.releases ++ list ≡ [] = ap (λ (ls : Lists). ls.releases ++ list) (sym shows) ∙ empty in
+    let held : v.releases ≡ [] = empty_front v.releases list all in
+    let going : map (marked v.accepted) (v.releases ++ list) ≡ [] = ap (map (marked v.accepted)) all in
+    let es : give_back_changes c h v.releases false list ≡ [] = λ i. unhold h HeldKind.Releases (held i) ++ leaves c h (all i) in
+    let drafted : unhold h HeldKind.Releases lists.releases ++ removals p h false leaving ≡ [] = λ i. unhold h HeldKind.Releases (no_held i) ++ removals p h false (gone i) in
+    let w : View = view_after c h v (give_back_changes c h v.releases false list) in
+    let left : after ≡ lists_in w = is ∙ (λ i. record lists { releases = sym no_held i }) ∙ shows ∙ ap (λ (changes : List Effect). lists_in (view_after c h v changes)) (sym es) in
+    subst (λ (m : Bool). Drafts c h v (give_back_outcome c h v m list) d) (sym last) (record {
+      payload = t.payload;
+      changes = t.changes_are ∙ drafted ∙ sym es;
+      tags = t.tags_are ∙ ap tags_of (gone ∙ sym going);
+      log_records = t.log_records w left ∙ ap (λ (xs : List Extent). (LogId.Manager, records_of_extents h w EventKind.Released xs) ∷ []) (gone ∙ sym going);
+      lists = subst (λ (x : List Effect × (Lists × Lists)). LeadsTo h x.0 x.1.0 x.1.1 d.lists) (λ i. ((drafted ∙ sym es) i, (shows i, left i))) t.lists_are;
+    })
+
+-- removals let nothing go that is held
+pub removals_stay : (c : Configuration) (h : HostId) (clean : Bool) (xs : List Extent) (y : Lists) → fold (lists_by h) y (removals c h clean xs) ≡ y
+removals_stay c h clean [] y = refl
+removals_stay c h true (x ∷ xs) y = removals_stay c h true xs y
+removals_stay c h false (x ∷ xs) y = removals_stay c h false xs y
+
+-- what is held of releases goes, and nothing else, before the extents leave
+pub release_lets_go : (p : Configuration) (h : HostId) (lists : Lists) (leaving : List Extent) → fold (lists_by h) lists (unhold h HeldKind.Releases lists.releases ++ removals p h false leaving) ≡ record lists { releases = [] }
+release_lets_go p h lists leaving = lets_releases_go h lists (removals p h false leaving) (removals_stay p h false leaving) lists.releases refl
 
 -- ---- what the lists' answer gives
 

@@ -10,7 +10,7 @@ use Rattle.dcd_codes.specs.declared.rules.Rule.{Rule}
 use Rattle.event_records.specs.declared.events.EventKind.{EventKind}
 use Rattle.extent_list.specs.ExtentLists.{count_in, cut_all, tags_of}
 use Rattle.device_state.specs.StateAfter.{lists_in, IsStateAfter, part_of}
-use Rattle.device_commands.specs.Drafts.{as_records, Drafts}
+use Rattle.device_commands.specs.Drafts.{Drafts, LeadsTo, as_records}
 use Rattle.device_commands.specs.declared.draft.DraftParts.{DraftParts}
 use Rattle.host_lists.specs.Answers.{generation_after}
 use Rattle.host_lists.specs.Lists.{Lists}
@@ -55,12 +55,13 @@ pub record Departs (c : Configuration) (h : HostId) (l : Lists) (clean : Bool) (
   pub offers : fold (offers_after h) l.offers (removals c h clean leaving) ≡ l.offers
   pub few : length (cut_all leaving l.accepted) + count_in l.offers ≤ 64
 
--- The draft changes so much, and tells the host of each of these, by the lists that it has then.
-pub record IsDrafted (h : HostId) (kind : EventKind) (changes : List Effect) (new : Lists) (lists : Option Lists) (leaving : List Extent) (d : DraftParts) : Type 0 where
+-- The draft changes so much, what it changes of the host's lists leads to these, and it tells the host of each of the
+-- extents, by the lists that it has then.
+pub record IsDrafted (h : HostId) (kind : EventKind) (changes : List Effect) (had new : Lists) (leaving : List Extent) (d : DraftParts) : Type 0 where
   pub payload : d.payload ≡ []
   pub changes_are : d.changes ≡ changes
   pub tags : d.tags ≡ tags_of leaving
-  pub lists_are : d.lists ≡ lists
+  pub lists_are : LeadsTo h changes had new d.lists
   pub log_records : (v : View) → new ≡ lists_in v → map as_records d.log_records ≡ (LogId.Host h, records_of_extents h v kind leaving) ∷ []
 
 -- what a removal of these does
@@ -75,11 +76,11 @@ removal_outcome c h v flags all =
 
 -- The extents are taken from the host, which has these lists, by force.
 abbrev pub IsTakenByForce : Configuration → HostId → Bool → Lists → List Extent → DraftParts → Type 0
-IsTakenByForce c h clean l leaving d = IsDrafted h EventKind.Forced (removals c h clean leaving) (removed_lists l leaving) (Some (removed_lists l leaving)) leaving d
+IsTakenByForce c h clean l leaving d = IsDrafted h EventKind.Forced (removals c h clean leaving) l (removed_lists l leaving) leaving d
 
 -- The host, which has these lists, is asked for the extents.
 abbrev pub IsAskedFor : HostId → Lists → List Extent → DraftParts → Type 0
-IsAskedFor h l leaving d = IsDrafted h EventKind.Release [] l None leaving d
+IsAskedFor h l leaving d = IsDrafted h EventKind.Release [] l l leaving d
 
 -- ---- by the fields of a request
 

@@ -10,23 +10,24 @@ use Rattle.dcd_base.specs.declared.steps.LogId.{LogId}
 use Rattle.event_records.specs.declared.events.Event.{Event}
 use Rattle.journal_core.specs.declared.outcome.Effect.{Effect}
 use Rattle.host_lists.specs.Lists.{Lists}
+use Rattle.host_lists.specs.declared.lists_change.ListsChange.{ListsChange}
 use Rattle.device_rules.specs.Views.{View}
 use Rattle.device_commands.specs.declared.draft.DraftParts.{DraftParts}
 use Rattle.device_state.specs.StateAfter.{lists_in}
-use Rattle.device_commands.specs.Drafts.{as_records}
+use Rattle.device_commands.specs.Drafts.{LeadsTo, as_records}
 
--- changes, and the lists after them
-abbrev pub lists_changed : List Effect → Lists → DraftParts
-lists_changed changes lists = record { payload = []; changes = changes; tags = []; log_records = []; lists = Some lists }
+-- changes, and what they change of lists
+abbrev pub lists_changed : List Effect → ListsChange → DraftParts
+lists_changed changes change = record { payload = []; changes = changes; tags = []; log_records = []; lists = Some change }
 
--- The draft has these changes, these tags that may end, these lists, and for the manager these events of a view with
--- these lists.
-pub record Tells (changes : List Effect) (tags : List Tag) (events : View → List Event) (lists : Lists) (d : DraftParts) : Type 0 where
+-- The draft has these changes, these tags that may end, what leads from the lists that the host had to these, and for the
+-- manager these events of a view with these lists.
+pub record Tells (h : HostId) (changes : List Effect) (tags : List Tag) (events : View → List Event) (had lists : Lists) (d : DraftParts) : Type 0 where
   pub payload : d.payload ≡ []
   pub changes_are : d.changes ≡ changes
   pub tags_are : d.tags ≡ tags
   pub log_records : (w : View) → lists ≡ lists_in w → map as_records d.log_records ≡ (LogId.Manager, events w) ∷ []
-  pub lists_are : d.lists ≡ Some lists
+  pub lists_are : LeadsTo h changes had lists d.lists
 
 -- The records tell the log of a host of each extent, by a view with these lists.
 abbrev pub TellOf : HostId → EventKind → Lists → List Extent → List LogRecords → Type 0

@@ -13,28 +13,31 @@ ghost use Rattle.extent_list.specs.ExtentLists.{tags_of};
 ghost use Rattle.dcd_base.specs.declared.steps.LogId.{LogId};
 ghost use Rattle.device_commands.specs.Drafts.{as_records};
 ghost use Rattle.device_state.specs.StateAfter.{lists_in};
+ghost use Rattle.device_commands.specs.DraftContents.{draft_in, no_draft};
 ghost use Rattle.device_commands.specs.ListDrafts.{lists_changed};
+ghost use Rattle.host_lists.specs.Changes.{changed_by};
 ghost use Rattle.host_lists.specs.Lists.{extent_total};
 ghost use Rattle.journal_core.specs.declared.outcome.Effect.{Effect};
 ghost use Rattle.journal_core.specs.declared.outcome.HeldKind.{HeldKind};
 ghost use Rattle.media_map.specs.Places.{is_granular};
-ghost use Rattle.std.specs.Prelude.{◌≡◌, ◌++◌, ◌∷◌, ◌<◌, ◌≤◌, [], All, IfOk, IfSome, IsTrue, OnOk, length, map};
+ghost use Rattle.std.specs.Prelude.{◌≡◌, ◌++◌, ◌∷◌, ◌<◌, ◌≤◌, [], All, IfOk, IfSome, IsTrue, OnOk, Some, length, map};
 
-use crate::draft::Draft;
-use crate::held_lists::{hold, unhold, unhold_before};
+use crate::draft::{Draft, DraftedStep, under_a_host};
+use crate::held_lists::{hold, put_unhold, unhold};
 use crate::log_records::{LogRecords, event_for, no_extent, one_record, records_of_extents};
-use crate::rooms::effects_of;
+use crate::rooms::Room;
 use crate::runs::run_of;
-use crate::tags::tags_of;
+use crate::tags::put_tags_of;
 use dcd_base::{Extent, Extents, HostId, LogId, NoMemory};
 use dcd_codes::Refusal;
 use event_records::{Event, EventKind};
-use host_lists::{HostLists, Responded};
+use host_lists::{Changed, HostLists, ListsChange, Responded};
 use journal_core::{Effect, Effects, HeldKind};
 use offer_core::broken_rule;
 use region_config::Config;
 use short_list::ShortList;
 use std::alloc::Global;
+use std::mem::replace;
 
 /// The host's response to its oldest offer: this list behind what it holds of earlier messages, and whether more
 /// messages are to follow (CXL 3.1, 8.2.9.9.9.3).
@@ -50,12 +53,13 @@ pub fn add_response(
     lists: &HostLists,
     more: bool,
     list: &Extents,
+    room: &mut Room,
 ) -> Result<Draft, Refusal>
     requires host { host < config.now.hosts }
     requires hosts { present.now.hosts ≡ config.now.hosts }
     requires few { extent_total lists.now ≤ 64 }
     ensures drafts { AnswersByLists config.now present.now host lists.now (HostRequest.AddResponse more list.now) result }
-    ensures few { IfOk result (λ draft. IfSome draft.lists (λ new. extent_total new ≤ 64)) }
+    ensures few { IfOk result (λ draft. IfSome draft.lists (λ change. extent_total (changed_by change lists.now) ≤ 64)) }
 {
     // What is made of present blocks is made of granules, in every configuration.
     let _regions = present.regions();
@@ -63,39 +67,45 @@ pub fn add_response(
     if let Some(rule) = broken_rule(present, host, accepted, offers, list.as_slice(), more)? {
         return Err(Refusal::Broken(rule));
     }
-    let (after, responded) = lists.after_answer(list, more)?;
+    let (change, responded) = lists.answering(list, more)?;
     match responded {
-        Responded::Held => Ok(held(alloc, host, list, after)?),
-        Responded::Nothing => Ok(nothing(alloc, host, lists, after)?),
+        Responded::Held => Ok(held(host, list, lists, change, room)?),
+        Responded::Nothing => Ok(nothing(host, lists, change, room)?),
         Responded::Done(accepted) => Ok(offer_answered(
-            alloc, present, host, lists, after, accepted,
+            alloc, present, host, lists, change, accepted, room,
         )?),
     }
 }
 
 /// More is to come.
-fn held(alloc: Global, host: HostId, list: &Extents, after: HostLists) -> Result<Draft, NoMemory>
-    requires few { extent_total after ≤ 64 }
-    ensures drafts { IfOk result (λ draft. draft ≡ lists_changed (hold host HeldKind.Responses list.now) after) }
-    ensures few { IfOk result (λ draft. IfSome draft.lists (λ new. extent_total new ≤ 64)) }
+fn held(
+    host: HostId,
+    list: &Extents,
+    lists: &HostLists,
+    change: ListsChange,
+    room: &mut Room,
+) -> Result<Draft, NoMemory>
+    requires few { extent_total (changed_by change lists.now) ≤ 64 }
+    ensures drafts { IfOk result (λ draft. draft ≡ lists_changed (hold host HeldKind.Responses list.now) change) }
+    ensures few { IfOk result (λ draft. IfSome draft.lists (λ change. extent_total (changed_by change lists.now) ≤ 64)) }
 {
-    let changes = hold(alloc, host, HeldKind::Responses, list)?;
-    Draft::relisting(alloc, changes, after)
+    let changes = hold(host, HeldKind::Responses, list, room)?;
+    Draft::relisting(room, changes, change)
 }
 
 /// There is no offer, and nothing is listed.
 fn nothing(
-    alloc: Global,
     host: HostId,
     lists: &HostLists,
-    after: HostLists,
+    change: ListsChange,
+    room: &mut Room,
 ) -> Result<Draft, NoMemory>
-    requires few { extent_total after ≤ 64 }
-    ensures drafts { IfOk result (λ draft. draft ≡ lists_changed (unhold host HeldKind.Responses lists.now.responses) after) }
-    ensures few { IfOk result (λ draft. IfSome draft.lists (λ new. extent_total new ≤ 64)) }
+    requires few { extent_total (changed_by change lists.now) ≤ 64 }
+    ensures drafts { IfOk result (λ draft. draft ≡ lists_changed (unhold host HeldKind.Responses lists.now.responses) change) }
+    ensures few { IfOk result (λ draft. IfSome draft.lists (λ change. extent_total (changed_by change lists.now) ≤ 64)) }
 {
-    let changes = unhold(alloc, host, HeldKind::Responses, lists.responses())?;
-    Draft::relisting(alloc, changes, after)
+    let changes = unhold(host, HeldKind::Responses, lists.responses(), room)?;
+    Draft::relisting(room, changes, change)
 }
 
 /// The oldest offer is answered.
@@ -104,49 +114,78 @@ fn offer_answered(
     present: &Config,
     host: HostId,
     lists: &HostLists,
-    after: HostLists,
+    change: ListsChange,
     accepted: Extents,
+    room: &mut Room,
 ) -> Result<Draft, NoMemory>
     requires host { host < present.now.hosts }
     requires granular { All (λ x. IsTrue (is_granular present.now host x.start x.length)) accepted }
-    requires few { extent_total after ≤ 64 }
-    ensures drafts { IfOk result (IsAnswered present.now host lists.now accepted after) }
-    ensures few { IfOk result (λ draft. IfSome draft.lists (λ new. extent_total new ≤ 64)) }
+    requires few { extent_total (changed_by change lists.now) ≤ 64 }
+    requires held { changed_by change (record lists.now { responses = [] }) ≡ changed_by change lists.now }
+    ensures drafts { IfOk result (IsAnswered present.now host lists.now accepted (changed_by change lists.now)) }
+    ensures few { IfOk result (λ draft. IfSome draft.lists (λ change. extent_total (changed_by change lists.now) ≤ 64)) }
 {
-    let tags = tags_of(alloc, lists.oldest())?;
-    let log_records = records_to_manager(alloc, host, &after, accepted.as_slice())?;
-    let changes = answered(alloc, present, host, lists, accepted)?;
-    Draft::listing(alloc, changes, tags, log_records, after)
+    let mut step = room.blank()?;
+    put_answered(alloc, present, host, lists, change, accepted, step.as_mut())?;
+    Ok(Draft::of_step(step))
+}
+
+/// Puts the answer to the oldest offer into a draft that has nothing yet.
+fn put_answered(
+    alloc: Global,
+    present: &Config,
+    host: HostId,
+    lists: &HostLists,
+    change: ListsChange,
+    accepted: Extents,
+    step: &mut DraftedStep,
+) -> Result<(), NoMemory>
+    requires host { host < present.now.hosts }
+    requires granular { All (λ x. IsTrue (is_granular present.now host x.start x.length)) accepted }
+    requires few { extent_total (changed_by change lists.now) ≤ 64 }
+    requires held { changed_by change (record lists.now { responses = [] }) ≡ changed_by change lists.now }
+    requires blank { draft_in step.old ≡ record no_draft { lists = (draft_in step.old).lists } }
+    ensures drafts { OnOk result (IsAnswered present.now host lists.now accepted (changed_by change lists.now) (draft_in step.new)) }
+    ensures lists { OnOk result ((draft_in step.new).lists ≡ Some change) }
+{
+    put_tags_of(lists.oldest(), &mut step.tags)?;
+    let after = Changed::of(lists, &change);
+    step.log_records = records_to_manager(alloc, host, &after, accepted.as_slice())?;
+    put_answer(alloc, present, host, lists, accepted, &mut step.effects)?;
+    step.update.lists = under_a_host(Some(change));
+    Ok(())
 }
 
 /// What is held goes, the offer is answered, and the host takes the extents. Their list is not copied: it is put into
 /// its place once the runs are made of it.
-fn answered(
+fn put_answer(
     alloc: Global,
     present: &Config,
     host: HostId,
     lists: &HostLists,
     accepted: Extents,
-) -> Result<Effects, NoMemory>
+    effects: &mut Effects,
+) -> Result<(), NoMemory>
     requires host { host < present.now.hosts }
     requires granular { All (λ x. IsTrue (is_granular present.now host x.start x.length)) accepted }
-    ensures { IfOk result (λ changes. changes ≡ answer_changes present.now host lists.now accepted) }
+    requires none { effects.old ≡ [] }
+    ensures { OnOk result (effects.new ≡ answer_changes present.now host lists.now accepted) }
 {
-    let (kind, held) = (HeldKind::Responses, lists.responses());
-    let unheld = unhold_before(alloc, host, kind, held, effects_of(accepted.len()))?;
-    let at = unheld.len();
-    let mut changes = unheld.into_vec();
+    put_unhold(host, HeldKind::Responses, lists.responses(), effects)?;
+    let at = effects.len();
+    let mut changes = replace(effects, Effects::new(alloc)).into_vec();
     changes.push(Effect::Answer(host, Extents::new(alloc)))?;
     put_takes(present, host, accepted.as_slice(), &mut changes)?;
     changes[at] = Effect::Answer(host, accepted);
-    Ok(Effects::from_vec(alloc, changes))
+    *effects = Effects::from_vec(alloc, changes);
+    Ok(())
 }
 
 /// The record of what the Fabric Manager is told.
 fn records_to_manager(
     alloc: Global,
     host: HostId,
-    after: &HostLists,
+    after: &Changed,
     accepted: &[Extent],
 ) -> Result<ShortList<LogRecords>, NoMemory>
     requires { extent_total after.now ≤ 64 }
@@ -160,7 +199,7 @@ fn records_to_manager(
 fn told(
     alloc: Global,
     host: HostId,
-    after: &HostLists,
+    after: &Changed,
     accepted: &[Extent],
 ) -> Result<ShortList<Event>, NoMemory>
     requires { extent_total after.now ≤ 64 }
@@ -173,7 +212,7 @@ fn told(
 }
 
 /// What the Fabric Manager is told where no extent is accepted.
-fn told_none(host: HostId, after: &HostLists) -> ShortList<Event>
+fn told_none(host: HostId, after: &Changed) -> ShortList<Event>
     requires { extent_total after.now ≤ 64 }
     ensures { (w : View) → after.now ≡ lists_in w → result ≡ told_of host w [] }
 {

@@ -26,12 +26,14 @@ pub(crate) struct Asked {
     pub(crate) tag: Tag,
 }
 
-/// The extents of the offer, with its tag and numbered where the region is shareable.
+/// The extents of the offer, with its tag and numbered where the region is shareable. Runs of free blocks are put in the
+/// memory of `room`, whatever it holds, and stay there.
 pub(crate) fn new_extents(
     alloc: Global,
     state: &State,
     asked: &Asked,
     list: &Extents,
+    room: &mut Runs,
 ) -> Result<Extents, Refusal>
     requires host { asked.now.host < state.now.present.hosts }
     requires region { asked.now.region < length state.now.present.regions }
@@ -41,7 +43,6 @@ pub(crate) fn new_extents(
     ensures row { ByRow (policy_rule state.now asked.now list.now) (λ new. new ≡ new_offer state.now asked.now list.now) result }
     ensures few { IfOk result (λ new. length new < 2 ^ 16) }
 {
-    let mut room = Runs::new(alloc);
     let shareable = state.present.region(asked.region).shareable;
     if asked.policy == PRESCRIPTIVE {
         let (map, present) = (state.granules.states(), &state.present);
@@ -52,7 +53,7 @@ pub(crate) fn new_extents(
     } else if asked.policy > CONTIGUOUS {
         Ok(shared(alloc, state, asked, shareable)?)
     } else {
-        free_extents(alloc, state, asked, shareable, &mut room)
+        free_extents(alloc, state, asked, shareable, room)
     }
 }
 

@@ -13,12 +13,12 @@ ghost use Rattle.std.specs.Prelude.{◌≡◌, ◌++◌, ◌≤◌, [], IfOk, No
 
 use crate::draft::Draft;
 use crate::get_event_records::{DYNAMIC_CAPACITY, LOGS};
+use crate::rooms::Room;
 use dcd_base::{LogId, NoMemory};
 use dcd_codes::{Refusal, Rule};
 use event_log::{ClearFault, EventLog};
 use journal_core::{Effect, Effects};
 use short_list::ShortList;
-use std::alloc::Global;
 
 /// Takes the records of these handles out of the log, or all of them.
 ///
@@ -26,12 +26,12 @@ use std::alloc::Global;
 /// none was missed; else `UnknownHandle` or `OlderLeft` for the first handle that is not the record's in its place.
 #[inline(never)]
 pub fn clear_events(
-    alloc: Global,
     id: LogId,
     number: u8,
     log: &EventLog,
     all: bool,
     handles: &ShortList<u16>,
+    room: &mut Room,
 ) -> Result<Draft, Refusal>
     requires { length handles.now ≤ 255 }
     ensures drafts { AnswersClear id number log.now all handles.now result }
@@ -41,14 +41,14 @@ pub fn clear_events(
         return Err(Refusal::Broken(Rule::NoSuchLog(number)));
     }
     if number == DYNAMIC_CAPACITY {
-        clear_own(alloc, &id, log, all, handles.as_slice())
+        clear_own(&id, log, all, handles.as_slice(), room)
     } else {
-        clear_empty(alloc, all, handles.as_slice())
+        clear_empty(all, handles.as_slice(), room)
     }
 }
 
 /// An empty log has nothing to clear, and missed nothing.
-fn clear_empty(alloc: Global, all: bool, handles: &[u16]) -> Result<Draft, Refusal>
+fn clear_empty(all: bool, handles: &[u16], room: &mut Room) -> Result<Draft, Refusal>
     ensures { ByRow (empty_rule all handles.now) (IsOutcome (changing [])) result }
 {
     if all {
@@ -56,47 +56,50 @@ fn clear_empty(alloc: Global, all: bool, handles: &[u16]) -> Result<Draft, Refus
     }
     match handles.first() {
         Some(handle) => Err(Refusal::Broken(Rule::UnknownHandle(*handle))),
-        None => Ok(Draft::changing(alloc, Effects::new(alloc))?),
+        None => {
+            let changes = Effects::new(room.allocator());
+            Ok(Draft::changing(room, changes)?)
+        }
     }
 }
 
 /// Clears the log of dynamic capacity.
 fn clear_own(
-    alloc: Global,
     id: &LogId,
     log: &EventLog,
     all: bool,
     handles: &[u16],
+    room: &mut Room,
 ) -> Result<Draft, Refusal>
     requires { length handles.now ≤ 255 }
     ensures { ByRow (clearing_rule log.now all handles.now) (IsOutcome (clearing_outcome id.now log.now all handles.now)) result }
 {
     if all {
-        clear_whole(alloc, id, log)
+        clear_whole(id, log, room)
     } else {
-        clear_listed(alloc, id, log, handles)
+        clear_listed(id, log, handles, room)
     }
 }
 
 /// Takes all records out, and counts missed ones anew.
-fn clear_whole(alloc: Global, id: &LogId, log: &EventLog) -> Result<Draft, Refusal>
+fn clear_whole(id: &LogId, log: &EventLog, room: &mut Room) -> Result<Draft, Refusal>
     ensures { ByRow (whole_rule log.now) (IsOutcome (whole_outcome id.now log.now)) result }
 {
     if log.missed() == 0 {
         return Err(Refusal::Broken(Rule::NotOverflowed));
     }
-    let mut changes = Effects::with_capacity(alloc, 2)?;
+    let mut changes = room.effects(2)?;
     put_cleared(id, log.len() as usize, &mut changes)?;
     changes.push(reset_of(id))?;
-    Ok(Draft::changing(alloc, changes)?)
+    Ok(Draft::changing(room, changes)?)
 }
 
 /// Takes the records of the handles out.
 fn clear_listed(
-    alloc: Global,
     id: &LogId,
     log: &EventLog,
     handles: &[u16],
+    room: &mut Room,
 ) -> Result<Draft, Refusal>
     requires { length handles.now ≤ 255 }
     ensures { ByRow (log_handles_rule log.now handles.now) (IsOutcome (listed_outcome id.now handles.now)) result }
@@ -104,9 +107,10 @@ fn clear_listed(
     if let Some(fault) = log.clear_fault(handles) {
         return Err(Refusal::Broken(rule_of(fault)));
     }
-    let mut changes = Effects::with_capacity(alloc, 1)?;
-    put_cleared(id, handles.len(), &mut changes)?;
-    Ok(Draft::changing(alloc, changes)?)
+    let mut step = room.blank()?;
+    put_cleared(id, handles.len(), &mut step.as_mut().effects)?;
+    step.as_mut().update.lists = None;
+    Ok(Draft::of_step(step))
 }
 
 /// The rule that is broken where records cannot be cleared.

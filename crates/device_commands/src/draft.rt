@@ -5,9 +5,10 @@ ghost use Rattle.device_commands.specs.ListDrafts.{lists_changed};
 ghost use Rattle.std.specs.Prelude.{◌≡◌, [], IfOk, None, Some};
 
 use crate::log_records::LogRecords;
+use crate::rooms::Room;
 use dcd_base::{Bytes, HostId, NoMemory, Seq, Tag};
 use device_state::{NewLists, TagChange, Update};
-use host_lists::HostLists;
+use host_lists::ListsChange;
 use journal_core::{Effects, Reply};
 use short_list::ShortList;
 use std::alloc::Global;
@@ -24,8 +25,8 @@ pub struct DraftParts {
     pub tags: Seq<Tag>,
     /// What it tells, log by log.
     pub log_records: ShortList<LogRecords>,
-    /// The lists of the host after it, where it changes them.
-    pub lists: Option<HostLists>,
+    /// What it changes of the lists of the host, where it changes them.
+    pub lists: Option<ListsChange>,
 }
 
 /// The parts of a draft, and beside them those of the step that enters it, so that both lie in one piece of memory.
@@ -41,7 +42,7 @@ pub struct DraftedStep {
     pub log_records: ShortList<LogRecords>,
     /// What the step replies.
     pub reply: Reply,
-    /// The lists after it, under any host before the step names it, and what the step changes of the open tags.
+    /// What it changes of lists, under any host before the step names it, and of the open tags.
     pub update: Update,
 }
 
@@ -96,6 +97,20 @@ impl DraftedStep {
         }
     }
 
+    /// Those of a draft with these changes, and no more.
+    pub(crate) fn changing(alloc: Global, changes: Effects) -> DraftedStep
+        ensures { draft_in result ≡ record { payload = []; changes = changes; tags = []; log_records = []; lists = None } }
+    {
+        DraftedStep {
+            payload: Bytes::new(alloc),
+            effects: changes,
+            tags: Seq::new(alloc),
+            log_records: ShortList::new(),
+            reply: Reply::Stored,
+            update: Update::nothing(),
+        }
+    }
+
     /// The parts of the draft.
     fn into_draft(self) -> DraftParts
         ensures { result ≡ draft_in self }
@@ -118,25 +133,25 @@ impl DraftedStep {
     }
 }
 
-/// The lists under some host.
-fn under_a_host(lists: Option<HostLists>) -> Option<NewLists>
+/// The change of lists under some host.
+pub(crate) fn under_a_host(lists: Option<ListsChange>) -> Option<NewLists>
     ensures { lists_alone result ≡ lists }
 {
     match lists {
-        Some(lists) => Some(NewLists {
+        Some(change) => Some(NewLists {
             host: HostId(0),
-            lists,
+            change,
         }),
         None => None,
     }
 }
 
-/// The lists without their host.
-fn lists_alone(lists: Option<NewLists>) -> Option<HostLists>
+/// The change of lists without their host.
+fn lists_alone(lists: Option<NewLists>) -> Option<ListsChange>
     ensures { result ≡ lists_alone lists }
 {
     match lists {
-        Some(new) => Some(new.lists),
+        Some(new) => Some(new.change),
         None => None,
     }
 }
@@ -151,12 +166,22 @@ impl Draft {
         }
     }
 
+    /// The draft whose parts lie in a step.
+    #[inline(always)]
+    pub(crate) fn of_step(step: Box<DraftedStep>) -> Draft
+        ensures { result ≡ draft_in step.value }
+    {
+        Draft {
+            content: Content::Parts(step),
+        }
+    }
+
     /// A draft of these parts. Without memory they are let go.
     #[inline(always)]
-    pub fn of(alloc: Global, parts: DraftParts) -> Result<Draft, NoMemory>
+    pub fn of(room: &mut Room, parts: DraftParts) -> Result<Draft, NoMemory>
         ensures { IfOk result (λ draft. draft ≡ parts) }
     {
-        let step = Box::new(alloc, DraftedStep::of(parts))?;
+        let step = room.put(DraftedStep::of(parts))?;
         Ok(Draft {
             content: Content::Parts(step),
         })
@@ -164,11 +189,12 @@ impl Draft {
 
     /// Changes, and no more.
     #[inline(always)]
-    pub fn changing(alloc: Global, changes: Effects) -> Result<Draft, NoMemory>
+    pub fn changing(room: &mut Room, changes: Effects) -> Result<Draft, NoMemory>
         ensures { IfOk result (λ draft. draft ≡ record { payload = []; changes = changes; tags = []; log_records = []; lists = None }) }
     {
+        let alloc = room.allocator();
         Draft::of(
-            alloc,
+            room,
             DraftParts {
                 payload: Bytes::new(alloc),
                 changes,
@@ -179,19 +205,20 @@ impl Draft {
         )
     }
 
-    /// Changes, the tags that may end by them, what is told, and the lists after them.
+    /// Changes, the tags that may end by them, what is told, and what they change of lists.
     #[inline(always)]
     pub fn listing(
-        alloc: Global,
+        room: &mut Room,
         changes: Effects,
         tags: Seq<Tag>,
         log_records: ShortList<LogRecords>,
-        lists: HostLists,
+        lists: ListsChange,
     ) -> Result<Draft, NoMemory>
         ensures { IfOk result (λ draft. draft ≡ record { payload = []; changes = changes; tags = tags; log_records = log_records; lists = Some lists }) }
     {
+        let alloc = room.allocator();
         Draft::of(
-            alloc,
+            room,
             DraftParts {
                 payload: Bytes::new(alloc),
                 changes,
@@ -202,12 +229,16 @@ impl Draft {
         )
     }
 
-    /// Changes, and the lists after them.
-    pub fn relisting(alloc: Global, changes: Effects, lists: HostLists) -> Result<Draft, NoMemory>
+    /// Changes, and what they change of lists.
+    pub fn relisting(
+        room: &mut Room,
+        changes: Effects,
+        lists: ListsChange,
+    ) -> Result<Draft, NoMemory>
         ensures { IfOk result (λ draft. draft ≡ lists_changed changes lists) }
     {
-        let (tags, log_records) = (Seq::new(alloc), ShortList::new());
-        Draft::listing(alloc, changes, tags, log_records, lists)
+        let (tags, log_records) = (Seq::new(room.allocator()), ShortList::new());
+        Draft::listing(room, changes, tags, log_records, lists)
     }
 
     /// Its parts, taken from the heap.
@@ -227,11 +258,12 @@ impl Draft {
     }
 
     /// Its parts where they lie on the heap, with room for what the step adds.
-    pub fn into_step(self, alloc: Global) -> Result<Box<DraftedStep>, NoMemory>
+    pub fn into_step(self, room: &mut Room) -> Result<Box<DraftedStep>, NoMemory>
         ensures { IfOk result (λ step. draft_in step.value ≡ self) }
     {
         match self.content {
             Content::Reply(payload) => {
+                let alloc = room.allocator();
                 let parts = DraftParts {
                     payload,
                     changes: Effects::new(alloc),
@@ -239,7 +271,7 @@ impl Draft {
                     log_records: ShortList::new(),
                     lists: None,
                 };
-                Ok(Box::new(alloc, DraftedStep::of(parts))?)
+                room.put(DraftedStep::of(parts))
             }
             Content::Parts(step) => Ok(step),
         }

@@ -11,9 +11,9 @@ ghost use Rattle.std.specs.Prelude.{◌≡◌, ◌≤◌, IfOk, length, map};
 ghost use Rattle.tag_refs.specs.Tables.{tag_view};
 
 use crate::draft::Draft;
-use crate::rooms::emptied;
+use crate::rooms::Room;
 use dcd_base::limits::PAGE_TAGS;
-use dcd_base::{Bytes, NoMemory, Seq, TagView};
+use dcd_base::{NoMemory, Seq, TagView};
 use dcd_codes::{Refusal, Rule};
 use device_state::State;
 use fm_payloads::write_tags;
@@ -29,7 +29,7 @@ pub(crate) fn list_tags(
     state: &State,
     first: u32,
     count: u32,
-    room: Bytes,
+    room: &mut Room,
 ) -> Result<Draft, Refusal>
     requires reached { IsReached config.now state.now }
     ensures { ManagerAnswers config.now state.now (FmRequest.ListTags first count) result }
@@ -44,7 +44,7 @@ pub(crate) fn list_tags(
         first as usize,
         count.min(PAGE_TAGS) as usize,
     )?;
-    let mut payload = emptied(room);
+    let mut payload = room.payload();
     write_tags(first, total, views.as_slice(), &mut payload)?;
     Ok(Draft::only(payload))
 }
@@ -61,7 +61,7 @@ fn views_of(
     ensures few { IfOk result (λ views. length views ≤ count) }
 {
     let count = count.min(tags.len() - first);
-    let mut views = Seq::new(alloc);
+    let mut views = Seq::with_capacity(alloc, count)?;
     for index in 0..count {
         views.push(tags.at(first + index))?;
     }

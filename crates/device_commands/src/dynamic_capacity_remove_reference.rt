@@ -9,10 +9,11 @@ ghost use Rattle.fm_payloads.specs.declared.requests.FmRequest.{FmRequest};
 ghost use Rattle.journal_core.specs.declared.outcome.Effect.{Effect};
 
 use crate::draft::{Draft, DraftParts};
+use crate::rooms::Room;
 use dcd_base::{Bytes, Seq, Tag};
 use dcd_codes::{Refusal, Rule};
 use device_state::State;
-use journal_core::{Effect, Effects};
+use journal_core::Effect;
 use region_config::Config;
 use short_list::ShortList;
 use std::alloc::Global;
@@ -24,6 +25,7 @@ pub fn remove_reference(
     config: &Config,
     state: &State,
     tag: &Tag,
+    room: &mut Room,
 ) -> Result<Draft, Refusal>
     requires reached { IsReached config.now state.now }
     ensures { ManagerAnswers config.now state.now (FmRequest.RemoveReference tag.now) result }
@@ -31,7 +33,7 @@ pub fn remove_reference(
     if !state.tags.is_referenced(tag) {
         return Err(Refusal::Broken(Rule::NoReference));
     }
-    let mut changes = Effects::with_capacity(alloc, 2)?;
+    let mut changes = room.effects(2)?;
     changes.push(Effect::Ref(*tag, false))?;
     let mut tags = Seq::with_capacity(alloc, 1)?;
     tags.push(*tag)?;
@@ -42,5 +44,5 @@ pub fn remove_reference(
         log_records: ShortList::new(),
         lists: None,
     };
-    Ok(Draft::of(alloc, parts)?)
+    Ok(Draft::of(room, parts)?)
 }

@@ -12,7 +12,7 @@ ghost use Rattle.std.specs.Prelude.{◌<◌, ◌≤◌, IfOk, length};
 
 use crate::draft::Draft;
 use crate::pages::extents_page;
-use crate::rooms::emptied_for;
+use crate::rooms::Room;
 use dcd_base::{Bytes, HostId, NoMemory};
 use dcd_codes::{Refusal, Rule};
 use device_state::State;
@@ -29,7 +29,7 @@ pub(crate) fn get_extent_lists(
     host: u16,
     count: u32,
     first: u32,
-    room: Bytes,
+    room: &mut Room,
 ) -> Result<Draft, Refusal>
     requires reached { IsReached config.now state.now }
     ensures { ManagerAnswers config.now state.now (FmRequest.GetExtentLists host count first) result }
@@ -50,7 +50,7 @@ fn payload_of(
     host: u16,
     count: u32,
     first: u32,
-    room: Bytes,
+    room: &mut Room,
 ) -> Result<Bytes, NoMemory>
     requires host { host < 256 }
     requires part { host < length state.now.hosts.items }
@@ -60,7 +60,7 @@ fn payload_of(
     let lists = &state.part(HostId(host as u8)).lists;
     let extents = extents_page(lists, count, first);
     let total = lists.accepted().len() as u32;
-    let mut payload = emptied_for(room, 24 + 40 * extents.len())?;
+    let mut payload = room.payload_for(24 + 40 * extents.len())?;
     let head = lists_head(host, first, extents.len() as u32, total, lists.generation());
     payload.extend_from_slice(&head)?;
     with_extents(payload, extents)

@@ -10,8 +10,8 @@ ghost use Rattle.std.specs.Prelude.{◌≡◌, ◌≤◌, length, map};
 
 use crate::draft::Draft;
 use crate::few::Few;
-use crate::rooms::emptied;
-use dcd_base::{Bytes, RegionId};
+use crate::rooms::Room;
+use dcd_base::RegionId;
 use dcd_codes::Refusal;
 use device_state::State;
 use fm_payloads::write_info;
@@ -19,12 +19,12 @@ use region_config::Config;
 
 /// How many hosts and granules there are, how many granules are free and dirty, and the block sizes that each region
 /// supports (profile). It breaks no rule. The reply is written in the room.
-pub(crate) fn get_info(config: &Config, state: &State, room: Bytes) -> Result<Draft, Refusal>
+pub(crate) fn get_info(config: &Config, state: &State, room: &mut Room) -> Result<Draft, Refusal>
     requires reached { IsReached config.now state.now }
     ensures { ManagerAnswers config.now state.now FmRequest.GetInfo result }
 {
     let sizes = sizes_of(config);
-    let mut payload = emptied(room);
+    let mut payload = room.payload();
     let (free, dirty) = (state.granules.free(), state.granules.dirty());
     write_info(
         config.hosts(),

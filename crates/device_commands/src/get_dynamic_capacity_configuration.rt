@@ -10,8 +10,8 @@ ghost use Rattle.std.specs.Prelude.{◌≡◌, ◌<◌, ◌≤◌, IfOk, None};
 
 use crate::draft::Draft;
 use crate::pages::{Flags, host_counts, regions_seen};
-use crate::rooms::emptied;
-use dcd_base::{Bytes, HostId};
+use crate::rooms::Room;
+use dcd_base::HostId;
 use dcd_codes::{Refusal, Rule};
 use host_lists::HostLists;
 use host_payloads::write_configuration;
@@ -27,7 +27,7 @@ pub fn get_configuration(
     lists: &HostLists,
     count: u8,
     first: u8,
-    room: Bytes,
+    room: &mut Room,
 ) -> Result<Draft, Refusal>
     requires host { host < present.now.hosts }
     requires few { extent_total lists.now ≤ 64 }
@@ -39,7 +39,7 @@ pub fn get_configuration(
     }
     let views = regions_seen(present, host, Flags::OfHost, count, first);
     let counts = host_counts(lists);
-    let mut payload = emptied(room);
+    let mut payload = room.payload();
     write_configuration(present.regions(), views.as_slice(), &counts, &mut payload)?;
     Ok(Draft::only(payload))
 }

@@ -10,8 +10,7 @@ ghost use Rattle.std.specs.Prelude.{◌≡◌, ◌≤◌, IfOk, None};
 
 use crate::draft::Draft;
 use crate::pages::extents_page;
-use crate::rooms::emptied;
-use dcd_base::Bytes;
+use crate::rooms::Room;
 use dcd_codes::{Refusal, Rule};
 use host_lists::HostLists;
 use host_payloads::write_extents;
@@ -19,7 +18,12 @@ use host_payloads::write_extents;
 /// At most `count` accepted extents from `first` on, 50 at most, with how many there are and how often the list
 /// changed (CXL 3.1, 8.2.9.9.9.2). `PastEnd` comes exactly where the first index is above their number. The reply is written
 /// in the room.
-pub fn get_extents(lists: &HostLists, count: u32, first: u32, room: Bytes) -> Result<Draft, Refusal>
+pub fn get_extents(
+    lists: &HostLists,
+    count: u32,
+    first: u32,
+    room: &mut Room,
+) -> Result<Draft, Refusal>
     requires { extent_total lists.now ≤ 64 }
     ensures drafts { AnswersExtents lists.now count first result }
     ensures no_lists { IfOk result (λ draft. draft.lists ≡ None) }
@@ -29,7 +33,7 @@ pub fn get_extents(lists: &HostLists, count: u32, first: u32, room: Bytes) -> Re
         return Err(Refusal::Broken(Rule::PastEnd { first, total }));
     }
     let extents = extents_page(lists, count, first);
-    let mut payload = emptied(room);
+    let mut payload = room.payload();
     write_extents(total, lists.generation(), extents, &mut payload)?;
     Ok(Draft::only(payload))
 }

@@ -9,7 +9,7 @@ ghost use Rattle.host_payloads.specs.HostPayloads.{events_payload};
 ghost use Rattle.std.specs.Prelude.{◌≡◌, ◌≤◌, IfOk, None, [], length, nat_lt, take, false};
 
 use crate::draft::Draft;
-use crate::rooms::emptied;
+use crate::rooms::Room;
 use dcd_base::limits::REPLY_RECORDS;
 use dcd_base::{Bytes, LogId, NoMemory, Seq};
 use dcd_codes::{Refusal, Rule};
@@ -26,7 +26,12 @@ pub(crate) const DYNAMIC_CAPACITY: u8 = 4;
 
 /// The oldest records of the log, 15 at most; nothing of a log whose number is below that of dynamic capacity.
 /// `NoSuchLog` comes exactly where the number is 5 or more. The reply is written in the room.
-pub fn get_events(alloc: Global, number: u8, log: &EventLog, room: Bytes) -> Result<Draft, Refusal>
+pub fn get_events(
+    alloc: Global,
+    number: u8,
+    log: &EventLog,
+    room: &mut Room,
+) -> Result<Draft, Refusal>
     ensures drafts { AnswersEvents number log.now result }
     ensures no_lists { IfOk result (λ draft. draft.lists ≡ None) }
 {
@@ -42,20 +47,20 @@ pub fn get_events(alloc: Global, number: u8, log: &EventLog, room: Bytes) -> Res
 }
 
 /// The payload of an empty log.
-fn no_events(room: Bytes) -> Result<Bytes, NoMemory>
+fn no_events(room: &mut Room) -> Result<Bytes, NoMemory>
     ensures { IfOk result (λ payload. payload ≡ events_payload 0 false []) }
 {
-    let mut payload = emptied(room);
+    let mut payload = room.payload();
     write_events(0, false, &[], &mut payload)?;
     Ok(payload)
 }
 
 /// The payload of the oldest records.
-fn oldest_events(alloc: Global, log: &EventLog, room: Bytes) -> Result<Bytes, NoMemory>
+fn oldest_events(alloc: Global, log: &EventLog, room: &mut Room) -> Result<Bytes, NoMemory>
     ensures { IfOk result (λ payload. payload ≡ events_payload log.now.missed (nat_lt 15 (length log.now.records)) (take 15 log.now.records)) }
 {
     let events = oldest(alloc, log)?;
-    let mut payload = emptied(room);
+    let mut payload = room.payload();
     let more = log.len() as usize > REPLY_RECORDS;
     write_events(log.missed(), more, events.as_slice(), &mut payload)?;
     Ok(payload)

@@ -13,7 +13,7 @@ ghost use Rattle.std.specs.Prelude.{◌≡◌, ◌++◌, ◌<◌, ◌≤◌, IfO
 
 use crate::draft::Draft;
 use crate::pages::{Flags, host_counts, regions_seen};
-use crate::rooms::emptied_for;
+use crate::rooms::Room;
 use dcd_base::{Bytes, HostId, NoMemory};
 use dcd_codes::{Refusal, Rule};
 use device_state::State;
@@ -31,7 +31,7 @@ pub(crate) fn get_regions(
     host: u16,
     count: u8,
     first: u8,
-    room: Bytes,
+    room: &mut Room,
 ) -> Result<Draft, Refusal>
     requires reached { IsReached config.now state.now }
     ensures { ManagerAnswers config.now state.now (FmRequest.GetRegions host count first) result }
@@ -51,7 +51,7 @@ fn payload_of(
     host: u16,
     count: u8,
     first: u8,
-    room: Bytes,
+    room: &mut Room,
 ) -> Result<Bytes, NoMemory>
     requires byte { host < 256 }
     requires host { host < state.now.present.hosts }
@@ -63,7 +63,7 @@ fn payload_of(
     let seen = regions_seen(&state.present, id, Flags::OfManager, count, first);
     let views = seen.as_slice();
     let counts = host_counts(&state.part(id).lists);
-    let mut payload = emptied_for(room, 24 + 40 * views.len())?;
+    let mut payload = room.payload_for(24 + 40 * views.len())?;
     let head = regions_head(host, state.present.regions(), views.len() as u8);
     payload.extend_from_slice(&head)?;
     put_regions(views, &mut payload)?;

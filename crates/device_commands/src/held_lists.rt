@@ -1,13 +1,13 @@
 //! The extents that a host has sent of a list in several messages.
 
 ghost use Rattle.device_rules.specs.ResponseOutcomes.{hold, unhold};
-ghost use Rattle.std.specs.Prelude.{◌≡◌, IfOk, ◌<◌};
+ghost use Rattle.std.specs.Prelude.{◌≡◌, ◌++◌, ◌<◌, IfOk, OnOk};
 ghost use Rattle.device_commands.specs.HeldLists.{unheld_by};
 
+use crate::rooms::Room;
 use dcd_base::{Extents, HostId, NoMemory};
 use host_lists::HostLists;
 use journal_core::{Effect, Effects, HeldKind};
-use std::alloc::Global;
 
 /// The opcodes whose refusal ends a held list: Add Dynamic Capacity Response and Release Dynamic Capacity.
 const ADD_RESPONSE: u16 = 0x4802;
@@ -16,14 +16,14 @@ const GIVE_BACK: u16 = 0x4803;
 
 /// The extents of a message that is not the last of its list are held, where there are any.
 pub fn hold(
-    alloc: Global,
     host: HostId,
     kind: HeldKind,
     list: &Extents,
+    room: &mut Room,
 ) -> Result<Effects, NoMemory>
     ensures { IfOk result (λ changes. changes ≡ hold host kind list.now) }
 {
-    let mut changes = Effects::new(alloc);
+    let mut changes = room.effects(1)?;
     if !list.is_empty() {
         changes.push(Effect::Hold(host, kind, list.copy()?))?;
     }
@@ -32,50 +32,63 @@ pub fn hold(
 
 /// What was held is held no longer, where anything was.
 pub fn unhold(
-    alloc: Global,
     host: HostId,
     kind: HeldKind,
     held: &Extents,
+    room: &mut Room,
 ) -> Result<Effects, NoMemory>
     ensures { IfOk result (λ changes. changes ≡ unhold host kind held.now) }
 {
     if held.is_empty() {
-        return Ok(Effects::new(alloc));
+        return Ok(Effects::new(room.allocator()));
     }
-    unhold_before(alloc, host, kind, held, 0)
+    unhold_before(host, kind, held, 0, room)
 }
 
 /// What was held is held no longer, where anything was, with room for so many effects behind it.
 pub(crate) fn unhold_before(
-    alloc: Global,
     host: HostId,
     kind: HeldKind,
     held: &Extents,
     effects: usize,
+    room: &mut Room,
 ) -> Result<Effects, NoMemory>
     ensures { IfOk result (λ changes. changes ≡ unhold host kind held.now) }
 {
-    let mut changes = Effects::with_capacity(alloc, effects.saturating_add(1))?;
-    if !held.is_empty() {
-        changes.push(Effect::Unhold(host, kind))?;
-    }
+    let mut changes = room.effects(effects.saturating_add(1))?;
+    put_unhold(host, kind, held, &mut changes)?;
     Ok(changes)
+}
+
+/// Puts behind the effects that what was held is held no longer, where anything was.
+pub(crate) fn put_unhold(
+    host: HostId,
+    kind: HeldKind,
+    held: &Extents,
+    effects: &mut Effects,
+) -> Result<(), NoMemory>
+    ensures { OnOk result (effects.new ≡ effects.old ++ unhold host kind held.now) }
+{
+    if !held.is_empty() {
+        effects.push(Effect::Unhold(host, kind))?;
+    }
+    Ok(())
 }
 
 /// The held list of the command ends, where there is one (of Add Dynamic Capacity Response and Release Dynamic Capacity).
 pub fn dropped(
-    alloc: Global,
     host: HostId,
     lists: &HostLists,
     opcode: u16,
+    room: &mut Room,
 ) -> Result<Effects, NoMemory>
     ensures { IfOk result (λ effects. effects ≡ unheld_by host lists.now opcode) }
 {
     if opcode == ADD_RESPONSE {
-        return unhold(alloc, host, HeldKind::Responses, lists.responses());
+        return unhold(host, HeldKind::Responses, lists.responses(), room);
     }
     if opcode == GIVE_BACK {
-        return unhold(alloc, host, HeldKind::Releases, lists.releases());
+        return unhold(host, HeldKind::Releases, lists.releases(), room);
     }
-    Ok(Effects::new(alloc))
+    Ok(Effects::new(room.allocator()))
 }

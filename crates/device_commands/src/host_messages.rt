@@ -2,6 +2,7 @@
 
 ghost use Rattle.device_commands.specs.HostMessages.{DraftsHost};
 ghost use Rattle.dcd_base.specs.declared.steps.LogId.{LogId};
+ghost use Rattle.host_lists.specs.Changes.{changed_by};
 ghost use Rattle.host_lists.specs.Lists.{extent_total};
 ghost use Rattle.std.specs.Prelude.{◌≡◌, ◌<◌, ◌≤◌, IfOk, IfSome};
 
@@ -12,8 +13,9 @@ use crate::get_dynamic_capacity_configuration::get_configuration;
 use crate::get_dynamic_capacity_extent_list::get_extents;
 use crate::get_event_records::get_events;
 use crate::release_dynamic_capacity::give_back;
+use crate::rooms::Room;
 use cci_codec::Request;
-use dcd_base::{Bytes, HostId, LogId, NoMemory};
+use dcd_base::{HostId, LogId, NoMemory};
 use dcd_codes::{Refusal, Rule};
 use event_log::EventLog;
 use host_lists::HostLists;
@@ -24,8 +26,8 @@ use std::alloc::Global;
 /// The draft of a message of the host, or the first rule that it breaks.
 ///
 /// `config` is the configuration that the device was made with, `present` the one with the present blocks; `lists` and
-/// `log` are what the device keeps of the host. The lists that are drafted have 64 extents at most, as these have. A reply
-/// that has a payload is written in the room, whatever bytes it holds.
+/// `log` are what the device keeps of the host. The lists have 64 extents at most once they are changed so, as they have now. A
+/// payload, changes and parts on the heap have the memory of the room, as far as it goes.
 pub fn host_draft(
     alloc: Global,
     config: &Config,
@@ -34,13 +36,13 @@ pub fn host_draft(
     lists: &HostLists,
     log: &EventLog,
     request: &Request,
-    room: Bytes,
+    room: &mut Room,
 ) -> Result<Draft, Refusal>
     requires host { host < config.now.hosts }
     requires hosts { present.now.hosts ≡ config.now.hosts }
     requires few { extent_total lists.now ≤ 64 }
     ensures drafted { DraftsHost config.now present.now host lists.now log.now request.now result }
-    ensures few { IfOk result (λ draft. IfSome draft.lists (λ new. extent_total new ≤ 64)) }
+    ensures few { IfOk result (λ draft. IfSome draft.lists (λ change. extent_total (changed_by change lists.now) ≤ 64)) }
 {
     match decode(alloc, request.opcode, request.payload.as_slice()) {
         Ok(HostRequest::GetEvents { log: number }) => get_events(alloc, number, log, room),
@@ -50,16 +52,16 @@ pub fn host_draft(
                 all,
                 handles,
             },
-        ) => clear_events(alloc, LogId::Host(host), number, log, all, &handles),
+        ) => clear_events(LogId::Host(host), number, log, all, &handles, room),
         Ok(HostRequest::GetConfiguration { count, first }) => {
             get_configuration(present, host, lists, count, first, room)
         }
         Ok(HostRequest::GetExtents { count, first }) => get_extents(lists, count, first, room),
         Ok(HostRequest::AddResponse { more, extents }) => {
-            add_response(alloc, config, present, host, lists, more, &extents)
+            add_response(alloc, config, present, host, lists, more, &extents, room)
         }
         Ok(HostRequest::GiveBack { more, extents }) => {
-            give_back(alloc, config, present, host, lists, more, &extents)
+            give_back(alloc, config, present, host, lists, more, &extents, room)
         }
         Err(PayloadFault::UnknownOpcode(opcode)) => {
             Err(Refusal::Broken(Rule::UnknownOpcode(opcode)))

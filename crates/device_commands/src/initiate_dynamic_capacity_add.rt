@@ -7,6 +7,7 @@ ghost use Rattle.device_commands.specs.ManagerMessages.{ManagerAnswers};
 ghost use Rattle.device_commands.specs.InitiateDynamicCapacityAdd.{AnswersOffer, IsRoomRule, add_request, offered_lists, request_rule, DraftOffers};
 ghost use Rattle.device_commands.specs.InitiateDynamicCapacityAdd.{is_used_tag, is_with_hosts, lists_have, target_rule, room_rule, shared_rule};
 ghost use Rattle.device_commands.specs.InitiateDynamicCapacityAdd.{tag_rule};
+ghost use Rattle.device_commands.specs.DraftContents.{draft_in, no_draft};
 ghost use Rattle.device_commands.specs.ListDrafts.{TellOf};
 ghost use Rattle.event_records.specs.declared.events.EventKind.{EventKind};
 ghost use Rattle.dcd_base.specs.Limits.{tags_supported};
@@ -14,23 +15,25 @@ ghost use Rattle.extent_list.specs.ExtentLists.{has_extent_of, real_tags};
 ghost use Rattle.journal_core.specs.declared.outcome.Effect.{Effect};
 ghost use Rattle.device_state.specs.StateAfter.{IsReached, part_of};
 ghost use Rattle.dcd_base.specs.declared.steps.LogId.{LogId};
+ghost use Rattle.host_lists.specs.Changes.{changed_by};
 ghost use Rattle.host_lists.specs.Lists.{extent_total, extents_of_lists};
 ghost use Rattle.std.specs.List.{list_any};
-ghost use Rattle.std.specs.Prelude.{◌≡◌, ◌++◌, ◌+◌, ◌-◌, ◌==◌, ◌^◌, ◌<◌, ◌≤◌, ◌∷◌, [], IfNone, IfOk, length};
+ghost use Rattle.std.specs.Prelude.{◌≡◌, ◌++◌, ◌+◌, ◌-◌, ◌==◌, ◌^◌, ◌<◌, ◌≤◌, ◌∷◌, [], IfNone, IfOk, OnOk, length};
 ghost use Rattle.tag_refs.specs.Tables.{passes};
 ghost use Rattle.tag_refs.specs.declared.entries.TagEntry.{TagEntry};
 
 use crate::choosing::{Asked, new_extents};
-use crate::draft::Draft;
+use crate::draft::{Draft, DraftedStep, under_a_host};
 use crate::log_records::{LogRecords, log_full, one_record, records_by_tags};
+use crate::rooms::Room;
 use dcd_base::limits::TAGS;
-use dcd_base::{Extent, Extents, HostId, LogId, NoMemory, RegionId, Seq, Tag, is_no_tag};
+use dcd_base::{Extent, Extents, HostId, LogId, NoMemory, RegionId, Tag, is_no_tag};
 use dcd_codes::{Refusal, Rule};
 use device_state::State;
 use event_records::EventKind;
 use extent_list::same_tag;
-use host_lists::HostLists;
-use journal_core::{Effect, Effects};
+use host_lists::{Changed, HostLists, ListsChange};
+use journal_core::Effect;
 use list_rules::too_many_extents;
 use region_config::Config;
 use short_list::ShortList;
@@ -65,6 +68,7 @@ pub fn add(
     state: &State,
     request: &AddRequest,
     list: &Extents,
+    room: &mut Room,
 ) -> Result<Draft, Refusal>
     requires reached { IsReached config.now state.now }
     ensures { ManagerAnswers config.now state.now (add_request request.now list.now) result }
@@ -84,14 +88,20 @@ pub fn add(
     if let Some(rule) = tag_rule(state, &asked) {
         return Err(Refusal::Broken(rule));
     }
-    match new_extents(alloc, state, &asked, list) {
+    match new_extents(alloc, state, &asked, list, &mut room.runs) {
         Err(refusal) => Err(refusal),
-        Ok(extents) => offer_of(alloc, state, &asked, extents),
+        Ok(extents) => offer_of(alloc, state, &asked, extents, room),
     }
 }
 
 /// The extents are offered, where the host and its log have room for them.
-fn offer_of(alloc: Global, state: &State, asked: &Asked, extents: Extents) -> Result<Draft, Refusal>
+fn offer_of(
+    alloc: Global,
+    state: &State,
+    asked: &Asked,
+    extents: Extents,
+    room: &mut Room,
+) -> Result<Draft, Refusal>
     requires part { asked.now.host < length state.now.hosts.items }
     requires few { extent_total (part_of state.now asked.now.host).lists ≤ 64 }
     requires listed { length extents < 2 ^ 16 }
@@ -101,7 +111,7 @@ fn offer_of(alloc: Global, state: &State, asked: &Asked, extents: Extents) -> Re
     if let Some(rule) = room_rule(state, asked.host, &extents, tags) {
         return Err(Refusal::Broken(rule));
     }
-    Ok(offer_draft(alloc, state, asked, extents, tags)?)
+    Ok(offer_draft(alloc, state, asked, extents, tags, room)?)
 }
 
 /// The rule that is broken where there is no such host, policy or region.
@@ -259,40 +269,56 @@ fn offer_draft(
     asked: &Asked,
     extents: Extents,
     tags: u32,
+    room: &mut Room,
 ) -> Result<Draft, NoMemory>
     requires part { asked.now.host < length state.now.hosts.items }
     requires few { extent_total (part_of state.now asked.now.host).lists + length extents ≤ 64 }
     requires tags { tags ≡ length (real_tags (extents_of_lists (part_of state.now asked.now.host).lists ++ extents)) }
     ensures { IfOk result (DraftOffers asked.now.host (part_of state.now asked.now.host).lists extents) }
 {
-    let lists = lists_with(state, asked, &extents)?;
-    let log_records = offer_records(
-        alloc,
-        asked.host,
-        &lists,
-        TAGS.saturating_sub(tags),
-        &extents,
-    )?;
-    let changes = offering(alloc, asked.host, extents)?;
-    let ended = Seq::new(alloc);
-    Draft::listing(alloc, changes, ended, log_records, lists)
+    let mut step = room.blank()?;
+    put_offer(alloc, state, asked, extents, tags, step.as_mut())?;
+    Ok(Draft::of_step(step))
 }
 
-/// The lists of the host with the offer.
-fn lists_with(state: &State, asked: &Asked, extents: &Extents) -> Result<HostLists, NoMemory>
+/// Puts the offer into a draft that has nothing yet.
+fn put_offer(
+    alloc: Global,
+    state: &State,
+    asked: &Asked,
+    extents: Extents,
+    tags: u32,
+    step: &mut DraftedStep,
+) -> Result<(), NoMemory>
     requires part { asked.now.host < length state.now.hosts.items }
-    ensures { IfOk result (λ lists. lists ≡ offered_lists (part_of state.now asked.now.host).lists extents.now) }
+    requires few { extent_total (part_of state.now asked.now.host).lists + length extents ≤ 64 }
+    requires tags { tags ≡ length (real_tags (extents_of_lists (part_of state.now asked.now.host).lists ++ extents)) }
+    requires blank { draft_in step.old ≡ record no_draft { lists = (draft_in step.old).lists } }
+    ensures { OnOk result (DraftOffers asked.now.host (part_of state.now asked.now.host).lists extents (draft_in step.new)) }
 {
-    let mut lists = state.part(asked.host).lists.copy()?;
-    lists.offer(asked.region, extents.copy()?)?;
-    Ok(lists)
+    let change = lists_with(state, asked, &extents)?;
+    let after = Changed::of(&state.part(asked.host).lists, &change);
+    let tags_available = TAGS.saturating_sub(tags);
+    step.log_records = offer_records(alloc, asked.host, &after, tags_available, &extents)?;
+    step.update.lists = under_a_host(Some(change));
+    step.effects.push(Effect::Offer(asked.host, extents))?;
+    Ok(())
+}
+
+/// What the offer changes of the lists of the host.
+fn lists_with(state: &State, asked: &Asked, extents: &Extents) -> Result<ListsChange, NoMemory>
+    requires part { asked.now.host < length state.now.hosts.items }
+    ensures { IfOk result (λ change. changed_by change (part_of state.now asked.now.host).lists ≡ offered_lists (part_of state.now asked.now.host).lists extents.now) }
+{
+    let lists = &state.part(asked.host).lists;
+    lists.offering(asked.region, extents.copy()?)
 }
 
 /// The records for the host, which has so many tags available by these lists.
 fn offer_records(
     alloc: Global,
     host: HostId,
-    lists: &HostLists,
+    lists: &Changed,
     tags_available: u32,
     extents: &Extents,
 ) -> Result<ShortList<LogRecords>, NoMemory>
@@ -303,13 +329,4 @@ fn offer_records(
     let (kind, extents) = (EventKind::Add, extents.as_slice());
     let events = records_by_tags(alloc, host, lists, tags_available, kind, extents)?;
     Ok(one_record(LogId::Host(host), events))
-}
-
-/// The change that an offer is, with room for a record of each extent behind it.
-fn offering(alloc: Global, host: HostId, extents: Extents) -> Result<Effects, NoMemory>
-    ensures { IfOk result (λ changes. changes ≡ Effect.Offer host extents ∷ []) }
-{
-    let mut changes = Effects::with_capacity(alloc, extents.len().saturating_add(1))?;
-    changes.push(Effect::Offer(host, extents))?;
-    Ok(changes)
 }

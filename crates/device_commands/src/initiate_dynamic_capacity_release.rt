@@ -6,6 +6,7 @@
 ghost use Rattle.device_commands.specs.ManagerMessages.{ManagerAnswers};
 ghost use Rattle.device_commands.specs.InitiateDynamicCapacityRelease.{AnswersRemoval, IsAskedFor, IsTakenByForce, meant_of};
 ghost use Rattle.device_commands.specs.InitiateDynamicCapacityRelease.{flags_rule, meant_rule_of, remove_request, removed_lists, Departs};
+ghost use Rattle.device_commands.specs.DraftContents.{draft_in, no_draft};
 ghost use Rattle.device_commands.specs.ListDrafts.{TellOf};
 ghost use Rattle.release_core.specs.Leaving.{AllCanLeave};
 ghost use Rattle.device_state.specs.StateAfter.{IsReached, part_of};
@@ -13,20 +14,20 @@ ghost use Rattle.dcd_codes.specs.Rules.{ByRow};
 ghost use Rattle.device_rules.specs.Outcomes.{log_full};
 ghost use Rattle.device_rules.specs.ReleaseOutcomes.{is_cleaning, is_forced};
 ghost use Rattle.event_records.specs.declared.events.EventKind.{EventKind};
+ghost use Rattle.host_lists.specs.Changes.{changed_by};
 ghost use Rattle.host_lists.specs.Lists.{extent_total};
-ghost use Rattle.std.specs.Prelude.{◌≡◌, ◌<◌, ◌≤◌, IfOk, Option, length, true};
+ghost use Rattle.std.specs.Prelude.{◌≡◌, ◌<◌, ◌≤◌, IfOk, OnOk, Option, length, true};
 
-use crate::draft::{Draft, DraftParts};
+use crate::draft::{Draft, DraftParts, DraftedStep, under_a_host};
 use crate::leaves::put_leaves;
 use crate::log_records::{LogRecords, log_full, records_to};
-use crate::rooms::effects_of;
-use crate::tags::tags_of;
+use crate::rooms::Room;
+use crate::tags::{put_tags_of, tags_of};
 use dcd_base::{Bytes, Extents, HostId, LogId, NoMemory, RegionId, Tag};
 use dcd_codes::{Refusal, Rule};
 use device_state::State;
 use event_records::EventKind;
-use host_lists::HostLists;
-use journal_core::Effects;
+use host_lists::{Changed, ListsChange};
 use region_config::Config;
 use release_core::{by_tag, removal};
 use short_list::ShortList;
@@ -62,6 +63,7 @@ pub fn remove(
     state: &State,
     request: &RemoveRequest,
     list: &Extents,
+    room: &mut Room,
 ) -> Result<Draft, Refusal>
     requires reached { IsReached config.now state.now }
     ensures { ManagerAnswers config.now state.now (remove_request request.now list.now) result }
@@ -74,7 +76,7 @@ pub fn remove(
     let host = HostId(request.host as u8);
     match extents_meant(alloc, state, host, request, list) {
         Err(refusal) => Err(refusal),
-        Ok(leaving) => removal_of(alloc, config, state, host, request.flags, leaving),
+        Ok(leaving) => removal_of(alloc, config, state, host, request.flags, leaving, room),
     }
 }
 
@@ -136,6 +138,7 @@ fn removal_of(
     host: HostId,
     flags: u8,
     leaving: Extents,
+    room: &mut Room,
 ) -> Result<Draft, Refusal>
     requires reached { IsReached config.now state.now }
     requires host { host < state.now.present.hosts }
@@ -147,9 +150,17 @@ fn removal_of(
         return Err(Refusal::Broken(rule));
     }
     if flags & FORCED == 0 {
-        Ok(by_request(alloc, state, host, leaving)?)
+        Ok(by_request(alloc, state, host, leaving, room)?)
     } else {
-        Ok(by_force(alloc, config, state, host, flags & CLEANING != 0, leaving)?)
+        Ok(by_force(
+            alloc,
+            config,
+            state,
+            host,
+            flags & CLEANING != 0,
+            leaving,
+            room,
+        )?)
     }
 }
 
@@ -161,36 +172,71 @@ fn by_force(
     host: HostId,
     cleaning: bool,
     leaving: Extents,
+    room: &mut Room,
 ) -> Result<Draft, NoMemory>
     requires host { host < config.now.hosts }
     requires part { host < length state.now.hosts.items }
     requires departs { Departs config.now host (part_of state.now host).lists cleaning leaving }
     ensures { IfOk result (IsTakenByForce config.now host cleaning (part_of state.now host).lists leaving) }
 {
-    let lists = lists_without(state, host, &leaving)?;
-    let mut changes = Effects::with_capacity(alloc, effects_of(leaving.len()))?;
-    put_leaves(config, host, cleaning, leaving.as_slice(), &mut changes)?;
-    let tags = tags_of(alloc, leaving.as_slice())?;
-    let log_records = removal_records(alloc, host, &lists, EventKind::Forced, &leaving)?;
-    Draft::listing(alloc, changes, tags, log_records, lists)
+    let mut step = room.blank()?;
+    put_removal(
+        alloc,
+        config,
+        state,
+        host,
+        cleaning,
+        &leaving,
+        step.as_mut(),
+    )?;
+    Ok(Draft::of_step(step))
 }
 
-/// The lists of the host once the extents have left.
-fn lists_without(state: &State, host: HostId, leaving: &Extents) -> Result<HostLists, NoMemory>
+/// Puts the removal by force into a draft that has nothing yet.
+fn put_removal(
+    alloc: Global,
+    config: &Config,
+    state: &State,
+    host: HostId,
+    cleaning: bool,
+    leaving: &Extents,
+    step: &mut DraftedStep,
+) -> Result<(), NoMemory>
+    requires host { host < config.now.hosts }
+    requires part { host < length state.now.hosts.items }
+    requires departs { Departs config.now host (part_of state.now host).lists cleaning leaving.now }
+    requires blank { draft_in step.old ≡ record no_draft { lists = (draft_in step.old).lists } }
+    ensures { OnOk result (IsTakenByForce config.now host cleaning (part_of state.now host).lists leaving.now (draft_in step.new)) }
+{
+    let change = lists_without(state, host, leaving)?;
+    put_leaves(
+        config,
+        host,
+        cleaning,
+        leaving.as_slice(),
+        &mut step.effects,
+    )?;
+    put_tags_of(leaving.as_slice(), &mut step.tags)?;
+    let after = Changed::of(&state.part(host).lists, &change);
+    step.log_records = removal_records(alloc, host, &after, EventKind::Forced, leaving)?;
+    step.update.lists = under_a_host(Some(change));
+    Ok(())
+}
+
+/// What changes of the lists of the host where the extents leave.
+fn lists_without(state: &State, host: HostId, leaving: &Extents) -> Result<ListsChange, NoMemory>
     requires part { host < length state.now.hosts.items }
     requires can { AllCanLeave (part_of state.now host).lists.accepted leaving.now }
-    ensures { IfOk result (λ lists. lists ≡ removed_lists (part_of state.now host).lists leaving.now) }
+    ensures { IfOk result (λ change. changed_by change (part_of state.now host).lists ≡ removed_lists (part_of state.now host).lists leaving.now) }
 {
-    let mut lists = state.part(host).lists.copy_with_room(leaving.len())?;
-    lists.remove(leaving)?;
-    Ok(lists)
+    state.part(host).lists.removing(leaving)
 }
 
 /// The records for the host.
 fn removal_records(
     alloc: Global,
     host: HostId,
-    lists: &HostLists,
+    lists: &Changed,
     kind: EventKind,
     leaving: &Extents,
 ) -> Result<ShortList<LogRecords>, NoMemory>
@@ -213,19 +259,22 @@ fn by_request(
     state: &State,
     host: HostId,
     leaving: Extents,
+    room: &mut Room,
 ) -> Result<Draft, NoMemory>
     requires part { host < length state.now.hosts.items }
     requires few { extent_total (part_of state.now host).lists ≤ 64 }
     ensures { IfOk result (IsAskedFor host (part_of state.now host).lists leaving) }
 {
     let lists = &state.part(host).lists;
-    let log_records = removal_records(alloc, host, lists, EventKind::Release, &leaving)?;
+    let same = lists.unchanged();
+    let lists = Changed::of(lists, &same);
+    let log_records = removal_records(alloc, host, &lists, EventKind::Release, &leaving)?;
     let parts = DraftParts {
         payload: Bytes::new(alloc),
-        changes: Effects::new(alloc),
+        changes: room.effects(leaving.len())?,
         tags: tags_of(alloc, leaving.as_slice())?,
         log_records,
         lists: None,
     };
-    Draft::of(alloc, parts)
+    Draft::of(room, parts)
 }

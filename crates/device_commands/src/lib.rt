@@ -48,6 +48,7 @@ pub use initiate_dynamic_capacity_release::{RemoveRequest, remove};
 pub use log_records::{LogRecords, event_for, no_extent, records_of_extents};
 pub use manager_messages::quiet_draft;
 pub use responses::{answer, refused};
+pub use rooms::Room;
 pub use runs::run_of;
 pub use scrub::{Zeroed, zero_dirty};
 pub use short_list::ShortList;

@@ -16,7 +16,7 @@ use dcd_base::{Extent, HostId, LogId, NoMemory, Seq, no_tag};
 use dcd_codes::Rule;
 use device_state::State;
 use event_records::{Event, EventKind};
-use host_lists::HostLists;
+use host_lists::Changed;
 use short_list::ShortList;
 use std::alloc::Global;
 
@@ -30,7 +30,7 @@ pub struct LogRecords {
 /// What is told of an extent, with what the host has available by these lists. The handle is 0.
 pub fn event_for(
     host: HostId,
-    lists: &HostLists,
+    lists: &Changed,
     kind: EventKind,
     more: bool,
     extent: &Extent,
@@ -45,7 +45,7 @@ pub fn event_for(
 #[inline(always)]
 fn event_by_tags(
     host: HostId,
-    lists: &HostLists,
+    lists: &Changed,
     tags_available: u32,
     kind: EventKind,
     more: bool,
@@ -71,7 +71,7 @@ fn event_by_tags(
 pub fn records_of_extents(
     alloc: Global,
     host: HostId,
-    lists: &HostLists,
+    lists: &Changed,
     kind: EventKind,
     extents: &[Extent],
 ) -> Result<ShortList<Event>, NoMemory>
@@ -86,7 +86,7 @@ pub fn records_of_extents(
 pub(crate) fn records_by_tags(
     alloc: Global,
     host: HostId,
-    lists: &HostLists,
+    lists: &Changed,
     tags_available: u32,
     kind: EventKind,
     extents: &[Extent],
@@ -121,7 +121,7 @@ pub fn records_to(
     alloc: Global,
     log: LogId,
     host: HostId,
-    lists: &HostLists,
+    lists: &Changed,
     kind: EventKind,
     extents: &[Extent],
 ) -> Result<ShortList<LogRecords>, NoMemory>

@@ -12,22 +12,23 @@ use crate::get_dc_region_extent_lists::get_extent_lists;
 use crate::get_dcd_info::get_info;
 use crate::get_event_records::get_events;
 use crate::get_host_dc_region_configuration::get_regions;
+use crate::rooms::Room;
 use crate::set_dc_region_configuration::set_region;
-use dcd_base::{Bytes, LogId};
+use dcd_base::LogId;
 use dcd_codes::Refusal;
 use device_state::State;
 use fm_payloads::FmRequest;
 use region_config::Config;
 use std::alloc::Global;
 
-/// The draft of a request that changes no extents and no tags, or the first rule that it breaks. A reply that has a payload is
-/// written in the room, whatever bytes it holds.
+/// The draft of a request that changes no extents and no tags, or the first rule that it breaks. A payload, changes and parts on
+/// the heap have the memory of the room, as far as it goes.
 pub fn quiet_draft(
     alloc: Global,
     config: &Config,
     state: &State,
     asked: &FmRequest,
-    room: Bytes,
+    room: &mut Room,
 ) -> Result<Draft, Refusal>
     requires reached { IsReached config.now state.now }
     requires few { FewCleared asked.now }
@@ -37,7 +38,7 @@ pub fn quiet_draft(
     match asked {
         FmRequest::GetEvents { log } => get_events(alloc, *log, &state.manager, room),
         FmRequest::ClearEvents { log, all, handles } => {
-            clear_events(alloc, LogId::Manager, *log, &state.manager, *all, handles)
+            clear_events(LogId::Manager, *log, &state.manager, *all, handles, room)
         }
         FmRequest::GetInfo => get_info(config, state, room),
         FmRequest::GetRegions { host, count, first } => {
@@ -47,7 +48,7 @@ pub fn quiet_draft(
             region,
             sanitize,
             block,
-        } => set_region(alloc, config, state, *region, *sanitize, *block),
+        } => set_region(alloc, config, state, *region, *sanitize, *block, room),
         FmRequest::GetExtentLists { host, count, first } => {
             get_extent_lists(config, state, *host, *count, *first, room)
         }

@@ -1,33 +1,181 @@
-//! Room for what a command replies, and for what it changes and tells, taken at once.
+//! Memory that goes from one step to the next, so that a step takes none of what the one before it had.
 
-ghost use Rattle.std.specs.Prelude.{◌≡◌, [], IfOk};
+ghost use Rattle.device_commands.specs.DraftContents.{draft_in, no_draft};
+ghost use Rattle.std.specs.Prelude.{◌≡◌, [], IfOk, OnOk};
 
-use dcd_base::{Bytes, NoMemory};
+use crate::draft::DraftedStep;
+use dcd_base::{Bytes, NoMemory, Runs, Seq, Tag};
+use device_state::TagChange;
+use journal_core::Effects;
+use short_list::ShortList;
+use std::alloc::Global;
+use std::mem::{replace, swap};
 
-/// The room without its bytes, in which a reply can be written.
-#[inline(always)]
-pub(crate) fn emptied(room: Bytes) -> Bytes
-    ensures { result ≡ [] }
-{
-    let mut empty = room;
-    empty.clear();
-    empty
+/// The memory of a reply's payload, of the runs that an offer is chosen of, and of the parts of a step, its effects among
+/// them, lent to a step and kept for the next one.
+///
+/// What lies in it has no meaning, and no contract says anything of it: whoever takes memory finds it empty, or as it
+/// was asked for. Where none is kept, new memory is taken.
+#[derive(Drop)]
+pub struct Room {
+    alloc: Global,
+    payload: Bytes,
+    pub(crate) runs: Runs,
+    step: Option<Box<DraftedStep>>,
 }
 
-/// The room without its bytes, in which so many can be written without more memory.
+impl Room {
+    /// Nothing is kept yet. It takes no memory.
+    pub fn new(alloc: Global) -> Room {
+        Room {
+            alloc,
+            payload: Bytes::new(alloc),
+            runs: Runs::new(alloc),
+            step: None,
+        }
+    }
+
+    /// Where it takes its memory from.
+    pub fn allocator(&self) -> Global {
+        self.alloc
+    }
+
+    /// A payload without bytes, in which a reply can be written. It takes no new memory.
+    #[inline(always)]
+    pub(crate) fn payload(&mut self) -> Bytes
+        ensures { result ≡ [] }
+    {
+        let mut payload = replace(&mut self.payload, Bytes::new(self.alloc));
+        payload.clear();
+        payload
+    }
+
+    /// A payload without bytes, in which so many can be written without more memory.
+    #[inline(always)]
+    pub(crate) fn payload_for(&mut self, bytes: usize) -> Result<Bytes, NoMemory>
+        ensures { IfOk result (λ payload. payload ≡ []) }
+    {
+        let mut items = replace(&mut self.payload, Bytes::new(self.alloc)).into_vec();
+        items.clear();
+        items.reserve(bytes)?;
+        Ok(Bytes::from_vec(self.alloc, items))
+    }
+
+    /// No effects yet, with memory for so many.
+    pub fn effects(&mut self, most: usize) -> Result<Effects, NoMemory>
+        ensures { IfOk result (λ effects. effects ≡ []) }
+    {
+        let mut effects = self.kept_effects();
+        clear_for(&mut effects, most)?;
+        Ok(effects)
+    }
+
+    /// The memory of the effects that are kept.
+    fn kept_effects(&mut self) -> Effects {
+        match &mut self.step {
+            Some(kept) => replace(&mut kept.effects, Effects::new(self.alloc)),
+            None => Effects::new(self.alloc),
+        }
+    }
+
+    /// Puts the parts of a step on the heap. Without memory they are let go.
+    #[inline(always)]
+    pub fn put(&mut self, step: DraftedStep) -> Result<Box<DraftedStep>, NoMemory>
+        ensures { IfOk result (λ put. put.value ≡ step) }
+    {
+        match self.step.take() {
+            Some(kept) => {
+                let mut kept = kept;
+                *kept = step;
+                Ok(kept)
+            }
+            None => Ok(Box::new(self.alloc, step)?),
+        }
+    }
+
+    /// The parts of a draft that has nothing yet but what was kept of lists.
+    #[inline(never)]
+    pub(crate) fn blank(&mut self) -> Result<Box<DraftedStep>, NoMemory>
+        ensures { IfOk result (λ step. draft_in step.value ≡ record no_draft { lists = (draft_in step.value).lists }) }
+    {
+        match self.step.take() {
+            Some(kept) => {
+                let mut kept = kept;
+                empty(kept.as_mut());
+                Ok(kept)
+            }
+            None => self.first(),
+        }
+    }
+
+    /// The same, in new memory.
+    #[cold]
+    #[inline(never)]
+    fn first(&mut self) -> Result<Box<DraftedStep>, NoMemory>
+        ensures { IfOk result (λ step. draft_in step.value ≡ no_draft) }
+    {
+        let effects = Effects::new(self.alloc);
+        Ok(Box::new(self.alloc, DraftedStep::changing(self.alloc, effects))?)
+    }
+
+    /// Keeps the memory of a payload, where it has bytes.
+    #[inline(always)]
+    pub fn keep_payload(&mut self, payload: Bytes) {
+        let mut payload = payload;
+        if !payload.is_empty() {
+            swap(&mut self.payload, &mut payload);
+        }
+    }
+
+    /// Keeps the memory of effects, beside that of their step.
+    pub fn keep_effects(&mut self, effects: Effects) {
+        let mut effects = effects;
+        if let Some(kept) = &mut self.step {
+            swap(&mut kept.effects, &mut effects);
+        }
+    }
+
+    /// Keeps the memory of a step's parts.
+    #[inline(always)]
+    pub fn keep_step(&mut self, step: Box<DraftedStep>) {
+        self.step = Some(step);
+    }
+}
+
+/// Lets go of the parts of a draft but its lists, and keeps their memory.
 #[inline(always)]
-pub(crate) fn emptied_for(room: Bytes, bytes: usize) -> Result<Bytes, NoMemory>
-    ensures { IfOk result (λ empty. empty ≡ []) }
+fn empty(step: &mut DraftedStep)
+    ensures { draft_in step.new ≡ record no_draft { lists = (draft_in step.new).lists } }
 {
-    let alloc = room.allocator();
-    let mut items = room.into_vec();
+    step.payload.clear();
+    step.effects.clear();
+    take_back_tags(step);
+    step.tags.clear();
+    step.log_records = ShortList::new();
+}
+
+/// Lets go of the effects, and keeps their memory, which has room for so many then.
+#[inline(always)]
+fn clear_for(effects: &mut Effects, most: usize) -> Result<(), NoMemory>
+    ensures { OnOk result (effects.new ≡ []) }
+{
+    let alloc = effects.allocator();
+    let mut items = replace(effects, Effects::new(alloc)).into_vec();
     items.clear();
-    items.reserve(bytes)?;
-    Ok(Bytes::from_vec(alloc, items))
+    items.reserve(most)?;
+    *effects = Effects::from_vec(alloc, items);
+    Ok(())
 }
 
-/// Room for two effects for each of so many extents, and two more: an extent is changed, and told.
+/// Takes the memory of the tags back that the step has moved into its update.
 #[inline(always)]
-pub(crate) fn effects_of(extents: usize) -> usize {
-    extents.saturating_mul(2).saturating_add(2)
+fn take_back_tags(step: &mut DraftedStep)
+    ensures { draft_in step.new ≡ record (draft_in step.old) { tags = step.new.tags } }
+{
+    if let TagChange::OfHost { host: _, tags } = replace(
+        &mut step.update.tags,
+        TagChange::Nothing,
+    ) {
+        step.tags = tags;
+    }
 }

@@ -17,11 +17,13 @@ ghost use Rattle.std.specs.List.{range_with_len};
 
 use crate::draft::{Draft, DraftParts};
 use crate::log_records::{LogRecords, event_for, log_full, no_extent};
+use crate::rooms::Room;
 use dcd_base::{Bytes, Granule, HostId, LogId, NoMemory, RegionId, Seq};
 use dcd_codes::{Refusal, Rule};
 use device_state::State;
 use event_records::{Event, EventKind};
-use journal_core::{Effect, Effects};
+use host_lists::Changed;
+use journal_core::Effect;
 use region_config::{BlockFault, Config};
 use short_list::ShortList;
 use std::alloc::Global;
@@ -38,6 +40,7 @@ pub(crate) fn set_region(
     region: u8,
     sanitize: bool,
     block: u64,
+    room: &mut Room,
 ) -> Result<Draft, Refusal>
     requires reached { IsReached config.now state.now }
     ensures { ManagerAnswers config.now state.now (FmRequest.SetRegion region sanitize block) result }
@@ -51,7 +54,7 @@ pub(crate) fn set_region(
     if let Some(rule) = first_full(state) {
         return Err(Refusal::Broken(rule));
     }
-    Ok(region_draft(alloc, state, RegionId(region), block)?)
+    Ok(region_draft(alloc, state, RegionId(region), block, room)?)
 }
 
 /// The rule that a size breaks which the region cannot have now: it is tried on a copy of the configuration.
@@ -126,12 +129,13 @@ fn region_draft(
     state: &State,
     region: RegionId,
     block: u64,
+    room: &mut Room,
 ) -> Result<Draft, NoMemory>
     requires parts { length state.now.hosts.items ≡ state.now.present.hosts }
     requires few { (h : HostId) → h < state.now.present.hosts → extent_total (part_of state.now h).lists ≤ 64 }
     ensures { IfOk result (IsSet state.now region block) }
 {
-    let mut changes = Effects::with_capacity(alloc, usize::from(state.present.hosts()) + 1)?;
+    let mut changes = room.effects(usize::from(state.present.hosts()) + 1)?;
     changes.push(Effect::Block(region, block))?;
     let parts = DraftParts {
         payload: Bytes::new(alloc),
@@ -140,7 +144,7 @@ fn region_draft(
         log_records: records_for_all(alloc, state, region)?,
         lists: None,
     };
-    Draft::of(alloc, parts)
+    Draft::of(room, parts)
 }
 
 /// A record for each host.
@@ -167,9 +171,11 @@ fn region_record_for(state: &State, host: HostId, region: RegionId) -> LogRecord
     ensures { TellsHost state.now region host result }
 {
     let lists = &state.part(host).lists;
+    let same = lists.unchanged();
+    let lists = Changed::of(lists, &same);
     let event = Event {
         region: region.0,
-        ..event_for(host, lists, EventKind::RegionUpdated, false, &no_extent())
+        ..event_for(host, &lists, EventKind::RegionUpdated, false, &no_extent())
     };
     LogRecords {
         log: LogId::Host(host),

@@ -14,15 +14,19 @@ use device_state::{State, TagChange};
 use journal_core::{Effect, Effects};
 use region_config::Config;
 use std::alloc::Global;
+use std::mem::replace;
 
-/// What the host has of the tags is set anew, where there are any.
-pub fn told_change(host: HostId, tags: Seq<Tag>) -> TagChange
-    ensures { result ≡ told_change host tags }
+/// What the host has of the tags is set anew, where there are any. They are moved into the change then.
+pub fn told_change(host: HostId, tags: &mut Seq<Tag>) -> TagChange
+    ensures { result ≡ told_change host tags.old }
 {
     if tags.is_empty() {
-        TagChange::Nothing
-    } else {
-        TagChange::OfHost { host, tags }
+        return TagChange::Nothing;
+    }
+    let alloc = tags.allocator();
+    TagChange::OfHost {
+        host,
+        tags: replace(tags, Seq::new(alloc)),
     }
 }
 

@@ -13,10 +13,19 @@ pub fn tags_of(alloc: Global, extents: &[Extent]) -> Result<Seq<Tag>, NoMemory>
     ensures { IfOk result (λ tags. tags ≡ tags_of extents.now) }
 {
     let mut tags = Seq::with_capacity(alloc, extents.len().min(1))?;
-    for i in 0..extents.len() {
-        put_tag(&extents[i].tag, &mut tags)?;
-    }
+    put_tags_of(extents, &mut tags)?;
     Ok(tags)
+}
+
+/// Puts each tag of the extents once into a list that has none yet, in the order of first appearance.
+pub(crate) fn put_tags_of(extents: &[Extent], tags: &mut Seq<Tag>) -> Result<(), NoMemory>
+    requires { tags.old ≡ [] }
+    ensures { OnOk result (tags.new ≡ tags_of extents.now) }
+{
+    for i in 0..extents.len() {
+        put_tag(&extents[i].tag, tags)?;
+    }
+    Ok(())
 }
 
 /// Puts a tag behind the others that is not among them.

@@ -1,6 +1,6 @@
 -- A command of the host of a device that has it alone: what is kept is what the host sees after it.
 use Rattle.std.proofs.Common.{◌≡◌, ℕ, ◌≤◌, Bool, true, false, List, [], ◌∷◌, Option, Some, None, Result, Ok, Err, refl, sym, ap, subst, ◌∙◌}
-use Rattle.std.specs.Prelude.{◌==◌, unwrap_or, IfSome, if◌then◌else◌}
+use Rattle.std.specs.Prelude.{◌==◌, IfSome, if◌then◌else◌}
 use Rattle.std.specs.List.{list_any}
 use Rattle.cci_codec.specs.declared.messages.Request.{Request}
 use Rattle.dcd_base.specs.declared.capacity.Extent.{Extent}
@@ -13,7 +13,9 @@ use Rattle.device_commands.specs.HostMessages.{IsDraft}
 use Rattle.device_commands.specs.Drafts.{AreAfter}
 use Rattle.device_state.specs.StateAfter.{IsLogOf, lists_in}
 use Rattle.device_commands.specs.declared.draft.DraftParts.{DraftParts}
+use Rattle.host_lists.specs.Changes.{changed_by}
 use Rattle.host_lists.specs.Lists.{Lists, extent_total}
+use Rattle.host_lists.specs.declared.lists_change.ListsChange.{ListsChange}
 use Rattle.journal_core.specs.declared.acts.Act.{Act}
 use Rattle.journal_core.specs.declared.acts.Reply.{Reply}
 use Rattle.journal_core.specs.declared.outcome.HeldKind.{HeldKind}
@@ -23,7 +25,7 @@ use Rattle.device_rules.specs.Outcomes.{Outcome}
 use Rattle.device_rules.specs.ResponseOutcomes.{unhold}
 use Rattle.device_rules.specs.Views.{View, view_after}
 use Rattle.step_laws.proofs.ViewCommands.{after_refusal, view_after-dropped}
-use Rattle.isolation_laws.specs.Acting.{ChangesAlone, without_held}
+use Rattle.isolation_laws.specs.Acting.{ChangesAlone, changed_lists, without_held}
 use Rattle.isolation_laws.specs.Alone.{DoesAlone, IsAlone}
 use Rattle.isolation_laws.specs.Solo.{accepts_byte, changes_with}
 use Rattle.isolation_laws.specs.declared.alone.Alone.{Alone}
@@ -37,14 +39,14 @@ module _ (c : Configuration) (h : HostId) (q : Request) (old new : Alone) where
       × IsAlone c h (view_after c h v (changes_with h v q result)) (λ d. if list_any (accepts_byte d) (changes_with h v q result) then 0 else word d) new
 
   -- what a command does that breaks no rule
-  module _ (draft : DraftParts) (few : IfSome draft.lists (λ lists. extent_total lists ≤ 64)) (is : ChangesAlone h draft.changes draft.lists old new) where
-    few_after : (lists : Option Lists) → IfSome lists (λ l. extent_total l ≤ 64) → extent_total old.lists ≤ 64 → extent_total (unwrap_or lists old.lists) ≤ 64
+  module _ (draft : DraftParts) (few : IfSome draft.lists (λ change. extent_total (changed_by change old.lists) ≤ 64)) (is : ChangesAlone h draft.changes draft.lists old new) where
+    few_after : (change : Option ListsChange) → IfSome change (λ ch. extent_total (changed_by ch old.lists) ≤ 64) → extent_total old.lists ≤ 64 → extent_total (changed_lists change old.lists) ≤ 64
     few_after None fits was = was
-    few_after (Some l) fits was = fits
+    few_after (Some change) fits was = fits
 
-    lists_after : (v : View) (o : Outcome) → old.lists ≡ lists_in v → (lists : Option Lists) → AreAfter c h v o lists → unwrap_or lists old.lists ≡ lists_in (view_after c h v o.changes)
+    lists_after : (v : View) (o : Outcome) → old.lists ≡ lists_in v → (change : Option ListsChange) → AreAfter c h v o change → changed_lists change old.lists ≡ lists_in (view_after c h v o.changes)
     lists_after v o was None same = was ∙ sym same
-    lists_after v o was (Some l) new_ones = new_ones
+    lists_after v o was (Some change) leads = ap (changed_by change) was ∙ leads.0
 
     pub command_done : ((v : View) (word : ℕ → ℕ) → IsAlone c h v word old → IsDraft c h v q draft) → DoesAlone c h (Act.Command q) old new (SoloReply.Said (response q Code.Success draft.payload))
     command_done drafted v word was =

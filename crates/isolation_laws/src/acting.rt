@@ -2,7 +2,7 @@
 
 ghost use Rattle.device_rules.specs.Answers.{response};
 ghost use Rattle.host_lists.specs.Lists.{extent_total};
-ghost use Rattle.isolation_laws.specs.Acting.{ChangesAlone, without_held};
+ghost use Rattle.isolation_laws.specs.Acting.{ChangesAlone, changed_lists, without_held};
 ghost use Rattle.isolation_laws.specs.Alone.{DoesAlone};
 ghost use Rattle.isolation_laws.specs.Solo.{has_byte as has_byte_in};
 ghost use Rattle.std.specs.List.{list_any};
@@ -12,10 +12,11 @@ use crate::alone::Alone;
 use crate::items::SoloReply;
 use crate::words_alone::{clear_words, has_byte, store_word, word_at};
 use cci_codec::Request;
-use dcd_base::{AccessFault, Bytes, HostId, LogId, NoMemory};
+use dcd_base::{AccessFault, HostId, LogId, NoMemory};
 use dcd_codes::{Code, Refusal};
-use device_commands::{Draft, DraftParts, answer, host_draft, refused};
+use device_commands::{Draft, DraftParts, Room, answer, host_draft, refused};
 use device_state::change_log_named;
+use host_lists::ListsChange;
 use journal_core::{Act, Effect, Reply};
 use media_map::locate;
 use region_config::Config;
@@ -63,6 +64,7 @@ impl Alone {
         requires few { extent_total self.old.lists ≤ 64 }
         ensures { IfOk result (λ reply. DoesAlone config.now host (Act.Command request.now) self.old self.new (SoloReply.Said reply)) }
     {
+        let mut room = Room::new(alloc);
         match host_draft(
             alloc,
             config,
@@ -71,7 +73,7 @@ impl Alone {
             &self.lists,
             &self.log,
             request,
-            Bytes::new(alloc),
+            &mut room,
         ) {
             Ok(draft) => Ok(self.put_in_place(alloc, host, request, draft)),
             Err(Refusal::Broken(rule)) => {
@@ -101,10 +103,17 @@ impl Alone {
             lists,
         } = draft.into_parts(alloc);
         self.change(host, changes.as_slice());
-        if let Some(lists) = lists {
-            self.lists = lists;
-        }
+        self.change_lists(lists);
         answer(request, Code::Success, payload)
+    }
+
+    /// Changes the lists, where there is a change of them.
+    fn change_lists(&mut self, change: Option<ListsChange>)
+        ensures { self.new ≡ record self.old { lists = changed_lists change self.old.lists } }
+    {
+        if let Some(mut change) = change {
+            self.lists.change(&mut change);
+        }
     }
 
     /// Changes the log and the words as the effects say.

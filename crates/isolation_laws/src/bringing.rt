@@ -16,6 +16,7 @@ use dcd_base::{Extent, Extents, HostId, RegionId};
 use device_commands::{event_for, no_extent, records_of_extents};
 use event_log::EventLog;
 use event_records::{Event, EventKind};
+use host_lists::Changed;
 use std::alloc::Global;
 
 impl Alone {
@@ -87,9 +88,10 @@ impl Alone {
         requires { extent_total self.old.lists ≤ 64 }
         ensures { (c : Configuration) → Logs c host (resized host region) self.old self.new result }
     {
+        let same = self.lists.unchanged();
         let mut event = event_for(
             host,
-            &self.lists,
+            &Changed::of(&self.lists, &same),
             EventKind::RegionUpdated,
             false,
             &no_extent(),
@@ -109,7 +111,9 @@ impl Alone {
         requires { extent_total self.old.lists ≤ 64 }
         ensures { (c : Configuration) → Logs c host (λ v. records_of_extents host v kind extents.now) self.old self.new result }
     {
-        let events = records_of_extents(alloc, host, &self.lists, kind, extents.as_slice())?;
+        let same = self.lists.unchanged();
+        let lists = Changed::of(&self.lists, &same);
+        let events = records_of_extents(alloc, host, &lists, kind, extents.as_slice())?;
         put_all(&mut self.log, events.as_slice())
     }
 }

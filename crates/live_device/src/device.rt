@@ -13,7 +13,8 @@ use crate::accesses::{granted, loaded, refused_by, store_at, stored, word_at};
 use crate::faults::StepFault;
 use crate::zeroing::zero_all;
 use control_core::{Decided, LiveControl};
-use dcd_base::{Actor, Bytes, HostId, NoMemory};
+use dcd_base::{Actor, HostId, NoMemory};
+use device_commands::Room;
 use device_state::Update;
 use granule_mem::GranuleWords;
 use journal_core::{Act, Effects, Reply};
@@ -135,13 +136,13 @@ impl LiveDevice {
         ensures too_long { IfErr result (IsTooLong self.old actor act.now most) }
         ensures kept { OnErr result (self.new ≡ self.old) }
     {
-        let room = Bytes::new(self.control.allocator());
-        let decision = self.control.decide(&actor, act, room)?;
+        let mut room = Room::new(self.control.allocator());
+        let decision = self.control.decide(&actor, act, &mut room)?;
         let Decided {
             reply,
             effects,
             update,
-        } = decision.into_parts(self.control.allocator());
+        } = decision.into_parts(&mut room);
         let length = length_of(&reply);
         if length > most {
             return Err(StepFault::TooLong(length));

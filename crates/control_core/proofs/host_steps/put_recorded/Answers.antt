@@ -19,7 +19,7 @@ returns c = λ cfg before o kept of drafts.
     let is = c.in_ok-put_effects.ensures.kept in
     let all = c.put_effects.new.step.effects in
     let lists = c.put_host.ensures ∙ ap (λ (s : DraftedStep). lists_for h (lists_alone s.update.lists)) is in
-    let tags = c.told_change.ensures ∙ ap (told_change h) (c.replace.ensures.value ∙ ap (λ (s : DraftedStep). s.tags) is) in
+    let tags = c.told_change.ensures ∙ ap (λ (s : DraftedStep). told_change h s.tags) is in
     let update : record { lists = c.put_host.new.lists; tags = c.told_change.result } ≡ record { lists = lists_for h (lists_alone old.update.lists); tags = told_change h old.tags } =
     (λ i. record { lists = lists i; tags = tags i }) in
     subst (λ (u : Update). IsDone cfg before q o (record { reply = c.answer.result; effects = all; update = u })) (sym update)

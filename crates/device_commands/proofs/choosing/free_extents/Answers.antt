@@ -48,8 +48,8 @@ tagged_runs-requires-clause-few c =
       c.regions-regions.ensures.sound.granules,
     )
 
-pub returns-in_ok-tagged_runs-in-Ok-clause-row : goal.returns-in_ok-tagged_runs-in-Ok-clause-row
-returns-in_ok-tagged_runs-in-Ok-clause-row c =
+pub returns-in_ok-extents-in-Ok-clause-row : goal.returns-in_ok-extents-in-Ok-clause-row
+returns-in_ok-extents-in-Ok-clause-row c =
     let s = c.args.state.now in
     let a = c.args.asked.now in
     let r = a.region in
@@ -73,10 +73,10 @@ returns-in_ok-tagged_runs-in-Ok-clause-row c =
           (subst (λ (f : Result (List Run) Refusal). ByRow (too_few_free need (longest_free_run states area per)) (λ (runs : List Run). runs ≡ contiguous_runs (is_free_at states) area per need) f)
           (sym w.found-is ∙ c.in-Ok.is) w.contiguous-found.ensures.answer)
     ]) in
-    (row.0, c.in_ok-tagged_runs-in-Ok.ensures ∙ ap (tagged_runs s a c.args.shareable) (c.as_slice.ensures ∙ row.1))
+    (row.0, c.in_ok-extents-in-Ok.ensures ∙ ap (tagged_runs s a c.args.shareable) (c.as_slice.ensures ∙ row.1))
 
-pub returns-in_ok-tagged_runs-in-Ok-clause-few : goal.returns-in_ok-tagged_runs-in-Ok-clause-few
-returns-in_ok-tagged_runs-in-Ok-clause-few c =
+pub returns-in_ok-extents-in-Ok-clause-few : goal.returns-in_ok-extents-in-Ok-clause-few
+returns-in_ok-extents-in-Ok-clause-few c =
     let present = c.args.state.now.present in
     let r = c.args.asked.now.region in
     let area_is : c.granules_of-area.result ≡ area_of present r = λ i. record { first = c.granules_of-area.ensures.first i; count = c.granules_of-area.ensures.count i } in
@@ -86,7 +86,7 @@ returns-in_ok-tagged_runs-in-Ok-clause-few c =
     ] in
     omega (
       arith,
-      ap length c.in_ok-tagged_runs-in-Ok.ensures,
+      ap length c.in_ok-extents-in-Ok.ensures,
       length-tagged_runs c.args.state.now c.args.asked.now c.args.shareable c.as_slice.result.now,
       ap length c.as_slice.ensures,
       between_few (first_granule present r) (first_granule present r + region_granules present r) c.in-Ok.runs within,

@@ -21,7 +21,7 @@ returns-clause-drafts c = λ cfg v is lists.
       region_known cfg c.args.first (omega (arith, regions, c.if-first-regions.false, c.regions.ensures.value)),
       record {
         payload = ap (λ (d : DraftParts). d.payload) c.only.ensures ∙ c.in_ok-write_configuration.ensures.appended
-            ∙ ap (λ front. front ++ configuration_payload c.regions-2.result c.as_slice.result.now c.host_counts-counts.result) c.emptied-payload.ensures
+            ∙ ap (λ front. front ++ configuration_payload c.regions-2.result c.as_slice.result.now c.host_counts-counts.result) c.payload-payload.ensures
             ∙ (λ i. configuration_payload (total i) (views i) (counts i));
         changes = ap (λ (d : DraftParts). d.changes) c.only.ensures;
         tags = ap (λ (d : DraftParts). d.tags) c.only.ensures;

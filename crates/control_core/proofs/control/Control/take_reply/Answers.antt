@@ -7,7 +7,7 @@ use Rattle.control_core.proofs.NextEntry.{enters_nothing, holds_decided}
 use Rattle.control_core.proofs.control.Control.take_reply.Goals as goal
 
 pub returns-clause-effects : goal.returns-clause-effects
-returns-clause-effects c = c.new.ensures ∙ c.requires.decided.effects
+returns-clause-effects c = c.none.ensures ∙ c.requires.decided.effects
 
 pub invariant_of-self-2 : goal.invariant_of-self-2
 invariant_of-self-2 c =
