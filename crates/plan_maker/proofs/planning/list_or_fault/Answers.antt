@@ -1,14 +1,24 @@
 use Rattle.std.proofs.Common.{◌≡◌, List, Some, None, ap, subst, sym, ◌∙◌}
+use Rattle.std.proofs.lemmas.Result.{err_from_is_err_and}
 use Rattle.std.specs.Prelude.{option_map}
+use Rattle.std.specs.declared.result.Result.{Result}
+use Rattle.std.specs.declared.result.Result.TheVariants.{Err}
 use Rattle.region_config.specs.Configurations.{Configuration}
 use Rattle.journal_core.specs.Entries.{effects}
+use Rattle.journal_core.specs.declared.entries.Entry.{Entry}
 use Rattle.demand_codec.specs.declared.demands.Demand.{Demand}
+use Rattle.demand_codec.specs.declared.demands.Demands.{Demands}
+use Rattle.plan_rules.specs.Holding.{Step}
 use Rattle.plan_rules.specs.Listing.{gaining}
-use Rattle.plan_rules.specs.Planning.{is_open, lowest_below, named_fault}
+use Rattle.plan_rules.specs.Planning.{IsPlan, is_open, lowest_below, named_fault}
 use Rattle.plan_rules.specs.declared.faults.PlanFault.{PlanFault}
 use Rattle.plan_maker.specs.Trials.{TriesMore, short_between}
 use Rattle.plan_maker.proofs.PlanEnds.{fault_short, plan_ends, plan_err}
 use Rattle.plan_maker.proofs.planning.list_or_fault.Goals as goal
+
+-- want of memory may be answered whatever was asked
+plan_wants : (c : Configuration) (journal : List Entry) (q : Demands) (r : Result (List Step) PlanFault) (y : PlanFault) → r ≡ Err y → y ≡ PlanFault.NoMemory → IsPlan c journal q r
+plan_wants c journal q r y is none = subst (IsPlan c journal q) (sym (is ∙ ap Err none)) tt
 
 pub returns-in-Some-2 : goal.returns-in-Some-2
 returns-in-Some-2 c =
@@ -24,6 +34,11 @@ returns-in-Some-2 c =
     let short : short_between cfg past (effects trial.control.entries) q ≡ Some fault =
     ap (λ (d : Configuration). short_between d past (effects trial.control.entries) q) (sym c.requires.made) ∙ sym c.in_ok-fault.ensures ∙ c.in-Some-2.is in
     plan_err cfg journal q fault (fault_short cfg journal q trial trial c.in_ok-trial.ensures fault named opened short)
+
+pub returns-in_err-gain_all : goal.returns-in_err-gain_all
+returns-in_err-gain_all c =
+    let p = err_from_is_err_and c.from_residual-in_err-gain_all.result c.from_residual-in_err-gain_all.ensures.1 in
+    plan_wants c.args.config.now c.args.control.now.entries c.args.demands.now c.from_residual-in_err-gain_all.result p.0 p.1 p.2
 
 pub returns : goal.returns
 returns c =
