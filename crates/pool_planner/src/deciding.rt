@@ -104,6 +104,8 @@ fn decide_demands(alloc: Global, script: Script, demands: &Demands) -> Result<En
     } = script;
     let mut device = Device::new(alloc, config)?;
     run_lines(&mut device, lanes, lines.as_slice())?;
+    // The journal is legal.
+    let _journal = device.journal();
     decide_plan(alloc, &mut device, demands)
 }
 
