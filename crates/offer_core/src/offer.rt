@@ -3,6 +3,7 @@
 ghost use Rattle.std.specs.Prelude.{◌≡◌, IfOk};
 
 use dcd_base::{Extents, NoMemory, RegionId};
+use std::alloc::Global;
 
 /// Extents of one region that a host may accept, in the order in which they were chosen.
 #[derive(Debug, Drop)]
@@ -13,6 +14,14 @@ pub struct Offer {
 }
 
 impl Offer {
+    /// An offer of no extents. It takes no memory.
+    pub(crate) fn nothing(alloc: Global) -> Offer {
+        Offer {
+            region: RegionId(0),
+            extents: Extents::new(alloc),
+        }
+    }
+
     /// An equal offer of its own.
     pub fn copy(&self) -> Result<Offer, NoMemory>
         ensures { IfOk result (λ copy. copy ≡ self.now) }

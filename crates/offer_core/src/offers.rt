@@ -3,13 +3,14 @@
 ghost use Rattle.extent_list.specs.ExtentLists.{count_in};
 ghost use Rattle.offer_core.specs.Offerings.{lists_of, oldest_of};
 ghost use Rattle.offer_core.specs.Popped.{IsPopped};
-ghost use Rattle.std.specs.Prelude.{◌≡◌, ◌==◌, ◌++◌, ◌∷◌, ◌+◌, ◌^◌, ◌<◌, ◌≤◌, [], IfOk, OnErr, OnOk, Some, drop, length, slice_get};
+ghost use Rattle.std.specs.Prelude.{◌≡◌, ◌==◌, ◌++◌, ◌∷◌, ◌+◌, ◌^◌, ◌<◌, ◌≤◌, [], IfOk, OnErr, OnOk, Some, length, slice_get};
 
 use crate::offer::Offer;
 use dcd_base::{Extent, Extents, NoMemory};
 use std::alloc::Global;
 use std::collections::VecDeque;
 use std::marker::Model;
+use std::mem::{replace, swap};
 
 /// The unanswered offers of one host, the oldest first, and the list that it holds.
 ///
@@ -64,20 +65,6 @@ impl Offers {
         })
     }
 
-    /// Equal offers of their own behind the oldest, and nothing held.
-    pub fn copy_behind_oldest(&self) -> Result<Offers, NoMemory>
-        ensures offers { IfOk result (λ copy. copy.offers ≡ drop 1 self.now.offers) }
-        ensures held { IfOk result (λ copy. copy.held ≡ []) }
-    {
-        if self.len() <= 1 {
-            return Ok(Offers::new(self.alloc));
-        }
-        let mut later = self.copy()?;
-        later.held.clear();
-        let _oldest = later.pop();
-        Ok(later)
-    }
-
     /// Makes the spare at least `n`. The offers and the held list stay, and without memory the spare does too.
     pub fn reserve(&mut self, n: usize) -> Result<(), NoMemory>
         ensures room { OnOk result (n ≤ self.new.spare) }
@@ -116,27 +103,28 @@ impl Offers {
         Ok(())
     }
 
-    /// Lets all offers go and puts this one in their place. The held list stays. It takes no memory.
-    pub fn put_alone(&mut self, offer: Offer)
-        ensures offers { self.new.offers ≡ offer ∷ [] }
+    /// Lets all offers go and puts this one in their place; the first that was there is left in its place. The held list
+    /// stays. It takes no memory.
+    pub fn swap_alone(&mut self, offer: &mut Offer)
+        ensures offers { self.new.offers ≡ offer.old ∷ [] }
         ensures held { self.new.held ≡ self.old.held }
     {
-        self.first = Some(offer);
         self.later.clear();
+        match &mut self.first {
+            Some(first) => swap(first, offer),
+            None => self.first = Some(replace(offer, Offer::nothing(self.alloc))),
+        }
     }
 
-    /// Lets all offers and the held list go. It takes no memory.
-    pub fn clear(&mut self)
-        ensures offers { self.new.offers ≡ [] }
-        ensures held { self.new.held ≡ [] }
+    /// Swaps the held list with this one, and changes nothing else.
+    pub fn swap_held(&mut self, held: &mut Extents)
+        ensures { self.new ≡ record self.old { held = held.old } }
     {
-        self.first = None;
-        self.later.clear();
-        self.held.clear();
+        swap(&mut self.held, held);
     }
 
-    /// Takes the oldest offer out, where there is one.
-    pub(crate) fn pop(&mut self) -> Option<Offer>
+    /// Takes the oldest offer out, where there is one. It takes no memory.
+    pub fn pop(&mut self) -> Option<Offer>
         ensures popped { IsPopped self.old.offers self.new.offers result }
         ensures held { self.new.held ≡ self.old.held }
         ensures spare { self.old.spare ≤ self.new.spare }

@@ -63,6 +63,9 @@ fn broken_list_rule(
     requires listed { length whole.now ≤ 64 }
     ensures { IfOk result (λ found. found ≡ response_list_rule config.now host accepted (lists_of offers.now.offers) whole.now) }
 {
+    if whole.is_empty() {
+        return Ok(too_many_extents(accepted + later_extents(offers)));
+    }
     let owners = Owners::of(offers.oldest());
     if let Some(rule) = broken_answered(config, host, &owners, whole) {
         return Ok(Some(rule));

@@ -1,7 +1,8 @@
 //! What a host gives back, in one message or in several.
 
+ghost use Rattle.extent_list.specs.ExtentLists.{marked};
 ghost use Rattle.release_core.specs.Releases.{AnswersRelease, GivesBack, KeepsHeld, give_back_rule};
-ghost use Rattle.std.specs.Prelude.{◌≡◌, ◌++◌, ◌+◌, ◌<◌, ◌≤◌, [], IfOk, OnErr, length};
+ghost use Rattle.std.specs.Prelude.{◌≡◌, ◌++◌, ◌+◌, ◌<◌, ◌≤◌, [], IfOk, OnErr, OnOk, length, map};
 
 use crate::counting::count_rule;
 use crate::leaving::broken_leaving;
@@ -73,6 +74,24 @@ impl Releases {
         self.listed.clear();
     }
 
+    /// Holds the list of a message behind the held one. Without memory the held list stays.
+    pub fn hold(&mut self, list: &[Extent]) -> Result<(), NoMemory>
+        ensures held { OnOk result (self.new ≡ self.old ++ list.now) }
+        ensures kept { OnErr result (self.new ≡ self.old) }
+    {
+        self.listed.extend_from_slice(list)?;
+        Ok(())
+    }
+
+    /// What a release gives back with this list of a message behind the held one: each extent with the tag and the
+    /// sequence of the accepted extent in which it lies.
+    pub fn leaving_of(&self, accepted: &[Extent], list: &Extents) -> Result<Extents, NoMemory>
+        ensures { IfOk result (λ leaving. leaving ≡ map (marked accepted.now) (self.now ++ list.now)) }
+    {
+        let (alloc, held) = (self.listed.allocator(), self.listed.as_slice());
+        marked_lists(alloc, accepted, held, list.as_slice())
+    }
+
     /// Reads a Release Dynamic Capacity of the host (4803h, CXL 3.1, 8.2.9.9.9.4): its list of extents and its More
     /// flag.
     ///
@@ -125,11 +144,10 @@ impl Releases {
         ensures kept { OnErr result (self.new ≡ self.old) }
     {
         if more {
-            self.listed.extend_from_slice(list.as_slice())?;
+            self.hold(list.as_slice())?;
             return Ok(GivenBack::Held);
         }
-        let (alloc, held) = (self.listed.allocator(), self.listed.as_slice());
-        let leaving = marked_lists(alloc, accepted, held, list.as_slice())?;
+        let leaving = self.leaving_of(accepted, list)?;
         self.listed.clear();
         if leaving.is_empty() {
             return Ok(GivenBack::Nothing);

@@ -1,10 +1,27 @@
-use Rattle.std.proofs.Common.{List, ap, sym, ◌∙◌}
+use Rattle.std.proofs.Common.{◌≡◌, ℕ, ◌+◌, List, [], ◌∷◌, ap, arith, drop, length, rules, sym, ◌∙◌}
+use Rattle.std.proofs.lemmas.Bool.{eqb-true}
 use Rattle.dcd_base.specs.declared.capacity.Extent.{Extent}
+use Rattle.dcd_base.specs.declared.ids.HostId.{HostId}
+use Rattle.extent_list.specs.ExtentLists.{count_in}
+use Rattle.list_rules.specs.Listing.{too_many_extents}
+use Rattle.region_config.specs.Configurations.{Configuration}
 use Rattle.dcd_codes.specs.Rules.{each_in}
 use Rattle.offer_core.proofs.Rows.{one_broken}
 use Rattle.offer_core.specs.Offerings.{lists_of}
-use Rattle.offer_core.specs.Responses.{extent_rule}
+use Rattle.offer_core.specs.Responses.{extent_rule, response_list_rule}
 use Rattle.offer_core.proofs.row.broken_list_rule.Goals as goal
+
+-- where nothing is listed only what the host has and is offered counts
+nothing_listed : (c : Configuration) (h : HostId) (accepted : ℕ) (offers : List (List Extent)) (whole : List Extent) → length whole ≡ 0
+    → (n : ℕ) → n ≡ accepted + count_in (drop 1 offers) → too_many_extents n ≡ response_list_rule c h accepted offers whole
+nothing_listed c h accepted offers [] none n is = ap too_many_extents (let e : n ≡ accepted + 0 + count_in (drop 1 offers) = omega (arith, is) in e)
+nothing_listed c h accepted offers (x ∷ xs) none n is = absurd (omega (arith, none))
+
+pub returns-then-is_empty : goal.returns-then-is_empty
+returns-then-is_empty c =
+    c.too_many_extents.ensures
+    ∙ nothing_listed c.args.config.now c.args.host c.args.accepted (lists_of c.args.offers.now.offers) c.args.whole.now
+    (eqb-true (length c.args.whole.now) 0 (sym c.is_empty.ensures ∙ c.if-is_empty.true)) _ (ap (λ n. c.args.accepted + n) c.later_extents.ensures.value)
 
 pub returns-in-Some : goal.returns-in-Some
 returns-in-Some c =
