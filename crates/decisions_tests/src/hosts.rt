@@ -6,7 +6,7 @@ ghost use Rattle.std.specs.Prelude.{◌≡◌, ◌≤◌, IfOk};
 use crate::fixtures::{M, extent, listed, one_region};
 use crate::seeing::{see, see_list};
 use dcd_base::{Extents, HostId, NoMemory, RegionId, Tag};
-use host_lists::{HostLists, Responded};
+use host_lists::{HostLists, ListsChange, Responded};
 use region_config::Config;
 use release_core::GivenBack;
 use std::alloc::Global;
@@ -29,7 +29,8 @@ fn offered_by_change(alloc: Global) -> Result<HostLists, NoMemory>
 {
     let mut lists = HostLists::new(alloc);
     let extents = [extent(0, 6 * M, 7, 0), extent(8 * M, 2 * M, 0, 0)];
-    let mut change = lists.offering(RegionId(0), Extents::from_slice(alloc, &extents)?)?;
+    let mut change = ListsChange::nothing();
+    lists.put_offering(RegionId(0), &extents, &mut change)?;
     lists.change(&mut change);
     Ok(lists)
 }
@@ -131,5 +132,29 @@ fn see_released(rt: &impl Abort, alloc: Global, config: &Config) -> Result<(), N
 #[test]
 fn a_release_is_held_until_it_is_let_go(rt: HostRuntime) -> Result<(), Fail> {
     see_released(&rt, rt.alloc(), &one_region(rt.alloc())?)?;
+    Ok(())
+}
+
+/// Sees that what a response and a release hold that more follows, and that nothing is taken out, comes as changes.
+fn see_changes(rt: &impl Abort, alloc: Global, lists: &mut HostLists) -> Result<(), NoMemory> {
+    let list = listed(alloc, &[(0, 6 * M)])?;
+    let mut change = ListsChange::nothing();
+    let responded = lists.put_answering(&list, true, &mut change)?;
+    see(rt, &matches!(responded, Responded::Held), &true);
+    lists.change(&mut change);
+    let given = lists.put_releasing(&list, true, &mut change)?;
+    see(rt, &matches!(given, GivenBack::Held), &true);
+    lists.change(&mut change);
+    lists.put_removing(&Extents::new(alloc), &mut change)?;
+    lists.change(&mut change);
+    see_list(rt, lists.responses().as_slice(), list.as_slice());
+    see_list(rt, lists.releases().as_slice(), list.as_slice());
+    see(rt, &lists.generation(), &0);
+    Ok(())
+}
+
+#[test]
+fn lists_are_held_by_changes(rt: HostRuntime) -> Result<(), Fail> {
+    see_changes(&rt, rt.alloc(), &mut one_offer(rt.alloc())?)?;
     Ok(())
 }

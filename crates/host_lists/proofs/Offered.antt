@@ -4,6 +4,7 @@ use Rattle.std.specs.Prelude.{flat_map, slice_get}
 use Rattle.std.specs.List.{list_any}
 use Rattle.std.proofs.lemmas.List.{get_or-take, length-take, take_more, take_all}
 use Rattle.std.proofs.lemmas.List.Concat.{flat_map-append, length-flat_map}
+use Rattle.std.proofs.lemmas.List.Sums.{sum_by_push}
 use Rattle.std.proofs.lemmas.List.Folds.{list_any-append, list_any_at, list_any_more}
 use Rattle.dcd_base.specs.declared.capacity.Extent.{Extent}
 use Rattle.dcd_base.specs.declared.capacity.Tag.{Tag}
@@ -56,18 +57,26 @@ pub extents_before_all : (accepted : List Extent) (offers : List (List Extent)) 
 extents_before_all accepted offers n all = ap (λ xs. accepted ++ flat_map (λ ys. ys) xs) (ap (λ k. take k offers) all ∙ take_all (length offers) offers (omega arith))
 
 -- the extents of an offer at its index
-pub record IsAt (offers : List Offer) (i : ℕ) (o : Offer) : Type 0 where
-  pub known : i < length (lists_of offers)
-  pub extents : get_or (lists_of offers) i [] ≡ o.extents
+pub record IsAt (offers : List (List Extent)) (i : ℕ) (xs : List Extent) : Type 0 where
+  pub known : i < length offers
+  pub extents : get_or offers i [] ≡ xs
 
-pub offer_at : (offers : List Offer) (i : ℕ) (o : Offer) → slice_get offers i ≡ Some o → IsAt offers i o
-offer_at [] i o found = absurd (cc)
-offer_at (x ∷ offers) zero o found = record { known = omega arith; extents = cc }
-offer_at (x ∷ offers) (suc i) o found = let at = offer_at offers i o found in record { known = omega (arith, at.known); extents = at.extents }
+pub list_at : (offers : List (List Extent)) (i : ℕ) (xs : List Extent) → slice_get offers i ≡ Some xs → IsAt offers i xs
+list_at [] i xs found = absurd (cc)
+list_at (ys ∷ offers) zero xs found = record { known = omega arith; extents = cc }
+list_at (ys ∷ offers) (suc i) xs found = let at = list_at offers i xs found in record { known = omega (arith, at.known); extents = at.extents }
 
 pub oldest_at : (offers : List Offer) (o : Offer) → slice_get offers 0 ≡ Some o → o.extents ≡ oldest_of (lists_of offers)
 oldest_at [] o found = absurd (cc)
 oldest_at (x ∷ offers) o found = cc
+
+-- the first offers and one more
+pub count_in_more : (offers : List (List Extent)) (i : ℕ) (xs : List Extent) → slice_get offers i ≡ Some xs → count_in (take (i + 1) offers) ≡ count_in (take i offers) + length xs
+count_in_more offers i xs found =
+    let at = list_at offers i xs found in
+    ap (λ (lists : List (List Extent)). count_in lists) (take_more offers i [] at.known)
+    ∙ sum_by_push (λ (ys : List Extent). length ys) (take i offers) (get_or offers i [])
+    ∙ ap (λ (ys : List Extent). count_in (take i offers) + length ys) at.extents
 
 -- a test that one of the first passes
 pub any_taken : (p : List Extent → Bool) (offers : List (List Extent)) (n i : ℕ) → i < n → i < length offers → p (get_or offers i []) ≡ true → list_any p (take n offers) ≡ true

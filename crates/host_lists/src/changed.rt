@@ -10,6 +10,7 @@ ghost use Rattle.std.specs.Prelude.{◌≡◌, ◌-◌, ◌≤◌, length};
 
 use crate::lists::HostLists;
 use crate::lists_change::{ListsChange, OffersChange};
+use crate::offer_lists::OfferLists;
 use crate::tag_counts::{all_tags, has_in_offers, tags_of_two};
 use dcd_base::limits::{EXTENTS, TAGS};
 use dcd_base::{Extent, Tag};
@@ -63,9 +64,10 @@ impl<'a> Changed<'a> {
     {
         match &self.change.offers {
             OffersChange::Nothing => self.lists.has_offered(tag),
+            OffersChange::Held(_) => self.lists.has_offered(tag),
             OffersChange::Only(offer) => has_extent_of(tag, offer.extents.as_slice()),
-            OffersChange::Gone => false,
-            OffersChange::Whole(offers) => has_in_offers(tag, offers, offers.len()),
+            OffersChange::Next => has_in(tag, &OfferLists::behind_oldest(self.lists.offers())),
+            OffersChange::Whole(offers) => has_in(tag, &OfferLists::all(offers)),
         }
     }
 
@@ -76,8 +78,9 @@ impl<'a> Changed<'a> {
     {
         match &self.change.offers {
             OffersChange::Nothing => self.lists.offers().extents(),
+            OffersChange::Held(_) => self.lists.offers().extents(),
             OffersChange::Only(offer) => offer.extents.len(),
-            OffersChange::Gone => 0,
+            OffersChange::Next => OfferLists::behind_oldest(self.lists.offers()).extents(),
             OffersChange::Whole(offers) => offers.extents(),
         }
     }
@@ -88,10 +91,11 @@ impl<'a> Changed<'a> {
     {
         let (accepted, had) = (self.accepted(), self.lists.offers());
         match &self.change.offers {
-            OffersChange::Nothing => all_tags(accepted, had),
+            OffersChange::Nothing => all_tags(accepted, &OfferLists::all(had)),
+            OffersChange::Held(_) => all_tags(accepted, &OfferLists::all(had)),
             OffersChange::Only(offer) => tags_of_two(accepted, had, offer.extents.as_slice()),
-            OffersChange::Gone => tags_of_two(accepted, had, &[]),
-            OffersChange::Whole(offers) => all_tags(accepted, offers),
+            OffersChange::Next => all_tags(accepted, &OfferLists::behind_oldest(had)),
+            OffersChange::Whole(offers) => all_tags(accepted, &OfferLists::all(offers)),
         }
     }
 
@@ -109,4 +113,11 @@ impl<'a> Changed<'a> {
     {
         TAGS.saturating_sub(self.tags())
     }
+}
+
+/// Whether an extent of these offers has the tag.
+fn has_in(tag: &Tag, offers: &OfferLists) -> bool
+    ensures { result ≡ list_any (has_extent_of tag.now) offers.now }
+{
+    has_in_offers(tag, offers, offers.len())
 }

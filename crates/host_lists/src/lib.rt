@@ -10,6 +10,7 @@ mod changes;
 mod drafting;
 mod lists;
 mod lists_change;
+mod offer_lists;
 mod offering;
 mod releasing;
 mod responded;
@@ -17,5 +18,5 @@ mod tag_counts;
 
 pub use changed::Changed;
 pub use lists::HostLists;
-pub use lists_change::{ListsChange, OffersChange};
+pub use lists_change::{ListsChange, OffersChange, ReleasesChange};
 pub use responded::Responded;

@@ -8,6 +8,7 @@ ghost use Rattle.offer_core.specs.Offerings.{lists_of, oldest_of};
 ghost use Rattle.std.specs.List.{list_any};
 ghost use Rattle.std.specs.Prelude.{◌≡◌, ◌++◌, ◌+◌, ◌-◌, ◌^◌, ◌<◌, ◌≤◌, [], Some, length, slice_get};
 
+use crate::offer_lists::OfferLists;
 use crate::tag_counts::{all_tags, has_in_offers, more_tags};
 use dcd_base::limits::{EXTENTS, TAGS};
 use dcd_base::{Extent, Extents, Tag};
@@ -134,7 +135,7 @@ impl HostLists {
     pub fn has_offered(&self, tag: &Tag) -> bool
         ensures { result ≡ list_any (has_extent_of tag.now) self.now.offers }
     {
-        has_in_offers(tag, &self.offers, self.offers.len())
+        has_in_offers(tag, &OfferLists::all(&self.offers), self.offers.len())
     }
 
     /// How many more extents the host may get.
@@ -149,7 +150,7 @@ impl HostLists {
     fn tags(&self) -> u32
         ensures { result ≡ capped (tag_count (extents_of_lists self.now)) }
     {
-        all_tags(self.accepted.as_slice(), &self.offers)
+        all_tags(self.accepted.as_slice(), &OfferLists::all(&self.offers))
     }
 
     /// How many more tags the host may get; none where it has more than it may.
@@ -165,7 +166,8 @@ impl HostLists {
         ensures { result ≡ length (real_tags (extents_of_lists self.now ++ more.now)) }
     {
         let accepted = self.accepted.as_slice();
-        more_tags(self.tags(), accepted, &self.offers, self.offers.len(), more)
+        let offers = OfferLists::all(&self.offers);
+        more_tags(self.tags(), accepted, &offers, self.offers.len(), more)
     }
 
     /// Lets go what responses with More hold.

@@ -2,21 +2,21 @@
 
 ghost use Rattle.extent_list.specs.ExtentLists.{has_extent_of};
 ghost use Rattle.host_lists.specs.Tags.{capped, extents_before, is_new, tag_count};
-ghost use Rattle.offer_core.specs.Offerings.{lists_of};
 ghost use Rattle.std.specs.List.{list_any};
 ghost use Rattle.std.specs.Prelude.{◌≡◌, ◌++◌, ◌≤◌, List, flat_map, length, take, true};
 
+use crate::offer_lists::OfferLists;
 use dcd_base::{Extent, Tag, no_tag};
 use extent_list::{has_extent_of, has_no_tags, same_tag};
 use offer_core::Offers;
 
 /// Whether an extent of the first `count` offers has the tag.
-pub(crate) fn has_in_offers(tag: &Tag, offers: &Offers, count: usize) -> bool
-    requires { count ≤ length offers.now.offers }
-    ensures { result ≡ list_any (has_extent_of tag.now) (take count (lists_of offers.now.offers)) }
+pub(crate) fn has_in_offers(tag: &Tag, offers: &OfferLists, count: usize) -> bool
+    requires { count ≤ length offers.now }
+    ensures { result ≡ list_any (has_extent_of tag.now) (take count offers.now) }
 {
     for i in 0..count {
-        if has_extent_of(tag, offers.at(i).extents.as_slice()) {
+        if has_extent_of(tag, offers.at(i)) {
             return true;
         }
     }
@@ -28,12 +28,12 @@ pub(crate) fn has_in_offers(tag: &Tag, offers: &Offers, count: usize) -> bool
 fn is_among(
     tag: &Tag,
     accepted: &[Extent],
-    offers: &Offers,
+    offers: &OfferLists,
     count: usize,
     before: &[Extent],
 ) -> bool
-    requires { count ≤ length offers.now.offers }
-    ensures { result ≡ has_extent_of tag.now (extents_before accepted.now (lists_of offers.now.offers) count ++ before.now) }
+    requires { count ≤ length offers.now }
+    ensures { result ≡ has_extent_of tag.now (extents_before accepted.now offers.now count ++ before.now) }
 {
     has_extent_of(tag, before) || has_extent_of(tag, accepted) || has_in_offers(tag, offers, count)
 }
@@ -50,9 +50,15 @@ fn is_tag_of_last(tag: &Tag, before: &[Extent]) -> bool
 
 /// Whether the tag is one, and is new behind the accepted extents, the first `count` offers and those before it, of
 /// which the last one is looked at first.
-fn is_new(tag: &Tag, accepted: &[Extent], offers: &Offers, count: usize, before: &[Extent]) -> bool
-    requires { count ≤ length offers.now.offers }
-    ensures { result ≡ is_new (extents_before accepted.now (lists_of offers.now.offers) count ++ before.now) tag.now }
+fn is_new(
+    tag: &Tag,
+    accepted: &[Extent],
+    offers: &OfferLists,
+    count: usize,
+    before: &[Extent],
+) -> bool
+    requires { count ≤ length offers.now }
+    ensures { result ≡ is_new (extents_before accepted.now offers.now count ++ before.now) tag.now }
 {
     if is_tag_of_last(tag, before) {
         return false;
@@ -85,13 +91,13 @@ fn untagged(extents: &[Extent]) -> usize
 pub(crate) fn more_tags(
     tags: u32,
     accepted: &[Extent],
-    offers: &Offers,
+    offers: &OfferLists,
     count: usize,
     more: &[Extent],
 ) -> u32
-    requires known { count ≤ length offers.now.offers }
-    requires tags { tags ≡ capped (tag_count (extents_before accepted.now (lists_of offers.now.offers) count)) }
-    ensures { result ≡ capped (tag_count (extents_before accepted.now (lists_of offers.now.offers) count ++ more.now)) }
+    requires known { count ≤ length offers.now }
+    requires tags { tags ≡ capped (tag_count (extents_before accepted.now offers.now count)) }
+    ensures { result ≡ capped (tag_count (extents_before accepted.now offers.now count ++ more.now)) }
 {
     let mut tags = tags;
     for i in untagged(more)..more.len() {
@@ -104,21 +110,36 @@ pub(crate) fn more_tags(
 }
 
 /// How many tags these extents have and those of all offers, up to the end of 32 bits.
-pub(crate) fn all_tags(accepted: &[Extent], offers: &Offers) -> u32
-    ensures { result ≡ capped (tag_count (accepted.now ++ flat_map (λ xs. xs) (lists_of offers.now.offers))) }
+pub(crate) fn all_tags(accepted: &[Extent], offers: &OfferLists) -> u32
+    ensures { result ≡ capped (tag_count (accepted.now ++ flat_map (λ xs. xs) offers.now)) }
 {
-    let mut tags = more_tags(0, &[], offers, 0, accepted);
+    let mut tags = list_tags(accepted, offers);
     for i in 0..offers.len() {
-        let offer = offers.at(i).extents.as_slice();
+        let offer = offers.at(i);
         tags = more_tags(tags, accepted, offers, i, offer);
     }
     tags
+}
+
+/// How many tags these extents alone have, up to the end of 32 bits. No offer is looked at.
+#[inline(always)]
+fn list_tags(extents: &[Extent], offers: &OfferLists) -> u32
+    ensures { result ≡ capped (tag_count extents.now) }
+{
+    if extents.is_empty() {
+        return 0;
+    }
+    more_tags(0, &[], offers, 0, extents)
 }
 
 /// How many tags these extents and those have, up to the end of 32 bits. No offer is looked at.
 pub(crate) fn tags_of_two(accepted: &[Extent], offers: &Offers, more: &[Extent]) -> u32
     ensures { result ≡ capped (tag_count (accepted.now ++ more.now)) }
 {
-    let tags = more_tags(0, &[], offers, 0, accepted);
-    more_tags(tags, accepted, offers, 0, more)
+    let offers = OfferLists::all(offers);
+    let tags = list_tags(accepted, &offers);
+    if more.is_empty() {
+        return tags;
+    }
+    more_tags(tags, accepted, &offers, 0, more)
 }

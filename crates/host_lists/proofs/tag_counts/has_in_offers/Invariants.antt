@@ -1,8 +1,7 @@
 use Rattle.std.proofs.Common.{◌≡◌, false, take}
 use Rattle.std.specs.List.{list_any}
 use Rattle.extent_list.specs.ExtentLists.{has_extent_of}
-use Rattle.offer_core.specs.Offerings.{lists_of}
 use Rattle.host_lists.proofs.tag_counts.has_in_offers.Given as goal
 
 abbrev pub invariant-loop-i : goal.invariant-loop-i
-invariant-loop-i l = list_any (has_extent_of l.tag) (take l.i (lists_of l.offers.offers)) ≡ false
+invariant-loop-i l = list_any (has_extent_of l.tag) (take l.i l.offers) ≡ false

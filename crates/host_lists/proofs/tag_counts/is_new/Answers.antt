@@ -2,7 +2,6 @@ use Rattle.std.proofs.Common.{◌≡◌, ◌++◌, true, not, ap, sym, refl, ◌
 use Rattle.std.proofs.lemmas.Bool.{and_right}
 use Rattle.extent_list.specs.ExtentLists.{has_extent_of}
 use Rattle.host_lists.specs.Tags.{extents_before}
-use Rattle.offer_core.specs.Offerings.{lists_of}
 use Rattle.host_lists.proofs.Offered.{has_extent_before}
 use Rattle.host_lists.proofs.tag_counts.is_new.Goals as goal
 
@@ -11,6 +10,6 @@ returns-then-is_tag_of_last c =
     let t = c.args.tag.now in
     let accepted = c.args.accepted.now in
     let before = c.args.before.now in
-    let has : has_extent_of t (extents_before accepted (lists_of c.args.offers.now.offers) c.args.count ++ before) ≡ true =
-    has_extent_before t accepted (lists_of c.args.offers.now.offers) c.args.count before ∙ rw (c.is_tag_of_last.ensures c.if-is_tag_of_last.true) refl in
+    let has : has_extent_of t (extents_before accepted c.args.offers.now c.args.count ++ before) ≡ true =
+    has_extent_before t accepted c.args.offers.now c.args.count before ∙ rw (c.is_tag_of_last.ensures c.if-is_tag_of_last.true) refl in
     sym (and_right _ _ (ap not has))

@@ -1,5 +1,4 @@
 use Rattle.std.proofs.Common.{◌≡◌, ◌+◌, ◌++◌, ap, get_or, sym, take, ◌∙◌}
-use Rattle.offer_core.specs.Offerings.{lists_of}
 use Rattle.host_lists.specs.Tags.{capped, extents_before, is_new, tag_count}
 use Rattle.host_lists.proofs.TagCounting.{capped_new, no_extent, one_more, tag_count_more}
 use Rattle.host_lists.proofs.tag_counts.more_tags.Goals as goal
@@ -7,7 +6,7 @@ use Rattle.host_lists.proofs.tag_counts.more_tags.Goals.{then-is_new, else-is_ne
 
 pub loop-i-preserved : goal.loop-i-preserved
 loop-i-preserved c =
-    let before = extents_before c.args.accepted.now (lists_of c.args.offers.now.offers) c.args.count in
+    let before = extents_before c.args.accepted.now c.args.offers.now c.args.count in
     let xs = c.args.more.now in
     let i = c.loop-i.i in
     let x = get_or xs i no_extent in

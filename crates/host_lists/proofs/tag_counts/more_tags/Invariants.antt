@@ -1,7 +1,6 @@
 use Rattle.std.proofs.Common.{◌≡◌, ◌++◌, take}
 use Rattle.host_lists.specs.Tags.{capped, extents_before, tag_count}
-use Rattle.offer_core.specs.Offerings.{lists_of}
 use Rattle.host_lists.proofs.tag_counts.more_tags.Given as goal
 
 abbrev pub invariant-loop-i : goal.invariant-loop-i
-invariant-loop-i l = l.tags ≡ capped (tag_count (extents_before l.accepted (lists_of l.offers.offers) l.count ++ take l.i l.more))
+invariant-loop-i l = l.tags ≡ capped (tag_count (extents_before l.accepted l.offers l.count ++ take l.i l.more))
