@@ -105,6 +105,12 @@ request_read (a ∷ b ∷ c ∷ d ∷ e ∷ f ∷ g ∷ h ∷ i ∷ j ∷ k ∷ 
     (record { long = omega arith; category = category; total = total ∙ (omega arith) }, rw (tag, opcode, payload_is) refl)
 request_read bytes q reads = absurd (omega (arith, length_of_fields bytes (request_fields q) reads.agrees))
 
+-- what reads as a request has no fault
+pub no_fault_read : (bytes : List ℕ) (q : Request) (f : MessageFault) → ReadsRequest bytes q → message_fault bytes ≡ Some f → ⊥
+no_fault_read bytes q f reads e =
+    let none = no_message_fault bytes (request_read bytes q reads).0 in
+    cc
+
 -- what is spelled so reads so
 pub request_spelled : (q : Request) (bytes : List ℕ) → WritesRequest q bytes → ReadsRequest bytes q
 unfolding ReadsRequest WritesRequest

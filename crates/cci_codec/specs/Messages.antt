@@ -1,5 +1,5 @@
 -- The form of a message: a header of 12 bytes and a payload.
-use Rattle.std.specs.Prelude.{◌≡◌, ℕ, ◌+◌, ◌-◌, ◌*◌, ◌/◌, ◌%◌, ◌^◌, not, ◌==◌, nat_lt, List, [], ◌∷◌, ◌++◌, length, drop, slice_index, Option, Some, None, Result, Ok, Err, if◌then◌else◌, bit_and}
+use Rattle.std.specs.Prelude.{◌≡◌, ℕ, ◌+◌, ◌-◌, ◌*◌, ◌/◌, ◌%◌, ◌^◌, not, ◌==◌, nat_lt, List, [], ◌∷◌, ◌++◌, length, drop, slice_index, Option, Some, None, Result, Ok, Err, ⊤, if◌then◌else◌, bit_and}
 use Rattle.std.specs.Int.{w8, w16}
 use Rattle.cci_codec.specs.declared.messages.Request.{Request}
 use Rattle.cci_codec.specs.declared.messages.Response.{Response}
@@ -62,6 +62,11 @@ message_fault bytes =
     else if not (length_field bytes == length bytes - 12) then Some (MessageFault.LengthDiffers (length_field bytes) (length bytes - 12))
     else None
 
+-- The answer says the first such fault, or that there is none.
+abbrev pub IsFaultOf : List ℕ → Result ⊤ MessageFault → Type 0
+IsFaultOf bytes (Ok sound) = message_fault bytes ≡ None
+IsFaultOf bytes (Err fault) = message_fault bytes ≡ Some fault
+
 -- the request that bytes without such a fault are
 abbrev pub request_in : List ℕ → Request
 request_in bytes = record { tag = slice_index bytes 1; opcode = number_at w16 bytes 3; payload = drop 12 bytes }
@@ -71,6 +76,11 @@ abbrev pub DecodesMessage : List ℕ → Result Request MessageFault → Type 0
 DecodesMessage bytes (Ok request) = (message_fault bytes ≡ None) × (request ≡ request_in bytes)
 DecodesMessage bytes (Err MessageFault.NoMemory) = message_fault bytes ≡ None
 DecodesMessage bytes (Err fault) = message_fault bytes ≡ Some fault
+
+-- What reading the bytes into a place answers, where the place is this request then: as decoding answers.
+abbrev pub FillsMessage : List ℕ → Request → Result ⊤ MessageFault → Type 0
+FillsMessage bytes request (Ok done) = DecodesMessage bytes (Ok request)
+FillsMessage bytes request (Err fault) = DecodesMessage bytes (Err fault)
 
 -- What decoding answers where the bytes read as this request: the request, if there is memory.
 abbrev pub IsDecoded : Request → Result Request MessageFault → Type 0

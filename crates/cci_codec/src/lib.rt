@@ -1,6 +1,7 @@
 //! The form of a message between a host or the Fabric Manager and the device: a header of 12 bytes and a payload.
 #![tactic(auto)]
 
+mod counted;
 mod faults;
 mod headers;
 mod held;

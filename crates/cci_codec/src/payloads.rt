@@ -1,9 +1,10 @@
 //! The input payload of a request.
 
-ghost use Rattle.std.specs.Prelude.{◌≡◌, ◌<◌, IfOk, OnErr, length};
+ghost use Rattle.std.specs.Prelude.{◌≡◌, ◌<◌, ◌≤◌, [], IfOk, OnErr, OnOk, length, take};
 
+use crate::counted::Counted;
 use crate::held::Held;
-use dcd_base::{Boxed, Bytes, NoMemory};
+use dcd_base::{Bytes, NoMemory};
 use std::alloc::Global;
 use std::marker::Model;
 
@@ -23,14 +24,12 @@ pub struct Payload {
 }
 
 impl Model for Payload {
-    ghost use Rattle.cci_codec.specs.Payloads.{IsPayloadHeld, held_bytes};
+    ghost use Rattle.cci_codec.specs.Payloads.{held_bytes};
     ghost use Rattle.std.specs.Prelude.{List, ℕ};
 
     ghost Value = { List ℕ };
 
     ghost view = { λ p. held_bytes p.held };
-
-    ghost invariant = { λ p. IsPayloadHeld p.held };
 }
 
 impl Payload {
@@ -42,7 +41,9 @@ impl Payload {
         if bytes.len() > INLINE {
             return Payload::on_heap(alloc, bytes);
         }
-        Ok(Payload::inline(bytes))
+        Ok(Payload {
+            held: Held::Inline(Counted::of(bytes)),
+        })
     }
 
     /// These bytes on the heap.
@@ -53,19 +54,15 @@ impl Payload {
         if bytes.len() > BLOCK {
             return Payload::apart(alloc, Bytes::from_slice(alloc, bytes)?);
         }
-        Payload::block(alloc, bytes)
+        Payload::block(alloc, Counted::of(bytes))
     }
 
     /// So few bytes in one block.
-    fn block(alloc: Global, bytes: &[u8]) -> Result<Payload, NoMemory>
-        requires { length bytes.now < 73 }
-        ensures { IfOk result (λ payload. payload ≡ bytes.now) }
+    fn block(alloc: Global, bytes: Counted<72>) -> Result<Payload, NoMemory>
+        ensures { IfOk result (λ payload. payload ≡ bytes) }
     {
-        let mut all = [0u8; 72];
-        let (front, _) = all.split_at_mut(bytes.len());
-        front.copy_from_slice(bytes);
         Ok(Payload {
-            held: Held::Block(bytes.len() as u8, alloc, Boxed::new(alloc, all)?),
+            held: Held::Block(alloc, Box::new(alloc, bytes)?),
         })
     }
 
@@ -74,21 +71,55 @@ impl Payload {
         ensures { IfOk result (λ payload. payload ≡ bytes) }
     {
         Ok(Payload {
-            held: Held::Apart(Boxed::new(alloc, bytes)?),
+            held: Held::Apart(Box::new(alloc, bytes)?),
         })
     }
 
-    /// So few bytes in the value itself.
-    fn inline(bytes: &[u8]) -> Payload
-        requires { length bytes.now < 15 }
-        ensures { result ≡ bytes.now }
+    /// No bytes. It takes no memory.
+    pub fn empty() -> Payload
+        ensures { result ≡ [] }
     {
-        let mut all = [0u8; 14];
-        let (front, _) = all.split_at_mut(bytes.len());
-        front.copy_from_slice(bytes);
         Payload {
-            held: Held::Inline(bytes.len() as u8, all),
+            held: Held::Inline(Counted::none()),
         }
+    }
+
+    /// Makes it the first `count` of these bytes. Bytes on the heap stay there, and their memory is used again; only more
+    /// bytes than have room take new memory, and at `NoMemory` the payload may have any bytes.
+    #[inline(always)]
+    pub fn fill(&mut self, alloc: Global, bytes: &[u8], count: usize) -> Result<(), NoMemory>
+        requires { count ≤ length bytes.now }
+        ensures { OnOk result (self.new ≡ take count bytes.now) }
+    {
+        match &mut self.held {
+            Held::Inline(held) => {
+                if count <= INLINE {
+                    held.fill(bytes, count);
+                    return Ok(());
+                }
+                self.fill_anew(alloc, bytes, count)
+            }
+            Held::Block(_, held) => {
+                if count <= BLOCK {
+                    held.as_mut().fill(bytes, count);
+                    return Ok(());
+                }
+                self.fill_anew(alloc, bytes, count)
+            }
+            Held::Apart(held) => fill_list(held.as_mut(), bytes, count),
+        }
+    }
+
+    /// Makes it a new payload of the first `count` of these bytes.
+    #[cold]
+    #[inline(never)]
+    fn fill_anew(&mut self, alloc: Global, bytes: &[u8], count: usize) -> Result<(), NoMemory>
+        requires { count ≤ length bytes.now }
+        ensures { OnOk result (self.new ≡ take count bytes.now) }
+    {
+        let (front, _) = bytes.split_at(count);
+        *self = Payload::from_slice(alloc, front)?;
+        Ok(())
     }
 
     /// Its bytes.
@@ -96,15 +127,9 @@ impl Payload {
         ensures { result.now ≡ self.now }
     {
         match &self.held {
-            Held::Inline(count, bytes) => {
-                let (front, _) = bytes.split_at(usize::from(*count));
-                front
-            }
-            Held::Block(count, _, bytes) => {
-                let (front, _) = bytes.get().split_at(usize::from(*count));
-                front
-            }
-            Held::Apart(bytes) => bytes.get().as_slice(),
+            Held::Inline(bytes) => bytes.as_slice(),
+            Held::Block(_, bytes) => bytes.as_ref().as_slice(),
+            Held::Apart(bytes) => bytes.as_ref().as_slice(),
         }
     }
 
@@ -113,16 +138,25 @@ impl Payload {
         ensures { IfOk result (λ copy. copy ≡ self.now) }
     {
         match &self.held {
-            Held::Inline(count, bytes) => Ok(Payload {
-                held: Held::Inline(*count, *bytes),
+            Held::Inline(bytes) => Ok(Payload {
+                held: Held::Inline(bytes.copy()),
             }),
-            Held::Block(count, alloc, bytes) => Ok(Payload {
-                held: Held::Block(*count, *alloc, Boxed::new(*alloc, *bytes.get())?),
-            }),
+            Held::Block(alloc, bytes) => Payload::block(*alloc, bytes.as_ref().copy()),
             Held::Apart(bytes) => {
-                let bytes = bytes.get();
+                let bytes = bytes.as_ref();
                 Payload::apart(bytes.allocator(), bytes.copy()?)
             }
         }
     }
+}
+
+/// Makes the list the first `count` of these bytes, in the memory that it has, where they have room there.
+#[inline(never)]
+fn fill_list(list: &mut Bytes, bytes: &[u8], count: usize) -> Result<(), NoMemory>
+    requires { count ≤ length bytes.now }
+    ensures { OnOk result (list.new ≡ take count bytes.now) }
+{
+    let (front, _) = bytes.split_at(count);
+    list.clear();
+    list.extend_from_slice(front)
 }

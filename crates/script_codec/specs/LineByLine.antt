@@ -1,5 +1,5 @@
 -- Reading a script line by line: its head, what is still to come, and what the next line takes of it.
-use Rattle.std.specs.Prelude.{◌≡◌, ◌≢◌, ℕ, ◌+◌, ◌-◌, ◌<◌, ◌≤◌, IsTrue, List, [], ◌∷◌, length, Option, Some, None, Result, Ok, Err}
+use Rattle.std.specs.Prelude.{◌≡◌, ◌≢◌, ℕ, ◌+◌, ◌-◌, ◌<◌, ◌≤◌, IsTrue, Bool, true, false, List, [], ◌∷◌, length, Option, Some, None, Result, Ok, Err}
 use Rattle.script_codec.specs.declared.heads.Head.{Head}
 use Rattle.script_codec.specs.declared.script_line.Line.{Line}
 use Rattle.script_codec.specs.declared.scripts.Script.{Script}
@@ -63,6 +63,12 @@ IsNext old new (Ok (Some line)) = TakesLine old new line
 IsNext old new (Ok None) = (old.rest ≡ Ok []) × (new ≡ old)
 IsNext old new (Err fault) = (fault ≢ ScriptFault.NoMemory → old.rest ≡ Err fault) × (new ≡ old)
 
+-- What reading the next line into a place answers, which is this line then: true where there was one.
+abbrev pub IsRead : Unread → Unread → Line → Result Bool ScriptFault → Type 0
+IsRead old new line (Ok true) = IsNext old new (Ok (Some line))
+IsRead old new line (Ok false) = IsNext old new (Ok None)
+IsRead old new line (Err fault) = IsNext old new (Err fault)
+
 -- ---- the same by place
 -- This line begins at the place, and behind it is a place from which so many but one may still come.
 pub record TakesAt (left hosts lanes : ℕ) (bytes : List ℕ) (at : ℕ) (found : Line × ℕ) : Type 0 where
@@ -71,7 +77,8 @@ pub record TakesAt (left hosts lanes : ℕ) (bytes : List ℕ) (at : ℕ) (found
   pub sound : IsTrue (is_sound_line hosts lanes found.0)
   pub within : found.1 ≤ length bytes
 
-abbrev pub IsNextAt : ℕ → ℕ → ℕ → List ℕ → ℕ → Result (Option (Line × ℕ)) ScriptFault → Type 0
-IsNextAt left hosts lanes bytes at (Ok (Some found)) = TakesAt left hosts lanes bytes at found
-IsNextAt left hosts lanes bytes at (Ok None) = lines_from left hosts lanes bytes at ≡ Ok []
-IsNextAt left hosts lanes bytes at (Err fault) = fault ≢ ScriptFault.NoMemory → lines_from left hosts lanes bytes at ≡ Err fault
+-- What reading the line at the place answers, which is this line then: the place behind it, or none where the script ends.
+abbrev pub IsReadAt : ℕ → ℕ → ℕ → List ℕ → ℕ → Line → Result (Option ℕ) ScriptFault → Type 0
+IsReadAt left hosts lanes bytes at line (Ok (Some next)) = TakesAt left hosts lanes bytes at (line, next)
+IsReadAt left hosts lanes bytes at line (Ok None) = lines_from left hosts lanes bytes at ≡ Ok []
+IsReadAt left hosts lanes bytes at line (Err fault) = fault ≢ ScriptFault.NoMemory → lines_from left hosts lanes bytes at ≡ Err fault

@@ -59,6 +59,17 @@ command_from hosts lanes bytes at = do
   request ← message_from size.0 bytes size.1
   Ok (Line.Do actor.0.0 actor.0.1 (Act.Command request.0), request.1)
 
+-- the same act, of this actor
+abbrev pub commanded_by : Actor × ℕ → Line → Line
+commanded_by commander (Line.Do actor lane act) = Line.Do commander.0 commander.1 act
+commanded_by commander Line.Mark = Line.Mark
+
+-- a command of this actor, whose message has so many bytes
+abbrev pub commanded_from : Actor × ℕ → ℕ → List ℕ → ℕ → Result (Line × ℕ) ScriptFault
+commanded_from commander size bytes at = do
+  request ← message_from size bytes at
+  Ok (Line.Do commander.0 commander.1 (Act.Command request.0), request.1)
+
 unfoldable pub load_from : ℕ → ℕ → List ℕ → ℕ → Result (Line × ℕ) ScriptFault
 load_from hosts lanes bytes at = do
   host ← host_from hosts lanes bytes at
@@ -77,14 +88,19 @@ scrub_from bytes at = do
   most ← number_from w16 bytes at
   Ok (Line.Do Actor.Sanitizer 0 (Act.Scrub most.0), most.1)
 
+-- the rest of a line of this kind that is no command
+abbrev pub other_from : ℕ → ℕ → ℕ → List ℕ → ℕ → Result (Line × ℕ) ScriptFault
+other_from kind hosts lanes bytes at =
+    if kind == 2 then load_from hosts lanes bytes at
+    else if kind == 3 then store_from hosts lanes bytes at
+    else if kind == 4 then scrub_from bytes at
+    else Ok (Line.Mark, at)
+
 -- the rest of a line of this kind
 abbrev pub line_from : ℕ → ℕ → ℕ → List ℕ → ℕ → Result (Line × ℕ) ScriptFault
 line_from kind hosts lanes bytes at =
     if kind == 1 then command_from hosts lanes bytes at
-    else if kind == 2 then load_from hosts lanes bytes at
-    else if kind == 3 then store_from hosts lanes bytes at
-    else if kind == 4 then scrub_from bytes at
-    else Ok (Line.Mark, at)
+    else other_from kind hosts lanes bytes at
 
 -- the kind of the line that begins at a place, or 0, the end word
 unfoldable pub kind_from : List ℕ → ℕ → Result (ℕ × ℕ) ScriptFault

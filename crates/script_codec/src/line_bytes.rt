@@ -1,14 +1,14 @@
 //! One line of a script in bytes.
 
 ghost use Rattle.script_codec.specs.Fields.{GivesField};
-ghost use Rattle.script_codec.specs.Lines.{command_from, commander_from, commander_of, host_from, host_of, is_host_byte, kind_from, line_from, load_from, message_from, message_of, scrub_from, store_from};
+ghost use Rattle.script_codec.specs.Lines.{command_from, commanded_by, commanded_from, commander_from, commander_of, host_from, host_of, is_host_byte, kind_from, line_from, load_from, message_from, message_of, other_from, scrub_from, store_from};
 ghost use Rattle.script_codec.specs.Moving.{IsWithin};
-ghost use Rattle.std.specs.Prelude.{◌≡◌, ◌≤◌, IfErr, IfOk, length};
+ghost use Rattle.std.specs.Prelude.{◌≡◌, ◌≤◌, IfErr, IfOk, length, take};
 
 use crate::faults::ScriptFault;
-use crate::fields::{part, skip, u8_at, u16_at, u64_at};
+use crate::fields::{skip, u8_at, u16_at, u64_at};
 use crate::script_line::Line;
-use cci_codec::{MessageFault, Request, decode};
+use cci_codec::{MessageFault, Request};
 use dcd_base::{Actor, HostId};
 use journal_core::Act;
 use std::alloc::Global;
@@ -82,13 +82,21 @@ fn commander_at(
     Ok((actor, next))
 }
 
-/// The request that a message is which begins at the place.
-fn request_of(alloc: Global, at: usize, message: &[u8]) -> Result<Request, ScriptFault>
-    ensures value { GivesField (λ x. x) result (message_of at message.now) }
+/// Makes the request the one that a message of `size` bytes is, which stands first and begins at the place.
+#[inline(always)]
+fn fill_request(
+    alloc: Global,
+    at: usize,
+    bytes: &[u8],
+    size: usize,
+    request: &mut Request,
+) -> Result<(), ScriptFault>
+    requires { size ≤ length bytes.now }
+    ensures value { GivesField (λ _. request.new) result (message_of at (take size bytes.now)) }
     ensures fault { IfErr result (IsWithin at) }
 {
-    match decode(alloc, message) {
-        Ok(request) => Ok(request),
+    match request.fill(alloc, bytes, size) {
+        Ok(()) => Ok(()),
         Err(MessageFault::NoMemory) => Err(ScriptFault::NoMemory),
         Err(fault) => Err(ScriptFault::BadMessage {
             at: at as u64,
@@ -97,8 +105,29 @@ fn request_of(alloc: Global, at: usize, message: &[u8]) -> Result<Request, Scrip
     }
 }
 
-/// A message of so many bytes.
+/// Makes the request the one that a message of so many bytes is, and answers the place behind it.
+#[inline(always)]
 #[tactic(auto, unfolding(crate::specs::Lines::message_from))]
+fn fill_message(
+    alloc: Global,
+    size: u16,
+    bytes: &[u8],
+    at: usize,
+    request: &mut Request,
+) -> Result<usize, ScriptFault>
+    requires { at ≤ length bytes.now }
+    ensures value { GivesField (λ next. (request.new, next)) result (message_from size bytes.now at) }
+    ensures within { IfOk result (λ next. next ≤ length bytes.now) }
+    ensures fault { IfErr result (IsWithin (length bytes.now)) }
+{
+    let size = usize::from(size);
+    let next = skip(bytes, at, size)?;
+    let (_, rest) = bytes.split_at(at);
+    fill_request(alloc, at, rest, size, request)?;
+    Ok(next)
+}
+
+/// A message of so many bytes.
 pub fn message_at(
     alloc: Global,
     size: u16,
@@ -110,54 +139,135 @@ pub fn message_at(
     ensures within { IfOk result (λ x. x.1 ≤ length bytes.now) }
     ensures fault { IfErr result (IsWithin (length bytes.now)) }
 {
-    let size = usize::from(size);
-    let next = skip(bytes, at, size)?;
-    let request = request_of(alloc, at, part(bytes, at, size))?;
+    let mut request = Request::empty();
+    let next = fill_message(alloc, size, bytes, at, &mut request)?;
     Ok((request, next))
 }
 
+/// Puts a command of this actor, whose message has so many bytes, in place of the line, and answers the place behind it.
+#[inline(never)]
+fn begin_commanded(
+    alloc: Global,
+    commander: (Actor, u8),
+    size: u16,
+    bytes: &[u8],
+    at: usize,
+    line: &mut Line,
+) -> Result<usize, ScriptFault>
+    requires { at ≤ length bytes.now }
+    ensures value { GivesField (λ next. (line.new, next)) result (commanded_from commander size bytes.now at) }
+    ensures within { IfOk result (λ next. next ≤ length bytes.now) }
+    ensures fault { IfErr result (IsWithin (length bytes.now)) }
+{
+    let (request, next) = message_at(alloc, size, bytes, at)?;
+    *line = Line::Do {
+        actor: commander.0,
+        lane: commander.1,
+        act: Act::Command(request),
+    };
+    Ok(next)
+}
+
+/// Gives the act of the line to this actor.
+#[inline(always)]
+fn put_commander(line: &mut Line, commander: (Actor, u8))
+    ensures { line.new ≡ commanded_by commander line.old }
+{
+    match line {
+        Line::Do { actor, lane, .. } => {
+            *actor = commander.0;
+            *lane = commander.1;
+        }
+        Line::Mark => {}
+    }
+}
+
+/// Makes the line a command of this actor whose message has so many bytes, and answers the place behind it. A command that
+/// the line was leaves its memory to it.
+#[inline(always)]
+fn fill_commanded(
+    alloc: Global,
+    commander: (Actor, u8),
+    size: u16,
+    bytes: &[u8],
+    at: usize,
+    line: &mut Line,
+) -> Result<usize, ScriptFault>
+    requires { at ≤ length bytes.now }
+    ensures value { GivesField (λ next. (line.new, next)) result (commanded_from commander size bytes.now at) }
+    ensures within { IfOk result (λ next. next ≤ length bytes.now) }
+    ensures fault { IfErr result (IsWithin (length bytes.now)) }
+{
+    match line {
+        Line::Do {
+            act: Act::Command(request),
+            ..
+        } => {
+            let next = fill_message(alloc, size, bytes, at, request)?;
+            put_commander(line, commander);
+            Ok(next)
+        }
+        _ => begin_commanded(alloc, commander, size, bytes, at, line),
+    }
+}
+
 /// A command: the actor, the length of the message, and the message.
+#[inline(always)]
 #[tactic(auto, unfolding(crate::specs::Lines::command_from))]
-fn command_at(
+fn fill_command(
     alloc: Global,
     hosts: u8,
     lanes: u8,
     bytes: &[u8],
     at: usize,
-) -> Result<(Line, usize), ScriptFault>
+    line: &mut Line,
+) -> Result<usize, ScriptFault>
     requires { at ≤ length bytes.now }
-    ensures value { GivesField (λ x. x) result (command_from hosts lanes bytes.now at) }
-    ensures within { IfOk result (λ x. x.1 ≤ length bytes.now) }
+    ensures value { GivesField (λ next. (line.new, next)) result (command_from hosts lanes bytes.now at) }
+    ensures within { IfOk result (λ next. next ≤ length bytes.now) }
     ensures fault { IfErr result (IsWithin (length bytes.now)) }
 {
-    let ((actor, lane), next) = commander_at(hosts, lanes, bytes, at)?;
+    let (commander, next) = commander_at(hosts, lanes, bytes, at)?;
     let (size, next) = u16_at(bytes, next)?;
-    let (request, next) = message_at(alloc, size, bytes, next)?;
-    let act = Act::Command(request);
-    Ok((Line::Do { actor, lane, act }, next))
+    fill_commanded(alloc, commander, size, bytes, next, line)
 }
 
-/// A load: the host and the DPA.
+/// Puts a load in place of the line: the host and the DPA.
+#[inline(always)]
 #[tactic(auto, unfolding(crate::specs::Lines::load_from))]
-fn load_at(hosts: u8, lanes: u8, bytes: &[u8], at: usize) -> Result<(Line, usize), ScriptFault>
+fn fill_load(
+    hosts: u8,
+    lanes: u8,
+    bytes: &[u8],
+    at: usize,
+    line: &mut Line,
+) -> Result<usize, ScriptFault>
     requires { at ≤ length bytes.now }
-    ensures value { GivesField (λ x. x) result (load_from hosts lanes bytes.now at) }
-    ensures within { IfOk result (λ x. x.1 ≤ length bytes.now) }
+    ensures value { GivesField (λ next. (line.new, next)) result (load_from hosts lanes bytes.now at) }
+    ensures within { IfOk result (λ next. next ≤ length bytes.now) }
     ensures fault { IfErr result (IsWithin (length bytes.now)) }
 {
     let ((host, lane), next) = host_at(hosts, lanes, bytes, at)?;
     let (dpa, next) = u64_at(bytes, next)?;
     let actor = Actor::Host(host);
     let act = Act::Load(dpa);
-    Ok((Line::Do { actor, lane, act }, next))
+    *line = Line::Do { actor, lane, act };
+    Ok(next)
 }
 
-/// A store: the host, the DPA and the value.
+/// Puts a store in place of the line: the host, the DPA and the value.
+#[inline(always)]
 #[tactic(auto, unfolding(crate::specs::Lines::store_from))]
-fn store_at(hosts: u8, lanes: u8, bytes: &[u8], at: usize) -> Result<(Line, usize), ScriptFault>
+fn fill_store(
+    hosts: u8,
+    lanes: u8,
+    bytes: &[u8],
+    at: usize,
+    line: &mut Line,
+) -> Result<usize, ScriptFault>
     requires { at ≤ length bytes.now }
-    ensures value { GivesField (λ x. x) result (store_from hosts lanes bytes.now at) }
-    ensures within { IfOk result (λ x. x.1 ≤ length bytes.now) }
+    ensures value { GivesField (λ next. (line.new, next)) result (store_from hosts lanes bytes.now at) }
+    ensures within { IfOk result (λ next. next ≤ length bytes.now) }
     ensures fault { IfErr result (IsWithin (length bytes.now)) }
 {
     let ((host, lane), next) = host_at(hosts, lanes, bytes, at)?;
@@ -165,28 +275,26 @@ fn store_at(hosts: u8, lanes: u8, bytes: &[u8], at: usize) -> Result<(Line, usiz
     let (value, next) = u64_at(bytes, next)?;
     let actor = Actor::Host(host);
     let act = Act::Store(dpa, value);
-    Ok((Line::Do { actor, lane, act }, next))
+    *line = Line::Do { actor, lane, act };
+    Ok(next)
 }
 
-/// A scrub: how many granules at most.
+/// Puts a scrub in place of the line: how many granules at most.
+#[inline(always)]
 #[tactic(auto, unfolding(crate::specs::Lines::scrub_from))]
-fn scrub_at(bytes: &[u8], at: usize) -> Result<(Line, usize), ScriptFault>
+fn fill_scrub(bytes: &[u8], at: usize, line: &mut Line) -> Result<usize, ScriptFault>
     requires { at ≤ length bytes.now }
-    ensures value { GivesField (λ x. x) result (scrub_from bytes.now at) }
-    ensures within { IfOk result (λ x. x.1 ≤ length bytes.now) }
+    ensures value { GivesField (λ next. (line.new, next)) result (scrub_from bytes.now at) }
+    ensures within { IfOk result (λ next. next ≤ length bytes.now) }
     ensures fault { IfErr result (IsWithin (length bytes.now)) }
 {
     let (most, next) = u16_at(bytes, at)?;
-    let actor = Actor::Sanitizer;
-    let act = Act::Scrub(most);
-    Ok((
-        Line::Do {
-            actor,
-            lane: 0,
-            act,
-        },
-        next,
-    ))
+    *line = Line::Do {
+        actor: Actor::Sanitizer,
+        lane: 0,
+        act: Act::Scrub(most),
+    };
+    Ok(next)
 }
 
 /// The kind of a line, 1 to 5, or 0, the end word.
@@ -204,6 +312,55 @@ pub fn kind_at(bytes: &[u8], at: usize) -> Result<(u8, usize), ScriptFault>
     Ok((kind, next))
 }
 
+/// Puts the rest of one that is no command, of this kind, 2 to 5, in place of the line, and answers the place behind it.
+#[inline(never)]
+fn fill_other(
+    kind: u8,
+    hosts: u8,
+    lanes: u8,
+    bytes: &[u8],
+    at: usize,
+    line: &mut Line,
+) -> Result<usize, ScriptFault>
+    requires { at ≤ length bytes.now }
+    ensures value { GivesField (λ next. (line.new, next)) result (other_from kind hosts lanes bytes.now at) }
+    ensures within { IfOk result (λ next. next ≤ length bytes.now) }
+    ensures fault { IfErr result (IsWithin (length bytes.now)) }
+{
+    match kind {
+        2 => fill_load(hosts, lanes, bytes, at, line),
+        3 => fill_store(hosts, lanes, bytes, at, line),
+        4 => fill_scrub(bytes, at, line),
+        _ => {
+            *line = Line::Mark;
+            Ok(at)
+        }
+    }
+}
+
+/// Makes the line the rest of one of this kind, 1 to 5, and answers the place behind it. A command that the line was leaves
+/// its memory to the next; at a fault the line may be any.
+#[inline(always)]
+pub fn fill_line(
+    alloc: Global,
+    kind: u8,
+    hosts: u8,
+    lanes: u8,
+    bytes: &[u8],
+    at: usize,
+    line: &mut Line,
+) -> Result<usize, ScriptFault>
+    requires { at ≤ length bytes.now }
+    ensures value { GivesField (λ next. (line.new, next)) result (line_from kind hosts lanes bytes.now at) }
+    ensures within { IfOk result (λ next. next ≤ length bytes.now) }
+    ensures fault { IfErr result (IsWithin (length bytes.now)) }
+{
+    if kind == 1 {
+        return fill_command(alloc, hosts, lanes, bytes, at, line);
+    }
+    fill_other(kind, hosts, lanes, bytes, at, line)
+}
+
 /// The rest of a line of this kind, 1 to 5.
 pub fn line_at(
     alloc: Global,
@@ -218,11 +375,7 @@ pub fn line_at(
     ensures within { IfOk result (λ x. x.1 ≤ length bytes.now) }
     ensures fault { IfErr result (IsWithin (length bytes.now)) }
 {
-    match kind {
-        1 => command_at(alloc, hosts, lanes, bytes, at),
-        2 => load_at(hosts, lanes, bytes, at),
-        3 => store_at(hosts, lanes, bytes, at),
-        4 => scrub_at(bytes, at),
-        _ => Ok((Line::Mark, at)),
-    }
+    let mut line = Line::Mark;
+    let next = fill_line(alloc, kind, hosts, lanes, bytes, at, &mut line)?;
+    Ok((line, next))
 }

@@ -1,11 +1,11 @@
 //! A script line by line, whose bytes are let go as it is read.
 
-ghost use Rattle.script_codec.specs.LineByLine.{HasBegun, IsNext};
+ghost use Rattle.script_codec.specs.LineByLine.{HasBegun, IsRead};
 ghost use Rattle.std.specs.Prelude.{◌≡◌, ◌+◌, ◌≤◌, ◌-◌, drop, length, take};
 
 use crate::faults::ScriptFault;
 use crate::heads::Head;
-use crate::reader::{MOST_LINES, begin_at, next_at};
+use crate::reader::{MOST_LINES, begin_at, read_at};
 use crate::script_line::Line;
 use dcd_base::Bytes;
 use std::alloc::Global;
@@ -72,27 +72,31 @@ impl OwnReader {
         Ok((head, reader))
     }
 
-    /// Reads the next line, or answers `None` behind the last one, or the fault that comes first, as `Reader::next` does.
-    pub fn next(&mut self) -> Result<Option<Line>, ScriptFault>
-        ensures next { IsNext self.old self.new result }
+    /// Reads the next line into this one, as `Reader::next` reads it, and answers whether there was one; or the fault that
+    /// comes first. A command that the line was leaves its memory to the next one.
+    ///
+    /// Behind the last line and at a fault the line may be any.
+    pub fn read(&mut self, line: &mut Line) -> Result<bool, ScriptFault>
+        ensures next { IsRead self.old self.new line.new result }
         ensures hosts { self.new.hosts ≡ self.old.hosts }
         ensures lanes { self.new.lanes ≡ self.old.lanes }
     {
         self.let_go();
-        match next_at(
+        match read_at(
             self.alloc,
             self.left,
             self.hosts,
             self.lanes,
             self.bytes.as_slice(),
             self.place,
+            line,
         ) {
-            Ok(Some((line, place))) => {
+            Ok(Some(place)) => {
                 self.place = place;
                 self.left -= 1;
-                Ok(Some(line))
+                Ok(true)
             }
-            Ok(None) => Ok(None),
+            Ok(None) => Ok(false),
             Err(fault) => Err(fault.moved(self.before)),
         }
     }

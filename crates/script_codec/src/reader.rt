@@ -1,14 +1,14 @@
 //! A script line by line.
 
 ghost use Rattle.script_codec.specs.Fields.{GivesField};
-ghost use Rattle.script_codec.specs.LineByLine.{HasBegun, IsBegunAt, IsNext, IsNextAt};
+ghost use Rattle.script_codec.specs.LineByLine.{HasBegun, IsBegunAt, IsNext, IsReadAt};
 ghost use Rattle.script_codec.specs.Lines.{end_from};
 ghost use Rattle.script_codec.specs.Moving.{IsWithin};
 ghost use Rattle.std.specs.Prelude.{◌≡◌, ◌≤◌, [], IfErr, IfOk, length};
 
 use crate::faults::ScriptFault;
 use crate::heads::{Head, head_at};
-use crate::line_bytes::{kind_at, line_at};
+use crate::line_bytes::{fill_line, kind_at};
 use crate::script_line::Line;
 use std::alloc::Global;
 use std::marker::Model;
@@ -77,10 +77,11 @@ impl<'a> Reader<'a> {
         ensures hosts { self.new.hosts ≡ self.old.hosts }
         ensures lanes { self.new.lanes ≡ self.old.lanes }
     {
-        match next_at(
-            self.alloc, self.left, self.hosts, self.lanes, self.bytes, self.place,
+        let mut line = Line::Mark;
+        match read_at(
+            self.alloc, self.left, self.hosts, self.lanes, self.bytes, self.place, &mut line,
         )? {
-            Some((line, place)) => {
+            Some(place) => {
                 self.place = place;
                 self.left -= 1;
                 Ok(Some(line))
@@ -114,18 +115,20 @@ fn end_at(bytes: &[u8], at: usize) -> Result<(), ScriptFault>
     Ok(())
 }
 
-/// The line that begins at the place and the place behind it, where at most so many may still come, or `None` where the
-/// script ends there.
-pub(crate) fn next_at(
+/// Reads the line that begins at the place, where at most so many may still come, and answers the place behind it, or `None`
+/// where the script ends there. A command that the line was leaves its memory to the next; but for `Some` it may be any.
+#[inline(always)]
+pub(crate) fn read_at(
     alloc: Global,
     left: u32,
     hosts: u8,
     lanes: u8,
     bytes: &[u8],
     at: usize,
-) -> Result<Option<(Line, usize)>, ScriptFault>
+    line: &mut Line,
+) -> Result<Option<usize>, ScriptFault>
     requires { at ≤ length bytes.now }
-    ensures next { IsNextAt left hosts lanes bytes.now at result }
+    ensures next { IsReadAt left hosts lanes bytes.now at line.new result }
     ensures fault { IfErr result (IsWithin (length bytes.now)) }
 {
     let (kind, next) = kind_at(bytes, at)?;
@@ -136,6 +139,6 @@ pub(crate) fn next_at(
     if left == 0 {
         return Err(ScriptFault::TooManyLines(at as u64));
     }
-    let (line, next) = line_at(alloc, kind, hosts, lanes, bytes, next)?;
-    Ok(Some((line, next)))
+    let next = fill_line(alloc, kind, hosts, lanes, bytes, next, line)?;
+    Ok(Some(next))
 }
