@@ -6,7 +6,7 @@ use Rattle.std.proofs.lemmas.List.{take_all}
 use Rattle.field_bytes.proofs.Fields.{IsBytes}
 use Rattle.journal_core.specs.declared.coding.Coder.{Coder}
 use Rattle.journal_core.specs.declared.tokens.Token.{Token}
-use Rattle.journal_core.specs.Coding.{AddsBytes, CodesTo}
+use Rattle.journal_core.specs.Coding.{AddsBytes, CodesTo, IsFront}
 use Rattle.journal_core.specs.Slots.{slots_in, with_byte, with_slot}
 use Rattle.journal_core.specs.Tokens.{token_of, tokens_in}
 use Rattle.journal_core.proofs.Slotting.{with_slot-byte}
@@ -33,6 +33,17 @@ pub place_alone : (s : ℕ → ℕ) (place : ℕ) → place < 128 → tokens_in 
 unfolding tokens_in
 place_alone s place lt = ap (λ t. cond t (tokens_in s (Some place) []) (token_of place s ∷ tokens_in s None [])) (lt-ltb place 128 lt)
 
+-- ---- the front of the bytes
+
+pub front_same : (a b : List ℕ) → b ≡ a → IsFront a b
+front_same a b is = record { more = []; is = is ∙ sym (append-nil a) }
+
+pub front_then : {a b c : List ℕ} → IsFront a b → IsFront b c → IsFront a c
+front_then {a} {b} {c} p q = record {
+  more = p.more ++ q.more;
+  is = q.is ∙ ap (λ (z : List ℕ). z ++ q.more) p.is ∙ append_assoc a p.more q.more;
+}
+
 -- ---- steps of a coder
 
 pub adds_then : {a b c : Coder} {xs ys : List ℕ} → AddsBytes a b xs → AddsBytes b c ys → AddsBytes a c (xs ++ ys)
@@ -42,11 +53,13 @@ adds_then {a} {b} {c} {xs} {ys} p q = record {
       let r = q.appended ok in
       let s = p.appended r.0 in
       (s.0, r.1 ∙ ap (λ (z : List ℕ). z ++ ys) s.1 ∙ append_assoc a.bytes.items xs ys);
+  front = front_then p.front q.front;
 }
 
 pub codes_none : (a : Coder) (s : ℕ → ℕ) → s ≡ slots_in a.slots → CodesTo a a s []
 codes_none a s e = record {
   coded = λ ok. (ok, record { added = []; put = sym (append-nil a.bytes.items); told = λ more. ap (λ (z : ℕ → ℕ). tokens_in z None more) (sym e) });
+  front = front_same a.bytes.items a.bytes.items refl;
 }
 
 pub codes_then : {a b c : Coder} {s : ℕ → ℕ} {xs ys : List Token} → CodesTo a b (slots_in b.slots) xs → CodesTo b c s ys → CodesTo a c s (xs ++ ys)
@@ -65,6 +78,7 @@ codes_then {a} {b} {c} {s} {xs} {ys} p q = record {
               ∙ sym (append_assoc xs ys (tokens_in s None more));
         },
       );
+  front = front_then p.front q.front;
 }
 
 -- a byte of a slot, whose bytes so far are these
@@ -90,6 +104,7 @@ codes_byte a b c k place byte bytes lt in_eight len small before adds = record {
               ∙ ap (λ (z : ℕ → ℕ). tokens_in z None more) (with_slot-byte s k place byte bytes len small);
         },
       );
+  front = front_then before.front adds.front;
 }
 
 -- a slot all of whose bytes are set
@@ -112,6 +127,7 @@ codes_end a b kind le adds = record {
               ∙ ap (λ (z : List ℕ). token_of kind (slots_in a.slots) ∷ tokens_in (slots_in z) None more) (sym adds.slots);
         },
       );
+  front = adds.front;
 }
 
 -- the end of a token that these slots hold

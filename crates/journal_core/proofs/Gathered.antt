@@ -6,7 +6,7 @@ use Rattle.dcd_base.specs.declared.capacity.Extent.{Extent}
 use Rattle.journal_core.specs.declared.coding.Coder.{Coder}
 use Rattle.journal_core.specs.declared.outcome.Effect.{Effect}
 use Rattle.journal_core.specs.declared.tokens.Token.{Token}
-use Rattle.journal_core.specs.Coding.{CodesTo}
+use Rattle.journal_core.specs.Coding.{CodesTo, TellsEffects}
 use Rattle.journal_core.specs.Slots.{no_slots, slots_in}
 use Rattle.journal_core.specs.Tokens.{effect_alone, effects_from, effects_told, tokens_in, tokens_of, without_extents}
 use Rattle.journal_core.proofs.CoderSteps.{nothing_told}
@@ -42,24 +42,36 @@ pub all_back : (effects : List Effect) → effects_from [] (flat_map tokens_of e
 all_back [] = refl
 all_back (e ∷ effects) = one_back e (flat_map tokens_of effects) ∙ ap (λ (z : List Effect). e ∷ z) (all_back effects)
 
--- what a coder wrote tells the effects
-pub written_back : (a b : Coder) (effects : List Effect) → slots_in a.slots ≡ no_slots → a.bytes.items ≡ [] → IsFalse b.failed → CodesTo a b (slots_in b.slots) (flat_map tokens_of effects) → effects_from [] (tokens_in no_slots None b.bytes.items) ≡ effects
-written_back a b effects fresh empty ok codes =
-    let t = (codes.coded ok).1 in
-    let bytes : b.bytes.items ≡ t.added ++ [] = t.put ∙ ap (λ (z : List ℕ). z ++ t.added) empty ∙ sym (append-nil t.added) in
-    ap (λ (z : List ℕ). effects_from [] (tokens_in no_slots None z)) bytes
-    ∙ ap (λ (z : ℕ → ℕ). effects_from [] (tokens_in z None (t.added ++ []))) (sym fresh)
-    ∙ ap (effects_from []) (t.told [] ∙ ap (λ (z : List Token). flat_map tokens_of effects ++ z) (nothing_told (slots_in b.slots)) ∙ append-nil (flat_map tokens_of effects))
-    ∙ all_back effects
+-- what a coder wrote behind some bytes tells the effects
+pub written_behind : (old : List ℕ) (a b : Coder) (effects : List Effect) → slots_in a.slots ≡ no_slots → a.bytes.items ≡ old → IsFalse b.failed →
+    CodesTo a b (slots_in b.slots) (flat_map tokens_of effects) → TellsEffects old b.bytes.items effects
+written_behind old a b effects fresh before ok codes =
+    let t = (codes.coded ok).1 in record {
+      told = t.added;
+      put = t.put ∙ ap (λ (z : List ℕ). z ++ t.added) before;
+      tells =
+          ap (λ (z : List ℕ). effects_from [] (tokens_in no_slots None z)) (sym (append-nil t.added))
+          ∙ ap (λ (z : ℕ → ℕ). effects_from [] (tokens_in z None (t.added ++ []))) (sym fresh)
+          ∙ ap (effects_from []) (t.told [] ∙ ap (λ (z : List Token). flat_map tokens_of effects ++ z) (nothing_told (slots_in b.slots)) ∙ append-nil (flat_map tokens_of effects))
+          ∙ all_back effects;
+    }
+
+pub no_effects : (effects : List Effect) → (length effects == 0) ≡ true → effects_told (Some []) ≡ effects
+no_effects [] none = ap (effects_from []) (nothing_told no_slots)
+no_effects (e ∷ effects) none = absurd (omega (arith, eqb-true (suc (length effects)) 0 none))
+
+-- no effects are told by nothing
+pub none_behind : (old new : List ℕ) (effects : List Effect) → new ≡ old → (length effects == 0) ≡ true → TellsEffects old new effects
+none_behind old new effects same none = record { told = []; put = same ∙ sym (append-nil old); tells = no_effects effects none }
+
+-- what is told behind no bytes are all
+pub told_alone : (old new : List ℕ) (effects : List Effect) → old ≡ [] → TellsEffects old new effects → effects_told (Some new) ≡ effects
+told_alone old new effects none t = ap (λ (z : List ℕ). effects_told (Some z)) (t.put ∙ ap (λ (z : List ℕ). z ++ t.told) none) ∙ t.tells
 
 -- no bytes tell none
 pub no_bytes : (bytes : List ℕ) → (length bytes == 0) ≡ true → [] ≡ effects_told (Some bytes)
 no_bytes [] none = sym (ap (effects_from []) (nothing_told no_slots))
 no_bytes (byte ∷ bytes) none = absurd (omega (arith, eqb-true (suc (length bytes)) 0 none))
-
-pub no_effects : (effects : List Effect) → (length effects == 0) ≡ true → effects_told (Some []) ≡ effects
-no_effects [] none = ap (effects_from []) (nothing_told no_slots)
-no_effects (e ∷ effects) none = absurd (omega (arith, eqb-true (suc (length effects)) 0 none))
 
 -- effects without extents are tokens alone
 pub alone_back : (waiting : List Extent) (tokens : List Token) → without_extents (effects_from waiting tokens) ≡ filter_map effect_alone tokens

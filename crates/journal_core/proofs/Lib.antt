@@ -20,3 +20,4 @@ pub mod Pushing
 pub mod Slotting
 pub mod Sorting
 pub mod Splits
+pub mod StepBytes

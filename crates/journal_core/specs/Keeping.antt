@@ -1,5 +1,5 @@
 -- The entries of a control as they are kept.
-use Rattle.std.specs.Prelude.{◌≡◌, ◌≤◌, ◌<◌, ◌^◌, ℕ, ◌+◌, ◌-◌, ◌++◌, List, [], ◌∷◌, Some, drop, length, take}
+use Rattle.std.specs.Prelude.{◌≡◌, ◌≤◌, ◌<◌, ◌^◌, ℕ, ◌+◌, ◌-◌, ◌++◌, Bool, true, false, List, [], ◌∷◌, Some, drop, length, take}
 use Rattle.std.specs.Global.{Vec}
 use Rattle.std.specs.Vec.{vec_capacity, vec_len}
 use Rattle.dcd_base.specs.declared.steps.Stamp.{Stamp}
@@ -76,6 +76,12 @@ step_entry number step bytes = record {
   stamp = record { number = number; count = 0 };
 }
 
+-- Behind the old bytes come the payloads of a step, and what stands from this place on tells its effects.
+pub record HoldsStep (old new : List ℕ) (payloads : List ℕ × List ℕ) (effects : List Effect) (at : ℕ) : Type 0 where
+  pub within : at ≤ length new
+  pub put : new ≡ old ++ (payloads.0 ++ (payloads.1 ++ drop at new))
+  pub tells : effects_told (Some (drop at new)) ≡ effects
+
 -- With these bytes the step is the next entry of what was asked and replied, wherever it comes.
 pub record Keeps (step : KeptStep) (pass line : ℕ) (actor : Actor) (act : Act) (replied : Reply × List ℕ) (bytes : List ℕ) : Type 0 where
   pub width : step.width ≡ length bytes
@@ -124,3 +130,8 @@ roomy_of kept bytes = record {
   spare = vec_capacity kept - vec_len kept;
   room = vec_capacity bytes - vec_len bytes;
 }
+
+-- The entry was put behind the others, or they and the room for more are as before.
+abbrev pub PutOrNot : Roomy → Roomy → Entry → Bool → Type 0
+PutOrNot old new e true = new.entries ≡ old.entries ++ e ∷ []
+PutOrNot old new e false = (new.entries ≡ old.entries) × (new.spare ≡ old.spare)

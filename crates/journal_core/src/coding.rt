@@ -1,11 +1,11 @@
 //! Effects to bytes.
 
 ghost use Rattle.event_records.specs.Records.{kind_number};
-ghost use Rattle.journal_core.specs.Coding.{AddsBytes, Codes, CodesTo, IsFollower, IsLike, IsOnlyDifference, IsPairDifference};
+ghost use Rattle.journal_core.specs.Coding.{AddsBytes, Codes, CodesTo, IsFollower, IsFront, IsLike, IsOnlyDifference, IsPairDifference, TellsEffects};
 ghost use Rattle.journal_core.specs.Slots.{FitsWhat, no_slots, number_of_held, number_of_log, slots_in, slotted_event, slotted_extent, slotted_held, slotted_log, slotted_run, slotted_tag, telling_event, telling_extent, telling_flag, telling_held, telling_host, telling_log, telling_run, telling_tag, telling_what, with_slot};
 ghost use Rattle.journal_core.specs.Tokens.{token_of, tokens_of};
 ghost use Rattle.journal_core.specs.declared.tokens.Token.{Token};
-ghost use Rattle.std.specs.Prelude.{◌≡◌, ℕ, ◌+◌, ◌*◌, ◌%◌, ◌<◌, ◌≤◌, ◌^◌, [], ◌∷◌, IfSome, IsFalse, IsTrue, flat_map, map, true, vec_capacity, vec_len};
+ghost use Rattle.std.specs.Prelude.{◌≡◌, ℕ, ◌+◌, ◌*◌, ◌%◌, ◌<◌, ◌≤◌, ◌^◌, [], ◌∷◌, IfSome, IsFalse, IsTrue, OnOk, flat_map, map, true, vec_capacity, vec_len};
 
 use crate::outcome::{Effect, HeldKind};
 use crate::slots::{
@@ -13,7 +13,7 @@ use crate::slots::{
     HOST, LEAVE, LENGTH, LOG, LOGGED, MISSED, MORE, OFFER, REF, REGION, RESET, SEQUENCE, SLOTS,
     SOIL, START, Slots, TAG_END, TAG_HIGH, TAG_LOW, TAGS_LEFT, TAKE, UNHOLD, ZERO,
 };
-use dcd_base::{Extent, HostId, LogId, RegionId, Run, Tag};
+use dcd_base::{Extent, HostId, LogId, NoMemory, RegionId, Run, Tag};
 use event_records::{Event, EventKind};
 use field_bytes::{are_bytes, u64_at};
 use std::alloc::Global;
@@ -25,7 +25,7 @@ const CHANGE: usize = 16;
 #[derive(Debug, Drop)]
 pub(crate) struct Coder {
     slots: Slots,
-    bytes: Vec<u8>,
+    pub(crate) bytes: Vec<u8>,
     failed: bool,
 }
 
@@ -42,25 +42,27 @@ impl Coder {
         }
     }
 
-    /// Begins anew, in the room of the bytes that were written.
-    pub(crate) fn restart(&mut self)
+    /// Sets all slots to 0, behind the bytes that were written.
+    fn begin(&mut self)
         ensures slots { slots_in self.new.slots ≡ no_slots }
-        ensures bytes { self.new.bytes.items ≡ [] }
+        ensures bytes { self.new.bytes.items ≡ self.old.bytes.items }
     {
         self.slots = [0; SLOTS];
-        self.bytes.clear();
         self.failed = false;
     }
 
-    /// The bytes that were written; None where there was no memory for them.
-    pub(crate) fn written(&self) -> Option<&[u8]>
-        ensures { IfSome result (λ bytes. IsFalse self.now.failed × (bytes.now ≡ self.now.bytes.items)) }
+    /// Writes what tells these effects behind the bytes so far, which stay. Without memory something else may stand there.
+    #[inline(always)]
+    pub(crate) fn tell(&mut self, effects: &[Effect]) -> Result<(), NoMemory>
+        ensures told { OnOk result (TellsEffects self.old.bytes.items self.new.bytes.items effects.now) }
+        ensures front { IsFront self.old.bytes.items self.new.bytes.items }
     {
-        if self.failed {
-            None
-        } else {
-            Some(self.bytes.as_slice())
+        if effects.is_empty() {
+            return Ok(());
         }
+        self.begin();
+        self.put_effects(effects);
+        if self.failed { Err(NoMemory) } else { Ok(()) }
     }
 
     /// Writes a byte. There is room for it.

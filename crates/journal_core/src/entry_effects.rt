@@ -110,26 +110,8 @@ fn coded(alloc: Global, effects: &[Effect]) -> Result<Bytes, NoMemory>
     ensures { IfOk result (λ bytes. effects_from [] (tokens_in no_slots None bytes) ≡ effects.now) }
 {
     let mut coder = Coder::new(alloc);
-    coder.put_effects(effects);
-    match coder.written() {
-        Some(bytes) => Bytes::from_slice(alloc, bytes),
-        None => Err(NoMemory),
-    }
-}
-
-/// The bytes that tell these effects, as the coder writes them in the place of what it wrote before.
-pub(crate) fn retold<'a>(coder: &'a mut Coder, effects: &[Effect]) -> Result<&'a [u8], NoMemory>
-    ensures { IfOk result (λ told. effects_told (Some told.now) ≡ effects.now) }
-{
-    if effects.is_empty() {
-        return Ok(&[]);
-    }
-    coder.restart();
-    coder.put_effects(effects);
-    match coder.written() {
-        Some(bytes) => Ok(bytes),
-        None => Err(NoMemory),
-    }
+    coder.tell(effects)?;
+    Bytes::from_slice(alloc, coder.bytes.as_slice())
 }
 
 /// Effects without extents, one after another: all but offers, answers and held lists. Contracts see those that are still to come.

@@ -7,11 +7,10 @@ ghost use Rattle.journal_core.specs.declared.entries.Entry.{Entry};
 ghost use Rattle.std.specs.Prelude.{◌≡◌, ◌+◌, ◌++◌, ◌^◌, ◌∷◌, ◌<◌, ◌≤◌, [], List, OnErr, OnOk, Some, length};
 
 use crate::acts::{Act, Reply};
-use crate::coding::Coder;
 use crate::entries::{Effects, Entry};
-use crate::entry_effects::{EntryEffects, retold};
+use crate::entry_effects::EntryEffects;
 use crate::kept_list::KeptList;
-use crate::kept_steps::{KeptStep, Parts, kept_small};
+use crate::kept_steps::kept_small;
 use crate::lending::Lent;
 use crate::lent_lists::LentEntries;
 use dcd_base::{Actor, Boxed, NoMemory, Stamp};
@@ -26,8 +25,6 @@ use std::marker::Model;
 #[derive(Drop)]
 pub struct KeptEntries {
     list: KeptList,
-    /// Writes the effects of the next entry.
-    coder: Coder,
 }
 
 impl Model for KeptEntries {
@@ -45,7 +42,6 @@ impl KeptEntries {
     {
         KeptEntries {
             list: KeptList::new(alloc),
-            coder: Coder::new(alloc),
         }
     }
 
@@ -106,14 +102,13 @@ impl KeptEntries {
         ensures kept { OnErr result (self.new.entries ≡ self.old.entries) }
     {
         self.list.reserve_place()?;
-        let parts = Parts::of(act, reply, retold(&mut self.coder, effects.as_slice())?);
-        match KeptStep::of(pass, line, actor, act, reply, &parts) {
-            Some(step) => {
-                self.list.reserve_bytes(step.width as usize)?;
-                self.list.put_step(step, &parts);
-                Ok(())
-            }
-            None => self.append_apart(pass, line, actor, act, reply, effects),
+        // For `append_apart`, where the first call has taken the actor.
+        let same_actor = actor;
+        let list = effects.as_slice();
+        match self.list.append_step(pass, line, actor, act, reply, list) {
+            Ok(true) => Ok(()),
+            Ok(false) => self.append_apart(pass, line, same_actor, act, reply, effects),
+            Err(fault) => Err(fault),
         }
     }
 
@@ -131,14 +126,12 @@ impl KeptEntries {
         ensures kept { OnErr result (self.new.entries ≡ self.old.entries) }
     {
         self.list.reserve_place()?;
-        let parts = Parts::of(act, reply, retold(&mut self.coder, &[])?);
-        match KeptStep::of(pass, line, actor, act, reply, &parts) {
-            Some(step) => {
-                self.list.reserve_bytes(step.width as usize)?;
-                self.list.put_step(step, &parts);
-                Ok(())
-            }
-            None => self.append_quiet_apart(pass, line, actor, act, reply),
+        // For `append_quiet_apart`, where the first call has taken the actor.
+        let same_actor = actor;
+        match self.list.append_step(pass, line, actor, act, reply, &[]) {
+            Ok(true) => Ok(()),
+            Ok(false) => self.append_quiet_apart(pass, line, same_actor, act, reply),
+            Err(fault) => Err(fault),
         }
     }
 

@@ -1,17 +1,20 @@
 //! A list of entries that are kept as small as their bytes.
 
-ghost use Rattle.journal_core.specs.Keeping.{Roomy, next_stamp, parts_bytes, step_entry};
+ghost use Rattle.journal_core.specs.Keeping.{HoldsStep, PutOrNot, Roomy, next_entry, parts_bytes, step_entry};
 ghost use Rattle.journal_core.specs.Lending.{lent};
 ghost use Rattle.journal_core.specs.Merging.{Rising};
 ghost use Rattle.journal_core.specs.declared.entries.Entry.{Entry};
-ghost use Rattle.std.specs.Prelude.{◌≡◌, ◌+◌, ◌++◌, ◌∷◌, ◌<◌, ◌≤◌, ◌^◌, [], List, OnOk, Some, length};
+ghost use Rattle.std.specs.Prelude.{◌≡◌, ◌+◌, ◌++◌, ◌∷◌, ◌<◌, ◌≤◌, ◌^◌, [], IfOk, List, OnErr, OnOk, Some, length};
 ghost use Rattle.std.specs.Vec.{vec_capacity, vec_len};
 
+use crate::acts::{Act, Reply};
+use crate::coding::Coder;
 use crate::entries::Entry;
-use crate::kept_steps::{Kept, KeptStep, Parts};
+use crate::kept_steps::{Kept, KeptStep, Parts, payload_asked, payload_replied};
 use crate::lending::Lent;
 use crate::lent_lists::LentEntries;
-use dcd_base::{Boxed, NoMemory};
+use crate::outcome::Effect;
+use dcd_base::{Actor, Boxed, NoMemory};
 use std::alloc::Global;
 use std::marker::Model;
 
@@ -29,7 +32,8 @@ const BYTES_AT_ONCE: usize = 262_144;
 pub(crate) struct KeptList {
     alloc: Global,
     kept: Vec<Kept>,
-    bytes: Vec<u8>,
+    /// Has the bytes, and writes those that tell the effects of the next entry behind them.
+    coder: Coder,
 }
 
 impl Model for KeptList {
@@ -38,9 +42,9 @@ impl Model for KeptList {
 
     ghost Value = { Roomy };
 
-    ghost view = { λ k. roomy_of k.kept k.bytes };
+    ghost view = { λ k. roomy_of k.kept k.coder.bytes };
 
-    ghost invariant = { λ k. widths k.kept.items ≡ length k.bytes.items };
+    ghost invariant = { λ k. widths k.kept.items ≡ length k.coder.bytes.items };
 }
 
 /// Puts the parts of a step behind the bytes. It takes no memory.
@@ -66,6 +70,43 @@ fn put_part(bytes: &mut Vec<u8>, part: &[u8])
     }
 }
 
+/// Makes room for so many more bytes.
+fn reserve(bytes: &mut Vec<u8>, more: usize) -> Result<(), NoMemory>
+    ensures room { OnOk result (vec_len bytes.new + more ≤ vec_capacity bytes.new) }
+    ensures kept { bytes.new.items ≡ bytes.old.items }
+{
+    if more > bytes.capacity() - bytes.len() {
+        bytes.reserve(more.max(BYTES_AT_ONCE))?;
+    }
+    Ok(())
+}
+
+/// Puts the payloads of a step behind the bytes and what tells its effects behind them, and answers where that begins. Without
+/// memory the bytes are as before.
+#[inline(always)]
+fn put_bytes(
+    coder: &mut Coder,
+    asked: &[u8],
+    replied: &[u8],
+    effects: &[Effect],
+) -> Result<usize, NoMemory>
+    ensures put { IfOk result (HoldsStep coder.old.bytes.items coder.new.bytes.items (asked.now, replied.now) effects.now) }
+    ensures kept { OnErr result (coder.new.bytes.items ≡ coder.old.bytes.items) }
+{
+    let before = coder.bytes.len();
+    reserve(&mut coder.bytes, asked.len() + replied.len())?;
+    put_part(&mut coder.bytes, asked);
+    put_part(&mut coder.bytes, replied);
+    let at = coder.bytes.len();
+    match coder.tell(effects) {
+        Ok(()) => Ok(at),
+        Err(NoMemory) => {
+            coder.bytes.truncate(before);
+            Err(NoMemory)
+        }
+    }
+}
+
 impl KeptList {
     /// No entry.
     #[tactic(auto, using(crate::proofs::Keepings::no_entries))]
@@ -75,7 +116,7 @@ impl KeptList {
         KeptList {
             alloc,
             kept: Vec::new(alloc),
-            bytes: Vec::new(alloc),
+            coder: Coder::new(alloc),
         }
     }
 
@@ -96,7 +137,7 @@ impl KeptList {
     pub(crate) fn room(&self) -> usize
         ensures { result ≡ self.now.room }
     {
-        self.bytes.capacity() - self.bytes.len()
+        self.coder.bytes.capacity() - self.coder.bytes.len()
     }
 
     /// Makes room for one more entry.
@@ -116,10 +157,45 @@ impl KeptList {
         ensures spare { self.new.spare ≡ self.old.spare }
         ensures kept { self.new.entries ≡ self.old.entries }
     {
-        if bytes > self.room() {
-            self.bytes.reserve(bytes.max(BYTES_AT_ONCE))?;
+        reserve(&mut self.coder.bytes, bytes)
+    }
+
+    /// Puts the entry of a step behind the others with the next stamp, and answers whether it could: where it can't be kept small,
+    /// and without memory, the entries are as before.
+    #[inline(always)]
+    pub(crate) fn append_step(
+        &mut self,
+        pass: u32,
+        line: u32,
+        actor: Actor,
+        act: &Act,
+        reply: &Reply,
+        effects: &[Effect],
+    ) -> Result<bool, NoMemory>
+        requires place { 0 < self.old.spare }
+        ensures put { IfOk result (PutOrNot self.old self.new (next_entry self.old.entries pass line actor act.now (reply.now, effects.now))) }
+        ensures kept { OnErr result (self.new.entries ≡ self.old.entries) }
+    {
+        let before = self.coder.bytes.len();
+        let asked = payload_asked(act);
+        let replied = payload_replied(reply);
+        let at = put_bytes(&mut self.coder, asked, replied, effects)?;
+        let (_, told) = self.coder.bytes.as_slice().split_at(at);
+        let parts = Parts {
+            asked,
+            replied,
+            told,
+        };
+        match KeptStep::of(pass, line, actor, act, reply, &parts) {
+            Some(step) => {
+                self.kept.push_reserved(Kept::Step(step));
+                Ok(true)
+            }
+            None => {
+                self.coder.bytes.truncate(before);
+                Ok(false)
+            }
         }
-        Ok(())
     }
 
     /// Puts a step behind the others, its parts behind their bytes. It takes no memory.
@@ -131,7 +207,7 @@ impl KeptList {
         ensures put { self.new.entries ≡ self.old.entries ++ step_entry (length self.old.entries + 1) step (parts_bytes parts.now) ∷ [] }
         ensures spare { self.old.spare ≤ self.new.spare + 1 }
     {
-        put_parts(&mut self.bytes, parts);
+        put_parts(&mut self.coder.bytes, parts);
         self.kept.push_reserved(Kept::Step(step));
     }
 
@@ -149,7 +225,11 @@ impl KeptList {
         requires { Rising self.now.entries }
         ensures { result ≡ self.now.entries }
     {
-        LentEntries::new(self.alloc, self.kept.as_slice(), self.bytes.as_slice())
+        LentEntries::new(
+            self.alloc,
+            self.kept.as_slice(),
+            self.coder.bytes.as_slice(),
+        )
     }
 
     /// The last entry, lent, or none where there is none.
@@ -158,7 +238,7 @@ impl KeptList {
     {
         match self.kept.as_slice().split_last() {
             Some((last, before)) => {
-                let bytes = self.bytes.as_slice();
+                let bytes = self.coder.bytes.as_slice();
                 let (_, its) = bytes.split_at(bytes.len() - last.width());
                 Some(last.lend(self.alloc, its, before.len() as u64 + 1))
             }

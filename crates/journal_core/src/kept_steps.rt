@@ -94,7 +94,7 @@ impl<'a> Parts<'a> {
 }
 
 /// The payload of a request.
-fn payload_asked(act: &Act) -> &[u8]
+pub(crate) fn payload_asked(act: &Act) -> &[u8]
     ensures { result.now ≡ asked_of act.now }
 {
     match act {
@@ -104,7 +104,7 @@ fn payload_asked(act: &Act) -> &[u8]
 }
 
 /// The payload of a response.
-fn payload_replied(reply: &Reply) -> &[u8]
+pub(crate) fn payload_replied(reply: &Reply) -> &[u8]
     ensures { result.now ≡ replied_of reply.now }
 {
     match reply {

@@ -9,7 +9,7 @@ overflow_sub-bytes c =
       arith,
       c.width.ensures,
       ap length c.as_slice-bytes.ensures.value,
-      last_within c.self.inside.kept.items c.in-Some.before.now c.in-Some.last.now c.self.inside.bytes.items
+      last_within c.self.inside.kept.items c.in-Some.before.now c.in-Some.last.now c.self.inside.coder.bytes.items
           (sym c.as_slice.ensures.value ∙ c.in-Some.ensures.cases.0) c.self.invariant,
     )
 
@@ -19,10 +19,10 @@ returns-in-Some c = λ before e ends.
     ∙ ap (kept_entry (length c.in-Some.before.now + 1) c.in-Some.last.now) (c.split_at.ensures.back
     ∙ ap (λ n. drop (length c.as_slice-bytes.result.now - n) c.as_slice-bytes.result.now) c.width.ensures
     ∙ ap (λ b. drop (length b - width_of c.in-Some.last.now) b) c.as_slice-bytes.ensures.value)
-    ∙ is_last c.self.inside.kept.items c.in-Some.before.now c.in-Some.last.now c.self.inside.bytes.items c.args.self.now.entries before e
+    ∙ is_last c.self.inside.kept.items c.in-Some.before.now c.in-Some.last.now c.self.inside.coder.bytes.items c.args.self.now.entries before e
     (sym c.as_slice.ensures.value ∙ c.in-Some.ensures.cases.0) c.self.invariant (ap (λ (v : Roomy). v.entries) c.self.view_is) ends)
 
 pub returns-in-None : goal.returns-in-None
 returns-in-None c = λ before e ends.
-    absurd (none_last c.self.inside.kept.items c.self.inside.bytes.items c.args.self.now.entries before e
+    absurd (none_last c.self.inside.kept.items c.self.inside.coder.bytes.items c.args.self.now.entries before e
     (ap length (sym c.as_slice.ensures.value) ∙ c.in-None.ensures.cases) (ap (λ (v : Roomy). v.entries) c.self.view_is) ends)

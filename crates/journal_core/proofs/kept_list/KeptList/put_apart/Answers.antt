@@ -6,10 +6,10 @@ use Rattle.journal_core.proofs.kept_list.KeptList.put_apart.Goals as goal
 
 pub invariant_of-self : goal.invariant_of-self
 invariant_of-self c =
-    widths_behind c.self.inside.kept.items c.push_reserved.new.self.items (Kept.Apart c.args.entry) c.self.inside.bytes.items [] c.self.inside.bytes.items
-    c.push_reserved.ensures.items (sym (append-nil c.self.inside.bytes.items)) c.self.invariant refl
+    widths_behind c.self.inside.kept.items c.push_reserved.new.self.items (Kept.Apart c.args.entry) c.self.inside.coder.bytes.items [] c.self.inside.coder.bytes.items
+    c.push_reserved.ensures.items (sym (append-nil c.self.inside.coder.bytes.items)) c.self.invariant refl
 
 pub returns-clause-put : goal.returns-clause-put
 returns-clause-put c =
-    put_behind c.self.inside.kept.items c.push_reserved.new.self.items (Kept.Apart c.args.entry) c.self.inside.bytes.items [] c.self.inside.bytes.items c.args.self.now.entries
-    c.push_reserved.ensures.items (sym (append-nil c.self.inside.bytes.items)) (ap (λ (v : Roomy). v.entries) c.self.view_is) c.self.invariant refl
+    put_behind c.self.inside.kept.items c.push_reserved.new.self.items (Kept.Apart c.args.entry) c.self.inside.coder.bytes.items [] c.self.inside.coder.bytes.items c.args.self.now.entries
+    c.push_reserved.ensures.items (sym (append-nil c.self.inside.coder.bytes.items)) (ap (λ (v : Roomy). v.entries) c.self.view_is) c.self.invariant refl

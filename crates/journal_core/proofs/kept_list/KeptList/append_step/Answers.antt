@@ -1,0 +1,34 @@
+use Rattle.std.proofs.Common.{◌≡◌, ◌++◌, ◌∷◌, [], List, ap, drop, ◌∙◌}
+use Rattle.journal_core.specs.Keeping.{Roomy, next_entry}
+use Rattle.journal_core.specs.declared.entries.Entry.{Entry}
+use Rattle.journal_core.specs.declared.kept_steps.Kept.{Kept}
+use Rattle.journal_core.specs.declared.outcome.Effect.{Effect}
+use Rattle.journal_core.proofs.Keepings.{put_behind, widths_behind}
+use Rattle.journal_core.proofs.StepBytes.{step_put, step_tells}
+use Rattle.journal_core.proofs.kept_list.KeptList.append_step.Goals as goal
+
+pub invariant_of-self-in-Some : goal.invariant_of-self-in-Some
+invariant_of-self-in-Some c =
+    let old = c.self.inside.coder.bytes.items in
+    let new = c.put_bytes.new.coder.bytes.items in
+    let asked = c.payload_asked-asked.result.now in
+    let replied = c.payload_replied-replied.result.now in
+    let told = c.split_at.result.1.now in
+    let is : told ≡ drop c.in_ok-at.at new = c.split_at.ensures.back ∙ ap (drop c.in_ok-at.at) c.as_slice.ensures.value in
+    widths_behind c.self.inside.kept.items c.push_reserved.new.self.items (Kept.Step c.in-Some.step) old (asked ++ (replied ++ told)) new
+    c.push_reserved.ensures.items (step_put old new asked replied told c.args.effects.now c.in_ok-at.at c.in_ok-at.ensures.put is) c.self.invariant c.in-Some.ensures.width
+
+pub returns-in-Some-clause-put : goal.returns-in-Some-clause-put
+returns-in-Some-clause-put c =
+    let entries = c.args.self.now.entries in
+    let old = c.self.inside.coder.bytes.items in
+    let new = c.put_bytes.new.coder.bytes.items in
+    let asked = c.payload_asked-asked.result.now in
+    let replied = c.payload_replied-replied.result.now in
+    let told = c.split_at.result.1.now in
+    let is : told ≡ drop c.in_ok-at.at new = c.split_at.ensures.back ∙ ap (drop c.in_ok-at.at) c.as_slice.ensures.value in
+    put_behind c.self.inside.kept.items c.push_reserved.new.self.items (Kept.Step c.in-Some.step) old (asked ++ (replied ++ told)) new entries
+    c.push_reserved.ensures.items (step_put old new asked replied told c.args.effects.now c.in_ok-at.at c.in_ok-at.ensures.put is)
+    (ap (λ (v : Roomy). v.entries) c.self.view_is) c.self.invariant c.in-Some.ensures.width
+    ∙ ap (λ (e : Entry). entries ++ e ∷ []) (c.in-Some.ensures.entry entries
+    ∙ ap (λ (es : List Effect). next_entry entries c.args.pass c.args.line c.args.actor c.args.act.now (c.args.reply.now, es)) (step_tells old new asked replied told c.args.effects.now c.in_ok-at.at c.in_ok-at.ensures.put is))
