@@ -8,8 +8,9 @@ ghost use Rattle.region_config.specs.Granules.{granule_total, region_spec, with_
 ghost use Rattle.std.specs.Prelude.{◌≡◌, ◌+◌, ◌<◌, ◌≤◌, All, false, length, true};
 ghost use Rattle.tag_refs.specs.Tables.{entries_changed, still_used, with_reference};
 
+use crate::lists_update::ListsUpdate;
 use crate::state::State;
-use crate::updates::{NewLists, TagChange, Update};
+use crate::updates::{TagChange, Update};
 use dcd_base::{HostId, Runs, Tag};
 use journal_core::Effect;
 use region_config::Config;
@@ -52,14 +53,13 @@ impl State {
     }
 
     /// Puts what changes of a host's lists in place.
-    fn put_lists(&mut self, lists: &mut Option<NewLists>)
+    fn put_lists(&mut self, lists: &mut ListsUpdate)
         requires { IsOfHosts (length self.old.hosts.items) lists.old }
         ensures lists { ListsPut lists.old self.old self.new }
         ensures kept { self.new ≡ record self.old { hosts = self.new.hosts } }
     {
-        if let Some(new) = lists {
-            let host = usize::from(new.host.0);
-            self.hosts[host].lists.change(&mut new.change);
+        if let Some(host) = lists.host() {
+            lists.put(&mut self.hosts[usize::from(host.0)].lists);
         }
     }
 

@@ -11,6 +11,7 @@ mod entering;
 mod granules;
 mod holders;
 mod laws;
+mod lists_update;
 mod parts;
 mod records;
 mod regions;
@@ -19,6 +20,7 @@ mod updates;
 
 pub use holders::Holders;
 pub use laws::law_kept_entered;
+pub use lists_update::ListsUpdate;
 pub use parts::HostPart;
 pub use records::change_log_named;
 pub use state::State;

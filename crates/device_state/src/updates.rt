@@ -3,13 +3,14 @@
 ghost use Rattle.device_state.specs.declared.updates.TagChange.{TagChange};
 ghost use Rattle.std.specs.Prelude.{◌≡◌, None};
 
+use crate::lists_update::ListsUpdate;
 use dcd_base::{HostId, RegionId, Runs, Seq, Tag};
 use host_lists::ListsChange;
 
 /// What a step puts in place beside what its effects change: what changes of a host's lists, and of the open tags.
 #[derive(Drop)]
 pub struct Update {
-    pub lists: Option<NewLists>,
+    pub lists: ListsUpdate,
     pub tags: TagChange,
 }
 
@@ -49,7 +50,7 @@ impl Update {
         ensures { result ≡ record { lists = None; tags = TagChange.Nothing } }
     {
         Update {
-            lists: None,
+            lists: ListsUpdate::nothing(),
             tags: TagChange::Nothing,
         }
     }
