@@ -1,5 +1,5 @@
 -- A response that breaks no rule is its outcome.
-use Rattle.std.proofs.Common.{◌≡◌, ℕ, ◌+◌, ◌%◌, ◌^◌, ◌<◌, ◌≤◌, Bool, true, false, not, List, [], ◌∷◌, ◌++◌, length, map, Some, None, refl, ap, sym, subst, ◌∙◌}
+use Rattle.std.proofs.Common.{◌≡◌, ℕ, ◌+◌, ◌%◌, ◌^◌, ◌<◌, ◌≤◌, Bool, true, false, not, List, [], ◌∷◌, ◌++◌, length, map, Option, None, refl, ap, sym, subst, ◌∙◌}
 use Rattle.std.specs.Prelude.{All, fold, if◌then◌else◌}
 use Rattle.std.specs.List.{list_any}
 use Rattle.std.proofs.lemmas.Bool.{eq-eqb}
@@ -18,9 +18,9 @@ use Rattle.extent_list.specs.ExtentLists.{count_in, marked, tags_of}
 use Rattle.offer_core.specs.Offerings.{oldest_of}
 use Rattle.offer_core.specs.Responses.{respond_rule}
 use Rattle.host_lists.specs.Answers.{IsAccepted, generation_after}
-use Rattle.host_lists.specs.Changes.{changed_by}
 use Rattle.host_lists.specs.Lists.{Lists, extent_total}
-use Rattle.host_lists.specs.declared.lists_change.ListsChange.{ListsChange}
+use Rattle.device_state.specs.ListsUpdates.{left_by, lists_alone}
+use Rattle.device_state.specs.declared.updates.NewLists.{NewLists}
 use Rattle.device_rules.specs.Hosts.{accepted_after, held_after, moves, offers_after}
 use Rattle.device_rules.specs.ResponseOutcomes.{answered, hold, respond_changes, respond_outcome, response_records, unhold}
 use Rattle.device_rules.specs.Views.{View, generation_in, view_after}
@@ -32,7 +32,7 @@ use Rattle.device_state.specs.StateAfter.{lists_in}
 use Rattle.device_commands.specs.ListDrafts.{Tells, lists_changed}
 use Rattle.device_commands.specs.AddDynamicCapacityResponse.{takes, told_of}
 use Rattle.device_commands.proofs.ListedExtents.{Granular, marked_granular, response_few, response_granular}
-use Rattle.device_commands.proofs.ListsAfter.{empty_front, hold_changes, hold_joins, hold_moves, none_changes, none_moves, once_more, other_joins, other_stays, lets_responses_go, unhold_changes, unhold_empties, unhold_moves}
+use Rattle.device_commands.proofs.ListsAfter.{empty_front, hold_changes, hold_joins, hold_moves, leads_by, none_changes, none_moves, once_more, other_joins, other_stays, lets_responses_go, unhold_changes, unhold_empties, unhold_moves}
 
 -- the same runs are taken
 takes_same : (c : Configuration) (b : ℕ → ℕ) (h : HostId) (offer xs : List Extent) → takes (with_blocks c b) h (map (marked offer) xs) ≡ map (λ x. Effect.Take h (run_of c h x)) xs
@@ -150,11 +150,11 @@ answered_drafts c p h v lists after list accepted more d present shows last a te
     (subst (λ (u : View). Drafts c h u (respond_outcome c h u false list) d) (sym same) (answers c h v offer later list after d left told))
 
 -- more is to come
-pub held_response : (c : Configuration) (h : HostId) (v : View) (lists : Lists) (change : ListsChange) (list : List Extent) (more : Bool) (d : DraftParts)
-    → lists ≡ lists_in v → more ≡ true → changed_by change lists ≡ record lists { responses = lists.responses ++ list } → d ≡ lists_changed (hold h HeldKind.Responses list) change
+pub held_response : (c : Configuration) (h : HostId) (v : View) (lists : Lists) (its : Option NewLists) (list : List Extent) (more : Bool) (d : DraftParts)
+    → lists ≡ lists_in v → more ≡ true → left_by its lists ≡ record lists { responses = lists.responses ++ list } → d ≡ lists_changed (hold h HeldKind.Responses list) its
     → Drafts c h v (respond_outcome c h v more list) d
-held_response c h v lists change list more d shows goes_on is drafts =
-    let left : changed_by change (lists_in v) ≡ lists_in (view_after c h v (hold h HeldKind.Responses list)) = ap (changed_by change) (sym shows) ∙ is
+held_response c h v lists its list more d shows goes_on is drafts =
+    let left : left_by its (lists_in v) ≡ lists_in (view_after c h v (hold h HeldKind.Responses list)) = ap (left_by its) (sym shows) ∙ is
     ∙ (λ i. record { accepted = (shows i).accepted; offers = (shows i).offers; responses = (shows i).responses ++ list; releases = (shows i).releases; generation = (shows i).generation })
     ∙ sym (λ i. record {
       accepted = hold_changes (accepted_after c h) h HeldKind.Responses (λ y xs. refl) list v.accepted i;
@@ -165,19 +165,19 @@ held_response c h v lists change list more d shows goes_on is drafts =
     }) in
     subst (λ (b : Bool). Drafts c h v (respond_outcome c h v b list) d) (sym goes_on)
     (subst (λ (e : DraftParts). Drafts c h v (respond_outcome c h v true list) e) (sym drafts)
-    (record { payload = refl; changes = refl; tags = refl; log_records = refl; lists = (left, ap (changed_by change) (hold_changes (lists_by h) h HeldKind.Responses (λ y xs. refl) list (lists_in v)) ∙ left) }))
+    (record { payload = refl; changes = refl; tags = refl; log_records = refl; lists = leads_by its h (hold h HeldKind.Responses list) (lists_in v) (lists_in (view_after c h v (hold h HeldKind.Responses list))) left (ap (left_by its) (hold_changes (lists_by h) h HeldKind.Responses (λ y xs. refl) list (lists_in v)) ∙ left) }))
 
 -- there is no offer, and nothing is listed
-pub nothing_response : (c : Configuration) (h : HostId) (v : View) (lists : Lists) (change : ListsChange) (list : List Extent) (more : Bool) (d : DraftParts)
-    → lists ≡ lists_in v → more ≡ false → lists.offers ≡ [] → lists.responses ++ list ≡ [] → changed_by change lists ≡ record lists { responses = [] }
-    → d ≡ lists_changed (unhold h HeldKind.Responses lists.responses) change → Drafts c h v (respond_outcome c h v more list) d
-nothing_response c h v lists change list more d shows last none empty is drafts =
+pub nothing_response : (c : Configuration) (h : HostId) (v : View) (lists : Lists) (its : Option NewLists) (list : List Extent) (more : Bool) (d : DraftParts)
+    → lists ≡ lists_in v → more ≡ false → lists.offers ≡ [] → lists.responses ++ list ≡ [] → left_by its lists ≡ record lists { responses = [] }
+    → d ≡ lists_changed (unhold h HeldKind.Responses lists.responses) its → Drafts c h v (respond_outcome c h v more list) d
+nothing_response c h v lists its list more d shows last none empty is drafts =
     let offers : v.offers ≡ [] = ap (λ (ls : Lists). ls.offers) (sym shows) ∙ none in
     let no_held : lists.responses ≡ [] = empty_front lists.responses list empty in
     let held : v.responses ≡ [] = ap (λ (ls : Lists). ls.responses) (sym shows) ∙ no_held in
     let es : respond_changes c h v.offers v.responses false list ≡ [] = λ i. unhold h HeldKind.Responses (held i) ++ answered c h (offers i) (v.responses ++ list) in
-    let same : changed_by change (lists_in v) ≡ lists_in v = ap (changed_by change) (sym shows) ∙ is ∙ (λ i. record lists { responses = sym no_held i }) ∙ shows in
-    let leads = subst (λ (changes : List Effect). LeadsTo h changes (lists_in v) (lists_in (view_after c h v changes)) (Some change)) (sym es) (same, same) in
+    let same : left_by its (lists_in v) ≡ lists_in v = ap (left_by its) (sym shows) ∙ is ∙ (λ i. record lists { responses = sym no_held i }) ∙ shows in
+    let leads = subst (λ (changes : List Effect). LeadsTo h changes (lists_in v) (lists_in (view_after c h v changes)) (lists_alone its)) (sym es) (leads_by its h [] (lists_in v) (lists_in v) same same) in
     subst (λ (b : Bool). Drafts c h v (respond_outcome c h v b list) d) (sym last)
     (subst (λ (e : DraftParts). Drafts c h v (respond_outcome c h v false list) e) (sym drafts) (record {
       payload = refl;

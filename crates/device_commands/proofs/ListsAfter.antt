@@ -1,6 +1,6 @@
 -- What the effects of a message leave of a host's lists.
 use Rattle.std.proofs.Common.{◌≡◌, ℕ, ◌+◌, ◌%◌, ◌^◌, true, false, ◌||◌, List, [], ◌∷◌, ◌++◌, map, refl, ap, sym, ◌∙◌, append-nil}
-use Rattle.std.specs.Prelude.{fold}
+use Rattle.std.specs.Prelude.{◌≤◌, fold, IfSome, Option, Some, None}
 use Rattle.std.specs.List.{list_any}
 use Rattle.std.proofs.lemmas.Bool.{eq-eqb}
 use Rattle.std.proofs.Math.Nat.{mod-add-mod}
@@ -11,7 +11,22 @@ use Rattle.journal_core.specs.declared.outcome.HeldKind.{HeldKind}
 use Rattle.device_rules.specs.Hosts.{held_after, moves, same_kind}
 use Rattle.device_rules.specs.ResponseOutcomes.{hold, unhold}
 use Rattle.device_state.specs.Entered.{lists_by}
-use Rattle.host_lists.specs.Lists.{Lists, next_generation}
+use Rattle.host_lists.specs.Changes.{changed_by}
+use Rattle.host_lists.specs.Lists.{Lists, extent_total, next_generation}
+use Rattle.device_state.specs.ListsUpdates.{left_by, lists_alone}
+use Rattle.device_state.specs.declared.updates.NewLists.{NewLists}
+use Rattle.device_commands.specs.Drafts.{LeadsTo}
+
+-- an update that leaves these lists, also where what was held has gone before
+pub leads_by : (its : Option NewLists) (h : HostId) (changes : List Effect) (had lists : Lists) → left_by its had ≡ lists → left_by its (fold (lists_by h) had changes) ≡ lists
+    → LeadsTo h changes had lists (lists_alone its)
+leads_by None h changes had lists left later = sym left
+leads_by (Some new) h changes had lists left later = (left, later)
+
+-- and that leaves few extents
+pub few_by : (its : Option NewLists) (l : Lists) → extent_total (left_by its l) ≤ 64 → IfSome (lists_alone its) (λ change. extent_total (changed_by change l) ≤ 64)
+few_by None l few = tt
+few_by (Some new) l few = few
 
 -- effects that change nothing
 pub none_changes : {X Y : Type 0} (f : Y → Effect → Y) (g : X → Effect) → ((y : Y) (x : X) → f y (g x) ≡ y) → (xs : List X) (y : Y) → fold f y (map g xs) ≡ y

@@ -1,5 +1,5 @@
 -- A release that breaks no rule is its outcome.
-use Rattle.std.proofs.Common.{◌≡◌, ◌≢◌, ℕ, ◌+◌, ◌%◌, ◌^◌, ◌<◌, Bool, true, false, List, [], ◌∷◌, ◌++◌, map, Some, None, refl, ap, sym, subst, ◌∙◌}
+use Rattle.std.proofs.Common.{◌≡◌, ◌≢◌, ℕ, ◌+◌, ◌%◌, ◌^◌, ◌<◌, Bool, true, false, List, [], ◌∷◌, ◌++◌, map, Option, Some, None, refl, ap, sym, subst, ◌∙◌}
 use Rattle.std.specs.Prelude.{All, fold, if◌then◌else◌}
 use Rattle.std.specs.List.{AllByRecursion, list_any}
 use Rattle.std.proofs.lemmas.Bool.{eq-eqb}
@@ -17,9 +17,9 @@ use Rattle.media_map.proofs.RunLemmas.{run_told}
 use Rattle.selection.proofs.Placed.{granular_run}
 use Rattle.extent_list.specs.ExtentLists.{count_in, cut, cut_all, marked, tags_of}
 use Rattle.host_lists.specs.Answers.{given_up}
-use Rattle.host_lists.specs.Changes.{changed_by}
 use Rattle.host_lists.specs.Lists.{Lists}
-use Rattle.host_lists.specs.declared.lists_change.ListsChange.{ListsChange}
+use Rattle.device_state.specs.ListsUpdates.{left_by}
+use Rattle.device_state.specs.declared.updates.NewLists.{NewLists}
 use Rattle.release_core.specs.Releases.{give_back_rule}
 use Rattle.device_rules.specs.Hosts.{accepted_after, held_after, moves, offers_after}
 use Rattle.device_rules.specs.Outcomes.{records_of_extents}
@@ -33,7 +33,7 @@ use Rattle.device_state.specs.Entered.{lists_by}
 use Rattle.device_state.specs.StateAfter.{lists_in}
 use Rattle.device_commands.specs.ListDrafts.{Tells, lists_changed}
 use Rattle.device_commands.proofs.ListedExtents.{Granular, marked_granular, release_granular}
-use Rattle.device_commands.proofs.ListsAfter.{empty_front, hold_changes, hold_joins, hold_moves, none_changes, once_more, other_joins, other_stays, lets_releases_go, unhold_changes, unhold_empties, unhold_moves}
+use Rattle.device_commands.proofs.ListsAfter.{empty_front, hold_changes, hold_joins, hold_moves, leads_by, none_changes, once_more, other_joins, other_stays, lets_releases_go, unhold_changes, unhold_empties, unhold_moves}
 
 -- the same runs leave
 removals_same : (c : Configuration) (b : ℕ → ℕ) (h : HostId) (owners xs : List Extent) → removals (with_blocks c b) h false (map (marked owners) xs) ≡ leaves c h xs
@@ -103,11 +103,11 @@ given_drafts c p h v lists after list leaving more d present shows last sound ho
     })
 
 -- more is to come
-pub held_release : (c : Configuration) (h : HostId) (v : View) (lists : Lists) (change : ListsChange) (list : List Extent) (more : Bool) (d : DraftParts)
-    → lists ≡ lists_in v → more ≡ true → changed_by change lists ≡ record lists { releases = lists.releases ++ list } → d ≡ lists_changed (hold h HeldKind.Releases list) change
+pub held_release : (c : Configuration) (h : HostId) (v : View) (lists : Lists) (its : Option NewLists) (list : List Extent) (more : Bool) (d : DraftParts)
+    → lists ≡ lists_in v → more ≡ true → left_by its lists ≡ record lists { releases = lists.releases ++ list } → d ≡ lists_changed (hold h HeldKind.Releases list) its
     → Drafts c h v (give_back_outcome c h v more list) d
-held_release c h v lists change list more d shows goes_on is drafts =
-    let left : changed_by change (lists_in v) ≡ lists_in (view_after c h v (hold h HeldKind.Releases list)) = ap (changed_by change) (sym shows) ∙ is
+held_release c h v lists its list more d shows goes_on is drafts =
+    let left : left_by its (lists_in v) ≡ lists_in (view_after c h v (hold h HeldKind.Releases list)) = ap (left_by its) (sym shows) ∙ is
     ∙ (λ i. record { accepted = (shows i).accepted; offers = (shows i).offers; responses = (shows i).responses; releases = (shows i).releases ++ list; generation = (shows i).generation })
     ∙ sym (λ i. record {
       accepted = hold_changes (accepted_after c h) h HeldKind.Releases (λ y xs. refl) list v.accepted i;
@@ -118,7 +118,7 @@ held_release c h v lists change list more d shows goes_on is drafts =
     }) in
     subst (λ (b : Bool). Drafts c h v (give_back_outcome c h v b list) d) (sym goes_on)
     (subst (λ (e : DraftParts). Drafts c h v (give_back_outcome c h v true list) e) (sym drafts)
-    (record { payload = refl; changes = refl; tags = refl; log_records = refl; lists = (left, ap (changed_by change) (hold_changes (lists_by h) h HeldKind.Releases (λ y xs. refl) list (lists_in v)) ∙ left) }))
+    (record { payload = refl; changes = refl; tags = refl; log_records = refl; lists = leads_by its h (hold h HeldKind.Releases list) (lists_in v) (lists_in (view_after c h v (hold h HeldKind.Releases list))) left (ap (left_by its) (hold_changes (lists_by h) h HeldKind.Releases (λ y xs. refl) list (lists_in v)) ∙ left) }))
 
 -- nothing is given back
 pub nothing_given : (c p : Configuration) (h : HostId) (v : View) (lists after : Lists) (list leaving : List Extent) (more : Bool) (d : DraftParts)

@@ -1,10 +1,11 @@
 -- What a response that is answered takes and tells, 4802h.
-use Rattle.std.specs.Prelude.{false, List, [], ◌∷◌, map, ◌++◌}
+use Rattle.std.specs.Prelude.{◌≡◌, Bool, false, List, [], ◌∷◌, map, ◌++◌}
 use Rattle.dcd_base.specs.declared.ids.HostId.{HostId}
 use Rattle.dcd_base.specs.declared.capacity.Extent.{Extent}
 use Rattle.event_records.specs.declared.events.Event.{Event}
 use Rattle.event_records.specs.declared.events.EventKind.{EventKind}
 use Rattle.region_config.specs.Configurations.{Configuration}
+use Rattle.region_config.specs.Granules.{with_blocks}
 use Rattle.journal_core.specs.declared.outcome.Effect.{Effect}
 use Rattle.media_map.specs.Places.{run_of}
 use Rattle.device_rules.specs.Outcomes.{no_extent, record_for, records_of_extents}
@@ -12,8 +13,10 @@ use Rattle.device_rules.specs.Views.{View}
 use Rattle.extent_list.specs.ExtentLists.{tags_of}
 use Rattle.offer_core.specs.Offerings.{oldest_of}
 use Rattle.journal_core.specs.declared.outcome.HeldKind.{HeldKind}
-use Rattle.device_rules.specs.ResponseOutcomes.{unhold}
+use Rattle.device_rules.specs.ResponseOutcomes.{respond_outcome, unhold}
+use Rattle.device_commands.specs.Drafts.{Drafts}
 use Rattle.device_commands.specs.ListDrafts.{Tells}
+use Rattle.device_state.specs.StateAfter.{lists_in}
 use Rattle.device_commands.specs.declared.draft.DraftParts.{DraftParts}
 use Rattle.host_lists.specs.Lists.{Lists}
 
@@ -34,3 +37,8 @@ answer_changes p h l accepted = unhold h HeldKind.Responses l.responses ++ Effec
 abbrev pub IsAnswered : Configuration → HostId → Lists → List Extent → Lists → DraftParts → Type 0
 IsAnswered p h before accepted after d =
     Tells h (answer_changes p h before accepted) (tags_of (oldest_of before.offers)) (λ w. told_of h w accepted) before after d
+
+-- By each view that shows these present blocks and lists, the draft is what the response does, where it breaks no rule.
+abbrev pub Responds : Configuration → HostId → Lists → Bool → List Extent → DraftParts → Type 0
+Responds p h lists more list d = (c : Configuration) (v : View) → p ≡ with_blocks c v.block → lists ≡ lists_in v →
+    Drafts c h v (respond_outcome c h v more list) d

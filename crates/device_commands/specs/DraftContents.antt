@@ -1,15 +1,9 @@
 -- What a draft has.
-use Rattle.std.specs.Prelude.{[], Option, None, Some}
+use Rattle.std.specs.Prelude.{◌≡◌, [], None}
 use Rattle.device_commands.specs.declared.draft.Content.{Content}
 use Rattle.device_commands.specs.declared.draft.DraftParts.{DraftParts}
 use Rattle.device_commands.specs.declared.draft.DraftedStep.{DraftedStep}
-use Rattle.device_state.specs.declared.updates.NewLists.{NewLists}
-use Rattle.host_lists.specs.declared.lists_change.ListsChange.{ListsChange}
-
--- what an update changes of lists, whoever has them
-abbrev pub lists_alone : Option NewLists → Option ListsChange
-lists_alone None = None
-lists_alone (Some new) = Some new.change
+use Rattle.device_state.specs.ListsUpdates.{lists_alone}
 
 -- the draft that lies in a step
 abbrev pub draft_in : DraftedStep → DraftParts
@@ -23,3 +17,7 @@ parts_of_content (Content.Parts step) = draft_in step.value
 -- a draft that has nothing yet
 abbrev pub no_draft : DraftParts
 no_draft = record { payload = []; changes = []; tags = []; log_records = []; lists = None }
+
+-- A step whose draft has nothing yet, whatever it has of lists and records.
+abbrev pub IsBlank : DraftedStep → Type 0
+IsBlank s = draft_in s ≡ record no_draft { log_records = s.log_records; lists = lists_alone s.update.lists }

@@ -1,5 +1,5 @@
 -- What an offer breaks, what it has, and what it comes to, by what is kept, 5604h.
-use Rattle.std.specs.Prelude.{◌≡◌, ℕ, ◌+◌, ◌/◌, Bool, ◌&&◌, not, ◌==◌, ◌||◌, nat_le, nat_lt, List, [], ◌∷◌, ◌++◌, Option, Some, if◌then◌else◌, length, map}
+use Rattle.std.specs.Prelude.{◌≡◌, ℕ, ◌+◌, ◌/◌, Bool, ◌&&◌, not, ◌==◌, ◌||◌, nat_le, nat_lt, List, [], ◌∷◌, ◌++◌, Option, if◌then◌else◌, length, map}
 use Rattle.std.specs.List.{list_any}
 use Rattle.dcd_base.specs.Words.{◌or◌, is_zero_tag, where_true}
 use Rattle.dcd_base.specs.declared.capacity.Extent.{Extent}

@@ -1,5 +1,5 @@
 -- What the manager takes from a host or asks it for, and what is told of it, 5605h.
-use Rattle.std.specs.Prelude.{◌≡◌, ℕ, ◌+◌, ◌≤◌, Bool, All, ◌&&◌, not, ◌==◌, nat_le, nat_lt, IsTrue, List, [], ◌∷◌, fold, Option, if◌then◌else◌, length, map, Some, None}
+use Rattle.std.specs.Prelude.{◌≡◌, ℕ, ◌+◌, ◌≤◌, Bool, All, ◌&&◌, not, ◌==◌, nat_le, nat_lt, IsTrue, List, [], ◌∷◌, fold, Option, if◌then◌else◌, length, map}
 use Rattle.dcd_base.specs.Words.{◌or◌}
 use Rattle.dcd_base.specs.declared.capacity.Extent.{Extent}
 use Rattle.dcd_base.specs.declared.capacity.Tag.{Tag}

@@ -1,5 +1,5 @@
 -- Drafts by which the lists of their host change.
-use Rattle.std.specs.Prelude.{◌≡◌, List, [], ◌∷◌, map, Some}
+use Rattle.std.specs.Prelude.{◌≡◌, List, [], ◌∷◌, map, Option}
 use Rattle.dcd_base.specs.declared.capacity.Tag.{Tag}
 use Rattle.dcd_base.specs.declared.capacity.Extent.{Extent}
 use Rattle.dcd_base.specs.declared.ids.HostId.{HostId}
@@ -10,15 +10,16 @@ use Rattle.dcd_base.specs.declared.steps.LogId.{LogId}
 use Rattle.event_records.specs.declared.events.Event.{Event}
 use Rattle.journal_core.specs.declared.outcome.Effect.{Effect}
 use Rattle.host_lists.specs.Lists.{Lists}
-use Rattle.host_lists.specs.declared.lists_change.ListsChange.{ListsChange}
+use Rattle.device_state.specs.ListsUpdates.{lists_alone}
+use Rattle.device_state.specs.declared.updates.NewLists.{NewLists}
 use Rattle.device_rules.specs.Views.{View}
 use Rattle.device_commands.specs.declared.draft.DraftParts.{DraftParts}
 use Rattle.device_state.specs.StateAfter.{lists_in}
 use Rattle.device_commands.specs.Drafts.{LeadsTo, as_records}
 
 -- changes, and what they change of lists
-abbrev pub lists_changed : List Effect → ListsChange → DraftParts
-lists_changed changes change = record { payload = []; changes = changes; tags = []; log_records = []; lists = Some change }
+abbrev pub lists_changed : List Effect → Option NewLists → DraftParts
+lists_changed changes its = record { payload = []; changes = changes; tags = []; log_records = []; lists = lists_alone its }
 
 -- The draft has these changes, these tags that may end, what leads from the lists that the host had to these, and for the
 -- manager these events of a view with these lists.

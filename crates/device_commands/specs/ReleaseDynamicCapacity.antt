@@ -1,5 +1,5 @@
 -- What a release that ends changes and tells, 4803h.
-use Rattle.std.specs.Prelude.{◌++◌, false, List}
+use Rattle.std.specs.Prelude.{◌≡◌, ◌++◌, Bool, false, List}
 use Rattle.dcd_base.specs.declared.capacity.Extent.{Extent}
 use Rattle.dcd_base.specs.declared.ids.HostId.{HostId}
 use Rattle.event_records.specs.declared.events.EventKind.{EventKind}
@@ -8,9 +8,13 @@ use Rattle.host_lists.specs.Lists.{Lists}
 use Rattle.journal_core.specs.declared.outcome.Effect.{Effect}
 use Rattle.journal_core.specs.declared.outcome.HeldKind.{HeldKind}
 use Rattle.region_config.specs.Configurations.{Configuration}
+use Rattle.region_config.specs.Granules.{with_blocks}
 use Rattle.device_rules.specs.Outcomes.{records_of_extents}
-use Rattle.device_rules.specs.ReleaseOutcomes.{removals}
+use Rattle.device_rules.specs.ReleaseOutcomes.{give_back_outcome, removals}
 use Rattle.device_rules.specs.ResponseOutcomes.{unhold}
+use Rattle.device_rules.specs.Views.{View}
+use Rattle.device_state.specs.StateAfter.{lists_in}
+use Rattle.device_commands.specs.Drafts.{Drafts}
 use Rattle.device_commands.specs.ListDrafts.{Tells}
 use Rattle.device_commands.specs.declared.draft.DraftParts.{DraftParts}
 
@@ -22,3 +26,8 @@ release_changes p h l leaving = unhold h HeldKind.Releases l.releases ++ removal
 abbrev pub IsReleased : Configuration → HostId → Lists → List Extent → Lists → DraftParts → Type 0
 IsReleased p h before leaving after d =
     Tells h (release_changes p h before leaving) (tags_of leaving) (λ w. records_of_extents h w EventKind.Released leaving) before after d
+
+-- By each view that shows these present blocks and lists, the draft is what the release does, where it breaks no rule.
+abbrev pub GivesBack : Configuration → HostId → Lists → Bool → List Extent → DraftParts → Type 0
+GivesBack p h lists more list d = (c : Configuration) (v : View) → p ≡ with_blocks c v.block → lists ≡ lists_in v →
+    Drafts c h v (give_back_outcome c h v more list) d

@@ -3,35 +3,36 @@
 //! Outcome: `respond_outcome`, device_rules/specs/ResponseOutcomes.antt; the reply is empty.
 //! Bytes: docs/formats.md, 'Commands of a host'.
 
-ghost use Rattle.device_commands.specs.AddDynamicCapacityResponse.{IsAnswered, answer_changes, takes, told_of};
+ghost use Rattle.device_commands.specs.AddDynamicCapacityResponse.{IsAnswered, Responds, answer_changes, takes, told_of};
 ghost use Rattle.device_commands.specs.HostMessages.{AnswersByLists};
 ghost use Rattle.host_payloads.specs.declared.requests.HostRequest.{HostRequest};
 ghost use Rattle.device_rules.specs.Outcomes.{no_extent};
-ghost use Rattle.device_rules.specs.ResponseOutcomes.{hold, unhold};
 ghost use Rattle.device_rules.specs.Views.{View};
 ghost use Rattle.extent_list.specs.ExtentLists.{tags_of};
 ghost use Rattle.dcd_base.specs.declared.steps.LogId.{LogId};
 ghost use Rattle.device_commands.specs.Drafts.{as_records};
 ghost use Rattle.device_state.specs.StateAfter.{lists_in};
-ghost use Rattle.device_commands.specs.DraftContents.{draft_in, no_draft};
-ghost use Rattle.device_commands.specs.ListDrafts.{lists_changed};
+ghost use Rattle.device_commands.specs.DraftContents.{IsBlank, draft_in};
+ghost use Rattle.device_state.specs.ListsUpdates.{left_by};
 ghost use Rattle.host_lists.specs.Changes.{changed_by};
 ghost use Rattle.host_lists.specs.Lists.{extent_total};
 ghost use Rattle.journal_core.specs.declared.outcome.Effect.{Effect};
 ghost use Rattle.journal_core.specs.declared.outcome.HeldKind.{HeldKind};
 ghost use Rattle.media_map.specs.Places.{is_granular};
-ghost use Rattle.std.specs.Prelude.{◌≡◌, ◌++◌, ◌∷◌, ◌<◌, ◌≤◌, [], All, IfOk, IfSome, IsTrue, OnOk, Some, length, map};
+ghost use Rattle.offer_core.specs.Responses.{respond_rule};
+ghost use Rattle.std.specs.Prelude.{◌≡◌, ◌++◌, ◌∷◌, ◌<◌, ◌≤◌, [], All, IfOk, IfSome, IsSome, IsTrue, None, OnOk, length, map};
 
-use crate::draft::{Draft, DraftedStep, under_a_host};
-use crate::held_lists::{hold, put_unhold, unhold};
+use crate::draft::{Draft, DraftedStep};
+use crate::held_lists::{put_hold, put_unhold};
 use crate::log_records::{LogRecords, event_for, no_extent, one_record, records_of_extents};
+use crate::putting::put_effect;
 use crate::rooms::Room;
 use crate::runs::run_of;
 use crate::tags::put_tags_of;
 use dcd_base::{Extent, Extents, HostId, LogId, NoMemory};
 use dcd_codes::Refusal;
 use event_records::{Event, EventKind};
-use host_lists::{Changed, HostLists, ListsChange, Responded};
+use host_lists::{Changed, HostLists, Responded};
 use journal_core::{Effect, Effects, HeldKind};
 use offer_core::broken_rule;
 use region_config::Config;
@@ -61,99 +62,70 @@ pub fn add_response(
     ensures drafts { AnswersByLists config.now present.now host lists.now (HostRequest.AddResponse more list.now) result }
     ensures few { IfOk result (λ draft. IfSome draft.lists (λ change. extent_total (changed_by change lists.now) ≤ 64)) }
 {
-    // What is made of present blocks is made of granules, in every configuration.
-    let _regions = present.regions();
     let (accepted, offers) = (lists.accepted().len(), lists.offers());
     if let Some(rule) = broken_rule(present, host, accepted, offers, list.as_slice(), more)? {
         return Err(Refusal::Broken(rule));
     }
-    let (change, responded) = lists.answering(list, more)?;
-    match responded {
-        Responded::Held => Ok(held(host, list, lists, change, room)?),
-        Responded::Nothing => Ok(nothing(host, lists, change, room)?),
-        Responded::Done(accepted) => Ok(offer_answered(
-            alloc, present, host, lists, change, accepted, room,
-        )?),
-    }
+    let mut step = room.blank()?;
+    put_response(alloc, present, host, lists, more, list, step.as_mut())?;
+    Ok(Draft::of_step(step))
 }
 
-/// More is to come.
-fn held(
-    host: HostId,
-    list: &Extents,
-    lists: &HostLists,
-    change: ListsChange,
-    room: &mut Room,
-) -> Result<Draft, NoMemory>
-    requires few { extent_total (changed_by change lists.now) ≤ 64 }
-    ensures drafts { IfOk result (λ draft. draft ≡ lists_changed (hold host HeldKind.Responses list.now) change) }
-    ensures few { IfOk result (λ draft. IfSome draft.lists (λ change. extent_total (changed_by change lists.now) ≤ 64)) }
-{
-    let changes = hold(host, HeldKind::Responses, list, room)?;
-    Draft::relisting(room, changes, change)
-}
-
-/// There is no offer, and nothing is listed.
-fn nothing(
-    host: HostId,
-    lists: &HostLists,
-    change: ListsChange,
-    room: &mut Room,
-) -> Result<Draft, NoMemory>
-    requires few { extent_total (changed_by change lists.now) ≤ 64 }
-    ensures drafts { IfOk result (λ draft. draft ≡ lists_changed (unhold host HeldKind.Responses lists.now.responses) change) }
-    ensures few { IfOk result (λ draft. IfSome draft.lists (λ change. extent_total (changed_by change lists.now) ≤ 64)) }
-{
-    let changes = unhold(host, HeldKind::Responses, lists.responses(), room)?;
-    Draft::relisting(room, changes, change)
-}
-
-/// The oldest offer is answered.
-fn offer_answered(
+/// Puts what a response does that breaks no rule into a draft that has nothing yet.
+fn put_response(
     alloc: Global,
     present: &Config,
     host: HostId,
     lists: &HostLists,
-    change: ListsChange,
-    accepted: Extents,
-    room: &mut Room,
-) -> Result<Draft, NoMemory>
+    more: bool,
+    list: &Extents,
+    step: &mut DraftedStep,
+) -> Result<(), NoMemory>
     requires host { host < present.now.hosts }
-    requires granular { All (λ x. IsTrue (is_granular present.now host x.start x.length)) accepted }
-    requires few { extent_total (changed_by change lists.now) ≤ 64 }
-    requires held { changed_by change (record lists.now { responses = [] }) ≡ changed_by change lists.now }
-    ensures drafts { IfOk result (IsAnswered present.now host lists.now accepted (changed_by change lists.now)) }
-    ensures few { IfOk result (λ draft. IfSome draft.lists (λ change. extent_total (changed_by change lists.now) ≤ 64)) }
+    requires row { respond_rule present.now host (length lists.now.accepted) lists.now.offers lists.now.responses more list.now ≡ None }
+    requires few { extent_total lists.now ≤ 64 }
+    requires blank { IsBlank step.old }
+    ensures drafts { OnOk result (Responds present.now host lists.now more list.now (draft_in step.new)) }
+    ensures few { OnOk result (IfSome (draft_in step.new).lists (λ change. extent_total (changed_by change lists.now) ≤ 64)) }
 {
-    let mut step = room.blank()?;
-    put_answered(alloc, present, host, lists, change, accepted, step.as_mut())?;
-    Ok(Draft::of_step(step))
+    // What is made of present blocks is made of granules, in every configuration.
+    let _regions = present.regions();
+    match step.update.lists.answer(lists, list, more)? {
+        Responded::Held => {
+            step.log_records = ShortList::new();
+            put_hold(host, HeldKind::Responses, list, &mut step.effects)
+        }
+        Responded::Nothing => {
+            step.log_records = ShortList::new();
+            let held = lists.responses();
+            put_unhold(host, HeldKind::Responses, held, &mut step.effects)
+        }
+        Responded::Done(accepted) => put_answered(alloc, present, host, lists, accepted, step),
+    }
 }
 
-/// Puts the answer to the oldest offer into a draft that has nothing yet.
+/// Puts the answer to the oldest offer into a draft that has nothing yet but what it changes of the lists.
 fn put_answered(
     alloc: Global,
     present: &Config,
     host: HostId,
     lists: &HostLists,
-    change: ListsChange,
     accepted: Extents,
     step: &mut DraftedStep,
 ) -> Result<(), NoMemory>
     requires host { host < present.now.hosts }
     requires granular { All (λ x. IsTrue (is_granular present.now host x.start x.length)) accepted }
-    requires few { extent_total (changed_by change lists.now) ≤ 64 }
-    requires held { changed_by change (record lists.now { responses = [] }) ≡ changed_by change lists.now }
-    requires blank { draft_in step.old ≡ record no_draft { lists = (draft_in step.old).lists } }
-    ensures drafts { OnOk result (IsAnswered present.now host lists.now accepted (changed_by change lists.now) (draft_in step.new)) }
-    ensures lists { OnOk result ((draft_in step.new).lists ≡ Some change) }
+    requires there { IsSome step.old.update.lists }
+    requires few { extent_total (left_by step.old.update.lists lists.now) ≤ 64 }
+    requires held { left_by step.old.update.lists (record lists.now { responses = [] }) ≡ left_by step.old.update.lists lists.now }
+    requires blank { IsBlank step.old }
+    ensures drafts { OnOk result (IsAnswered present.now host lists.now accepted (left_by step.old.update.lists lists.now) (draft_in step.new)) }
+    ensures lists { OnOk result (step.new.update.lists ≡ step.old.update.lists) }
 {
     put_tags_of(lists.oldest(), &mut step.tags)?;
-    let after = Changed::of(lists, &change);
+    let after = step.update.lists.over(lists);
     step.log_records = records_to_manager(alloc, host, &after, accepted.as_slice())?;
-    put_answer(alloc, present, host, lists, accepted, &mut step.effects)?;
-    step.update.lists = under_a_host(Some(change));
-    Ok(())
+    put_answer(alloc, present, host, lists, accepted, &mut step.effects)
 }
 
 /// What is held goes, the offer is answered, and the host takes the extents. Their list is not copied: it is put into
@@ -172,6 +144,9 @@ fn put_answer(
     ensures { OnOk result (effects.new ≡ answer_changes present.now host lists.now accepted) }
 {
     put_unhold(host, HeldKind::Responses, lists.responses(), effects)?;
+    if accepted.is_empty() {
+        return put_effect(effects, Effect::Answer(host, accepted));
+    }
     let at = effects.len();
     let mut changes = replace(effects, Effects::new(alloc)).into_vec();
     changes.push(Effect::Answer(host, Extents::new(alloc)))?;

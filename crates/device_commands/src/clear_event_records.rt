@@ -5,14 +5,16 @@
 
 ghost use Rattle.device_commands.specs.ClearEventRecords.{AnswersClear, changing, clearing_outcome, clearing_rule, empty_rule, listed_outcome};
 ghost use Rattle.device_commands.specs.ClearEventRecords.{log_handles_rule, whole_outcome, whole_rule};
+ghost use Rattle.device_commands.specs.DraftContents.{IsBlank, draft_in, no_draft};
 ghost use Rattle.dcd_codes.specs.Rules.{ByRow};
 ghost use Rattle.device_rules.specs.EventCommands.{cleared, rule_of};
 ghost use Rattle.device_commands.specs.Drafts.{IsOutcome};
 ghost use Rattle.journal_core.specs.declared.outcome.Effect.{Effect};
 ghost use Rattle.std.specs.Prelude.{◌≡◌, ◌++◌, ◌≤◌, [], IfOk, None, OnOk, length};
 
-use crate::draft::Draft;
+use crate::draft::{Draft, DraftedStep};
 use crate::get_event_records::{DYNAMIC_CAPACITY, LOGS};
+use crate::putting::put_effect;
 use crate::rooms::Room;
 use dcd_base::{LogId, NoMemory};
 use dcd_codes::{Refusal, Rule};
@@ -108,9 +110,19 @@ fn clear_listed(
         return Err(Refusal::Broken(rule_of(fault)));
     }
     let mut step = room.blank()?;
-    put_cleared(id, handles.len(), &mut step.as_mut().effects)?;
-    step.as_mut().update.lists = None;
+    put_listed(id, handles.len(), step.as_mut())?;
     Ok(Draft::of_step(step))
+}
+
+/// Puts that so many of the oldest records go into a draft that has nothing yet.
+fn put_listed(id: &LogId, count: usize, step: &mut DraftedStep) -> Result<(), NoMemory>
+    requires few { count ≤ 255 }
+    requires blank { IsBlank step.old }
+    ensures { OnOk result (draft_in step.new ≡ record no_draft { changes = cleared id.now count }) }
+{
+    step.log_records = ShortList::new();
+    step.update.lists.clear();
+    put_cleared(id, count, &mut step.effects)
 }
 
 /// The rule that is broken where records cannot be cleared.
@@ -139,5 +151,5 @@ fn put_cleared(id: &LogId, count: usize, changes: &mut Effects) -> Result<(), No
     if count == 0 {
         return Ok(());
     }
-    changes.push(Effect::Cleared(*id, count as u16))
+    put_effect(changes, Effect::Cleared(*id, count as u16))
 }

@@ -1,13 +1,13 @@
 //! What a command does that breaks no rule.
 
-ghost use Rattle.device_commands.specs.DraftContents.{draft_in, lists_alone, parts_of_content};
-ghost use Rattle.device_commands.specs.ListDrafts.{lists_changed};
-ghost use Rattle.std.specs.Prelude.{◌≡◌, [], IfOk, None, Some};
+ghost use Rattle.device_commands.specs.DraftContents.{draft_in, parts_of_content};
+ghost use Rattle.device_state.specs.ListsUpdates.{lists_alone};
+ghost use Rattle.std.specs.Prelude.{◌≡◌, [], IfOk, None};
 
 use crate::log_records::LogRecords;
 use crate::rooms::Room;
 use dcd_base::{Bytes, HostId, NoMemory, Seq, Tag};
-use device_state::{NewLists, TagChange, Update};
+use device_state::{ListsUpdate, NewLists, TagChange, Update};
 use host_lists::ListsChange;
 use journal_core::{Effects, Reply};
 use short_list::ShortList;
@@ -91,7 +91,7 @@ impl DraftedStep {
             log_records,
             reply: Reply::Stored,
             update: Update {
-                lists: under_a_host(lists),
+                lists: ListsUpdate::of(under_a_host(lists)),
                 tags: TagChange::Nothing,
             },
         }
@@ -128,13 +128,13 @@ impl DraftedStep {
             changes: effects,
             tags,
             log_records,
-            lists: lists_alone(update.lists),
+            lists: lists_alone(update.lists.into_new()),
         }
     }
 }
 
 /// The change of lists under some host.
-pub(crate) fn under_a_host(lists: Option<ListsChange>) -> Option<NewLists>
+fn under_a_host(lists: Option<ListsChange>) -> Option<NewLists>
     ensures { lists_alone result ≡ lists }
 {
     match lists {
@@ -203,42 +203,6 @@ impl Draft {
                 lists: None,
             },
         )
-    }
-
-    /// Changes, the tags that may end by them, what is told, and what they change of lists.
-    #[inline(always)]
-    pub fn listing(
-        room: &mut Room,
-        changes: Effects,
-        tags: Seq<Tag>,
-        log_records: ShortList<LogRecords>,
-        lists: ListsChange,
-    ) -> Result<Draft, NoMemory>
-        ensures { IfOk result (λ draft. draft ≡ record { payload = []; changes = changes; tags = tags; log_records = log_records; lists = Some lists }) }
-    {
-        let alloc = room.allocator();
-        Draft::of(
-            room,
-            DraftParts {
-                payload: Bytes::new(alloc),
-                changes,
-                tags,
-                log_records,
-                lists: Some(lists),
-            },
-        )
-    }
-
-    /// Changes, and what they change of lists.
-    pub fn relisting(
-        room: &mut Room,
-        changes: Effects,
-        lists: ListsChange,
-    ) -> Result<Draft, NoMemory>
-        ensures { IfOk result (λ draft. draft ≡ lists_changed changes lists) }
-    {
-        let (tags, log_records) = (Seq::new(room.allocator()), ShortList::new());
-        Draft::listing(room, changes, tags, log_records, lists)
     }
 
     /// Its parts, taken from the heap.

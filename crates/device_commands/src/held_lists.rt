@@ -14,20 +14,19 @@ const ADD_RESPONSE: u16 = 0x4802;
 
 const GIVE_BACK: u16 = 0x4803;
 
-/// The extents of a message that is not the last of its list are held, where there are any.
-pub fn hold(
+/// Puts behind the effects that the extents of a message that is not the last of its list are held, where there are any.
+pub(crate) fn put_hold(
     host: HostId,
     kind: HeldKind,
     list: &Extents,
-    room: &mut Room,
-) -> Result<Effects, NoMemory>
-    ensures { IfOk result (λ changes. changes ≡ hold host kind list.now) }
+    effects: &mut Effects,
+) -> Result<(), NoMemory>
+    ensures { OnOk result (effects.new ≡ effects.old ++ hold host kind list.now) }
 {
-    let mut changes = room.effects(1)?;
     if !list.is_empty() {
-        changes.push(Effect::Hold(host, kind, list.copy()?))?;
+        effects.push(Effect::Hold(host, kind, list.copy()?))?;
     }
-    Ok(changes)
+    Ok(())
 }
 
 /// What was held is held no longer, where anything was.
@@ -42,20 +41,7 @@ pub fn unhold(
     if held.is_empty() {
         return Ok(Effects::new(room.allocator()));
     }
-    unhold_before(host, kind, held, 0, room)
-}
-
-/// What was held is held no longer, where anything was, with room for so many effects behind it.
-pub(crate) fn unhold_before(
-    host: HostId,
-    kind: HeldKind,
-    held: &Extents,
-    effects: usize,
-    room: &mut Room,
-) -> Result<Effects, NoMemory>
-    ensures { IfOk result (λ changes. changes ≡ unhold host kind held.now) }
-{
-    let mut changes = room.effects(effects.saturating_add(1))?;
+    let mut changes = room.effects(1)?;
     put_unhold(host, kind, held, &mut changes)?;
     Ok(changes)
 }

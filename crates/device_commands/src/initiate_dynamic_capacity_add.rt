@@ -4,10 +4,10 @@
 //! Bytes: docs/formats.md, 'Commands of the Fabric Manager'.
 
 ghost use Rattle.device_commands.specs.ManagerMessages.{ManagerAnswers};
-ghost use Rattle.device_commands.specs.InitiateDynamicCapacityAdd.{AnswersOffer, IsRoomRule, add_request, offered_lists, request_rule, DraftOffers};
+ghost use Rattle.device_commands.specs.InitiateDynamicCapacityAdd.{AnswersOffer, IsRoomRule, add_request, request_rule, DraftOffers};
 ghost use Rattle.device_commands.specs.InitiateDynamicCapacityAdd.{is_used_tag, is_with_hosts, lists_have, target_rule, room_rule, shared_rule};
 ghost use Rattle.device_commands.specs.InitiateDynamicCapacityAdd.{tag_rule};
-ghost use Rattle.device_commands.specs.DraftContents.{draft_in, no_draft};
+ghost use Rattle.device_commands.specs.DraftContents.{IsBlank, draft_in};
 ghost use Rattle.device_commands.specs.ListDrafts.{TellOf};
 ghost use Rattle.event_records.specs.declared.events.EventKind.{EventKind};
 ghost use Rattle.dcd_base.specs.Limits.{tags_supported};
@@ -15,7 +15,6 @@ ghost use Rattle.extent_list.specs.ExtentLists.{has_extent_of, real_tags};
 ghost use Rattle.journal_core.specs.declared.outcome.Effect.{Effect};
 ghost use Rattle.device_state.specs.StateAfter.{IsReached, part_of};
 ghost use Rattle.dcd_base.specs.declared.steps.LogId.{LogId};
-ghost use Rattle.host_lists.specs.Changes.{changed_by};
 ghost use Rattle.host_lists.specs.Lists.{extent_total, extents_of_lists};
 ghost use Rattle.std.specs.List.{list_any};
 ghost use Rattle.std.specs.Prelude.{◌≡◌, ◌++◌, ◌+◌, ◌-◌, ◌==◌, ◌^◌, ◌<◌, ◌≤◌, ◌∷◌, [], IfNone, IfOk, OnOk, length};
@@ -23,8 +22,9 @@ ghost use Rattle.tag_refs.specs.Tables.{passes};
 ghost use Rattle.tag_refs.specs.declared.entries.TagEntry.{TagEntry};
 
 use crate::choosing::{Asked, new_extents};
-use crate::draft::{Draft, DraftedStep, under_a_host};
-use crate::log_records::{LogRecords, log_full, one_record, records_by_tags};
+use crate::draft::{Draft, DraftedStep};
+use crate::log_records::{LogRecords, each_record, event_by_tags, log_full, one_record};
+use crate::putting::put_effect;
 use crate::rooms::Room;
 use dcd_base::limits::TAGS;
 use dcd_base::{Extent, Extents, HostId, LogId, NoMemory, RegionId, Tag, is_no_tag};
@@ -32,7 +32,7 @@ use dcd_codes::{Refusal, Rule};
 use device_state::State;
 use event_records::EventKind;
 use extent_list::same_tag;
-use host_lists::{Changed, HostLists, ListsChange};
+use host_lists::{Changed, HostLists};
 use journal_core::Effect;
 use list_rules::too_many_extents;
 use region_config::Config;
@@ -88,7 +88,7 @@ pub fn add(
     if let Some(rule) = tag_rule(state, &asked) {
         return Err(Refusal::Broken(rule));
     }
-    match new_extents(alloc, state, &asked, list, &mut room.runs) {
+    match new_extents(alloc, state, &asked, list, room) {
         Err(refusal) => Err(refusal),
         Ok(extents) => offer_of(alloc, state, &asked, extents, room),
     }
@@ -293,40 +293,48 @@ fn put_offer(
     requires part { asked.now.host < length state.now.hosts.items }
     requires few { extent_total (part_of state.now asked.now.host).lists + length extents ≤ 64 }
     requires tags { tags ≡ length (real_tags (extents_of_lists (part_of state.now asked.now.host).lists ++ extents)) }
-    requires blank { draft_in step.old ≡ record no_draft { lists = (draft_in step.old).lists } }
+    requires blank { IsBlank step.old }
     ensures { OnOk result (DraftOffers asked.now.host (part_of state.now asked.now.host).lists extents (draft_in step.new)) }
 {
-    let change = lists_with(state, asked, &extents)?;
-    let after = Changed::of(&state.part(asked.host).lists, &change);
-    let tags_available = TAGS.saturating_sub(tags);
-    step.log_records = offer_records(alloc, asked.host, &after, tags_available, &extents)?;
-    step.update.lists = under_a_host(Some(change));
-    step.effects.push(Effect::Offer(asked.host, extents))?;
-    Ok(())
-}
-
-/// What the offer changes of the lists of the host.
-fn lists_with(state: &State, asked: &Asked, extents: &Extents) -> Result<ListsChange, NoMemory>
-    requires part { asked.now.host < length state.now.hosts.items }
-    ensures { IfOk result (λ change. changed_by change (part_of state.now asked.now.host).lists ≡ offered_lists (part_of state.now asked.now.host).lists extents.now) }
-{
     let lists = &state.part(asked.host).lists;
-    lists.offering(asked.region, extents.copy()?)
+    step.update
+        .lists
+        .offer(lists, asked.region, extents.as_slice())?;
+    let after = step.update.lists.over(lists);
+    let tags_available = TAGS.saturating_sub(tags);
+    let records = &mut step.log_records;
+    put_offer_records(
+        alloc,
+        asked.host,
+        &after,
+        tags_available,
+        extents.as_slice(),
+        records,
+    )?;
+    put_effect(&mut step.effects, Effect::Offer(asked.host, extents))
 }
 
-/// The records for the host, which has so many tags available by these lists.
-fn offer_records(
+/// Puts the records for the host, which has so many tags available by these lists, in place of others.
+#[inline(always)]
+fn put_offer_records(
     alloc: Global,
     host: HostId,
     lists: &Changed,
     tags_available: u32,
-    extents: &Extents,
-) -> Result<ShortList<LogRecords>, NoMemory>
+    extents: &[Extent],
+    records: &mut ShortList<LogRecords>,
+) -> Result<(), NoMemory>
     requires few { extent_total lists.now ≤ 64 }
     requires tags { tags_available ≡ tags_supported - length (real_tags (extents_of_lists lists.now)) }
-    ensures { IfOk result (TellOf host EventKind.Add lists.now extents.now) }
+    ensures { OnOk result (TellOf host EventKind.Add lists.now extents.now records.new) }
 {
-    let (kind, extents) = (EventKind::Add, extents.as_slice());
-    let events = records_by_tags(alloc, host, lists, tags_available, kind, extents)?;
-    Ok(one_record(LogId::Host(host), events))
+    let (log, kind) = (LogId::Host(host), EventKind::Add);
+    if extents.len() == 1 {
+        let event = event_by_tags(host, lists, tags_available, kind, false, &extents[0]);
+        *records = one_record(log, ShortList::of(event));
+        return Ok(());
+    }
+    let events = each_record(alloc, host, lists, tags_available, kind, extents)?;
+    *records = one_record(log, events);
+    Ok(())
 }

@@ -5,20 +5,18 @@
 
 ghost use Rattle.device_commands.specs.ManagerMessages.{ManagerAnswers};
 ghost use Rattle.device_commands.specs.InitiateDynamicCapacityRelease.{AnswersRemoval, IsAskedFor, IsTakenByForce, meant_of};
-ghost use Rattle.device_commands.specs.InitiateDynamicCapacityRelease.{flags_rule, meant_rule_of, remove_request, removed_lists, Departs};
-ghost use Rattle.device_commands.specs.DraftContents.{draft_in, no_draft};
+ghost use Rattle.device_commands.specs.InitiateDynamicCapacityRelease.{flags_rule, meant_rule_of, remove_request, Departs};
+ghost use Rattle.device_commands.specs.DraftContents.{IsBlank, draft_in};
 ghost use Rattle.device_commands.specs.ListDrafts.{TellOf};
-ghost use Rattle.release_core.specs.Leaving.{AllCanLeave};
 ghost use Rattle.device_state.specs.StateAfter.{IsReached, part_of};
 ghost use Rattle.dcd_codes.specs.Rules.{ByRow};
 ghost use Rattle.device_rules.specs.Outcomes.{log_full};
 ghost use Rattle.device_rules.specs.ReleaseOutcomes.{is_cleaning, is_forced};
 ghost use Rattle.event_records.specs.declared.events.EventKind.{EventKind};
-ghost use Rattle.host_lists.specs.Changes.{changed_by};
 ghost use Rattle.host_lists.specs.Lists.{extent_total};
 ghost use Rattle.std.specs.Prelude.{◌≡◌, ◌<◌, ◌≤◌, IfOk, OnOk, Option, length, true};
 
-use crate::draft::{Draft, DraftParts, DraftedStep, under_a_host};
+use crate::draft::{Draft, DraftParts, DraftedStep};
 use crate::leaves::put_leaves;
 use crate::log_records::{LogRecords, log_full, records_to};
 use crate::rooms::Room;
@@ -27,7 +25,7 @@ use dcd_base::{Bytes, Extents, HostId, LogId, NoMemory, RegionId, Tag};
 use dcd_codes::{Refusal, Rule};
 use device_state::State;
 use event_records::EventKind;
-use host_lists::{Changed, ListsChange};
+use host_lists::Changed;
 use region_config::Config;
 use release_core::{by_tag, removal};
 use short_list::ShortList;
@@ -205,10 +203,11 @@ fn put_removal(
     requires host { host < config.now.hosts }
     requires part { host < length state.now.hosts.items }
     requires departs { Departs config.now host (part_of state.now host).lists cleaning leaving.now }
-    requires blank { draft_in step.old ≡ record no_draft { lists = (draft_in step.old).lists } }
+    requires blank { IsBlank step.old }
     ensures { OnOk result (IsTakenByForce config.now host cleaning (part_of state.now host).lists leaving.now (draft_in step.new)) }
 {
-    let change = lists_without(state, host, leaving)?;
+    let lists = &state.part(host).lists;
+    step.update.lists.remove(lists, leaving)?;
     put_leaves(
         config,
         host,
@@ -217,19 +216,9 @@ fn put_removal(
         &mut step.effects,
     )?;
     put_tags_of(leaving.as_slice(), &mut step.tags)?;
-    let after = Changed::of(&state.part(host).lists, &change);
+    let after = step.update.lists.over(lists);
     step.log_records = removal_records(alloc, host, &after, EventKind::Forced, leaving)?;
-    step.update.lists = under_a_host(Some(change));
     Ok(())
-}
-
-/// What changes of the lists of the host where the extents leave.
-fn lists_without(state: &State, host: HostId, leaving: &Extents) -> Result<ListsChange, NoMemory>
-    requires part { host < length state.now.hosts.items }
-    requires can { AllCanLeave (part_of state.now host).lists.accepted leaving.now }
-    ensures { IfOk result (λ change. changed_by change (part_of state.now host).lists ≡ removed_lists (part_of state.now host).lists leaving.now) }
-{
-    state.part(host).lists.removing(leaving)
 }
 
 /// The records for the host.

@@ -4,7 +4,7 @@
 //! row that the command breaks; nothing that the device keeps is changed. In each room come, in this order, what is
 //! read, the first broken rule, the reply and the changes. `host_messages` and `manager_messages` say which command a
 //! message is. Beside the rooms stand what several share: `draft`, `log_records`, `held_lists`, `leaves`, `pages`,
-//! `rooms`, `runs`, `tags`, `tag_changes` and `responses`.
+//! `putting`, `rooms`, `runs`, `tags`, `tag_changes` and `responses`.
 #![tactic(auto)]
 
 mod add_dynamic_capacity_response;
@@ -29,6 +29,7 @@ mod leaves;
 mod log_records;
 mod manager_messages;
 mod pages;
+mod putting;
 mod release_dynamic_capacity;
 mod responses;
 mod rooms;
@@ -52,4 +53,4 @@ pub use rooms::Room;
 pub use runs::run_of;
 pub use scrub::{Zeroed, zero_dirty};
 pub use short_list::ShortList;
-pub use tag_changes::{offer_change, told_change};
+pub use tag_changes::{put_no_change, put_offer_change, told_change};

@@ -43,7 +43,7 @@ pub fn event_for(
 
 /// What is told of an extent, where it is known how many tags the host has available by these lists. The handle is 0.
 #[inline(always)]
-fn event_by_tags(
+pub(crate) fn event_by_tags(
     host: HostId,
     lists: &Changed,
     tags_available: u32,
@@ -83,7 +83,7 @@ pub fn records_of_extents(
 
 /// A record for each extent, each of which says whether more come, where it is known how many tags the host has available
 /// by these lists.
-pub(crate) fn records_by_tags(
+fn records_by_tags(
     alloc: Global,
     host: HostId,
     lists: &Changed,
@@ -99,6 +99,23 @@ pub(crate) fn records_by_tags(
         let event = event_by_tags(host, lists, tags_available, kind, false, &extents[0]);
         return Ok(ShortList::of(event));
     }
+    each_record(alloc, host, lists, tags_available, kind, extents)
+}
+
+/// The same, for any number of extents.
+#[inline(never)]
+pub(crate) fn each_record(
+    alloc: Global,
+    host: HostId,
+    lists: &Changed,
+    tags_available: u32,
+    kind: EventKind,
+    extents: &[Extent],
+) -> Result<ShortList<Event>, NoMemory>
+    requires few { extent_total lists.now ≤ 64 }
+    requires tags { tags_available ≡ tags_supported - length (real_tags (extents_of_lists lists.now)) }
+    ensures { IfOk result (λ events. (v : View) → lists.now ≡ lists_in v → events ≡ records_of_extents host v kind extents.now) }
+{
     let mut events = Vec::with_capacity(alloc, extents.len())?;
     let extents_available = lists.extents_available();
     for i in 0..extents.len() {

@@ -3,22 +3,22 @@
 //! Outcome: `give_back_outcome`, device_rules/specs/ReleaseOutcomes.antt; the reply is empty.
 //! Bytes: docs/formats.md, 'Commands of a host'.
 
-ghost use Rattle.device_commands.specs.ReleaseDynamicCapacity.{IsReleased};
+ghost use Rattle.device_commands.specs.ReleaseDynamicCapacity.{GivesBack, IsReleased};
 ghost use Rattle.device_commands.specs.HostMessages.{AnswersByLists};
 ghost use Rattle.host_payloads.specs.declared.requests.HostRequest.{HostRequest};
-ghost use Rattle.device_rules.specs.ResponseOutcomes.{hold, unhold};
 ghost use Rattle.event_records.specs.declared.events.EventKind.{EventKind};
-ghost use Rattle.extent_list.specs.ExtentLists.{tags_of};
-ghost use Rattle.device_commands.specs.DraftContents.{draft_in, no_draft};
-ghost use Rattle.device_commands.specs.ListDrafts.{lists_changed};
+ghost use Rattle.extent_list.specs.ExtentLists.{count_in};
+ghost use Rattle.release_core.specs.Releases.{give_back_rule};
+ghost use Rattle.device_commands.specs.DraftContents.{IsBlank, draft_in};
+ghost use Rattle.device_state.specs.ListsUpdates.{left_by};
 ghost use Rattle.host_lists.specs.Changes.{changed_by};
 ghost use Rattle.host_lists.specs.Lists.{extent_total};
 ghost use Rattle.journal_core.specs.declared.outcome.HeldKind.{HeldKind};
 ghost use Rattle.media_map.specs.Places.{is_granular};
-ghost use Rattle.std.specs.Prelude.{◌≡◌, ◌<◌, ◌≤◌, [], All, IfOk, IfSome, IsTrue, OnOk, Some, false};
+ghost use Rattle.std.specs.Prelude.{◌≡◌, ◌++◌, ◌<◌, ◌≤◌, [], All, IfOk, IfSome, IsSome, IsTrue, None, OnOk};
 
-use crate::draft::{Draft, DraftedStep, under_a_host};
-use crate::held_lists::{hold, put_unhold};
+use crate::draft::{Draft, DraftedStep};
+use crate::held_lists::{put_hold, put_unhold};
 use crate::leaves::put_leaves;
 use crate::log_records::records_to;
 use crate::rooms::Room;
@@ -26,10 +26,11 @@ use crate::tags::put_tags_of;
 use dcd_base::{Extent, Extents, HostId, LogId, NoMemory};
 use dcd_codes::Refusal;
 use event_records::EventKind;
-use host_lists::{Changed, HostLists, ListsChange};
+use host_lists::HostLists;
 use journal_core::HeldKind;
 use region_config::Config;
 use release_core::{GivenBack, broken_rule};
+use short_list::ShortList;
 use std::alloc::Global;
 
 /// What the host gives back: this list behind what it holds of earlier messages, and whether more messages are to
@@ -54,113 +55,70 @@ pub fn give_back(
     ensures drafts { AnswersByLists config.now present.now host lists.now (HostRequest.GiveBack more list.now) result }
     ensures few { IfOk result (λ draft. IfSome draft.lists (λ change. extent_total (changed_by change lists.now) ≤ 64)) }
 {
-    // What is made of present blocks is made of granules, in every configuration.
-    let _regions = present.regions();
     let (accepted, offered, earlier) = (lists.accepted(), lists.offered(), lists.releases());
     if let Some(rule) = broken_rule(present, host, accepted, offered, earlier, list, more)? {
         return Err(Refusal::Broken(rule));
     }
-    let (change, given) = lists.releasing(list, more)?;
-    match given {
-        GivenBack::Held => Ok(held(host, list, lists, change, room)?),
-        GivenBack::Nothing => {
-            let leaving = Extents::new(alloc);
-            Ok(extents_released(
-                alloc,
-                present,
-                host,
-                lists,
-                change,
-                leaving.as_slice(),
-                room,
-            )?)
-        }
-        GivenBack::Done(leaving) => {
-            Ok(extents_released(
-                alloc,
-                present,
-                host,
-                lists,
-                change,
-                leaving.as_slice(),
-                room,
-            )?)
-        }
-    }
+    let mut step = room.blank()?;
+    put_given(alloc, present, host, lists, more, list, step.as_mut())?;
+    Ok(Draft::of_step(step))
 }
 
-/// More is to come.
-fn held(
-    host: HostId,
-    list: &Extents,
-    lists: &HostLists,
-    change: ListsChange,
-    room: &mut Room,
-) -> Result<Draft, NoMemory>
-    requires few { extent_total (changed_by change lists.now) ≤ 64 }
-    ensures drafts { IfOk result (λ draft. draft ≡ lists_changed (hold host HeldKind.Releases list.now) change) }
-    ensures few { IfOk result (λ draft. IfSome draft.lists (λ change. extent_total (changed_by change lists.now) ≤ 64)) }
-{
-    let changes = hold(host, HeldKind::Releases, list, room)?;
-    Draft::relisting(room, changes, change)
-}
-
-/// These extents leave the host.
-fn extents_released(
+/// Puts what a release does that breaks no rule into a draft that has nothing yet.
+fn put_given(
     alloc: Global,
     present: &Config,
     host: HostId,
     lists: &HostLists,
-    change: ListsChange,
-    leaving: &[Extent],
-    room: &mut Room,
-) -> Result<Draft, NoMemory>
+    more: bool,
+    list: &Extents,
+    step: &mut DraftedStep,
+) -> Result<(), NoMemory>
     requires host { host < present.now.hosts }
-    requires granular { All (λ x. IsTrue (is_granular present.now host x.start x.length)) leaving.now }
-    requires few { extent_total (changed_by change lists.now) ≤ 64 }
-    requires held { changed_by change (record lists.now { releases = [] }) ≡ changed_by change lists.now }
-    ensures drafts { IfOk result (IsReleased present.now host lists.now leaving.now (changed_by change lists.now)) }
-    ensures few { IfOk result (λ draft. IfSome draft.lists (λ change. extent_total (changed_by change lists.now) ≤ 64)) }
+    requires row { give_back_rule present.now host lists.now.accepted (count_in lists.now.offers) (lists.now.releases ++ list.now) more ≡ None }
+    requires few { extent_total lists.now ≤ 64 }
+    requires blank { IsBlank step.old }
+    ensures drafts { OnOk result (GivesBack present.now host lists.now more list.now (draft_in step.new)) }
+    ensures few { OnOk result (IfSome (draft_in step.new).lists (λ change. extent_total (changed_by change lists.now) ≤ 64)) }
 {
-    let mut step = room.blank()?;
-    put_released(alloc, present, host, lists, change, leaving, step.as_mut())?;
-    Ok(Draft::of_step(step))
+    // What is made of present blocks is made of granules, in every configuration.
+    let _regions = present.regions();
+    match step.update.lists.release(lists, list, more)? {
+        GivenBack::Held => {
+            step.log_records = ShortList::new();
+            put_hold(host, HeldKind::Releases, list, &mut step.effects)
+        }
+        GivenBack::Nothing => put_released(alloc, present, host, lists, &[], step),
+        GivenBack::Done(leaving) => {
+            put_released(alloc, present, host, lists, leaving.as_slice(), step)
+        }
+    }
 }
 
-/// Puts the release of these extents into a draft that has nothing yet.
+/// Puts the release of these extents into a draft that has nothing yet but what it changes of the lists.
 fn put_released(
     alloc: Global,
     present: &Config,
     host: HostId,
     lists: &HostLists,
-    change: ListsChange,
     leaving: &[Extent],
     step: &mut DraftedStep,
 ) -> Result<(), NoMemory>
     requires host { host < present.now.hosts }
     requires granular { All (λ x. IsTrue (is_granular present.now host x.start x.length)) leaving.now }
-    requires few { extent_total (changed_by change lists.now) ≤ 64 }
-    requires held { changed_by change (record lists.now { releases = [] }) ≡ changed_by change lists.now }
-    requires blank { draft_in step.old ≡ record no_draft { lists = (draft_in step.old).lists } }
-    ensures drafts { OnOk result (IsReleased present.now host lists.now leaving.now (changed_by change lists.now) (draft_in step.new)) }
-    ensures lists { OnOk result ((draft_in step.new).lists ≡ Some change) }
+    requires there { IsSome step.old.update.lists }
+    requires few { extent_total (left_by step.old.update.lists lists.now) ≤ 64 }
+    requires held { left_by step.old.update.lists (record lists.now { releases = [] }) ≡ left_by step.old.update.lists lists.now }
+    requires blank { IsBlank step.old }
+    ensures drafts { OnOk result (IsReleased present.now host lists.now leaving.now (left_by step.old.update.lists lists.now) (draft_in step.new)) }
+    ensures lists { OnOk result (step.new.update.lists ≡ step.old.update.lists) }
 {
-    put_unhold(
-        host,
-        HeldKind::Releases,
-        lists.releases(),
-        &mut step.effects,
-    )?;
+    let held = lists.releases();
+    put_unhold(host, HeldKind::Releases, held, &mut step.effects)?;
     put_leaves(present, host, false, leaving, &mut step.effects)?;
     put_tags_of(leaving, &mut step.tags)?;
-    step.log_records = records_to(
-        alloc,
-        LogId::Manager,
-        host,
-        &Changed::of(lists, &change),
-        EventKind::Released,
-        leaving,
-    )?;
-    step.update.lists = under_a_host(Some(change));
+    let after = step.update.lists.over(lists);
+    let (to, kind) = (LogId::Manager, EventKind::Released);
+    step.log_records = records_to(alloc, to, host, &after, kind, leaving)?;
     Ok(())
 }

@@ -1,18 +1,17 @@
 //! Memory that goes from one step to the next, so that a step takes none of what the one before it had.
 
-ghost use Rattle.device_commands.specs.DraftContents.{draft_in, no_draft};
-ghost use Rattle.std.specs.Prelude.{◌≡◌, [], IfOk, OnOk};
+ghost use Rattle.device_commands.specs.DraftContents.{IsBlank, draft_in, no_draft};
+ghost use Rattle.std.specs.Prelude.{◌≡◌, ◌≤◌, [], IfOk, OnOk, vec_capacity, vec_len};
 
 use crate::draft::DraftedStep;
-use dcd_base::{Bytes, NoMemory, Runs, Seq, Tag};
+use dcd_base::{Bytes, Extent, Extents, NoMemory, Runs, Seq, Tag};
 use device_state::TagChange;
-use journal_core::Effects;
-use short_list::ShortList;
+use journal_core::{Effect, Effects, Reply};
 use std::alloc::Global;
-use std::mem::{replace, swap};
+use std::mem::{ManuallyDrop, replace, swap};
 
-/// The memory of a reply's payload, of the runs that an offer is chosen of, and of the parts of a step, its effects among
-/// them, lent to a step and kept for the next one.
+/// The memory of a reply's payload, of the runs that an offer is chosen of and of its extents, and of the parts of a step,
+/// its effects among them, lent to a step and kept for the next one.
 ///
 /// What lies in it has no meaning, and no contract says anything of it: whoever takes memory finds it empty, or as it
 /// was asked for. Where none is kept, new memory is taken.
@@ -21,6 +20,7 @@ pub struct Room {
     alloc: Global,
     payload: Bytes,
     pub(crate) runs: Runs,
+    extents: Extents,
     step: Option<Box<DraftedStep>>,
 }
 
@@ -31,6 +31,7 @@ impl Room {
             alloc,
             payload: Bytes::new(alloc),
             runs: Runs::new(alloc),
+            extents: Extents::new(alloc),
             step: None,
         }
     }
@@ -93,19 +94,41 @@ impl Room {
         }
     }
 
-    /// The parts of a draft that has nothing yet but what was kept of lists.
+    /// The parts of a draft that has nothing yet but what was kept of lists and of records.
     #[inline(never)]
     pub(crate) fn blank(&mut self) -> Result<Box<DraftedStep>, NoMemory>
-        ensures { IfOk result (λ step. draft_in step.value ≡ record no_draft { lists = (draft_in step.value).lists }) }
+        ensures { IfOk result (λ step. IsBlank step.value) }
     {
         match self.step.take() {
             Some(kept) => {
                 let mut kept = kept;
-                empty(kept.as_mut());
+                empty(kept.as_mut(), &mut self.extents);
                 Ok(kept)
             }
             None => self.first(),
         }
+    }
+
+    /// The parts of a step, of which nothing is known.
+    #[inline(always)]
+    pub fn parts(&mut self) -> Result<Box<DraftedStep>, NoMemory> {
+        match self.step.take() {
+            Some(kept) => Ok(kept),
+            None => self.first(),
+        }
+    }
+
+    /// A list without extents, in which so many can be put without more memory.
+    #[inline(always)]
+    pub(crate) fn extents(&mut self, most: usize) -> Result<Vec<Extent>, NoMemory>
+        ensures items { IfOk result (λ extents. extents.items ≡ []) }
+        ensures len { IfOk result (λ extents. vec_len extents ≡ 0) }
+        ensures room { IfOk result (λ extents. most ≤ vec_capacity extents) }
+    {
+        let mut items = replace(&mut self.extents, Extents::new(self.alloc)).into_vec();
+        items.clear();
+        items.reserve(most)?;
+        Ok(items)
     }
 
     /// The same, in new memory.
@@ -127,12 +150,16 @@ impl Room {
         }
     }
 
-    /// Keeps the memory of effects, beside that of their step.
-    pub fn keep_effects(&mut self, effects: Effects) {
-        let mut effects = effects;
-        if let Some(kept) = &mut self.step {
-            swap(&mut kept.effects, &mut effects);
+    /// Keeps the memory of a step's parts, of which the reply alone was made, and that of its payload, where it has bytes.
+    #[inline(always)]
+    pub fn keep_replied(&mut self, step: Box<DraftedStep>) {
+        let mut step = step;
+        if let Reply::Answer(response) = &mut step.as_mut().reply {
+            if !response.payload.is_empty() {
+                swap(&mut self.payload, &mut response.payload);
+            }
         }
+        self.step = Some(step);
     }
 
     /// Keeps the memory of a step's parts.
@@ -142,16 +169,31 @@ impl Room {
     }
 }
 
-/// Lets go of the parts of a draft but its lists, and keeps their memory.
+/// Lets go of the parts of a draft but its lists and records, and keeps their memory, that of an offer's extents in a place
+/// of its own.
 #[inline(always)]
-fn empty(step: &mut DraftedStep)
-    ensures { draft_in step.new ≡ record no_draft { lists = (draft_in step.new).lists } }
+fn empty(step: &mut DraftedStep, extents: &mut Extents)
+    ensures { IsBlank step.new }
 {
     step.payload.clear();
-    step.effects.clear();
+    clear(&mut step.effects, extents);
     take_back_tags(step);
     step.tags.clear();
-    step.log_records = ShortList::new();
+}
+
+/// Lets go of the effects, and keeps their memory, that of an offer's extents in a place of its own.
+#[inline(always)]
+fn clear(effects: &mut Effects, extents: &mut Extents)
+    ensures { effects.new ≡ [] }
+{
+    let alloc = effects.allocator();
+    let mut items = replace(effects, Effects::new(alloc)).into_vec();
+    if let Some(Effect::Offer(_, offered)) = items.first_mut() {
+        swap(offered, extents);
+    }
+    items.clear();
+    // What stood there meanwhile has no memory that could be let go.
+    let _ = ManuallyDrop::new(replace(effects, Effects::from_vec(alloc, items)));
 }
 
 /// Lets go of the effects, and keeps their memory, which has room for so many then.
@@ -172,10 +214,7 @@ fn clear_for(effects: &mut Effects, most: usize) -> Result<(), NoMemory>
 fn take_back_tags(step: &mut DraftedStep)
     ensures { draft_in step.new ≡ record (draft_in step.old) { tags = step.new.tags } }
 {
-    if let TagChange::OfHost { host: _, tags } = replace(
-        &mut step.update.tags,
-        TagChange::Nothing,
-    ) {
-        step.tags = tags;
+    if let TagChange::OfHost { host: _, tags } = &mut step.update.tags {
+        swap(&mut step.tags, tags);
     }
 }

@@ -2,7 +2,7 @@
 
 ghost use Rattle.device_commands.specs.TagChanges.{AreGranular, IsOfferChange, OffersGranular, told_change};
 ghost use Rattle.journal_core.specs.declared.outcome.Effect.{Effect};
-ghost use Rattle.std.specs.Prelude.{◌≡◌, ◌<◌, IfOk, length, map, ◌∷◌, []};
+ghost use Rattle.std.specs.Prelude.{◌≡◌, ◌<◌, IfOk, OnOk, length, map, ◌∷◌, []};
 ghost use Rattle.device_state.specs.declared.updates.TagChange.{TagChange};
 ghost use Rattle.media_map.specs.Places.{run_of};
 ghost use Rattle.std.specs.declared.result.Result.TheVariants.{Ok};
@@ -30,8 +30,46 @@ pub fn told_change(host: HostId, tags: &mut Seq<Tag>) -> TagChange
     }
 }
 
+/// Nothing changes of the open tags.
+#[inline(always)]
+pub fn put_no_change(change: &mut TagChange)
+    ensures { change.new ≡ TagChange.Nothing }
+{
+    match change {
+        TagChange::Nothing => (),
+        _ => *change = TagChange::Nothing,
+    }
+}
+
+/// Puts what an offer changes of the open tags in place of another change: nothing outside shareable regions; else the tag is
+/// opened, or set anew.
+#[inline(always)]
+pub fn put_offer_change(
+    alloc: Global,
+    config: &Config,
+    state: &State,
+    host: HostId,
+    region: RegionId,
+    tag: &Tag,
+    changes: &Effects,
+    change: &mut TagChange,
+) -> Result<(), NoMemory>
+    requires host { host < config.now.hosts }
+    requires region { region < length config.now.regions }
+    requires granular { OffersGranular config.now host changes.now }
+    ensures { OnOk result (IsOfferChange config.now host region tag.now (has_entry tag.now state.now.tags.entries) changes.now change.new) }
+{
+    if !config.region(region).shareable {
+        put_no_change(change);
+        return Ok(());
+    }
+    *change = offer_change(alloc, config, state, host, region, tag, changes)?;
+    Ok(())
+}
+
 /// What an offer changes of the open tags: nothing outside shareable regions; else the tag is opened, or set anew.
-pub fn offer_change(
+#[inline(never)]
+fn offer_change(
     alloc: Global,
     config: &Config,
     state: &State,

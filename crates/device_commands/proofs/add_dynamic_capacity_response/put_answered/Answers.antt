@@ -1,22 +1,24 @@
-use Rattle.std.proofs.Common.{◌∙◌, Option, ap, refl, subst, sym}
+use Rattle.std.proofs.Common.{◌∙◌, ap, refl}
+use Rattle.std.proofs.lemmas.Result.{on_ok_weaker}
 use Rattle.extent_list.specs.ExtentLists.{tags_of}
-use Rattle.host_lists.specs.Changes.{changed_by}
-use Rattle.host_lists.specs.declared.lists_change.ListsChange.{ListsChange}
+use Rattle.device_state.specs.ListsUpdates.{left_by}
 use Rattle.device_commands.specs.AddDynamicCapacityResponse.{answer_changes}
-use Rattle.device_commands.specs.Drafts.{LeadsTo}
 use Rattle.device_commands.specs.declared.draft.DraftParts.{DraftParts}
 use Rattle.device_commands.proofs.AddDynamicCapacityResponse.{answer_lets_go}
+use Rattle.device_commands.proofs.ListsAfter.{leads_by}
 use Rattle.device_commands.proofs.add_dynamic_capacity_response.put_answered.Goals as goal
 
 pub returns-clause-drafts : goal.returns-clause-drafts
 returns-clause-drafts c =
+    let p = c.args.present.now in
+    let h = c.args.host in
     let lists = c.args.lists.now in
-    let changes = answer_changes c.args.present.now c.args.host lists c.args.accepted in
-    record {
+    let its = c.args.step.now.update.lists in
+    on_ok_weaker c.put_answer.result (λ changes. record {
       payload = ap (λ (d : DraftParts). d.payload) c.requires.blank;
-      changes_are = c.in_ok-put_answer.ensures;
+      changes_are = changes;
       tags_are = c.in_ok-put_tags_of.ensures ∙ ap tags_of c.oldest.ensures;
-      log_records = λ w is. rw (c.as_slice.ensures) at (c.in_ok-step.ensures w (c.of-after.ensures ∙ is));
-      lists_are = subst (λ (change : Option ListsChange). LeadsTo c.args.host changes lists (changed_by c.args.change lists) change) (sym c.under_a_host.ensures)
-          (refl, ap (changed_by c.args.change) (answer_lets_go c.args.present.now c.args.host lists c.args.accepted) ∙ c.requires.held);
-    }
+      log_records = λ w is. rw (c.as_slice.ensures) at (c.in_ok-step.ensures w (c.over-after.ensures ∙ is));
+      lists_are = leads_by its h (answer_changes p h lists c.args.accepted) lists (left_by its lists) refl
+          (ap (left_by its) (answer_lets_go p h lists c.args.accepted) ∙ c.requires.held);
+    }) c.put_answer.ensures

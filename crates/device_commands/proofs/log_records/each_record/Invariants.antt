@@ -2,7 +2,7 @@ use Rattle.std.proofs.Common.{◌≡◌, ◌++◌, ◌+◌, ◌≤◌, drop, len
 use Rattle.device_rules.specs.Outcomes.{records_of_extents}
 use Rattle.device_rules.specs.Views.{View}
 use Rattle.device_state.specs.StateAfter.{lists_in}
-use Rattle.device_commands.proofs.log_records.records_by_tags.Given as goal
+use Rattle.device_commands.proofs.log_records.each_record.Given as goal
 
 -- The records so far, and those of the rest, are all, and there is room for the rest.
 abbrev pub invariant-loop-i : goal.invariant-loop-i
