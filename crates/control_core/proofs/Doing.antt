@@ -1,5 +1,5 @@
 -- A draft that is entered is its outcome, and puts in place what its effects make of lists and tags.
-use Rattle.std.proofs.Common.{◌≡◌, ◌≢◌, ℕ, ◌+◌, ◌%◌, ◌^◌, Bool, true, false, ◌||◌, not, List, [], ◌∷◌, ◌++◌, ◌⊎◌, map, flat_map, fold, Option, Some, None, append_assoc, inl, inr, refl, sym, ap, ◌∙◌, subst}
+use Rattle.std.proofs.Common.{◌≡◌, ◌≢◌, ℕ, ◌+◌, ◌%◌, ◌^◌, Bool, true, false, ◌||◌, not, List, [], ◌∷◌, ◌++◌, ◌⊎◌, map, flat_map, fold, length, Option, Some, None, append_assoc, arith, inl, inr, refl, sym, ap, ◌∙◌, subst}
 use Rattle.std.specs.Prelude.{◌==◌, if◌then◌else◌}
 use Rattle.std.specs.List.{list_all, list_any}
 use Rattle.std.proofs.lemmas.Bool.{and_parts, cases_eq, eq-eqb, false≢true, ne_eqb, not-true}
@@ -26,6 +26,7 @@ use Rattle.device_commands.specs.declared.draft.DraftParts.{DraftParts}
 use Rattle.device_rules.specs.Answers.{response}
 use Rattle.device_rules.specs.Hosts.{accepted_after, accepted_of, held_after, moves, offers_after, offers_of}
 use Rattle.device_rules.specs.Logs.{log_of}
+use Rattle.device_rules.specs.Tags.{open_tags}
 use Rattle.device_rules.specs.Outcomes.{Outcome, effects_of, ended, entered_all}
 use Rattle.device_rules.specs.Views.{View, view_after, view_of}
 use Rattle.device_rules.proofs.EffectKinds.{any_log, tells_any, told_passes}
@@ -37,9 +38,8 @@ use Rattle.tag_refs.specs.declared.entries.TagEntry.{TagEntry}
 use Rattle.control_core.specs.Doing.{IsDone, IsOfHost}
 use Rattle.device_commands.specs.TagChanges.{told_change}
 use Rattle.device_state.specs.Entered.{lists_by, lists_put, unheld}
-use Rattle.control_core.specs.Offers.{lists_for}
-use Rattle.control_core.specs.Recording.{ending_with, lists_or_had, records_entered}
-use Rattle.device_commands.specs.DraftContents.{lists_alone}
+use Rattle.control_core.specs.Recording.{ending_with, lists_or_had, records_entered, told_now}
+use Rattle.device_state.specs.ListsUpdates.{lists_alone, lists_for}
 use Rattle.device_state.specs.Updates.{IsUpdate, lists_after}
 use Rattle.device_state.specs.declared.state.State.{State}
 use Rattle.device_state.specs.declared.updates.NewLists.{NewLists}
@@ -111,6 +111,33 @@ told_less c before new lists h [] update = record {
   tags = update.tags;
 }
 told_less c before new lists h (t ∷ ts) update = update
+
+-- nor is it to set those of no open tag
+none_set : (h : HostId) (held offered : Tag → Bool) (tags : List Tag) → host_of_tags_set h held offered tags [] ≡ []
+none_set h held offered [] = refl
+none_set h held offered (t ∷ tags) = none_set h held offered tags
+
+no_entries : (others : List TagEntry) (tags : List Tag) → map (λ (e : TagEntry). e.tag) others ≡ tags → [] ≡ tags → others ≡ []
+no_entries [] tags its none = refl
+no_entries (e ∷ others) tags its none = absurd (omega (arith, ap length (its ∙ sym none)))
+
+none_told : (entries : List TagEntry) (h : HostId) → told_now entries h [] ≡ TagChange.Nothing
+none_told [] h = refl
+none_told (e ∷ entries) h = refl
+
+told_open : (c : Configuration) (before : List Entry) (new : List Effect) (lists : Option NewLists) (h : HostId) (tags : List Tag) (entries : List TagEntry) → IsTable c (effects before) entries →
+    IsUpdate c before new (record { lists = lists; tags = TagChange.OfHost h tags }) → IsUpdate c before new (record { lists = lists; tags = told_now entries h tags })
+told_open c before new lists h tags [] table update = record {
+  of_hosts = update.of_hosts;
+  lists = update.lists;
+  can_change = λ others its. tt;
+  tags = λ others its.
+      let none : others ≡ [] = no_entries others (open_tags c (effects before)) its.tags_are table.tags_are in
+      let held : Tag → Bool = λ t. has_extent_of t (lists_after c h before new).accepted in
+      let offered : Tag → Bool = λ t. list_any (has_extent_of t) (lists_after c h before new).offers in
+      subst (IsTable c (effects before ++ new)) (ap (host_of_tags_set h held offered tags) none ∙ none_set h held offered tags ∙ sym none) (update.tags others its);
+}
+told_open c before new lists h tags (e ∷ entries) table update = told_less c before new lists h tags update
 
 module _ (c : Configuration) (before : List Entry) (h : HostId) (o : Outcome) (of : IsOfHost c before h o) where
   -- the host's own lists, as the changes leave them
@@ -191,35 +218,35 @@ module _ (c : Configuration) (before : List Entry) (s : State) (kept : IsStateAf
   pub done_new : (change : ListsChange) → draft.lists ≡ Some change → (reply : Reply) (new : List Effect) → reply ≡ response q Code.Success draft.payload →
       (lists : Lists) → lists ≡ changed_by change (lists_in (view_of c h before)) →
       new ≡ (draft.changes ++ map Effect.TagEnd (ending h (λ t. has_extent_of t lists.accepted) (λ t. list_any (has_extent_of t) lists.offers) s.tags.entries draft.tags)) ++ records_entered (effects before) draft.log_records →
-      IsDone c before q o (record { reply = reply; effects = new; update = record { lists = Some (record { host = h; change = change }); tags = told_change h draft.tags } })
+      IsDone c before q o (record { reply = reply; effects = new; update = record { lists = Some (record { host = h; change = change }); tags = told_now s.tags.entries h draft.tags } })
   done_new change some reply new answers lists are is =
       let leads : AreAfter c h (view_of c h before) o (Some change) = subst (AreAfter c h (view_of c h before) o) some drafts.lists in
       let its_lists : lists ≡ lists_in (view_after c h (view_of c h before) o.changes) = are ∙ leads.0 in
       let effects_are : new ≡ effects_of c (effects before) o = is ∙ all_effects lists its_lists in record {
         reply = answers ∙ ap (response q Code.Success) drafts.payload;
         effects = effects_are;
-        update = subst (λ (x : List Effect × List Tag). IsUpdate c before x.0 (record { lists = Some (record { host = h; change = change }); tags = told_change h x.1 }))
-            (λ i. (sym effects_are i, sym drafts.tags i)) (told_less c before (effects_of c (effects before) o) (Some (record { host = h; change = change })) h o.tags (update_new c before h o of change leads.1));
+        update = subst (λ (x : List Effect × List Tag). IsUpdate c before x.0 (record { lists = Some (record { host = h; change = change }); tags = told_now s.tags.entries h x.1 }))
+            (λ i. (sym effects_are i, sym drafts.tags i)) (told_open c before (effects_of c (effects before) o) (Some (record { host = h; change = change })) h o.tags s.tags.entries kept.tags_are (update_new c before h o of change leads.1));
       }
 
   pub done_same : draft.lists ≡ None → (reply : Reply) (new : List Effect) → reply ≡ response q Code.Success draft.payload →
       (lists : Lists) → lists ≡ lists_in (view_of c h before) →
       new ≡ (draft.changes ++ map Effect.TagEnd (ending h (λ t. has_extent_of t lists.accepted) (λ t. list_any (has_extent_of t) lists.offers) s.tags.entries draft.tags)) ++ records_entered (effects before) draft.log_records →
-      IsDone c before q o (record { reply = reply; effects = new; update = record { lists = None; tags = told_change h draft.tags } })
+      IsDone c before q o (record { reply = reply; effects = new; update = record { lists = None; tags = told_now s.tags.entries h draft.tags } })
   done_same none reply new answers lists is_lists is =
       let stay : lists_in (view_after c h (view_of c h before) o.changes) ≡ lists_in (view_of c h before) = subst (AreAfter c h (view_of c h before) o) none drafts.lists in
       let effects_are : new ≡ effects_of c (effects before) o = is ∙ all_effects lists (is_lists ∙ sym stay) in record {
         reply = answers ∙ ap (response q Code.Success) drafts.payload;
         effects = effects_are;
-        update = subst (λ (x : List Effect × List Tag). IsUpdate c before x.0 (record { lists = None; tags = told_change h x.1 }))
-            (λ i. (sym effects_are i, sym drafts.tags i)) (told_less c before (effects_of c (effects before) o) None h o.tags (update_same c before h o of stay));
+        update = subst (λ (x : List Effect × List Tag). IsUpdate c before x.0 (record { lists = None; tags = told_now s.tags.entries h x.1 }))
+            (λ i. (sym effects_are i, sym drafts.tags i)) (told_open c before (effects_of c (effects before) o) None h o.tags s.tags.entries kept.tags_are (update_same c before h o of stay));
       }
 
   -- so in both cases
   pub done_either : (its : Option NewLists) → draft.lists ≡ lists_alone its → (reply : Reply) (new : List Effect) → reply ≡ response q Code.Success draft.payload →
       (had : Lists) → had ≡ lists_in (view_of c h before) →
       new ≡ (draft.changes ++ map Effect.TagEnd (ending_with h (lists_or_had had its) s.tags.entries draft.tags)) ++ records_entered (effects before) draft.log_records →
-      IsDone c before q o (record { reply = reply; effects = new; update = record { lists = lists_for h (lists_alone its); tags = told_change h draft.tags } })
+      IsDone c before q o (record { reply = reply; effects = new; update = record { lists = lists_for h (lists_alone its); tags = told_now s.tags.entries h draft.tags } })
   done_either None none reply new answers had is_had is = done_same none reply new answers had is_had is
   done_either (Some it) some reply new answers had is_had is = done_new it.change some reply new answers (changed_by it.change had) (ap (changed_by it.change) is_had) is
 
@@ -228,4 +255,5 @@ pub replied_done : (c : Configuration) (before : List Entry) (s : State) → IsS
     → Drafts c h (view_of c h before) o (record { payload = payload; changes = []; tags = []; log_records = []; lists = None })
     → IsDone c before q o (record { reply = response q Code.Success payload; effects = []; update = record { lists = None; tags = TagChange.Nothing } })
 replied_done c before s kept q h o of payload drafts =
-    done_same c before s kept q h o of (record { payload = payload; changes = []; tags = []; log_records = []; lists = None }) drafts refl (response q Code.Success payload) [] refl (lists_in (view_of c h before)) refl refl
+    subst (λ (tags : TagChange). IsDone c before q o (record { reply = response q Code.Success payload; effects = []; update = record { lists = None; tags = tags } })) (none_told s.tags.entries h)
+    (done_same c before s kept q h o of (record { payload = payload; changes = []; tags = []; log_records = []; lists = None }) drafts refl (response q Code.Success payload) [] refl (lists_in (view_of c h before)) refl refl)

@@ -50,8 +50,9 @@ use Rattle.tag_refs.specs.declared.entries.TagEntry.{TagEntry}
 use Rattle.control_core.specs.Doing.{IsDone}
 use Rattle.device_state.specs.Entered.{lists_by, lists_put, tags_put}
 use Rattle.device_commands.specs.TagChanges.{AreGranular, offer_change}
-use Rattle.control_core.specs.Offers.{IsOfOffer, lists_for}
+use Rattle.control_core.specs.Offers.{IsOfOffer}
 use Rattle.control_core.specs.Recording.{records_entered}
+use Rattle.device_state.specs.ListsUpdates.{lists_for}
 use Rattle.device_state.specs.Updates.{CanChange, IsOfHosts, IsOfLog, IsUpdate, lists_after}
 use Rattle.device_state.specs.declared.state.State.{State}
 use Rattle.device_state.specs.declared.updates.TagChange.{TagChange}

@@ -1,8 +1,7 @@
 -- What a decision has.
-use Rattle.std.specs.Prelude.{List, [], None}
+use Rattle.std.specs.Prelude.{Bool, true, false, List, [], None}
 use Rattle.device_commands.specs.declared.draft.DraftedStep.{DraftedStep}
 use Rattle.control_core.specs.declared.decided.Decided.{Decided}
-use Rattle.control_core.specs.declared.decided.DecisionContent.{DecisionContent}
 use Rattle.control_core.specs.declared.step_effects.TakenStep.{TakenStep}
 use Rattle.journal_core.specs.declared.acts.Reply.{Reply}
 use Rattle.journal_core.specs.declared.outcome.Effect.{Effect}
@@ -17,9 +16,9 @@ abbrev pub decided_by : DraftedStep → Decided
 decided_by s = record { reply = s.reply; effects = s.effects; update = s.update }
 
 -- the parts: of a reply alone no effects, and nothing that is put in place
-abbrev pub decided_in : DecisionContent → Decided
-decided_in (DecisionContent.Reply reply) = only_replied reply
-decided_in (DecisionContent.Step step) = decided_by step.value
+abbrev pub decided_where : Bool → DraftedStep → Decided
+decided_where true s = only_replied s.reply
+decided_where false s = decided_by s
 
 -- the effects of a step that was taken
 abbrev pub effects_taken : TakenStep → List Effect

@@ -1,12 +1,11 @@
 -- What an offer of the Fabric Manager puts in place.
-use Rattle.std.specs.Prelude.{◌≡◌, ◌≢◌, ℕ, ◌<◌, true, List, [], ◌∷◌, Option, Some, None}
+use Rattle.std.specs.Prelude.{◌≡◌, ◌≢◌, ℕ, ◌<◌, true, List, [], ◌∷◌}
 use Rattle.std.specs.List.{list_all}
 use Rattle.cci_codec.specs.declared.messages.Request.{Request}
 use Rattle.dcd_base.specs.declared.capacity.Extent.{Extent}
 use Rattle.dcd_base.specs.declared.capacity.Tag.{Tag}
 use Rattle.dcd_base.specs.declared.ids.HostId.{HostId}
 use Rattle.extent_list.specs.ExtentLists.{has_extent_of}
-use Rattle.host_lists.specs.declared.lists_change.ListsChange.{ListsChange}
 use Rattle.region_config.specs.Configurations.{Configuration}
 use Rattle.journal_core.specs.Entries.{effects}
 use Rattle.journal_core.specs.declared.entries.Entry.{Entry}
@@ -23,12 +22,6 @@ use Rattle.control_core.specs.Doing.{IsDone}
 use Rattle.device_state.specs.StateAfter.{IsStateAfter}
 use Rattle.control_core.specs.declared.decided.Decided.{Decided}
 use Rattle.device_state.specs.declared.state.State.{State}
-use Rattle.device_state.specs.declared.updates.NewLists.{NewLists}
-
--- what changes of the host's lists, where anything does
-abbrev pub lists_for : HostId → Option ListsChange → Option NewLists
-lists_for h None = None
-lists_for h (Some change) = Some (record { host = h; change = change })
 
 -- The outcome is the offer of these extents with the tag, and the table of open tags follows it.
 pub record IsOfOffer (c : Configuration) (before : List Entry) (h : HostId) (r : ℕ) (tag : Tag) (new : List Extent) (o : Outcome) : Type 0 where

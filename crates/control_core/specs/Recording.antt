@@ -21,7 +21,9 @@ use Rattle.tag_refs.specs.Tables.{is_used, passes, set_by}
 use Rattle.tag_refs.specs.declared.entries.TagEntry.{TagEntry}
 use Rattle.device_state.specs.StateAfter.{IsStateAfter}
 use Rattle.device_state.specs.declared.state.State.{State}
+use Rattle.device_commands.specs.TagChanges.{told_change}
 use Rattle.device_state.specs.declared.updates.NewLists.{NewLists}
+use Rattle.device_state.specs.declared.updates.TagChange.{TagChange}
 
 -- one record, by the next handle and the room of its log, and the next handle after it
 abbrev pub record_by : LogId → ℕ → ℕ → Event → Effect
@@ -50,6 +52,11 @@ ending_with h l entries tags = ending h (λ t. has_extent_of t l.accepted) (λ t
 abbrev pub lists_or_had : Lists → Option NewLists → Lists
 lists_or_had had None = had
 lists_or_had had (Some new) = changed_by new.change had
+
+-- what a host has of some tags is set anew, where a tag is open
+abbrev pub told_now : List TagEntry → HostId → List Tag → TagChange
+told_now [] h tags = TagChange.Nothing
+told_now (e ∷ entries) h tags = told_change h tags
 
 -- ---- by each journal that leads to what is kept
 

@@ -12,7 +12,7 @@ ghost use Rattle.journal_core.specs.Merging.{Rising};
 ghost use Rattle.region_config.specs.Granules.{granule_total};
 ghost use Rattle.std.specs.Prelude.{◌≡◌, ◌+◌, ◌++◌, ◌∷◌, ◌<◌, ◌≤◌, [], All, IfOk, OnErr, OnOk};
 
-use crate::decided::{Decided, Decision, DecisionContent};
+use crate::decided::{Decided, Decision};
 use crate::live::LiveControl;
 use crate::plan::Plan;
 use crate::planned::PlannedEntry;
@@ -132,28 +132,29 @@ impl Control {
     /// Takes a step at once, as `apply` does with a plan that `prepare` made, and answers its effects. Without memory the
     /// control is seen as before.
     ///
-    /// The act is a command or a scrub that fits its actor. It goes into the entry; without memory it is gone.
+    /// The act is a command or a scrub that fits its actor. The entry has what it says.
     pub fn step(
         &mut self,
         pass: u32,
         line: u32,
         actor: Actor,
-        act: Act,
+        act: &Act,
     ) -> Result<StepEffects, NoMemory>
-        requires { MayStep self.old.config actor act }
+        requires { MayStep self.old.config actor act.now }
         ensures config { self.new.config ≡ self.old.config }
-        ensures entered { OnOk result (self.new.entries ≡ self.old.entries ++ journal_entry self.old.config self.old.entries pass line actor act ∷ []) }
+        ensures entered { OnOk result (self.new.entries ≡ self.old.entries ++ journal_entry self.old.config self.old.entries pass line actor act.now ∷ []) }
         ensures kept { OnErr result (self.new.entries ≡ self.old.entries) }
-        ensures short { OnOk result (IsShort (journal_entry self.old.config self.old.entries pass line actor act).reply) }
-        ensures effects { IfOk result (λ effects. effects ≡ (answer_to self.old.config self.old.entries actor act).1) }
+        ensures short { OnOk result (IsShort (journal_entry self.old.config self.old.entries pass line actor act.now).reply) }
+        ensures effects { IfOk result (λ effects. effects ≡ (answer_to self.old.config self.old.entries actor act.now).1) }
     {
-        match self.decide_in_room(&actor, &act)?.into_content() {
-            DecisionContent::Reply(reply) => {
-                let effects = self.take_reply(pass, line, actor, &act, &reply)?;
-                self.keep_reply(reply);
-                Ok(effects)
-            }
-            DecisionContent::Step(step) => self.take_step(pass, line, actor, &act, step),
+        let (only_replies, step) = self.decide_in_room(&actor, act)?.into_step();
+        if only_replies {
+            let mut step = step;
+            self.take_reply(pass, line, actor, act, &step.as_mut().reply)?;
+            self.room.keep_replied(step);
+            Ok(StepEffects::none())
+        } else {
+            self.take_step(pass, line, actor, act, step)
         }
     }
 
@@ -176,17 +177,6 @@ impl Control {
         ensures decided { IfOk result (λ d. IsDecidedBy self.new.config self.new.entries actor.now act.now d) }
     {
         self.live.decide(actor, act, &mut self.room)
-    }
-
-    /// Keeps the memory of the payload of a reply that was entered.
-    #[inline(always)]
-    fn keep_reply(&mut self, reply: Reply)
-        ensures config { self.new.config ≡ self.old.config }
-        ensures entries { self.new.entries ≡ self.old.entries }
-    {
-        if let Reply::Answer(response) = reply {
-            self.room.keep_payload(response.payload);
-        }
     }
 
     /// Takes a step that only replies, which is decided.

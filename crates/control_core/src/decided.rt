@@ -1,6 +1,6 @@
 //! What a step comes to.
 
-ghost use Rattle.control_core.specs.Decisions.{decided_by, decided_in, only_replied};
+ghost use Rattle.control_core.specs.Decisions.{decided_by, decided_where, only_replied};
 ghost use Rattle.dcd_codes.specs.declared.codes.Code.{Code};
 ghost use Rattle.device_rules.specs.Answers.{response};
 ghost use Rattle.device_state.specs.declared.updates.TagChange.{TagChange};
@@ -27,44 +27,40 @@ pub struct Decided {
     pub update: Update,
 }
 
-/// What a decision has.
-#[derive(Drop)]
-pub enum DecisionContent {
-    /// A reply, and no more.
-    Reply(Reply),
-    /// All parts.
-    Step(Box<DraftedStep>),
-}
-
 /// What a step comes to.
 ///
-/// Contracts see its parts. One that only replies has no more than its reply; the parts of any other lie on the heap.
+/// Contracts see its parts. One that only replies has no more than its reply. The parts lie on the heap, where the room keeps
+/// them from step to step.
 #[derive(Drop)]
 pub struct Decision {
-    content: DecisionContent,
+    only_replies: bool,
+    step: Box<DraftedStep>,
 }
 
 impl Model for Decision {
-    ghost use Rattle.control_core.specs.Decisions.{decided_in};
+    ghost use Rattle.control_core.specs.Decisions.{decided_where};
     ghost use Rattle.control_core.specs.declared.decided.Decided.{Decided};
 
     ghost Value = { Decided };
 
-    ghost view = { λ decision. decided_in decision.content };
+    ghost view = { λ decision. decided_where decision.only_replies decision.step.value };
 }
 
 impl Decision {
-    /// A reply, and no more. It takes no memory.
+    /// A reply, and no more.
     #[inline(always)]
-    pub(crate) fn only(reply: Reply) -> Decision
-        ensures { result ≡ only_replied reply }
+    pub(crate) fn only(room: &mut Room, reply: Reply) -> Result<Decision, NoMemory>
+        ensures { IfOk result (λ decision. decision ≡ only_replied reply) }
     {
-        Decision {
-            content: DecisionContent::Reply(reply),
-        }
+        let mut step = room.parts()?;
+        step.as_mut().reply = reply;
+        Ok(Decision {
+            only_replies: true,
+            step,
+        })
     }
 
-    /// A reply and effects, beside which nothing is put in place. Without effects it takes no memory.
+    /// A reply and effects, beside which nothing is put in place.
     #[inline(always)]
     pub(crate) fn changing(
         room: &mut Room,
@@ -74,7 +70,7 @@ impl Decision {
         ensures { IfOk result (λ decision. decision ≡ record { reply = reply; effects = effects; update = record { lists = None; tags = TagChange.Nothing } }) }
     {
         if effects.is_empty() {
-            return Ok(Decision::only(reply));
+            return Decision::only(room, reply);
         }
         let step = changing_step(room, reply, effects)?;
         Ok(Decision::step(step))
@@ -86,7 +82,8 @@ impl Decision {
         ensures { result ≡ decided_by step.value }
     {
         Decision {
-            content: DecisionContent::Step(step),
+            only_replies: false,
+            step,
         }
     }
 
@@ -94,27 +91,25 @@ impl Decision {
     pub fn into_parts(self, room: &mut Room) -> Decided
         ensures { result ≡ self }
     {
-        match self.content {
-            DecisionContent::Reply(reply) => Decided {
-                reply,
-                effects: Effects::new(room.allocator()),
-                update: Update::nothing(),
-            },
-            DecisionContent::Step(step) => {
-                let mut step = step;
-                let decided = decided_of(step.as_mut(), room.allocator());
-                room.keep_step(step);
-                decided
-            }
-        }
+        let Decision { only_replies, step } = self;
+        let mut step = step;
+        let alloc = room.allocator();
+        let decided = if only_replies {
+            replied_of(step.as_mut(), alloc)
+        } else {
+            decided_of(step.as_mut(), alloc)
+        };
+        room.keep_step(step);
+        decided
     }
 
-    /// What it has: a reply alone, or all parts where they lie.
+    /// Whether it only replies, and all parts where they lie, of which it has the reply alone then.
     #[inline(always)]
-    pub fn into_content(self) -> DecisionContent
-        ensures { decided_in result ≡ self }
+    pub(crate) fn into_step(self) -> (bool, Box<DraftedStep>)
+        ensures { decided_where result.0 result.1.value ≡ self }
     {
-        self.content
+        let Decision { only_replies, step } = self;
+        (only_replies, step)
     }
 }
 
@@ -139,6 +134,17 @@ fn changing_step(
     room.put(step)
 }
 
+/// What is decided by the reply of a step alone, in which nothing of use is left.
+fn replied_of(step: &mut DraftedStep, alloc: Global) -> Decided
+    ensures { result ≡ only_replied step.old.reply }
+{
+    Decided {
+        reply: replace(&mut step.reply, Reply::Stored),
+        effects: Effects::new(alloc),
+        update: Update::nothing(),
+    }
+}
+
 /// What is decided by the parts of a step, in which nothing of use is left.
 fn decided_of(step: &mut DraftedStep, alloc: Global) -> Decided
     ensures { result ≡ decided_by step.old }
@@ -150,10 +156,14 @@ fn decided_of(step: &mut DraftedStep, alloc: Global) -> Decided
     }
 }
 
-/// A command that succeeds with this payload and changes nothing. It takes no memory.
+/// A command that succeeds with this payload and changes nothing.
 #[inline(always)]
-pub(crate) fn replied(request: &Request, payload: Bytes) -> Decision
-    ensures { result ≡ only_replied (response request.now Code.Success payload) }
+pub(crate) fn replied(
+    room: &mut Room,
+    request: &Request,
+    payload: Bytes,
+) -> Result<Decision, NoMemory>
+    ensures { IfOk result (λ decision. decision ≡ only_replied (response request.now Code.Success payload)) }
 {
-    Decision::only(answer(request, Code::Success, payload))
+    Decision::only(room, answer(request, Code::Success, payload))
 }

@@ -1,18 +1,20 @@
 //! What a message of a host comes to: its draft, recorded, or the refusal.
 
-ghost use Rattle.control_core.specs.Recording.{AreRecorded, ending_with, lists_or_had};
+ghost use Rattle.control_core.specs.Recording.{AreRecorded, ending_with, lists_or_had, told_now};
 ghost use Rattle.control_core.specs.Deciding.{IsDecided};
 ghost use Rattle.control_core.specs.Doing.{Does, Drafted, Refuses};
 ghost use Rattle.control_core.specs.Decisions.{decided_by};
-ghost use Rattle.control_core.specs.Offers.{lists_for};
-ghost use Rattle.device_commands.specs.DraftContents.{draft_in, lists_alone};
+ghost use Rattle.device_commands.specs.DraftContents.{draft_in};
+ghost use Rattle.dcd_codes.specs.declared.codes.Code.{Code};
+ghost use Rattle.device_rules.specs.Answers.{response};
 ghost use Rattle.device_state.specs.StateAfter.{IsReached, part_of};
 ghost use Rattle.device_state.specs.Updates.{IsOfLog};
 ghost use Rattle.host_lists.specs.Changes.{changed_by};
 ghost use Rattle.dcd_base.specs.declared.steps.Actor.{Actor};
 ghost use Rattle.device_commands.specs.declared.log_records.LogRecords.{LogRecords};
 ghost use Rattle.journal_core.specs.declared.acts.Act.{Act};
-ghost use Rattle.std.specs.Prelude.{◌≡◌, ◌<◌, All, IfOk, OnOk, length};
+ghost use Rattle.journal_core.specs.declared.outcome.Effect.{Effect};
+ghost use Rattle.std.specs.Prelude.{◌≡◌, ◌++◌, ◌<◌, All, IfOk, OnOk, length, map};
 
 use crate::decided::{Decision, replied};
 use crate::ending::ending;
@@ -20,15 +22,17 @@ use crate::fitting::part_fits;
 use crate::recording::{put_ends, put_records_of_logs};
 use cci_codec::Request;
 use dcd_base::{Bytes, HostId, NoMemory, Seq, Tag};
-use dcd_codes::{Code, Refusal, Rule};
+use dcd_codes::{Code, Refusal, Rule, number_of};
 use device_commands::{
-    Content, Draft, DraftedStep, Room, answer, dropped, host_draft, refused, told_change,
+    Content, Draft, DraftedStep, Room, answer, dropped, host_draft, put_no_change, refused,
+    told_change,
 };
-use device_state::{NewLists, State};
+use device_state::{ListsUpdate, State, TagChange};
 use host_lists::{Changed, HostLists, ListsChange};
+use journal_core::{Effects, Reply};
 use region_config::Config;
 use std::alloc::Global;
-use std::mem::replace;
+use std::mem::{replace, swap};
 
 /// What a message of a host comes to.
 ///
@@ -78,7 +82,7 @@ fn host_recorded(
 {
     part_fits(state.part(host));
     match drafted {
-        Ok(draft) => recorded(alloc, state, host, request, draft),
+        Ok(draft) => recorded(alloc, state, host, request, draft, room),
         Err(Refusal::Broken(rule)) => refused_by(alloc, config, state, host, request, &rule, room),
         Err(Refusal::NoMemory) => Err(NoMemory),
     }
@@ -92,6 +96,7 @@ pub(crate) fn recorded(
     host: HostId,
     request: &Request,
     draft: Draft,
+    room: &mut Room,
 ) -> Result<Decision, NoMemory>
     requires host { host < length state.now.hosts.items }
     requires few { host < 16 }
@@ -99,14 +104,13 @@ pub(crate) fn recorded(
     ensures { IfOk result (Does state.now host request.now draft) }
 {
     match draft.into_content() {
-        Content::Reply(payload) => Ok(replied(request, payload)),
+        Content::Reply(payload) => replied(room, request, payload),
         Content::Parts(parts) => recorded_boxed(alloc, state, host, request, parts),
     }
 }
 
-/// A command that breaks no rule and may change something, whose parts lie on the heap. It stands apart, so that one that
-/// only replies makes no room for them.
-#[inline(never)]
+/// A command that breaks no rule and may change something, whose parts lie on the heap.
+#[inline(always)]
 fn recorded_boxed(
     alloc: Global,
     state: &State,
@@ -139,11 +143,42 @@ fn put_recorded(
     ensures { OnOk result (Does state.now host request.now (draft_in step.old) (decided_by step.new)) }
 {
     put_effects(alloc, state, host, step)?;
-    put_host(&mut step.update.lists, host);
-    step.update.tags = told_change(host, &mut step.tags);
-    let payload = replace(&mut step.payload, Bytes::new(alloc));
-    step.reply = answer(request, Code::Success, payload);
+    step.update.lists.set_host(host);
+    put_told_now(state, host, &mut step.tags, &mut step.update.tags);
+    put_success(alloc, request, step);
     Ok(())
+}
+
+/// Puts the reply to a command that succeeds in place of another one, with the payload that the step has for it.
+#[inline(always)]
+pub(crate) fn put_success(alloc: Global, request: &Request, step: &mut DraftedStep)
+    ensures { decided_by step.new ≡ record (decided_by step.old) { reply = response request.now Code.Success step.old.payload } }
+{
+    match &mut step.reply {
+        Reply::Answer(response) => {
+            response.tag = request.tag;
+            response.opcode = request.opcode;
+            response.code = number_of(Code::Success);
+            swap(&mut response.payload, &mut step.payload);
+        }
+        other => *other = answer(
+            request,
+            Code::Success,
+            replace(&mut step.payload, Bytes::new(alloc)),
+        ),
+    }
+}
+
+/// Puts in place of another change that what the host has of the tags is set anew, where there are any and a tag is open.
+#[inline(always)]
+fn put_told_now(state: &State, host: HostId, tags: &mut Seq<Tag>, change: &mut TagChange)
+    ensures { change.new ≡ told_now state.now.tags.entries host tags.old }
+{
+    if state.tags.is_empty() {
+        put_no_change(change);
+    } else {
+        *change = told_change(host, tags);
+    }
 }
 
 /// Puts behind the changes the ends of those of the tags that end once the host has the lists after it,
@@ -161,28 +196,46 @@ fn put_effects(
         step.old.effects step.old.tags step.old.log_records step.new.effects) }
     ensures kept { OnOk result (step.new ≡ record step.old { effects = step.new.effects }) }
 {
-    let ended = ended_by(alloc, state, host, &step.update.lists, step.tags.as_slice())?;
-    put_ends(ended.as_slice(), &mut step.effects)?;
-    put_records_of_logs(state, &step.log_records, &mut step.effects)?;
-    Ok(())
+    let (lists, tags) = (&step.update.lists, step.tags.as_slice());
+    put_ended(alloc, state, host, lists, tags, &mut step.effects)?;
+    put_records_of_logs(state, &step.log_records, &mut step.effects)
+}
+
+/// Puts the ends of those of these tags that end once the host's lists are changed so, or stay as they are.
+#[inline(always)]
+fn put_ended(
+    alloc: Global,
+    state: &State,
+    host: HostId,
+    lists: &ListsUpdate,
+    tags: &[Tag],
+    effects: &mut Effects,
+) -> Result<(), NoMemory>
+    requires host { host < length state.now.hosts.items }
+    requires few { host < 16 }
+    ensures { OnOk result (effects.new ≡ effects.old ++
+        map Effect.TagEnd (ending_with host (lists_or_had (part_of state.now host).lists lists.now) state.now.tags.entries tags.now)) }
+{
+    if state.tags.is_empty() {
+        return Ok(());
+    }
+    let ended = ended_by(alloc, state, host, lists, tags)?;
+    put_ends(ended.as_slice(), effects)
 }
 
 /// Of these tags those that end once the host's lists are changed so, or stay as they are.
-#[inline(always)]
+#[inline(never)]
 fn ended_by(
     alloc: Global,
     state: &State,
     host: HostId,
-    lists: &Option<NewLists>,
+    lists: &ListsUpdate,
     tags: &[Tag],
 ) -> Result<Seq<Tag>, NoMemory>
     requires host { host < length state.now.hosts.items }
     requires few { host < 16 }
     ensures { IfOk result (λ ended. ended ≡ ending_with host (lists_or_had (part_of state.now host).lists lists.now) state.now.tags.entries tags.now) }
 {
-    if state.tags.is_empty() {
-        return Ok(Seq::new(alloc));
-    }
     let had = &state.part(host).lists;
     let same = had.unchanged();
     let lists = lists_or_had(had, &same, lists);
@@ -194,23 +247,14 @@ fn ended_by(
 fn lists_or_had<'a>(
     had: &'a HostLists,
     same: &'a ListsChange,
-    lists: &'a Option<NewLists>,
+    lists: &'a ListsUpdate,
 ) -> Changed<'a>
     requires { changed_by same.now had.now ≡ had.now }
     ensures { result ≡ lists_or_had had.now lists.now }
 {
-    match lists {
-        Some(new) => Changed::of(had, &new.change),
+    match lists.change() {
+        Some(change) => Changed::of(had, change),
         None => Changed::of(had, same),
-    }
-}
-
-/// The lists that change are those of this host.
-pub(crate) fn put_host(lists: &mut Option<NewLists>, host: HostId)
-    ensures { lists.new ≡ lists_for host (lists_alone lists.old) }
-{
-    if let Some(new) = lists {
-        new.host = host;
     }
 }
 

@@ -23,7 +23,7 @@ mod scrub_steps;
 mod step_effects;
 
 pub use control::Control;
-pub use decided::{Decided, Decision, DecisionContent};
+pub use decided::{Decided, Decision};
 pub use live::LiveControl;
 pub use plan::Plan;
 pub use step_effects::StepEffects;

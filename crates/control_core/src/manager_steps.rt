@@ -6,7 +6,7 @@ ghost use Rattle.control_core.specs.Decisions.{decided_by};
 ghost use Rattle.device_commands.specs.DraftContents.{draft_in};
 ghost use Rattle.control_core.specs.Managing.{EntersDraft, Manages};
 ghost use Rattle.device_commands.specs.ManagerMessages.{FewCleared};
-ghost use Rattle.device_commands.specs.TagChanges.{OffersGranular, offer_change};
+ghost use Rattle.device_commands.specs.TagChanges.{OffersGranular};
 ghost use Rattle.control_core.specs.Offers.{Offers};
 ghost use Rattle.device_state.specs.Updates.{IsOfLog};
 ghost use Rattle.device_state.specs.declared.updates.TagChange.{TagChange};
@@ -22,20 +22,19 @@ ghost use Rattle.tag_refs.specs.Tables.{is_used, passes, with_reference};
 
 use crate::decided::{Decision, replied};
 use crate::fitting::request_fits;
-use crate::host_steps::{put_host, recorded};
+use crate::host_steps::{put_success, recorded};
 use crate::recording::{put_ends, put_records_of_logs};
 use cci_codec::Request;
-use dcd_base::{Bytes, Extents, HostId, NoMemory, RegionId, Seq, Tag};
-use dcd_codes::{Code, Refusal, Rule};
+use dcd_base::{Extents, HostId, NoMemory, RegionId, Seq, Tag};
+use dcd_codes::{Refusal, Rule};
 use device_commands::{
-    AddRequest, Content, Draft, DraftedStep, RemoveRequest, Room, add, add_reference, answer,
-    offer_change, quiet_draft, refused, remove, remove_reference,
+    AddRequest, Content, Draft, DraftedStep, RemoveRequest, Room, add, add_reference,
+    put_offer_change, quiet_draft, refused, remove, remove_reference,
 };
 use device_state::{State, TagChange};
 use fm_payloads::{FmRequest, PayloadFault, decode};
 use region_config::Config;
 use std::alloc::Global;
-use std::mem::replace;
 
 /// What a message of the manager comes to. What changes extents or tags stands apart, so that one that only reads makes no room for what that needs.
 #[inline(never)]
@@ -53,18 +52,18 @@ pub(crate) fn manager_step(
         Ok(asked) => {
             if is_quiet(&asked) {
                 let managed = decide_quiet(alloc, config, state, request, &asked, room);
-                manager_recorded(alloc, config, state, request, managed)
+                manager_recorded(alloc, config, state, request, managed, room)
             } else {
-                changing_step(alloc, config, state, request, asked, room)
+                changing_step(alloc, config, state, request, &asked, room)
             }
         }
         Err(PayloadFault::UnknownOpcode(opcode)) => {
             let broken = Err(Refusal::Broken(Rule::UnknownOpcode(opcode)));
-            manager_recorded(alloc, config, state, request, broken)
+            manager_recorded(alloc, config, state, request, broken, room)
         }
         Err(PayloadFault::WrongLength { need, have }) => {
             let broken = Err(Refusal::Broken(Rule::WrongLength { need, have }));
-            manager_recorded(alloc, config, state, request, broken)
+            manager_recorded(alloc, config, state, request, broken, room)
         }
         Err(PayloadFault::NoMemory) => Err(NoMemory),
     }
@@ -91,6 +90,7 @@ fn manager_recorded(
     state: &State,
     request: &Request,
     managed: Result<Decision, Refusal>,
+    room: &mut Room,
 ) -> Result<Decision, NoMemory>
     requires reached { IsReached config.now state.now }
     requires managed { Manages config.now state.now request.now managed }
@@ -98,28 +98,28 @@ fn manager_recorded(
 {
     match managed {
         Ok(decision) => Ok(decision),
-        Err(Refusal::Broken(rule)) => Ok(Decision::only(refused(alloc, request, &rule))),
+        Err(Refusal::Broken(rule)) => Decision::only(room, refused(alloc, request, &rule)),
         Err(Refusal::NoMemory) => Err(NoMemory),
     }
 }
 
 /// What a request comes to that changes extents or tags.
-#[inline(never)]
+#[inline(always)]
 fn changing_step(
     alloc: Global,
     config: &Config,
     state: &State,
     request: &Request,
-    asked: FmRequest,
+    asked: &FmRequest,
     room: &mut Room,
 ) -> Result<Decision, NoMemory>
     requires reached { IsReached config.now state.now }
-    requires asked { manager_request request.now.opcode request.now.payload ≡ Ok asked }
-    requires changing { is_quiet_manager asked ≡ false }
+    requires asked { manager_request request.now.opcode request.now.payload ≡ Ok asked.now }
+    requires changing { is_quiet_manager asked.now ≡ false }
     ensures { IfOk result (IsDecided config.now state.now Actor.Manager (Act.Command request.now)) }
 {
     let managed = changing_command(alloc, config, state, request, asked, room);
-    manager_recorded(alloc, config, state, request, managed)
+    manager_recorded(alloc, config, state, request, managed, room)
 }
 
 /// What a request comes to that changes extents or tags, or the first rule that it breaks.
@@ -129,12 +129,12 @@ fn changing_command(
     config: &Config,
     state: &State,
     request: &Request,
-    asked: FmRequest,
+    asked: &FmRequest,
     room: &mut Room,
 ) -> Result<Decision, Refusal>
     requires reached { IsReached config.now state.now }
-    requires asked { manager_request request.now.opcode request.now.payload ≡ Ok asked }
-    requires changing { is_quiet_manager asked ≡ false }
+    requires asked { manager_request request.now.opcode request.now.payload ≡ Ok asked.now }
+    requires changing { is_quiet_manager asked.now ≡ false }
     ensures { Manages config.now state.now request.now result }
 {
     match asked {
@@ -147,13 +147,13 @@ fn changing_command(
             extents,
         } => {
             let offer = AddRequest {
-                host,
-                policy,
-                region,
-                length,
-                tag,
+                host: *host,
+                policy: *policy,
+                region: *region,
+                length: *length,
+                tag: *tag,
             };
-            decide_add(alloc, config, state, request, &offer, &extents, room)
+            decide_add(alloc, config, state, request, &offer, extents, room)
         }
         FmRequest::Remove {
             host,
@@ -164,19 +164,19 @@ fn changing_command(
             extents,
         } => {
             let removal = RemoveRequest {
-                host,
-                flags,
-                region,
-                length,
-                tag,
+                host: *host,
+                flags: *flags,
+                region: *region,
+                length: *length,
+                tag: *tag,
             };
-            decide_remove(alloc, config, state, request, &removal, &extents, room)
+            decide_remove(alloc, config, state, request, &removal, extents, room)
         }
         FmRequest::AddReference { tag } => {
-            decide_add_reference(alloc, config, state, request, &tag, room)
+            decide_add_reference(alloc, config, state, request, tag, room)
         }
         FmRequest::RemoveReference { tag } => {
-            decide_remove_reference(alloc, config, state, request, &tag, room)
+            decide_remove_reference(alloc, config, state, request, tag, room)
         }
         _ => unreachable!(),
     }
@@ -226,7 +226,7 @@ fn decide_remove(
     match remove(alloc, config, state, removal, extents, room) {
         Ok(draft) => {
             let host = HostId(removal.host as u8);
-            Ok(recorded(alloc, state, host, request, draft)?)
+            Ok(recorded(alloc, state, host, request, draft, room)?)
         }
         Err(refusal) => Err(refusal),
     }
@@ -249,19 +249,25 @@ fn decide_quiet(
 {
     request_fits(state, asked);
     match quiet_draft(alloc, config, state, asked, room) {
-        Ok(draft) => Ok(read(alloc, state, request, draft)?),
+        Ok(draft) => Ok(read(alloc, state, request, draft, room)?),
         Err(refusal) => Err(refusal),
     }
 }
 
 /// A command that changes no lists and no tags is entered.
 #[inline(always)]
-fn read(alloc: Global, state: &State, request: &Request, draft: Draft) -> Result<Decision, NoMemory>
+fn read(
+    alloc: Global,
+    state: &State,
+    request: &Request,
+    draft: Draft,
+    room: &mut Room,
+) -> Result<Decision, NoMemory>
     requires known { All (λ (n : LogRecords). IsOfLog (length state.now.hosts.items) n.log) draft.log_records }
     ensures { IfOk result (EntersDraft state.now request.now draft [] TagChange.Nothing) }
 {
     match draft.into_content() {
-        Content::Reply(payload) => Ok(replied(request, payload)),
+        Content::Reply(payload) => replied(room, request, payload),
         Content::Parts(parts) => entered_boxed(alloc, state, request, parts),
     }
 }
@@ -379,20 +385,12 @@ fn put_added(
 {
     let host = HostId(asked.host as u8);
     let region = RegionId(asked.region);
-    let change = offer_change(
-        alloc,
-        config,
-        state,
-        host,
-        region,
-        &asked.tag,
-        &step.effects,
-    )?;
+    let change = &mut step.update.tags;
+    let (tag, changes) = (&asked.tag, &step.effects);
+    put_offer_change(alloc, config, state, host, region, tag, changes, change)?;
     put_records_of_logs(state, &step.log_records, &mut step.effects)?;
-    put_host(&mut step.update.lists, host);
-    step.update.tags = change;
-    let payload = replace(&mut step.payload, Bytes::new(alloc));
-    step.reply = answer(request, Code::Success, payload);
+    step.update.lists.set_host(host);
+    put_success(alloc, request, step);
     Ok(())
 }
 
@@ -428,9 +426,8 @@ fn put_entered(
 {
     put_ends(ended, &mut step.effects)?;
     put_records_of_logs(state, &step.log_records, &mut step.effects)?;
-    step.update.lists = None;
+    step.update.lists.clear();
     step.update.tags = change;
-    let payload = replace(&mut step.payload, Bytes::new(alloc));
-    step.reply = answer(request, Code::Success, payload);
+    put_success(alloc, request, step);
     Ok(())
 }

@@ -12,7 +12,7 @@ use device_state::State;
 use event_log::{EventLog, handle_after};
 use event_records::Event;
 use journal_core::{Effect, Effects};
-use std::mem::replace;
+use std::mem::{ManuallyDrop, replace};
 
 /// Puts the ends of tags behind the changes.
 pub(crate) fn put_ends(tags: &[Tag], effects: &mut Effects) -> Result<(), NoMemory>
@@ -73,7 +73,8 @@ fn put_records(
     let (logged, missed) = events.split_at(fit);
     put_logged(&mut items, id, log.next_handle(), logged);
     put_missed(&mut items, id, missed);
-    *effects = Effects::from_vec(alloc, items);
+    // What stood there meanwhile has no memory that could be let go.
+    let _ = ManuallyDrop::new(replace(effects, Effects::from_vec(alloc, items)));
     Ok(())
 }
 

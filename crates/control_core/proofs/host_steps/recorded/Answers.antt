@@ -1,4 +1,5 @@
 use Rattle.std.proofs.Common.{◌∙◌, All, IfOk, length, ap, subst, sym}
+use Rattle.std.proofs.lemmas.Result.{IfOk-weaker}
 use Rattle.device_rules.specs.Views.{view_of}
 use Rattle.device_state.specs.Updates.{IsOfLog}
 use Rattle.device_commands.specs.DraftContents.{parts_of_content}
@@ -16,11 +17,13 @@ recorded_boxed-requires-clause-known c =
     (sym c.into_content.ensures ∙ ap parts_of_content c.in-Parts.is) c.requires.known
 
 pub returns-in-Reply : goal.returns-in-Reply
-returns-in-Reply c = λ cfg before o kept of drafts.
+returns-in-Reply c =
     let h = c.args.host in
-    subst (λ (d : Decided). IsDone cfg before c.args.request.now o d) (sym c.replied.ensures)
+    IfOk-weaker c.replied.result _ (Does c.args.state.now h c.args.request.now c.args.draft) (λ (d : Decided) same. λ cfg before o kept of drafts.
+    subst (λ (d : Decided). IsDone cfg before c.args.request.now o d) (sym same)
     (replied_done cfg before c.args.state.now kept c.args.request.now h o of c.in-Reply.payload
-    (subst (Drafts cfg h (view_of cfg h before) o) (sym c.into_content.ensures ∙ ap parts_of_content c.in-Reply.is) drafts))
+    (subst (Drafts cfg h (view_of cfg h before) o) (sym c.into_content.ensures ∙ ap parts_of_content c.in-Reply.is) drafts)))
+    c.replied.ensures
 
 pub returns-in-Parts : goal.returns-in-Parts
 returns-in-Parts c =

@@ -1,4 +1,4 @@
-use Rattle.std.proofs.Common.{◌∙◌, Option, ap, subst, sym}
+use Rattle.std.proofs.Common.{◌∙◌, Option, refl, subst, sym}
 use Rattle.dcd_codes.specs.declared.codes.Code.{Code}
 use Rattle.device_commands.specs.DraftContents.{draft_in}
 use Rattle.device_rules.specs.Answers.{response}
@@ -13,8 +13,11 @@ returns c = λ before new o kept of drafts.
     let q = c.args.request.now in
     let asked = c.args.asked.now in
     let all = c.put_records_of_logs.new.effects in
-    subst (λ (lists : Option NewLists). IsDone cfg before q o (record { reply = c.answer.result; effects = all; update = record { lists = lists; tags = c.in_ok-change.change } })) (sym c.put_host.ensures)
+    let reply = response q Code.Success c.args.step.now.payload in
+    let change = c.put_offer_change.new.change in
+    subst (IsDone cfg before q o) (sym c.put_success.ensures)
+    (subst (λ (lists : Option NewLists). IsDone cfg before q o (record { reply = reply; effects = all; update = record { lists = lists; tags = change } })) (sym c.set_host.ensures)
     (offer_done cfg before c.args.state.now kept asked.host asked.region asked.tag new o of q (draft_in c.args.step.now) drafts
-    c.answer.result all c.in_ok-change.change (c.answer.ensures ∙ ap (response q Code.Success) c.replace-payload.ensures.value)
+    reply all change refl
     (c.in_ok-put_records_of_logs.ensures cfg before kept)
-    (c.in_ok-change.ensures new (drafts.changes ∙ of.changes)))
+    (c.in_ok-put_offer_change.ensures new (drafts.changes ∙ of.changes))))

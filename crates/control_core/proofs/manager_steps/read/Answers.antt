@@ -1,4 +1,5 @@
 use Rattle.std.proofs.Common.{◌∙◌, [], All, IfOk, length, ap, subst, sym}
+use Rattle.std.proofs.lemmas.Result.{IfOk-weaker}
 use Rattle.device_state.specs.Updates.{IsOfLog}
 use Rattle.device_state.specs.declared.updates.TagChange.{TagChange}
 use Rattle.device_commands.specs.DraftContents.{parts_of_content}
@@ -19,9 +20,11 @@ entered_boxed-requires c = record {
 }
 
 pub returns-in-Reply : goal.returns-in-Reply
-returns-in-Reply c = λ cfg before o kept of is.
-    subst (λ (d : Decided). IsDone cfg before c.args.request.now o d) (sym c.replied.ensures)
-    (replied_entered cfg before c.args.request.now o of c.in-Reply.payload (subst (IsOutcome o) (sym c.into_content.ensures ∙ ap parts_of_content c.in-Reply.is) is))
+returns-in-Reply c =
+    IfOk-weaker c.replied.result _ (EntersDraft c.args.state.now c.args.request.now c.args.draft [] TagChange.Nothing) (λ (d : Decided) same. λ cfg before o kept of is.
+    subst (λ (d : Decided). IsDone cfg before c.args.request.now o d) (sym same)
+    (replied_entered cfg before c.args.request.now o of c.in-Reply.payload (subst (IsOutcome o) (sym c.into_content.ensures ∙ ap parts_of_content c.in-Reply.is) is)))
+    c.replied.ensures
 
 pub returns-in-Parts : goal.returns-in-Parts
 returns-in-Parts c =

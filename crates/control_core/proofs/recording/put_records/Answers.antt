@@ -24,7 +24,8 @@ returns c =
     ] in
     let long : length front ≡ fit = search rules in
     let start : c.reserve.new.self.items ≡ effects = search rules in
-    c.from_vec.ensures
+    c.replace-2.ensures.after
+    ∙ c.from_vec.ensures
     ∙ c.put_missed.ensures next
     ∙ ap (λ (es : List Effect). es ++ records_by id next 0 back) (c.put_logged.ensures.items ∙ ap (λ (es : List Effect). es ++ records_by id c.next_handle.result (length front) front) start)
     ∙ append_assoc effects (records_by id c.next_handle.result (length front) front) (records_by id next 0 back)
