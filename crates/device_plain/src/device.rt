@@ -143,23 +143,65 @@ impl Device {
         ensures entered { OnOk result (Appends self.old self.new pass line actor act) }
         ensures kept { OnErr result (self.new ≡ self.old) }
     {
+        self.enter_lent(pass, line, actor, &act)
+    }
+
+    /// Takes a step as `enter` does, of an act that is lent: the journal has what the act says.
+    pub fn enter_lent(
+        &mut self,
+        pass: u32,
+        line: u32,
+        actor: Actor,
+        act: &Act,
+    ) -> Result<(), NoMemory>
+        requires { IsTrue (fits self.old.config.hosts actor act.now) }
+        ensures entered { OnOk result (Appends self.old self.new pass line actor act.now) }
+        ensures kept { OnErr result (self.new ≡ self.old) }
+    {
         match act {
             Act::Command(_) => self.enter_command(pass, line, actor, act),
             Act::Scrub(_) => self.enter_command(pass, line, actor, act),
-            Act::Load(dpa) => match actor {
-                Actor::Host(host) => {
-                    let _reply = self.load(pass, line, host, dpa)?;
-                    Ok(())
-                }
-                _ => unreachable!(),
-            },
-            Act::Store(dpa, value) => match actor {
-                Actor::Host(host) => {
-                    let _reply = self.store(pass, line, host, dpa, value)?;
-                    Ok(())
-                }
-                _ => unreachable!(),
-            },
+            Act::Load(dpa) => self.enter_load(pass, line, actor, *dpa),
+            Act::Store(dpa, value) => self.enter_store(pass, line, actor, *dpa, *value),
+        }
+    }
+
+    /// Takes a load of a host, whose reply stands in the journal.
+    #[inline(never)]
+    fn enter_load(&mut self, pass: u32, line: u32, actor: Actor, dpa: u64) -> Result<(), NoMemory>
+        requires { IsTrue (fits self.old.config.hosts actor (Act.Load dpa)) }
+        ensures entered { OnOk result (Appends self.old self.new pass line actor (Act.Load dpa)) }
+        ensures kept { OnErr result (self.new ≡ self.old) }
+    {
+        match actor {
+            Actor::Host(host) => {
+                let _reply = self.load(pass, line, host, dpa)?;
+                Ok(())
+            }
+            _ => unreachable!(),
+        }
+    }
+
+    /// Takes a store of a host, whose reply stands in the journal.
+    #[inline(never)]
+    fn enter_store(
+        &mut self,
+        pass: u32,
+        line: u32,
+        actor: Actor,
+        dpa: u64,
+        value: u64,
+    ) -> Result<(), NoMemory>
+        requires { IsTrue (fits self.old.config.hosts actor (Act.Store dpa value)) }
+        ensures entered { OnOk result (Appends self.old self.new pass line actor (Act.Store dpa value)) }
+        ensures kept { OnErr result (self.new ≡ self.old) }
+    {
+        match actor {
+            Actor::Host(host) => {
+                let _reply = self.store(pass, line, host, dpa, value)?;
+                Ok(())
+            }
+            _ => unreachable!(),
         }
     }
 
@@ -178,16 +220,16 @@ impl Device {
         Ok(reply)
     }
 
-    /// Takes a command or a scrub that is handed over.
+    /// Takes a command or a scrub that is lent.
     fn enter_command(
         &mut self,
         pass: u32,
         line: u32,
         actor: Actor,
-        act: Act,
+        act: &Act,
     ) -> Result<(), NoMemory>
-        requires { MayStep self.old.config actor act }
-        ensures entered { OnOk result (Appends self.old self.new pass line actor act) }
+        requires { MayStep self.old.config actor act.now }
+        ensures entered { OnOk result (Appends self.old self.new pass line actor act.now) }
         ensures kept { OnErr result (self.new ≡ self.old) }
     {
         let effects = self.control.step(pass, line, actor, act)?;

@@ -22,7 +22,7 @@ fn again(control: &mut Control, entry: &Lent<'_>) -> Result<(), NoMemory>
     let act = entry.act()?;
     match act {
         Act::Command(_) | Act::Scrub(_) => {
-            control.step(0, 0, entry.actor(), act)?;
+            control.step(0, 0, entry.actor(), &act)?;
             Ok(())
         }
         Act::Load(_) | Act::Store(_, _) => Ok(()),

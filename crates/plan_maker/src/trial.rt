@@ -65,13 +65,12 @@ impl Trial {
         requires { MayStep self.old.control.config step.0 step.1 }
         ensures { OnOk result (TriesMore self.old self.new (step ∷ [])) }
     {
-        let (actor, act) = step;
-        let broken = self.control.broken(&actor, &act)?;
+        let (actor, act) = &step;
+        let broken = self.control.broken(actor, act)?;
         let index = self.acts.as_slice().len() as u64;
         self.refused = first_refusal(self.refused, index, broken);
-        let copy = act.copy()?;
-        self.acts.push((actor, copy))?;
-        self.control.step(0, 0, actor, act)?;
+        self.control.step(0, 0, *actor, act)?;
+        self.acts.push(step)?;
         Ok(())
     }
 }

@@ -121,9 +121,6 @@ front_item s done rest l number old new parts counted front ran =
     let next : CoversFront s (length done + 1) new = front_line s (length done) l old new (item_within s.lines done rest l parts) (item_at s.lines done rest l parts) front here in
     subst (λ n. CoversFront s n new) (sym (length_push done l)) next
 
-pub moved_on : (lines done rest rest' : List Line) (l : Line) → lines ≡ done ++ rest → rest ≡ l ∷ rest' → lines ≡ (done ++ l ∷ []) ++ rest'
-moved_on lines done rest rest' l parts step = parts ∙ ap (λ xs. done ++ xs) step ∙ sym (append_assoc done (l ∷ []) rest')
-
 -- ---- lines that are read one by one
 
 pub ran_none : (hosts lanes : ℕ) (journal : List Entry) → journal ≡ [] → RanLines hosts lanes [] journal

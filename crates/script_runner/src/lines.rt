@@ -12,22 +12,22 @@ use isolation_laws::law_isolated;
 use script_codec::{Line, Lines, pass_of};
 use std::mem::ManuallyDrop;
 
-/// Does a line: a step of its actor, or nothing for a mark, since there is one thread. Its act goes into the journal.
+/// Does a line: a step of its actor, or nothing for a mark, since there is one thread. The journal has what its act says.
 pub(crate) fn run_line(
     device: &mut Device,
     lanes: u8,
     number: u32,
-    line: Line,
+    line: &Line,
 ) -> Result<(), NoMemory>
-    requires { IsTrue (is_sound_line device.old.config.hosts lanes line) }
+    requires { IsTrue (is_sound_line device.old.config.hosts lanes line.now) }
     ensures config { device.new.config ≡ device.old.config }
-    ensures ran { OnOk result (RunsLine device.old.config.hosts lanes number line device.old.journal device.new.journal) }
+    ensures ran { OnOk result (RunsLine device.old.config.hosts lanes number line.now device.old.journal device.new.journal) }
 {
     match line {
         Line::Do { actor, lane, act } => {
             let hosts = device.control().config().hosts();
-            let pass = pass_of(hosts, lanes, &actor, lane);
-            device.enter(pass, number, actor, act)
+            let pass = pass_of(hosts, lanes, actor, *lane);
+            device.enter_lent(pass, number, *actor, act)
         }
         Line::Mark => Ok(()),
     }
@@ -47,7 +47,7 @@ pub(crate) fn run_lines(
     ensures ran { OnOk result (RunsLines device.old.config.hosts lanes behind lines device.old.journal device.new.journal) }
 {
     let mut number = behind;
-    for line in lines.into_vec() {
+    for line in lines.as_slice() {
         number += 1;
         run_line(device, lanes, number, line)?;
     }

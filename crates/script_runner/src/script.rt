@@ -8,10 +8,10 @@ ghost use Rattle.std.specs.Prelude.{◌≡◌, ◌≢◌, ◌≤◌, [], Err, If
 use crate::lines::{is_lawful, run_line};
 use dcd_base::Bytes;
 use device_plain::Device;
-use script_codec::{OwnReader, ScriptFault};
+use script_codec::{Line, OwnReader, ScriptFault};
 use std::alloc::Global;
 
-/// Does the lines that are still to come, in their order, on the fresh device.
+/// Does the lines that are still to come, in their order, on the fresh device. All are read into one place.
 fn run_rest(reader: &mut OwnReader, lanes: u8, device: &mut Device) -> Result<(), ScriptFault>
     requires fresh { device.old.journal ≡ [] }
     requires hosts { reader.old.hosts ≡ device.old.config.hosts }
@@ -22,9 +22,10 @@ fn run_rest(reader: &mut OwnReader, lanes: u8, device: &mut Device) -> Result<()
     ensures fault { IfErr result (λ fault. fault ≢ ScriptFault.NoMemory → reader.old.rest ≡ Err fault) }
 {
     let mut number = 0;
-    while let Some(line) = reader.next()? {
+    let mut line = Line::Mark;
+    while reader.read(&mut line)? {
         number += 1;
-        run_line(device, lanes, number, line)?;
+        run_line(device, lanes, number, &line)?;
     }
     Ok(())
 }

@@ -13,9 +13,9 @@ pub invariant_of-self-2 : goal.invariant_of-self-2
 invariant_of-self-2 c =
     let in_it = c.self.inside in
     let before = in_it.control.entries in
-    let may = subst (λ (d : Plain). MayStep d.config c.args.actor c.args.act) (sym c.self.view_is) c.requires in
-    let next : Entry = journal_entry in_it.control.config before c.args.pass c.args.line c.args.actor c.args.act in
-    let kept = both_command in_it.control.config before in_it.accesses.items in_it.words in_it.since c.self.invariant c.args.pass c.args.line c.args.actor c.args.act may
+    let may = subst (λ (d : Plain). MayStep d.config c.args.actor c.args.act.now) (sym c.self.view_is) c.requires in
+    let next : Entry = journal_entry in_it.control.config before c.args.pass c.args.line c.args.actor c.args.act.now in
+    let kept = both_command in_it.control.config before in_it.accesses.items in_it.words in_it.since c.self.invariant c.args.pass c.args.line c.args.actor c.args.act.now may
     c.in_ok-effects.ensures.short c.zero_all.new.words
     (subst (AreZeroed in_it.words c.zero_all.new.words) (c.as_slice.ensures ∙ c.in_ok-effects.ensures.effects) c.zero_all.ensures.words) c.zero_all.ensures.granules in
     subst (λ (k : Controlled). KeepsBoth k.config k.entries in_it.accesses.items c.zero_all.new.words 0) (sym c.give_back.ensures)
@@ -26,8 +26,8 @@ pub returns-clause-entered : goal.returns-clause-entered
 returns-clause-entered c =
     let in_it = c.self.inside in
     let before = in_it.control.entries in
-    let may = subst (λ (d : Plain). MayStep d.config c.args.actor c.args.act) (sym c.self.view_is) c.requires in
-    let next : Entry = journal_entry in_it.control.config before c.args.pass c.args.line c.args.actor c.args.act in (
+    let may = subst (λ (d : Plain). MayStep d.config c.args.actor c.args.act.now) (sym c.self.view_is) c.requires in
+    let next : Entry = journal_entry in_it.control.config before c.args.pass c.args.line c.args.actor c.args.act.now in (
       next.reply,
       record {
         entry = next;
@@ -39,7 +39,7 @@ returns-clause-entered c =
         config = ap (λ (k : Controlled). k.config) c.give_back.ensures ∙ c.step.ensures.config ∙ ap (λ (d : Plain). d.config) c.self.view_is;
         journal = ap (λ (k : Controlled). merged k.entries (in_it.accesses.items ∷ [])) c.give_back.ensures
             ∙ ap (λ (es : List Entry). merged es (in_it.accesses.items ∷ [])) c.in_ok-effects.ensures.entered
-            ∙ grown_command in_it.control.config before in_it.accesses.items in_it.words in_it.since c.self.invariant c.args.pass c.args.line c.args.actor c.args.act may
+            ∙ grown_command in_it.control.config before in_it.accesses.items in_it.words in_it.since c.self.invariant c.args.pass c.args.line c.args.actor c.args.act.now may
             ∙ ap (λ (es : List Entry). es ++ next ∷ []) (ap (λ (d : Plain). d.journal) c.self.view_is);
       },
     )

@@ -1,4 +1,4 @@
-use Rattle.std.proofs.Common.{◌++◌, ◌∷◌, [], ap, length, ◌∙◌}
+use Rattle.std.proofs.Common.{length, ◌∙◌}
 use Rattle.std.specs.Prelude.{option_map}
 use Rattle.dcd_base.specs.Words.{◌or◌}
 use Rattle.plan_rules.specs.declared.faults.PlanFault.{PlanFault}
@@ -8,7 +8,7 @@ use Rattle.plan_maker.proofs.trial.Trial.take.Goals as goal
 pub returns : goal.returns
 returns c =
     let old = c.args.self.now in
-    takes_one old (record { control = c.step.new.self; acts = c.push.new.self; refused = c.first_refusal-self.result }) c.args.step
+    takes_one old (record { control = c.step-2.new.self; acts = c.push.new.self; refused = c.first_refusal-self.result }) c.args.step
     c.in_ok-step.ensures.config c.in_ok-step.ensures.entered
-    (c.in_ok-push.ensures.pushed ∙ ap (λ act. old.acts ++ (c.args.step.0, act) ∷ []) c.in_ok-copy.ensures)
+    c.in_ok-push.ensures.pushed
     (c.first_refusal-self.ensures ∙ (λ i. old.refused or option_map (PlanFault.Refused (length (c.as_slice.ensures i))) (c.in_ok-broken.ensures i)))
