@@ -400,6 +400,56 @@ def refused_last(count):
     return device([(GRANULES, 1)]), lines
 
 
+# Offers that wait, and lists in several messages
+
+
+def put_waiting(lines, host):
+    """The host is offered 32 granules, each in an offer of its own."""
+    for n in range(32):
+        lines.told(host, offer(host, PRESCRIPTIVE, 0, extents=blocks(128 * host + 4 * n, 1)), 1)
+
+
+def waiting(count):
+    """Each host in turn is offered 32 granules one by one, takes them in that order and gives all back at once."""
+    lines = Lines()
+    for n in range(count // 67):
+        host = n % HOSTS
+        put_waiting(lines, host)
+        for extent in blocks(128 * host, 32, 4):
+            lines.host(host, respond([extent]))
+        lines.clear(host)
+        lines.host(host, give_back(blocks(128 * host, 32, 4)))
+        lines.append(scrub(GRANULES))
+    return device([(GRANULES, 1)]), lines
+
+
+def waiting_declined(count):
+    """Each host in turn is offered 32 granules one by one, and declines them."""
+    lines = Lines()
+    for n in range(count // 65):
+        host = n % HOSTS
+        put_waiting(lines, host)
+        for _ in range(32):
+            lines.host(host, respond([]))
+        lines.clear(host)
+    return device([(GRANULES, 1)]), lines
+
+
+def in_messages(count):
+    """Each host in turn takes 64 granules in eight messages, and gives them back in eight."""
+    lines = Lines()
+    for n in range(count // 19):
+        host = n % HOSTS
+        lines.told(host, offer(host, FREE, 0, 64 * MIB), 1)
+        for part in range(8):
+            lines.host(host, respond(blocks(8 * part, 8), more=part < 7))
+        for part in range(8):
+            lines.host(host, give_back(blocks(8 * part, 8), more=part < 7))
+        lines.clear(host)
+        lines.append(scrub(GRANULES))
+    return device([(GRANULES, 1)]), lines
+
+
 # Commands that read lists and logs
 
 
@@ -516,6 +566,10 @@ KINDS = [
         ("contiguous ones among fragments", among_fragments),
         ("lost by tag, 4 of 64 at a time", lost_by_tag),
         ("refused for the last of 64 extents", refused_last)]),
+    ("waiting", "about 12,000 lines of offers that wait, or of lists in several messages", 12000, [
+        ("32 offers wait, each is taken", waiting),
+        ("32 offers wait, each is declined", waiting_declined),
+        ("64 extents in eight messages", in_messages)]),
     ("small", "48,003 lines that come to little", 48003, [
         ("one of the last two, declined", declined),
         ("scrubs with nothing dirty", nothing_to_zero)]),
