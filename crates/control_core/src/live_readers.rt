@@ -65,7 +65,7 @@ impl LiveControl {
         requires { host < self.now.config.hosts }
         ensures { ByEveryPast self.now (λ past. result.now ≡ held_of host HeldKind.Responses (effects past)) }
     {
-        self.state.part(host).lists.responses().as_slice()
+        self.state.part(host).lists.responses()
     }
 
     /// The extents that the host's releases with More hold so far.
@@ -73,7 +73,7 @@ impl LiveControl {
         requires { host < self.now.config.hosts }
         ensures { ByEveryPast self.now (λ past. result.now ≡ held_of host HeldKind.Releases (effects past)) }
     {
-        self.state.part(host).lists.releases().as_slice()
+        self.state.part(host).lists.releases()
     }
 
     /// How many extents the host has accepted.

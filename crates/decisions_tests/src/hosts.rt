@@ -17,9 +17,9 @@ use std::test::Fail;
 fn one_offer(alloc: Global) -> Result<HostLists, NoMemory>
     ensures { IfOk result (λ lists. extent_total lists ≤ 64) }
 {
-    let mut lists = HostLists::new(alloc);
+    let mut lists = HostLists::new(alloc)?;
     let extents = [extent(0, 6 * M, 7, 0), extent(8 * M, 2 * M, 0, 0)];
-    lists.offer(RegionId(0), Extents::from_slice(alloc, &extents)?)?;
+    lists.offer(Extents::from_slice(alloc, &extents)?)?;
     Ok(lists)
 }
 
@@ -27,10 +27,10 @@ fn one_offer(alloc: Global) -> Result<HostLists, NoMemory>
 fn offered_by_change(alloc: Global) -> Result<HostLists, NoMemory>
     ensures { IfOk result (λ lists. extent_total lists ≤ 64) }
 {
-    let mut lists = HostLists::new(alloc);
+    let mut lists = HostLists::new(alloc)?;
     let extents = [extent(0, 6 * M, 7, 0), extent(8 * M, 2 * M, 0, 0)];
     let mut change = ListsChange::nothing();
-    lists.put_offering(RegionId(0), &extents, &mut change)?;
+    lists.put_offering(&extents, &mut change)?;
     lists.change(&mut change);
     Ok(lists)
 }
@@ -71,67 +71,81 @@ fn offers_are_counted_with_their_tags(rt: HostRuntime) -> Result<(), Fail> {
     Ok(())
 }
 
-/// Sees that a response that more follows is held until it is dropped.
-fn see_response(
-    rt: &impl Abort,
-    alloc: Global,
-    lists: &mut HostLists,
-    config: &Config,
-) -> Result<(), NoMemory>
-    requires host { config.now.hosts ≡ 1 }
-    requires few { extent_total lists.old ≤ 64 }
-{
-    let list = listed(alloc, &[(0, 6 * M)])?;
-    let answer = lists.respond(config, HostId(0), &list, true);
-    see(rt, &matches!(answer, Ok(Responded::Held)), &true);
-    see_list(rt, lists.responses().as_slice(), list.as_slice());
+/// Holds the list of a response and of a release that more follows, by changes.
+fn hold(lists: &mut HostLists, list: &Extents) -> Result<(), NoMemory> {
+    let mut change = ListsChange::nothing();
+    let _ = lists.put_answering(list, true, &mut change)?;
+    lists.change(&mut change);
+    let _ = lists.put_releasing(list, true, &mut change)?;
+    lists.change(&mut change);
+    Ok(())
+}
+
+/// How many extents responses and releases hold.
+fn held(lists: &HostLists) -> (usize, usize) {
+    (lists.responses().len(), lists.releases().len())
+}
+
+/// Sees that lists of 40 extents are held behind each other, also where they are more than a list may have, until they are
+/// let go.
+fn see_held(rt: &impl Abort, alloc: Global, lists: &mut HostLists) -> Result<(), NoMemory> {
+    let list = listed(alloc, &[(0, M); 40])?;
+    hold(lists, &list)?;
+    see(rt, &held(lists), &(40, 40));
+    hold(lists, &list)?;
+    see(rt, &held(lists), &(80, 80));
     lists.drop_responses();
-    see(rt, &lists.responses().is_empty(), &true);
-    Ok(())
-}
-
-/// Sees that for a host that has the offer.
-fn see_offered(rt: &impl Abort, alloc: Global, config: &Config) -> Result<(), NoMemory>
-    requires { config.now.hosts ≡ 1 }
-{
-    see_response(rt, alloc, &mut one_offer(alloc)?, config)
-}
-
-#[test]
-fn a_response_is_held_until_it_is_let_go(rt: HostRuntime) -> Result<(), Fail> {
-    see_offered(&rt, rt.alloc(), &one_region(rt.alloc())?)?;
-    Ok(())
-}
-
-/// Sees that a release that more follows is held until it is dropped.
-fn see_release(
-    rt: &impl Abort,
-    alloc: Global,
-    lists: &mut HostLists,
-    config: &Config,
-) -> Result<(), NoMemory>
-    requires host { config.now.hosts ≡ 1 }
-    requires few { extent_total lists.old ≤ 64 }
-{
-    let list = listed(alloc, &[(0, 6 * M)])?;
-    let answer = lists.give_back(config, HostId(0), &list, true);
-    see(rt, &matches!(answer, Ok(GivenBack::Held)), &true);
-    see_list(rt, lists.releases().as_slice(), list.as_slice());
+    see(rt, &held(lists), &(0, 80));
     lists.drop_releases();
-    see(rt, &lists.releases().is_empty(), &true);
+    see(rt, &held(lists), &(0, 0));
     Ok(())
 }
 
-/// Sees that for a host that has accepted nothing.
-fn see_released(rt: &impl Abort, alloc: Global, config: &Config) -> Result<(), NoMemory>
-    requires { config.now.hosts ≡ 1 }
-{
-    see_release(rt, alloc, &mut one_offer(alloc)?, config)
+#[test]
+fn lists_are_held_until_they_are_let_go(rt: HostRuntime) -> Result<(), Fail> {
+    see_held(&rt, rt.alloc(), &mut one_offer(rt.alloc())?)?;
+    Ok(())
+}
+
+/// Offers so many times two extents of tags 7 and 5, by changes, and answers how many offers wait, and how many tags more
+/// may come.
+fn offer_often(lists: &mut HostLists, times: usize) -> Result<(usize, u32), NoMemory> {
+    let extents = [extent(0, M, 7, 0), extent(M, M, 5, 0)];
+    let mut change = ListsChange::nothing();
+    for _ in 0..times {
+        lists.put_offering(&extents, &mut change)?;
+        lists.change(&mut change);
+    }
+    Ok((lists.offer_count(), lists.tags_available()))
+}
+
+/// Lets the oldest offer go, of which nothing is accepted.
+fn decline(lists: &mut HostLists) -> Result<(), NoMemory> {
+    let mut change = ListsChange::nothing();
+    if lists.offer_count() > 0 && lists.responses().is_empty() {
+        let none = Extents::new(lists.offers().allocator());
+        let _ = lists.put_answering(&none, false, &mut change)?;
+        lists.change(&mut change);
+    }
+    Ok(())
+}
+
+/// Sees that more offers wait than have room, and that tags go with the last offer that has them.
+fn see_many_offers(rt: &impl Abort, alloc: Global) -> Result<(), NoMemory> {
+    let mut lists = HostLists::new(alloc)?;
+    see(rt, &offer_often(&mut lists, 70)?, &(70, 30));
+    for _ in 0..69 {
+        decline(&mut lists)?;
+    }
+    see(rt, &(lists.offer_count(), lists.tags_available()), &(1, 30));
+    decline(&mut lists)?;
+    see(rt, &(lists.offer_count(), lists.tags_available()), &(0, 32));
+    Ok(())
 }
 
 #[test]
-fn a_release_is_held_until_it_is_let_go(rt: HostRuntime) -> Result<(), Fail> {
-    see_released(&rt, rt.alloc(), &one_region(rt.alloc())?)?;
+fn more_offers_wait_than_have_room(rt: HostRuntime) -> Result<(), Fail> {
+    see_many_offers(&rt, rt.alloc())?;
     Ok(())
 }
 
@@ -147,8 +161,8 @@ fn see_changes(rt: &impl Abort, alloc: Global, lists: &mut HostLists) -> Result<
     lists.change(&mut change);
     lists.put_removing(&Extents::new(alloc), &mut change)?;
     lists.change(&mut change);
-    see_list(rt, lists.responses().as_slice(), list.as_slice());
-    see_list(rt, lists.releases().as_slice(), list.as_slice());
+    see_list(rt, lists.responses(), list.as_slice());
+    see_list(rt, lists.releases(), list.as_slice());
     see(rt, &lists.generation(), &0);
     Ok(())
 }

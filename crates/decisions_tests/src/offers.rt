@@ -6,7 +6,7 @@ ghost use Rattle.std.specs.Prelude.{◌+◌, ◌<◌, ◌≤◌, IfOk, length};
 
 use crate::fixtures::{BASE, M, extent, listed, one_region, two_regions};
 use crate::seeing::{see, see_list};
-use dcd_base::{Extent, Extents, HostId, NoMemory, RegionId};
+use dcd_base::{Extent, Extents, HostId, NoMemory};
 use dcd_codes::Refusal::{self, Broken};
 use dcd_codes::Rule;
 use offer_core::{Answered, Offer, Offers};
@@ -16,14 +16,13 @@ use std::process::Abort;
 use std::test::Fail;
 
 /// Puts an offer of at most eight extents behind the others.
-fn offer(offers: &mut Offers, alloc: Global, region: u8, extents: &[Extent]) -> Result<(), NoMemory>
+fn offer(offers: &mut Offers, alloc: Global, extents: &[Extent]) -> Result<(), NoMemory>
     requires few { length extents.now ≤ 8 }
     requires room { count_in (lists_of offers.old.offers) ≤ 56 }
     ensures { count_in (lists_of offers.new.offers) ≤ count_in (lists_of offers.old.offers) + 8 }
 {
     let extents = Extents::from_slice(alloc, extents)?;
-    let region = RegionId(region);
-    offers.push(Offer { region, extents })
+    offers.push(Offer { extents })
 }
 
 /// An offer and a later one of at most eight extents each.
@@ -32,9 +31,9 @@ fn two_offers(alloc: Global, first: &[Extent], later: &[Extent]) -> Result<Offer
     requires later { length later.now ≤ 8 }
     ensures { IfOk result (λ offers. count_in (lists_of offers.offers) ≤ 64) }
 {
-    let mut offers = Offers::new(alloc);
-    offer(&mut offers, alloc, 0, first)?;
-    offer(&mut offers, alloc, 0, later)?;
+    let mut offers = Offers::new(alloc)?;
+    offer(&mut offers, alloc, first)?;
+    offer(&mut offers, alloc, later)?;
     Ok(offers)
 }
 
@@ -237,9 +236,8 @@ fn shared_offer(alloc: Global, extents: &[Extent]) -> Result<Offers, NoMemory>
     requires { length extents.now ≤ 8 }
     ensures { IfOk result (λ offers. count_in (lists_of offers.offers) ≤ 64) }
 {
-    let mut offers = Offers::new(alloc);
-    offers.reserve(1)?;
-    offer(&mut offers, alloc, 1, extents)?;
+    let mut offers = Offers::new(alloc)?;
+    offer(&mut offers, alloc, extents)?;
     Ok(offers)
 }
 
@@ -329,7 +327,7 @@ fn held_and_copied(offers: &mut Offers, config: &Config) -> Result<(usize, usize
     requires host { 0 < config.now.hosts }
     requires few { count_in (lists_of offers.old.offers) ≤ 64 }
 {
-    let mut accepted = Extents::new(offers.held().allocator());
+    let mut accepted = Extents::new(offers.allocator());
     let _ = respond_with(offers, config, &[(0, M)], true, &mut accepted)?;
     let copy = offers.copy()?;
     offers.drop_held();

@@ -42,7 +42,7 @@ fn release(
     requires host { 0 < config.now.hosts }
     requires few { length accepted.now.extents ≡ 3 }
 {
-    let list = listed(releases.held().allocator(), ranges)?;
+    let list = listed(releases.allocator(), ranges)?;
     releases.release(config, HostId(0), accepted, OFFERED, &list, more)
 }
 
@@ -62,32 +62,38 @@ fn see_leaving(
     accepted: &ExtentList,
     ranges: &[(u64, u64)],
     expected: &[Extent],
-)
+) -> Result<(), NoMemory>
     requires host { 0 < config.now.hosts }
     requires few { length accepted.now.extents ≡ 3 }
 {
-    let mut releases = Releases::new(alloc);
+    let mut releases = Releases::new(alloc)?;
     let answer = release(&mut releases, config, accepted, ranges, false);
     see_list(rt, leaving(&answer), expected);
+    Ok(())
 }
 
 /// Sees what leaves in a release of two parts of an extent, and of two shared extents.
-fn see_parts(rt: &impl Abort, alloc: Global, config: &Config, accepted: &ExtentList)
+fn see_parts(
+    rt: &impl Abort,
+    alloc: Global,
+    config: &Config,
+    accepted: &ExtentList,
+) -> Result<(), NoMemory>
     requires host { 0 < config.now.hosts }
     requires few { length accepted.now.extents ≡ 3 }
 {
     let parts = [extent(5 * M, M, 7, 0), extent(0, M, 7, 0)];
     let listed = [(5 * M, M), (0, M)];
-    see_leaving(rt, alloc, config, accepted, &listed, &parts);
+    see_leaving(rt, alloc, config, accepted, &listed, &parts)?;
     let shared = [extent(BASE + 3 * M, M, 9, 2), extent(BASE, 2 * M, 9, 1)];
     let listed = [(BASE + 3 * M, M), (BASE, 2 * M)];
-    see_leaving(rt, alloc, config, accepted, &listed, &shared);
+    see_leaving(rt, alloc, config, accepted, &listed, &shared)
 }
 
 #[test]
 fn what_leaves_has_the_tag_of_its_extent(rt: HostRuntime) -> Result<(), Fail> {
     let config = two_regions(rt.alloc(), M)?;
-    see_parts(&rt, rt.alloc(), &config, &accepted(rt.alloc())?);
+    see_parts(&rt, rt.alloc(), &config, &accepted(rt.alloc())?)?;
     Ok(())
 }
 
@@ -128,21 +134,27 @@ static IN_TURN: [(&[(u64, u64)], bool, Result<Told, Refusal>, usize); 6] = [
 ];
 
 /// Sees what each release comes to, one after another.
-fn see_in_turn(rt: &impl Abort, alloc: Global, config: &Config, accepted: &ExtentList)
+fn see_in_turn(
+    rt: &impl Abort,
+    alloc: Global,
+    config: &Config,
+    accepted: &ExtentList,
+) -> Result<(), NoMemory>
     requires host { 0 < config.now.hosts }
     requires few { length accepted.now.extents ≡ 3 }
 {
-    let mut releases = Releases::new(alloc);
+    let mut releases = Releases::new(alloc)?;
     for (ranges, more, expected, count) in &IN_TURN {
         let answer = told_of(release(&mut releases, config, accepted, *ranges, *more));
         see(rt, &(answer, held(&releases)), &(*expected, Ok(*count)));
     }
+    Ok(())
 }
 
 #[test]
 fn lists_with_more_are_held_until_a_refusal(rt: HostRuntime) -> Result<(), Fail> {
     let config = two_regions(rt.alloc(), M)?;
-    see_in_turn(&rt, rt.alloc(), &config, &accepted(rt.alloc())?);
+    see_in_turn(&rt, rt.alloc(), &config, &accepted(rt.alloc())?)?;
     Ok(())
 }
 
@@ -166,22 +178,28 @@ static RELEASED: [((u64, u64), Result<Told, Refusal>); 9] = [
 ];
 
 /// Sees what the release of each range of the table comes to, one after another.
-fn see_released(rt: &impl Abort, alloc: Global, config: &Config, accepted: &ExtentList)
+fn see_released(
+    rt: &impl Abort,
+    alloc: Global,
+    config: &Config,
+    accepted: &ExtentList,
+) -> Result<(), NoMemory>
     requires host { 0 < config.now.hosts }
     requires few { length accepted.now.extents ≡ 3 }
 {
-    let mut releases = Releases::new(alloc);
+    let mut releases = Releases::new(alloc)?;
     for (range, expected) in &RELEASED {
         let first = told_of(release(&mut releases, config, accepted, &[(4 * M, M)], true));
         let answer = told_of(release(&mut releases, config, accepted, &[*range], false));
         see(rt, &(first, answer), &(Ok(Told::Held), *expected));
     }
+    Ok(())
 }
 
 #[test]
 fn each_rule_of_a_release_counts_from_the_held_list(rt: HostRuntime) -> Result<(), Fail> {
     let config = two_regions(rt.alloc(), M)?;
-    see_released(&rt, rt.alloc(), &config, &accepted(rt.alloc())?);
+    see_released(&rt, rt.alloc(), &config, &accepted(rt.alloc())?)?;
     Ok(())
 }
 

@@ -5,7 +5,7 @@ ghost use Rattle.std.specs.Prelude.{◌≡◌, ◌++◌, ◌<◌, IfOk, OnOk};
 ghost use Rattle.device_commands.specs.HeldLists.{unheld_by};
 
 use crate::rooms::Room;
-use dcd_base::{Extents, HostId, NoMemory};
+use dcd_base::{Extent, Extents, HostId, NoMemory};
 use host_lists::HostLists;
 use journal_core::{Effect, Effects, HeldKind};
 
@@ -33,7 +33,7 @@ pub(crate) fn put_hold(
 pub fn unhold(
     host: HostId,
     kind: HeldKind,
-    held: &Extents,
+    held: &[Extent],
     room: &mut Room,
 ) -> Result<Effects, NoMemory>
     ensures { IfOk result (λ changes. changes ≡ unhold host kind held.now) }
@@ -50,7 +50,7 @@ pub fn unhold(
 pub(crate) fn put_unhold(
     host: HostId,
     kind: HeldKind,
-    held: &Extents,
+    held: &[Extent],
     effects: &mut Effects,
 ) -> Result<(), NoMemory>
     ensures { OnOk result (effects.new ≡ effects.old ++ unhold host kind held.now) }

@@ -141,15 +141,6 @@ impl Room {
         Ok(Box::new(self.alloc, DraftedStep::changing(self.alloc, effects))?)
     }
 
-    /// Keeps the memory of a payload, where it has bytes.
-    #[inline(always)]
-    pub fn keep_payload(&mut self, payload: Bytes) {
-        let mut payload = payload;
-        if !payload.is_empty() {
-            swap(&mut self.payload, &mut payload);
-        }
-    }
-
     /// Keeps the memory of a step's parts, of which the reply alone was made, and that of its payload, where it has bytes.
     #[inline(always)]
     pub fn keep_replied(&mut self, step: Box<DraftedStep>) {

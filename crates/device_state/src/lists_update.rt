@@ -7,7 +7,7 @@ ghost use Rattle.std.specs.Option.{option_copied};
 ghost use Rattle.std.specs.Prelude.{◌≡◌, ◌++◌, ◌∷◌, [], IfOk, IsSome, None, OnOk, false};
 
 use crate::updates::NewLists;
-use dcd_base::{Extent, Extents, HostId, NoMemory, RegionId};
+use dcd_base::{Extent, Extents, HostId, NoMemory};
 use host_lists::{Changed, HostLists, ListsChange, Responded};
 use release_core::GivenBack;
 use std::marker::Model;
@@ -116,19 +116,14 @@ impl ListsUpdate {
         }
     }
 
-    /// These extents of the region are offered, behind all other offers.
+    /// These extents are offered, behind all other offers.
     #[inline(always)]
-    pub fn offer(
-        &mut self,
-        lists: &HostLists,
-        region: RegionId,
-        extents: &[Extent],
-    ) -> Result<(), NoMemory>
+    pub fn offer(&mut self, lists: &HostLists, extents: &[Extent]) -> Result<(), NoMemory>
         ensures there { OnOk result (IsSome self.new) }
         ensures offered { OnOk result (left_by self.new lists.now ≡ record lists.now { offers = lists.now.offers ++ extents.now ∷ [] }) }
     {
         self.is_there = true;
-        lists.put_offering(region, extents, &mut self.kept.change)
+        lists.put_offering(extents, &mut self.kept.change)
     }
 
     /// What a response does that breaks no rule (CXL 3.1, 8.2.9.9.9.3), with this list of a message behind the held one, and

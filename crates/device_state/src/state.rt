@@ -83,7 +83,7 @@ fn fresh_part(alloc: Global) -> Result<HostPart, NoMemory>
     ensures { IfOk result (λ part. part ≡ no_part) }
 {
     Ok(HostPart {
-        lists: HostLists::new(alloc),
+        lists: HostLists::new(alloc)?,
         log: EventLog::new(alloc, HOST_RECORDS)?,
     })
 }

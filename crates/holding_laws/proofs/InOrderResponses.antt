@@ -38,11 +38,11 @@ use Rattle.holding_laws.proofs.OneOffer.{reaches}
 use Rattle.holding_laws.proofs.Overlaps.{common}
 use Rattle.holding_laws.proofs.SoundPresent.{present_sound}
 
--- offers whose regions nobody asks for
-abbrev unplaced : List (List Extent) → List Offer
-unplaced later = map (λ xs. record { region = 0; extents = xs }) later
+-- the offers of these extents
+abbrev offers_of : List (List Extent) → List Offer
+offers_of later = map (λ xs. record { extents = xs }) later
 
-lists_back : (later : List (List Extent)) → lists_of (unplaced later) ≡ later
+lists_back : (later : List (List Extent)) → lists_of (offers_of later) ≡ later
 lists_back [] = refl
 lists_back (xs ∷ later) = ap (λ rest. xs ∷ rest) (lists_back later)
 
@@ -120,12 +120,13 @@ module _ (c : Configuration) (sound : IsSound c) (p : Picture) (s : Stands c p) 
       (IsTrue (region_spec c (region_of_offer c h offer)).shareable → (list ≡ []) ⊎ (length list ≡ length offer)) →
       respond_rule (with_blocks c p.block) h (length (p.accepted h)) (p.offers h) held false list ≡ None
   breaks_nothing held alone list some shared =
-      let first : Offer = record { region = r; extents = offer } in
-      let old : Offering = record { offers = first ∷ unplaced later; held = []; spare = 0 } in
-      let back : lists_of (first ∷ unplaced later) ≡ offer ∷ later = ap (λ rest. offer ∷ rest) (lists_back later) in
+      let first : Offer = record { extents = offer } in
+      let old : Offering = record { offers = first ∷ offers_of later; held = [] } in
+      let back : lists_of (first ∷ offers_of later) ≡ offer ∷ later = ap (λ rest. offer ∷ rest) (lists_back later) in
       let in_order : IsInOrder (with_blocks c p.block) h old false list = record {
         offer = first;
-        later = unplaced later;
+        later = offers_of later;
+        region = r;
         oldest = refl;
         sound = record {
           each = All-from_recursion (IsSoundIn (with_blocks c p.block) h r) offer each_sound;

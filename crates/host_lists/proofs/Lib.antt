@@ -1,3 +1,4 @@
 pub mod Departures
 pub mod Offered
 pub mod TagCounting
+pub mod TagMoves

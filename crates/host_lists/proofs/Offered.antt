@@ -1,5 +1,5 @@
 -- Extents of offers, one offer after another.
-use Rattle.std.proofs.Common.{◌≡◌, ◌||◌, ℕ, ◌+◌, ◌<◌, Bool, true, false, List, [], ◌∷◌, ◌++◌, length, zero, suc, Some, get_or, take, refl, sym, ap, ◌∙◌, append_assoc, append-nil, arith, length-append}
+use Rattle.std.proofs.Common.{◌≡◌, ◌||◌, ℕ, ◌+◌, ◌<◌, Bool, true, false, List, [], ◌∷◌, ◌++◌, length, zero, suc, Some, get_or, drop, take, refl, sym, ap, ◌∙◌, append_assoc, append-nil, arith, length-append}
 use Rattle.std.specs.Prelude.{flat_map, slice_get}
 use Rattle.std.specs.List.{list_any}
 use Rattle.std.proofs.lemmas.List.{get_or-take, length-take, take_more, take_all}
@@ -25,7 +25,7 @@ or_swap false true false = refl
 or_swap false false true = refl
 or_swap false false false = refl
 
-any-flat : (t : Tag) (offers : List (List Extent)) → has_extent_of t (flat_map (λ xs. xs) offers) ≡ list_any (has_extent_of t) offers
+pub any-flat : (t : Tag) (offers : List (List Extent)) → has_extent_of t (flat_map (λ xs. xs) offers) ≡ list_any (has_extent_of t) offers
 any-flat t [] = refl
 any-flat t (xs ∷ offers) = list_any-append (λ (x : Extent). same_tag x.tag t) xs (flat_map (λ ys. ys) offers) ∙ ap (λ b. has_extent_of t xs || b) (any-flat t offers)
 
@@ -85,3 +85,8 @@ any_taken p offers n i below known here = list_any_at p (take n offers) i [] (rw
 -- a test that none of the first passes, nor the next
 pub none_taken : (p : List Extent → Bool) (offers : List (List Extent)) (i : ℕ) → i < length offers → list_any p (take i offers) ≡ false → p (get_or offers i []) ≡ false → list_any p (take (i + 1) offers) ≡ false
 none_taken p offers i known none other = list_any_more p offers i [] known ∙ rw (none, other) refl
+
+-- the extents of the oldest offer and those of the others
+pub oldest_first : (offers : List (List Extent)) → flat_map (λ xs. xs) offers ≡ oldest_of offers ++ flat_map (λ xs. xs) (drop 1 offers)
+oldest_first [] = refl
+oldest_first (xs ∷ offers) = refl

@@ -52,7 +52,7 @@ has_extent-map t (x ∷ xs) = rw (nat_list_eq_equiv.symm x.tag.0 t.0, has_extent
 has_extent-tags : (t : Tag) (xs : List Extent) → has_tag (tags_of xs) t ≡ has_extent_of t xs
 has_extent-tags t xs = has_tag-fold [] (map (λ x. x.tag) xs) t ∙ sym (has_extent-map t xs)
 
-abbrev is_real : Tag → Bool
+abbrev pub is_real : Tag → Bool
 is_real t = not (is_zero_tag t)
 
 -- a count, and one more where the test holds
@@ -77,7 +77,7 @@ real-add seen t false is =
     rw is (real-push seen t (is_real t) refl ∙ ap (λ b. one_more b (length (filter is_real seen))) (sym (and_not_false (is_real t))))
 
 -- one extent more has one tag more, where its tag is new
-tag_count-push : (xs : List Extent) (x : Extent) → tag_count (xs ++ x ∷ []) ≡ one_more (is_new xs x.tag) (tag_count xs)
+pub tag_count-push : (xs : List Extent) (x : Extent) → tag_count (xs ++ x ∷ []) ≡ one_more (is_new xs x.tag) (tag_count xs)
 tag_count-push xs x =
     ap (λ tags. length (filter is_real (distinct_tags tags))) (map-append (λ (y : Extent). y.tag) xs (x ∷ []))
     ∙ ap (λ tags. length (filter is_real tags)) (fold_push add [] (map (λ (y : Extent). y.tag) xs) x.tag)

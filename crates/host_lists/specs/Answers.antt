@@ -1,16 +1,8 @@
 -- What a response and a release do to a host's lists.
-use Rattle.std.specs.declared.result.Result.{Result}
-use Rattle.std.specs.declared.result.Result.TheVariants.{Ok, Err}
-use Rattle.std.specs.Prelude.{◌≡◌, ◌≢◌, ℕ, Bool, true, false, if◌then◌else◌, List, [], ◌∷◌, ◌++◌, drop, length, map}
+use Rattle.std.specs.Prelude.{◌≡◌, ◌≢◌, ℕ, Bool, true, false, if◌then◌else◌, List, [], ◌∷◌, ◌++◌, drop, map}
 use Rattle.dcd_base.specs.declared.capacity.Extent.{Extent}
-use Rattle.dcd_base.specs.declared.ids.HostId.{HostId}
 use Rattle.dcd_base.specs.Words.{is_empty}
-use Rattle.dcd_codes.specs.declared.refusals.Refusal.{Refusal}
-use Rattle.dcd_codes.specs.Rules.{ByRow}
-use Rattle.extent_list.specs.ExtentLists.{count_in, cut_all, marked}
-use Rattle.offer_core.specs.Responses.{respond_rule}
-use Rattle.region_config.specs.Configurations.{Configuration}
-use Rattle.release_core.specs.Releases.{give_back_rule}
+use Rattle.extent_list.specs.ExtentLists.{cut_all, marked}
 use Rattle.release_core.specs.declared.releases.GivenBack.{GivenBack}
 use Rattle.host_lists.specs.declared.responded.Responded.{Responded}
 use Rattle.host_lists.specs.Lists.{Lists, next_generation}
@@ -50,17 +42,6 @@ HostResponds old more list new Responded.Nothing =
     (more ≡ false) × (old.offers ≡ []) × (old.responses ++ list ≡ []) × (new ≡ record old { responses = [] })
 HostResponds old more list new (Responded.Done accepted) = (more ≡ false) × IsAccepted old list new accepted
 
--- A response of the host: the first rule that it breaks, or what it does.
-abbrev pub ListsAnswerResponse : Configuration → HostId → Lists → Bool → List Extent → Lists → Result Responded Refusal → Type 0
-ListsAnswerResponse c h old more list new result =
-    ByRow (respond_rule c h (length old.accepted) old.offers old.responses more list) (HostResponds old more list new) result
-
--- What a refused response leaves: a broken rule lets go what is held of responses, and want of memory changes nothing.
-abbrev pub LeavesResponses : Lists → Lists → Result Responded Refusal → Type 0
-LeavesResponses old new (Ok responded) = Unit {0}
-LeavesResponses old new (Err (Refusal.Broken rule)) = new ≡ record old { responses = [] }
-LeavesResponses old new (Err Refusal.NoMemory) = new ≡ old
-
 -- the lists without the extents that a host gave back, and nothing held of releases
 abbrev pub given_up : Lists → List Extent → Lists
 given_up old whole = record old { accepted = cut_all whole old.accepted; releases = []; generation = next_generation old.generation }
@@ -75,17 +56,6 @@ GivesUp old more list new (GivenBack.Done leaving) =
     × (old.releases ++ list ≢ [])
     × (leaving ≡ map (marked old.accepted) (old.releases ++ list))
     × (new ≡ given_up old (old.releases ++ list))
-
--- A release of the host: the first rule that it breaks, or what it does.
-abbrev pub ListsAnswerRelease : Configuration → HostId → Lists → Bool → List Extent → Lists → Result GivenBack Refusal → Type 0
-ListsAnswerRelease c h old more list new result =
-    ByRow (give_back_rule c h old.accepted (count_in old.offers) (old.releases ++ list) more) (GivesUp old more list new) result
-
--- What a refused release leaves: a broken rule lets go what is held of releases, and want of memory changes nothing.
-abbrev pub LeavesReleases : Lists → Lists → Result GivenBack Refusal → Type 0
-LeavesReleases old new (Ok given) = Unit {0}
-LeavesReleases old new (Err (Refusal.Broken rule)) = new ≡ record old { releases = [] }
-LeavesReleases old new (Err Refusal.NoMemory) = new ≡ old
 
 -- the lists without the extents of a removal; where there are none nothing changes
 abbrev pub lists_without : List Extent → Lists → Lists

@@ -1,5 +1,5 @@
 -- What a step changes of a host's lists.
-use Rattle.std.specs.Prelude.{ℕ, List, [], ◌∷◌, Option, Some, None, drop}
+use Rattle.std.specs.Prelude.{◌+◌, if◌then◌else◌, nat_le, nat_lt, List, [], ◌∷◌, ◌++◌, Option, Some, None, drop, length}
 use Rattle.dcd_base.specs.declared.capacity.Extent.{Extent}
 use Rattle.extent_list.specs.Rooms.{Room}
 use Rattle.offer_core.specs.Offerings.{lists_of}
@@ -13,19 +13,27 @@ abbrev pub accepted_with : Option Room → List Extent → List Extent
 accepted_with None accepted = accepted
 accepted_with (Some new) accepted = new.extents
 
+-- one offer more behind the others, where fewer than 64 wait
+abbrev pub with_offer : List Extent → List (List Extent) → List (List Extent)
+with_offer extents offers = if nat_lt (length offers) 64 then offers ++ extents ∷ [] else offers
+
+-- extents behind those that are held, where they are 64 at most together
+abbrev pub with_more : List Extent → List Extent → List Extent
+with_more list held = if nat_le (length held + length list) 64 then held ++ list else held
+
 -- the extents of each unanswered offer after it
 abbrev pub offers_with : OffersChange → List (List Extent) → List (List Extent)
 offers_with OffersChange.Nothing offers = offers
-offers_with (OffersChange.Only offer) offers = offer.extents ∷ []
-offers_with (OffersChange.Held held) offers = offers
+offers_with (OffersChange.Behind offer) offers = with_offer offer.extents offers
+offers_with (OffersChange.More list) offers = offers
 offers_with OffersChange.Next offers = drop 1 offers
 offers_with (OffersChange.Whole new) offers = lists_of new.offers
 
 -- what responses with More hold after it
 abbrev pub responses_with : OffersChange → List Extent → List Extent
 responses_with OffersChange.Nothing held = held
-responses_with (OffersChange.Only offer) held = held
-responses_with (OffersChange.Held new) held = new
+responses_with (OffersChange.Behind offer) held = held
+responses_with (OffersChange.More list) held = with_more list held
 responses_with OffersChange.Next held = []
 responses_with (OffersChange.Whole new) held = new.held
 
@@ -33,7 +41,8 @@ responses_with (OffersChange.Whole new) held = new.held
 abbrev pub releases_with : ReleasesChange → List Extent → List Extent
 releases_with ReleasesChange.Nothing held = held
 releases_with ReleasesChange.Gone held = []
-releases_with (ReleasesChange.Held new) held = new
+releases_with (ReleasesChange.More list) held = with_more list held
+releases_with (ReleasesChange.Whole new) held = new
 
 -- the lists after a change
 abbrev pub changed_by : ListsChange → Lists → Lists

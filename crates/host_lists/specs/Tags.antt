@@ -1,5 +1,5 @@
 -- How many tags are among extents.
-use Rattle.std.specs.Prelude.{ℕ, ◌-◌, ◌^◌, Bool, ◌&&◌, not, List, ◌++◌, flat_map, length, min, take}
+use Rattle.std.specs.Prelude.{ℕ, ◌-◌, ◌^◌, Bool, ◌&&◌, not, List, ◌++◌, flat_map, length, map, min, take}
 use Rattle.dcd_base.specs.declared.capacity.Extent.{Extent}
 use Rattle.dcd_base.specs.declared.capacity.Tag.{Tag}
 use Rattle.dcd_base.specs.Words.{is_zero_tag}
@@ -8,6 +8,10 @@ use Rattle.extent_list.specs.ExtentLists.{has_extent_of, real_tags}
 -- how many distinct tags they have; sixteen zero bytes are none
 abbrev pub tag_count : List Extent → ℕ
 tag_count xs = length (real_tags xs)
+
+-- the tag of each extent, also where it is none
+abbrev pub tags_in_order : List Extent → List Tag
+tags_in_order xs = map (λ x. x.tag) xs
 
 -- whether the tag is one, and none of the extents before has it
 abbrev pub is_new : List Extent → Tag → Bool

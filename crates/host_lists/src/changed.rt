@@ -2,19 +2,21 @@
 
 ghost use Rattle.dcd_base.specs.Limits.{extents_supported, tags_supported};
 ghost use Rattle.extent_list.specs.ExtentLists.{count_in, has_extent_of, real_tags};
-ghost use Rattle.host_lists.specs.Changes.{changed_by};
+ghost use Rattle.host_lists.specs.Changes.{changed_by, with_offer};
 ghost use Rattle.host_lists.specs.Lists.{extent_total, extents_of_lists};
-ghost use Rattle.host_lists.specs.Tags.{capped, tag_count};
+ghost use Rattle.offer_core.specs.Offerings.{lists_of};
 ghost use Rattle.std.specs.List.{list_any};
 ghost use Rattle.std.specs.Prelude.{◌≡◌, ◌-◌, ◌≤◌, length};
 
 use crate::lists::HostLists;
 use crate::lists_change::{ListsChange, OffersChange};
 use crate::offer_lists::OfferLists;
-use crate::tag_counts::{all_tags, has_in_offers, tags_of_two};
+use crate::tag_counts::has_in_offers;
+use crate::tags_after::tags_after;
 use dcd_base::limits::{EXTENTS, TAGS};
 use dcd_base::{Extent, Tag};
 use extent_list::has_extent_of;
+use offer_core::Offers;
 use std::marker::Model;
 
 /// The lists of a host as a change would leave them, without a copy. Contracts see those lists.
@@ -64,8 +66,8 @@ impl<'a> Changed<'a> {
     {
         match &self.change.offers {
             OffersChange::Nothing => self.lists.has_offered(tag),
-            OffersChange::Held(_) => self.lists.has_offered(tag),
-            OffersChange::Only(offer) => has_extent_of(tag, offer.extents.as_slice()),
+            OffersChange::Behind(offer) => has_behind(tag, self.lists, offer.extents.as_slice()),
+            OffersChange::More(_) => self.lists.has_offered(tag),
             OffersChange::Next => has_in(tag, &OfferLists::behind_oldest(self.lists.offers())),
             OffersChange::Whole(offers) => has_in(tag, &OfferLists::all(offers)),
         }
@@ -76,26 +78,13 @@ impl<'a> Changed<'a> {
         requires few { count_in self.now.offers ≤ 64 }
         ensures { result ≡ count_in self.now.offers }
     {
+        let had = self.lists.offers();
         match &self.change.offers {
-            OffersChange::Nothing => self.lists.offers().extents(),
-            OffersChange::Held(_) => self.lists.offers().extents(),
-            OffersChange::Only(offer) => offer.extents.len(),
-            OffersChange::Next => OfferLists::behind_oldest(self.lists.offers()).extents(),
+            OffersChange::Nothing => had.extents(),
+            OffersChange::Behind(offer) => offered_behind(had, offer.extents.as_slice()),
+            OffersChange::More(_) => had.extents(),
+            OffersChange::Next => had.later_extents(),
             OffersChange::Whole(offers) => offers.extents(),
-        }
-    }
-
-    /// How many tags the extents have that the host has accepted or is offered, up to the end of 32 bits.
-    fn tags(&self) -> u32
-        ensures { result ≡ capped (tag_count (extents_of_lists self.now)) }
-    {
-        let (accepted, had) = (self.accepted(), self.lists.offers());
-        match &self.change.offers {
-            OffersChange::Nothing => all_tags(accepted, &OfferLists::all(had)),
-            OffersChange::Held(_) => all_tags(accepted, &OfferLists::all(had)),
-            OffersChange::Only(offer) => tags_of_two(accepted, had, offer.extents.as_slice()),
-            OffersChange::Next => all_tags(accepted, &OfferLists::behind_oldest(had)),
-            OffersChange::Whole(offers) => all_tags(accepted, &OfferLists::all(offers)),
         }
     }
 
@@ -111,7 +100,7 @@ impl<'a> Changed<'a> {
     pub fn tags_available(&self) -> u32
         ensures { result ≡ tags_supported - length (real_tags (extents_of_lists self.now)) }
     {
-        TAGS.saturating_sub(self.tags())
+        TAGS.saturating_sub(tags_after(self.lists, self.change))
     }
 }
 
@@ -120,4 +109,25 @@ fn has_in(tag: &Tag, offers: &OfferLists) -> bool
     ensures { result ≡ list_any (has_extent_of tag.now) offers.now }
 {
     has_in_offers(tag, offers, offers.len())
+}
+
+/// Whether an extent of the offers has the tag, with one more behind them where fewer than 64 wait.
+fn has_behind(tag: &Tag, lists: &HostLists, extents: &[Extent]) -> bool
+    ensures { result ≡ list_any (has_extent_of tag.now) (with_offer extents.now lists.now.offers) }
+{
+    if lists.offers().len() < EXTENTS {
+        return has_extent_of(tag, extents) || lists.has_offered(tag);
+    }
+    lists.has_offered(tag)
+}
+
+/// How many extents the offers have together, with one more behind them where fewer than 64 wait.
+fn offered_behind(offers: &Offers, extents: &[Extent]) -> usize
+    requires few { count_in (with_offer extents.now (lists_of offers.now.offers)) ≤ 64 }
+    ensures { result ≡ count_in (with_offer extents.now (lists_of offers.now.offers)) }
+{
+    if offers.len() < EXTENTS {
+        return offers.extents() + extents.len();
+    }
+    offers.extents()
 }

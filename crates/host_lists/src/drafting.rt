@@ -3,7 +3,7 @@
 ghost use Rattle.dcd_base.specs.declared.capacity.Extent.{Extent};
 ghost use Rattle.extent_list.specs.ExtentLists.{cut_all};
 ghost use Rattle.host_lists.specs.Answers.{GivesUp, HostResponds, after_accepting, given_up, lists_without};
-ghost use Rattle.host_lists.specs.Changes.{accepted_with, changed_by, offers_with, responses_with};
+ghost use Rattle.host_lists.specs.Changes.{accepted_with, changed_by, offers_with, releases_with, responses_with, with_offer};
 ghost use Rattle.release_core.specs.Leaving.{AllCanLeave};
 ghost use Rattle.std.specs.Prelude.{◌≡◌, ◌++◌, ◌∷◌, ◌+◌, ◌^◌, ◌<◌, List, [], All, IfOk, OnOk, drop, false};
 
@@ -11,28 +11,25 @@ use crate::changes::{add_all, generation_after, next_generation};
 use crate::lists::HostLists;
 use crate::lists_change::{ListsChange, OffersChange, ReleasesChange};
 use crate::responded::Responded;
-use dcd_base::{Extent, Extents, NoMemory, RegionId};
+use dcd_base::limits::{EXTENTS, LISTED_EXTENTS};
+use dcd_base::{Extent, Extents, NoMemory};
 use extent_list::ExtentList;
 use offer_core::Offer;
 use release_core::GivenBack;
 use std::alloc::Global;
 
 impl HostLists {
-    /// Makes the change one by an offer of these extents of the region, behind all other offers.
+    /// Makes the change one by an offer of these extents, behind all other offers, of which none is copied where fewer than 64
+    /// wait.
     ///
-    /// An offer that it finds alone in the change gives its memory for the new one.
-    pub fn put_offering(
-        &self,
-        region: RegionId,
-        extents: &[Extent],
-        change: &mut ListsChange,
-    ) -> Result<(), NoMemory>
+    /// An offer that it finds in the change gives its memory for the new one.
+    pub fn put_offering(&self, extents: &[Extent], change: &mut ListsChange) -> Result<(), NoMemory>
         ensures { OnOk result (changed_by change.new self.now ≡ record self.now { offers = self.now.offers ++ extents.now ∷ [] }) }
     {
         change.accepted = None;
         change.releases = ReleasesChange::Nothing;
         change.generation = self.generation;
-        self.put_offer(region, extents, &mut change.offers)
+        self.put_offer(extents, &mut change.offers)
     }
 
     /// Makes the change one by a response that breaks no rule (CXL 3.1, 8.2.9.9.9.3), with this list of a message behind
@@ -105,35 +102,44 @@ impl HostLists {
     }
 
     /// The offers with one more behind them.
-    fn put_offer(
-        &self,
-        region: RegionId,
-        extents: &[Extent],
-        change: &mut OffersChange,
-    ) -> Result<(), NoMemory>
+    fn put_offer(&self, extents: &[Extent], change: &mut OffersChange) -> Result<(), NoMemory>
         ensures offers { OnOk result (offers_with change.new self.now.offers ≡ self.now.offers ++ extents.now ∷ []) }
         ensures held { OnOk result (responses_with change.new self.now.responses ≡ self.now.responses) }
     {
-        if self.offers.is_empty() {
-            return put_only(region, extents, self.offers.held().allocator(), change);
+        let alloc = self.offers.allocator();
+        if self.offers.len() < EXTENTS {
+            return put_behind(extents, alloc, change);
         }
-        let extents = Extents::from_slice(self.offers.held().allocator(), extents)?;
         let mut offers = self.offers.copy()?;
-        offers.push(Offer { region, extents })?;
+        let extents = Extents::from_slice(alloc, extents)?;
+        offers.push(Offer { extents })?;
         *change = OffersChange::Whole(offers);
         Ok(())
     }
 
-    /// The change where a list is held behind what responses with More hold.
+    /// The change where a list is held behind what responses with More hold, of which nothing is copied where they are 64
+    /// extents at most together.
     fn put_held_responses(&self, list: &[Extent], change: &mut ListsChange) -> Result<(), NoMemory>
         ensures { OnOk result (changed_by change.new self.now ≡ record self.now { responses = self.now.responses ++ list.now }) }
     {
-        let mut held = self.offers.held().copy()?;
-        held.extend_from_slice(list)?;
         change.accepted = None;
-        change.offers = OffersChange::Held(held);
         change.releases = ReleasesChange::Nothing;
         change.generation = self.generation;
+        self.put_more_responses(list, &mut change.offers)
+    }
+
+    /// The same of what changes of the offers.
+    fn put_more_responses(&self, list: &[Extent], change: &mut OffersChange) -> Result<(), NoMemory>
+        ensures offers { OnOk result (offers_with change.new self.now.offers ≡ self.now.offers) }
+        ensures held { OnOk result (responses_with change.new self.now.responses ≡ self.now.responses ++ list.now) }
+    {
+        if self.offers.held().len() + list.len() <= LISTED_EXTENTS {
+            *change = OffersChange::More(Extents::from_slice(self.offers.allocator(), list)?);
+            return Ok(());
+        }
+        let mut offers = self.offers.copy()?;
+        offers.hold(list)?;
+        *change = OffersChange::Whole(offers);
         Ok(())
     }
 
@@ -159,16 +165,33 @@ impl HostLists {
         Ok(())
     }
 
-    /// The change where a list is held behind what releases with More hold.
+    /// The change where a list is held behind what releases with More hold, of which nothing is copied where they are 64
+    /// extents at most together.
     fn put_held_releases(&self, list: &[Extent], change: &mut ListsChange) -> Result<(), NoMemory>
         ensures { OnOk result (changed_by change.new self.now ≡ record self.now { releases = self.now.releases ++ list.now }) }
     {
-        let mut releases = self.releases.copy()?;
-        releases.hold(list)?;
         change.accepted = None;
         change.offers = OffersChange::Nothing;
-        change.releases = ReleasesChange::Held(releases);
         change.generation = self.generation;
+        self.put_more_releases(list, &mut change.releases)
+    }
+
+    /// The same of what changes of the releases.
+    fn put_more_releases(
+        &self,
+        list: &[Extent],
+        change: &mut ReleasesChange,
+    ) -> Result<(), NoMemory>
+        ensures { OnOk result (releases_with change.new self.now.releases ≡ self.now.releases ++ list.now) }
+    {
+        if self.releases.held().len() + list.len() <= LISTED_EXTENTS {
+            let list = Extents::from_slice(self.releases.allocator(), list)?;
+            *change = ReleasesChange::More(list);
+            return Ok(());
+        }
+        let mut releases = self.releases.copy()?;
+        releases.hold(list)?;
+        *change = ReleasesChange::Whole(releases);
         Ok(())
     }
 
@@ -219,23 +242,17 @@ impl HostLists {
     }
 }
 
-/// The change where this is the only offer, in the memory of one that stands alone in it.
-fn put_only(
-    region: RegionId,
-    extents: &[Extent],
-    alloc: Global,
-    change: &mut OffersChange,
-) -> Result<(), NoMemory>
-    ensures offers { OnOk result ((had : List (List Extent)) → offers_with change.new had ≡ extents.now ∷ []) }
+/// The change where this offer is behind the others, of which fewer than 64 wait, in the memory of one that is in it.
+fn put_behind(extents: &[Extent], alloc: Global, change: &mut OffersChange) -> Result<(), NoMemory>
+    ensures offers { OnOk result ((had : List (List Extent)) → offers_with change.new had ≡ with_offer extents.now had) }
     ensures held { OnOk result ((had : List Extent) → responses_with change.new had ≡ had) }
 {
-    if let OffersChange::Only(offer) = change {
-        offer.region = region;
+    if let OffersChange::Behind(offer) = change {
         offer.extents.clear();
         offer.extents.extend_from_slice(extents)?;
         return Ok(());
     }
     let extents = Extents::from_slice(alloc, extents)?;
-    *change = OffersChange::Only(Offer { region, extents });
+    *change = OffersChange::Behind(Offer { extents });
     Ok(())
 }

@@ -14,7 +14,9 @@ mod offer_lists;
 mod offering;
 mod releasing;
 mod responded;
+mod tag_changes;
 mod tag_counts;
+mod tags_after;
 
 pub use changed::Changed;
 pub use lists::HostLists;

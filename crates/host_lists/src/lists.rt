@@ -6,12 +6,12 @@ ghost use Rattle.host_lists.specs.Lists.{extent_total, extents_of_lists, no_list
 ghost use Rattle.host_lists.specs.Tags.{capped, tag_count};
 ghost use Rattle.offer_core.specs.Offerings.{lists_of, oldest_of};
 ghost use Rattle.std.specs.List.{list_any};
-ghost use Rattle.std.specs.Prelude.{◌≡◌, ◌++◌, ◌+◌, ◌-◌, ◌^◌, ◌<◌, ◌≤◌, [], Some, length, slice_get};
+ghost use Rattle.std.specs.Prelude.{◌≡◌, ◌++◌, ◌+◌, ◌-◌, ◌^◌, ◌<◌, ◌≤◌, [], IfOk, Some, length, slice_get};
 
 use crate::offer_lists::OfferLists;
-use crate::tag_counts::{all_tags, has_in_offers, more_tags};
+use crate::tag_counts::{has_in_offers, more_tags};
 use dcd_base::limits::{EXTENTS, TAGS};
-use dcd_base::{Extent, Extents, Tag};
+use dcd_base::{Extent, NoMemory, Tag};
 use extent_list::{ExtentList, has_extent_of};
 use offer_core::Offers;
 use release_core::Releases;
@@ -25,11 +25,15 @@ pub struct HostLists {
     pub(crate) offers: Offers,
     pub(crate) releases: Releases,
     pub(crate) generation: u32,
+    /// How many tags the extents have that the host has accepted or is offered, up to the end of 32 bits.
+    pub(crate) tags: u32,
 }
 
 impl Model for HostLists {
     ghost use Rattle.host_lists.specs.Lists.{Lists};
+    ghost use Rattle.host_lists.specs.Tags.{capped, tag_count};
     ghost use Rattle.offer_core.specs.Offerings.{lists_of};
+    ghost use Rattle.std.specs.Prelude.{◌≡◌, ◌++◌, flat_map};
 
     ghost Value = { Lists };
 
@@ -40,19 +44,22 @@ impl Model for HostLists {
       releases = l.releases;
       generation = l.generation;
     } };
+
+    ghost invariant = { λ l. l.tags ≡ capped (tag_count (l.accepted.extents ++ flat_map (λ xs. xs) (lists_of l.offers.offers))) };
 }
 
 impl HostLists {
-    /// Nothing accepted, offered or held. It takes no memory.
-    pub fn new(alloc: Global) -> HostLists
-        ensures { result ≡ no_lists }
+    /// Nothing accepted, offered or held.
+    pub fn new(alloc: Global) -> Result<HostLists, NoMemory>
+        ensures { IfOk result (λ new. new ≡ no_lists) }
     {
-        HostLists {
+        Ok(HostLists {
             accepted: ExtentList::new(alloc),
-            offers: Offers::new(alloc),
-            releases: Releases::new(alloc),
+            offers: Offers::new(alloc)?,
+            releases: Releases::new(alloc)?,
             generation: 0,
-        }
+            tags: 0,
+        })
     }
 
     /// The extents that the host has accepted, in the order in which it did.
@@ -66,10 +73,7 @@ impl HostLists {
     pub fn oldest(&self) -> &[Extent]
         ensures { result.now ≡ oldest_of self.now.offers }
     {
-        if self.offers.is_empty() {
-            return &[];
-        }
-        self.offers.at(0).extents.as_slice()
+        self.offers.oldest()
     }
 
     /// How many extents all unanswered offers have together.
@@ -89,14 +93,14 @@ impl HostLists {
     }
 
     /// What responses with More hold so far.
-    pub fn responses(&self) -> &Extents
+    pub fn responses(&self) -> &[Extent]
         ensures { result.now ≡ self.now.responses }
     {
         self.offers.held()
     }
 
     /// What releases with More hold so far.
-    pub fn releases(&self) -> &Extents
+    pub fn releases(&self) -> &[Extent]
         ensures { result.now ≡ self.now.releases }
     {
         self.releases.held()
@@ -147,10 +151,10 @@ impl HostLists {
     }
 
     /// How many tags the extents have that the host has accepted or is offered, up to the end of 32 bits.
-    fn tags(&self) -> u32
+    pub(crate) fn tags(&self) -> u32
         ensures { result ≡ capped (tag_count (extents_of_lists self.now)) }
     {
-        all_tags(self.accepted.as_slice(), &OfferLists::all(&self.offers))
+        self.tags
     }
 
     /// How many more tags the host may get; none where it has more than it may.

@@ -1,15 +1,18 @@
 //! What a step changes of a host's lists.
 
-ghost use Rattle.host_lists.specs.Changes.{accepted_with, changed_by, offers_with, releases_with, responses_with};
+ghost use Rattle.host_lists.specs.Changes.{accepted_with, changed_by, offers_with, releases_with, responses_with, with_more, with_offer};
+ghost use Rattle.host_lists.specs.Lists.{Lists};
 ghost use Rattle.offer_core.specs.Offerings.{lists_of};
 ghost use Rattle.std.specs.Prelude.{◌≡◌, [], drop};
 
 use crate::lists::HostLists;
+use crate::tags_after::tags_after;
 use dcd_base::Extents;
+use dcd_base::limits::{EXTENTS, LISTED_EXTENTS};
 use extent_list::ExtentList;
 use offer_core::{Offer, Offers};
 use release_core::Releases;
-use std::mem::swap;
+use std::mem::{replace, swap};
 
 /// What a step changes of a host's lists. What it does not change is not in it.
 #[derive(Debug, Drop)]
@@ -29,10 +32,10 @@ pub struct ListsChange {
 pub enum OffersChange {
     /// Both stay.
     Nothing,
-    /// This offer is the only one. What is held stays.
-    Only(Offer),
-    /// The offers stay. This is held.
-    Held(Extents),
+    /// This offer is behind the others where fewer than 64 wait, and else they stay. What is held stays.
+    Behind(Offer),
+    /// The offers stay. These extents are behind what is held where they are 64 at most together, and else it stays.
+    More(Extents),
     /// The oldest offer goes, where there is one, and nothing is held.
     Next,
     /// These are the offers, and what is held.
@@ -46,13 +49,17 @@ pub enum ReleasesChange {
     Nothing,
     /// Nothing is held.
     Gone,
+    /// These extents are behind what is held where they are 64 at most together, and else it stays.
+    More(Extents),
     /// This is held.
-    Held(Releases),
+    Whole(Releases),
 }
 
 impl ListsChange {
     /// A change of nothing, in place of lists that have not changed yet. It takes no memory.
-    pub fn nothing() -> ListsChange {
+    pub fn nothing() -> ListsChange
+        ensures { (l : Lists) → changed_by result l ≡ record l { generation = 0 } }
+    {
         ListsChange {
             accepted: None,
             offers: OffersChange::Nothing,
@@ -79,6 +86,7 @@ impl HostLists {
     pub fn change(&mut self, change: &mut ListsChange)
         ensures { self.new ≡ changed_by change.old self.old }
     {
+        self.tags = tags_after(self, change);
         put_accepted(&mut self.accepted, &mut change.accepted);
         put_offers(&mut self.offers, &mut change.offers);
         put_releases(&mut self.releases, &mut change.releases);
@@ -102,10 +110,30 @@ fn put_offers(offers: &mut Offers, change: &mut OffersChange)
 {
     match change {
         OffersChange::Nothing => (),
-        OffersChange::Only(offer) => offers.swap_alone(offer),
-        OffersChange::Held(held) => offers.swap_held(held),
+        OffersChange::Behind(offer) => put_behind(offers, offer),
+        OffersChange::More(list) => put_more(offers, list),
         OffersChange::Next => put_next(offers, change),
         OffersChange::Whole(new) => swap(offers, new),
+    }
+}
+
+/// Puts the offer behind the others, where fewer than 64 wait.
+fn put_behind(offers: &mut Offers, offer: &mut Offer)
+    ensures offers { lists_of offers.new.offers ≡ with_offer offer.old.extents (lists_of offers.old.offers) }
+    ensures held { offers.new.held ≡ offers.old.held }
+{
+    if offers.len() < EXTENTS {
+        let alloc = offers.allocator();
+        offers.push_within(replace(offer, Offer::nothing(alloc)));
+    }
+}
+
+/// Puts these extents behind what is held, where they are 64 at most together.
+fn put_more(offers: &mut Offers, list: &Extents)
+    ensures { offers.new ≡ record offers.old { held = with_more list.now offers.old.held } }
+{
+    if list.len() <= LISTED_EXTENTS && offers.held().len() <= LISTED_EXTENTS - list.len() {
+        offers.hold_within(list.as_slice());
     }
 }
 
@@ -116,7 +144,7 @@ fn put_next(offers: &mut Offers, change: &mut OffersChange)
 {
     offers.drop_held();
     if let Some(oldest) = offers.pop() {
-        *change = OffersChange::Only(oldest);
+        *change = OffersChange::Behind(oldest);
     }
 }
 
@@ -127,6 +155,16 @@ fn put_releases(releases: &mut Releases, change: &mut ReleasesChange)
     match change {
         ReleasesChange::Nothing => (),
         ReleasesChange::Gone => releases.drop_held(),
-        ReleasesChange::Held(new) => swap(releases, new),
+        ReleasesChange::More(list) => put_more_releases(releases, list),
+        ReleasesChange::Whole(new) => swap(releases, new),
+    }
+}
+
+/// Puts these extents behind what releases hold, where they are 64 at most together.
+fn put_more_releases(releases: &mut Releases, list: &Extents)
+    ensures { releases.new ≡ with_more list.now releases.old }
+{
+    if list.len() <= LISTED_EXTENTS && releases.held().len() <= LISTED_EXTENTS - list.len() {
+        releases.hold_within(list.as_slice());
     }
 }

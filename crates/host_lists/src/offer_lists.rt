@@ -1,8 +1,7 @@
 //! The extents of each offer, of all offers or of those behind the oldest.
 
-ghost use Rattle.extent_list.specs.ExtentLists.{count_in};
 ghost use Rattle.offer_core.specs.Offerings.{lists_of};
-ghost use Rattle.std.specs.Prelude.{◌≡◌, ◌^◌, ◌<◌, Some, drop, length, slice_get};
+ghost use Rattle.std.specs.Prelude.{◌≡◌, ◌<◌, Some, drop, length, slice_get};
 
 use dcd_base::Extent;
 use offer_core::Offers;
@@ -55,17 +54,5 @@ impl<'a> OfferLists<'a> {
         // The number of offers is below 2^64.
         let _count = self.offers.len();
         self.offers.at(self.first + index).extents.as_slice()
-    }
-
-    /// How many extents they are together; below 2^64.
-    pub(crate) fn extents(&self) -> usize
-        requires { count_in self.now < 2 ^ 64 }
-        ensures { result ≡ count_in self.now }
-    {
-        let mut extents = 0;
-        for i in 0..self.len() {
-            extents += self.at(i).len();
-        }
-        extents
     }
 }

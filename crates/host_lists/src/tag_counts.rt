@@ -8,7 +8,6 @@ ghost use Rattle.std.specs.Prelude.{◌≡◌, ◌++◌, ◌≤◌, List, flat_m
 use crate::offer_lists::OfferLists;
 use dcd_base::{Extent, Tag, no_tag};
 use extent_list::{has_extent_of, has_no_tags, same_tag};
-use offer_core::Offers;
 
 /// Whether an extent of the first `count` offers has the tag.
 pub(crate) fn has_in_offers(tag: &Tag, offers: &OfferLists, count: usize) -> bool
@@ -39,7 +38,7 @@ fn is_among(
 }
 
 /// Whether the last of the extents has the tag.
-fn is_tag_of_last(tag: &Tag, before: &[Extent]) -> bool
+pub(crate) fn is_tag_of_last(tag: &Tag, before: &[Extent]) -> bool
     ensures { result ≡ true → has_extent_of tag.now before.now ≡ true }
 {
     match before.last() {
@@ -130,16 +129,4 @@ fn list_tags(extents: &[Extent], offers: &OfferLists) -> u32
         return 0;
     }
     more_tags(0, &[], offers, 0, extents)
-}
-
-/// How many tags these extents and those have, up to the end of 32 bits. No offer is looked at.
-pub(crate) fn tags_of_two(accepted: &[Extent], offers: &Offers, more: &[Extent]) -> u32
-    ensures { result ≡ capped (tag_count (accepted.now ++ more.now)) }
-{
-    let offers = OfferLists::all(offers);
-    let tags = list_tags(accepted, &offers);
-    if more.is_empty() {
-        return tags;
-    }
-    more_tags(tags, accepted, &offers, 0, more)
 }

@@ -49,7 +49,7 @@ impl Alone {
     {
         Ok(Alone {
             present: config.copy()?,
-            lists: HostLists::new(alloc),
+            lists: HostLists::new(alloc)?,
             log: EventLog::new(alloc, HOST_RECORDS)?,
             words: BTreeMap::new(alloc),
         })

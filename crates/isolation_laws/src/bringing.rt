@@ -34,8 +34,7 @@ impl Alone {
         if extents.len() > EXTENTS - total {
             return Err(Stop::Unlawful);
         }
-        // The region of an offer is read from its extents.
-        self.lists.offer(RegionId(0), extents.copy()?)?;
+        self.lists.offer(extents.copy()?)?;
         self.tell(alloc, host, EventKind::Add, extents)
     }
 

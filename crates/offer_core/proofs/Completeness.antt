@@ -147,14 +147,14 @@ all_of_each : (xs : List Extent) (before tags : List Tag) → first_by (λ seen 
 all_of_each xs before [] = refl
 all_of_each xs before (t ∷ tags) = rw (le-ltb (count_of_tag t xs) (count_of_tag t xs) (omega arith)) (all_of_each xs (before ++ t ∷ []) tags)
 
-incomplete-none : (c : Configuration) (h : HostId) (s : IsSound c) (host : h < c.hosts) (offer : Offer) (list : List Extent) →
-    AreSome (IsOwner c h offer.region offer.extents) list offer.extents → ((region_spec c offer.region).shareable ≡ true → (list ≡ []) ⊎ (length list ≡ length offer.extents)) →
+incomplete-none : (c : Configuration) (h : HostId) (s : IsSound c) (host : h < c.hosts) (r : ℕ) (offer : Offer) (list : List Extent) →
+    AreSome (IsOwner c h r offer.extents) list offer.extents → ((region_spec c r).shareable ≡ true → (list ≡ []) ⊎ (length list ≡ length offer.extents)) →
     incomplete c h offer.extents list ≡ None
-incomplete-none c h s host offer list some whole = elim (cases_Bool (region_spec c offer.region).shareable) [
-  | inr private ↦ ap (some_left offer.extents) (shared-none c h offer.region s host offer.extents private some)
+incomplete-none c h s host r offer list some whole = elim (cases_Bool (region_spec c r).shareable) [
+  | inr private ↦ ap (some_left offer.extents) (shared-none c h r s host offer.extents private some)
   | inl shared ↦ elim (whole shared) [
     | inl nothing ↦ ap (incomplete c h offer.extents) nothing
-    | inr many ↦ ap (some_left offer.extents) (shared-all c h offer.region s host offer.extents shared some ∙ marked_all c h offer.region offer.extents some many) ∙ all_of_each offer.extents [] (tags_of offer.extents)
+    | inr many ↦ ap (some_left offer.extents) (shared-all c h r s host offer.extents shared some ∙ marked_all c h r offer.extents some many) ∙ all_of_each offer.extents [] (tags_of offer.extents)
   ]
 ]
 
@@ -168,10 +168,10 @@ in_order_breaks_nothing c h accepted old more list s host few i =
     let later : List (List Extent) = lists_of i.later in
     let offered : lists_of old.offers ≡ offer ∷ later = ap lists_of i.oldest in
     let all : count_in (lists_of old.offers) ≡ length offer + count_in later = ap count_in offered ∙ count_in-cons offer later in
-    let owners = owned c h i.offer.region i.some i.sound.each i.sound.apart in
+    let owners = owned c h i.region i.some i.sound.each i.sound.apart in
     let fewer = AreSome-few i.some in
     let listed : nat_lt 64 (length list) ≡ false = le-ltb 64 (length list) (omega (arith, few, all, fewer)) in
     let together : nat_lt 64 (accepted + length list + count_in later) ≡ false = le-ltb 64 (accepted + length list + count_in later) (omega (arith, few, all, fewer)) in
-    let each = each_none c h i.offer.region s host offer [] owners (clear-none list) (some_apart i.some i.sound.apart) in
-    let tags = incomplete-none c h s host i.offer list owners i.shared in
+    let each = each_none c h i.region s host offer [] owners (clear-none list) (some_apart i.some i.sound.apart) in
+    let tags = incomplete-none c h s host i.region i.offer list owners i.shared in
     rw (offered, i.alone, i.last, listed, each, tags, together) refl

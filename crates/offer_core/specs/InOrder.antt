@@ -26,19 +26,20 @@ pub record IsSoundIn (c : Configuration) (h : HostId) (r : ℕ) (x : Extent) : T
   pub within : IsTrue (lies_in_region c h r x)
   pub aligned : IsTrue (is_aligned c h r x)
 
--- An offer of sound extents that share no address.
-pub record IsSoundOffer (c : Configuration) (h : HostId) (offer : Offer) : Type 0 where
-  pub each : All (IsSoundIn c h offer.region) offer.extents
+-- An offer of sound extents of the region that share no address.
+pub record IsSoundOffer (c : Configuration) (h : HostId) (r : ℕ) (offer : Offer) : Type 0 where
+  pub each : All (IsSoundIn c h r) offer.extents
   pub apart : AllPairs (λ x y. IsFalse (overlaps x y)) offer.extents
 
--- The response is one message and lists extents of the oldest offer whole, in order and each at most once; where
--- the region is shareable, all of them or none.
+-- The response is one message and lists extents of the oldest offer, which are of one region, whole, in order and each at
+-- most once; where the region is shareable, all of them or none.
 pub record IsInOrder (c : Configuration) (h : HostId) (old : Offering) (more : Bool) (list : List Extent) : Type 0 where
   pub offer : Offer
   pub later : List Offer
+  pub region : ℕ
   pub oldest : old.offers ≡ offer ∷ later
-  pub sound : IsSoundOffer c h offer
+  pub sound : IsSoundOffer c h region offer
   pub alone : old.held ≡ []
   pub last : more ≡ false
   pub some : AreSome SameAddresses list offer.extents
-  pub shared : IsTrue (region_spec c offer.region).shareable → (list ≡ []) ⊎ (length list ≡ length offer.extents)
+  pub shared : IsTrue (region_spec c region).shareable → (list ≡ []) ⊎ (length list ≡ length offer.extents)

@@ -1,14 +1,12 @@
 -- What a host is offered, and what it has answered so far.
-use Rattle.std.specs.Prelude.{ℕ, List, [], ◌∷◌, map}
+use Rattle.std.specs.Prelude.{List, [], ◌∷◌, map}
 use Rattle.dcd_base.specs.declared.capacity.Extent.{Extent}
 use Rattle.offer_core.specs.declared.offer.Offer.{Offer}
 
--- The unanswered offers, the oldest first; the extents of the responses so far that have More set; and how many
--- more offers there is memory for.
+-- The unanswered offers, the oldest first, and the extents of the responses so far that have More set.
 pub record Offering : Type 0 where
   pub offers : List Offer
   pub held : List Extent
-  pub spare : ℕ
 
 -- the extents of each offer
 abbrev pub lists_of : List Offer → List (List Extent)

@@ -1,23 +1,23 @@
 //! An offer.
 
-ghost use Rattle.std.specs.Prelude.{◌≡◌, IfOk};
+ghost use Rattle.std.specs.Prelude.{◌≡◌, [], IfOk};
 
-use dcd_base::{Extents, NoMemory, RegionId};
+use dcd_base::{Extents, NoMemory};
 use std::alloc::Global;
 
-/// Extents of one region that a host may accept, in the order in which they were chosen.
+/// Extents of one region that a host may accept, in the order in which they were chosen. Their region is read from their
+/// addresses.
 #[derive(Debug, Drop)]
 pub struct Offer {
-    /// The region of the extents. It is there for callers; the device tells it from the addresses.
-    pub region: RegionId,
     pub extents: Extents,
 }
 
 impl Offer {
     /// An offer of no extents. It takes no memory.
-    pub(crate) fn nothing(alloc: Global) -> Offer {
+    pub fn nothing(alloc: Global) -> Offer
+        ensures { result.extents ≡ [] }
+    {
         Offer {
-            region: RegionId(0),
             extents: Extents::new(alloc),
         }
     }
@@ -27,7 +27,6 @@ impl Offer {
         ensures { IfOk result (λ copy. copy ≡ self.now) }
     {
         Ok(Offer {
-            region: self.region,
             extents: self.extents.copy()?,
         })
     }

@@ -40,7 +40,6 @@ impl Offers {
         ensures left { Leaves self.old self.new result }
         ensures complete { NeverBroken result (IsInOrder config.now host self.old more list.now) }
         ensures fewer { count_in (lists_of self.new.offers) ≤ count_in (lists_of self.old.offers) }
-        ensures spare { self.old.spare ≤ self.new.spare }
     {
         // That regions lie apart, which a configuration says of itself where it is read, is what `complete` rests on.
         let _regions = config.regions();
@@ -63,27 +62,17 @@ impl Offers {
         ensures done { IfOk result (λ answered. Responds self.old more list.now self.new answered) }
         ensures kept { OnErr result (self.new ≡ self.old) }
         ensures fewer { count_in (lists_of self.new.offers) ≤ count_in (lists_of self.old.offers) }
-        ensures spare { self.old.spare ≤ self.new.spare }
     {
         if more {
-            self.held.extend_from_slice(list.as_slice())?;
+            self.hold(list.as_slice())?;
             return Ok(Answered::Held);
         }
         let accepted = self.accepted_of(list)?;
-        self.held.clear();
+        self.drop_held();
         match self.pop() {
             Some(offer) => Ok(Answered::Done { offer, accepted }),
             None => Ok(Answered::Nothing),
         }
-    }
-
-    /// Holds the list of a message behind the held one. Without memory nothing changes.
-    pub fn hold(&mut self, list: &[Extent]) -> Result<(), NoMemory>
-        ensures held { OnOk result (self.new ≡ record self.old { held = self.old.held ++ list.now }) }
-        ensures kept { OnErr result (self.new ≡ self.old) }
-    {
-        self.held.extend_from_slice(list)?;
-        Ok(())
     }
 
     /// What a response accepts of the oldest offer with this list of a message behind the held one: each extent with the
@@ -91,8 +80,12 @@ impl Offers {
     pub fn accepted_of(&self, list: &Extents) -> Result<Extents, NoMemory>
         ensures { IfOk result (λ accepted. accepted ≡ map (marked (oldest_of (lists_of self.now.offers))) (self.now.held ++ list.now)) }
     {
-        let (alloc, held) = (self.held.allocator(), self.held.as_slice());
-        marked_all(alloc, self.oldest(), held, list.as_slice())
+        marked_all(
+            self.allocator(),
+            self.oldest(),
+            self.held(),
+            list.as_slice(),
+        )
     }
 }
 

@@ -10,7 +10,7 @@ ghost use Rattle.std.specs.Prelude.{◌≡◌, ◌+◌, ◌^◌, ◌<◌, ◌≤
 
 use crate::offers::Offers;
 use dcd_base::limits::LISTED_EXTENTS;
-use dcd_base::{Extent, HostId, NoMemory};
+use dcd_base::{Extent, Extents, HostId, NoMemory};
 use dcd_codes::Rule;
 use list_rules::{
     Owners, are_apart, fit_front, incomplete_among, misplaced, region_at, too_many_extents, unfit,
@@ -35,7 +35,7 @@ pub fn broken_rule(
     ensures { IfOk result (λ found. found
         ≡ respond_rule config.now host accepted (lists_of offers.now.offers) offers.now.held more list.now) }
 {
-    let listed = offers.held().as_slice().len() + list.len();
+    let listed = offers.held().len() + list.len();
     if listed > LISTED_EXTENTS {
         return Ok(Some(Rule::TooManyListed(listed as u64)));
     }
@@ -45,7 +45,8 @@ pub fn broken_rule(
     if offers.held().is_empty() {
         return broken_list_rule(config, host, accepted, offers, list);
     }
-    let mut whole = offers.held().copy()?;
+    let mut whole = Extents::with_capacity(offers.allocator(), listed)?;
+    whole.extend_from_slice(offers.held())?;
     whole.extend_from_slice(list)?;
     broken_list_rule(config, host, accepted, offers, whole.as_slice())
 }
@@ -70,7 +71,7 @@ fn broken_list_rule(
     if let Some(rule) = broken_answered(config, host, &owners, whole) {
         return Ok(Some(rule));
     }
-    match incomplete_among(offers.held().allocator(), config, host, &owners, whole)? {
+    match incomplete_among(offers.allocator(), config, host, &owners, whole)? {
         Some(rule) => Ok(Some(rule)),
         None => Ok(too_many_extents(accepted + whole.len() + later_extents(offers))),
     }

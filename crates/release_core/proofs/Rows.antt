@@ -1,6 +1,7 @@
 -- Rows of which the first rules are not broken.
-use Rattle.std.proofs.Common.{◌≡◌, ℕ, Bool, false, List, length, Some, None, get_or, refl, subst, take, arith}
+use Rattle.std.proofs.Common.{◌≡◌, ◌≤◌, ℕ, Bool, false, List, length, Some, None, get_or, refl, subst, take, arith}
 use Rattle.std.specs.Prelude.{nat_le}
+use Rattle.std.proofs.lemmas.Bool.{le-ltb}
 use Rattle.std.proofs.lemmas.List.{take_all}
 use Rattle.dcd_base.specs.declared.capacity.Extent.{Extent}
 use Rattle.dcd_base.specs.declared.ids.HostId.{HostId}
@@ -16,6 +17,10 @@ use Rattle.release_core.specs.declared.leaving.Within.{Within}
 use Rattle.release_core.specs.Leaving.{count_after, leaving_rule}
 use Rattle.release_core.specs.Releases.{give_back_rule}
 use Rattle.release_core.specs.Removals.{prescribed_removal_rule}
+
+-- a list that is not too long
+pub few_listed : (list : List Extent) → length list ≤ 64 → too_many_listed list ≡ None
+few_listed list few = rw (le-ltb 64 (length list) few) refl
 
 module _ (c : Configuration) (h : HostId) (accepted : List Extent) (offered : ℕ) (list : List Extent) (few : too_many_listed list ≡ None) where
   -- the first rule of a release is that of an extent

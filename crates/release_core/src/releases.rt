@@ -2,15 +2,16 @@
 
 ghost use Rattle.extent_list.specs.ExtentLists.{marked};
 ghost use Rattle.release_core.specs.Releases.{AnswersRelease, GivesBack, KeepsHeld, give_back_rule};
-ghost use Rattle.std.specs.Prelude.{◌≡◌, ◌++◌, ◌+◌, ◌<◌, ◌≤◌, [], IfOk, OnErr, OnOk, length, map};
+ghost use Rattle.std.specs.Prelude.{◌≡◌, ◌++◌, ◌+◌, ◌<◌, ◌≤◌, [], IfOk, OnErr, OnOk, false, length, map};
 
 use crate::counting::count_rule;
 use crate::leaving::broken_leaving;
 use crate::marking::marked_lists;
+use dcd_base::limits::LISTED_EXTENTS;
 use dcd_base::{Extent, Extents, HostId, NoMemory};
 use dcd_codes::{Refusal, Rule};
 use extent_list::ExtentList;
-use list_rules::{Owners, incomplete_among, too_many_listed};
+use list_rules::{Owners, incomplete_among};
 use region_config::Config;
 use std::alloc::Global;
 use std::marker::Model;
@@ -27,60 +28,84 @@ pub enum GivenBack {
 }
 
 /// The extents that one host has listed in Release Dynamic Capacity commands with the More flag.
+///
+/// It has its memory for 64 extents, which are as many as can be listed, from the start. Contracts see them.
 #[derive(Debug, Drop)]
 pub struct Releases {
-    listed: Extents,
+    alloc: Global,
+    listed: Vec<Extent>,
 }
 
 impl Model for Releases {
-    ghost use Rattle.std.specs.Prelude.{List};
+    ghost use Rattle.std.specs.Prelude.{◌≤◌, List, vec_capacity};
     ghost use Rattle.dcd_base.specs.declared.capacity.Extent.{Extent};
 
     ghost Value = { List Extent };
 
-    ghost view = { λ releases. releases.listed };
+    ghost view = { λ releases. releases.listed.items };
+
+    ghost invariant = { λ releases. 64 ≤ vec_capacity releases.listed };
 }
 
 impl Releases {
-    /// Nothing is held. It takes no memory.
-    pub fn new(alloc: Global) -> Releases
-        ensures { result ≡ [] }
+    /// Nothing is held.
+    pub fn new(alloc: Global) -> Result<Releases, NoMemory>
+        ensures { IfOk result (λ new. new ≡ []) }
     {
-        Releases {
-            listed: Extents::new(alloc),
-        }
+        Ok(Releases {
+            alloc,
+            listed: Vec::with_capacity(alloc, LISTED_EXTENTS)?,
+        })
     }
 
     /// The same list for itself.
     pub fn copy(&self) -> Result<Releases, NoMemory>
         ensures { IfOk result (λ copy. copy ≡ self.now) }
     {
-        Ok(Releases {
-            listed: self.listed.copy()?,
-        })
+        let mut copy = Releases::new(self.alloc)?;
+        copy.hold(self.listed.as_slice())?;
+        Ok(copy)
+    }
+
+    /// The allocator that it grows by.
+    pub fn allocator(&self) -> Global {
+        self.alloc
     }
 
     /// The extents held so far, in the order in which they were listed.
-    pub fn held(&self) -> &Extents
+    pub fn held(&self) -> &[Extent]
         ensures { result.now ≡ self.now }
     {
-        &self.listed
+        self.listed.as_slice()
     }
 
-    /// Holds nothing any more, as after a command whose payload can not be read.
+    /// Holds nothing any more, as after a command whose payload can not be read. The memory stays.
     pub fn drop_held(&mut self)
         ensures { self.new ≡ [] }
     {
         self.listed.clear();
     }
 
-    /// Holds the list of a message behind the held one. Without memory the held list stays.
+    /// Holds the list of a message behind the held one. Without memory, which is asked for only where more than 64 would be
+    /// held, the held list stays.
     pub fn hold(&mut self, list: &[Extent]) -> Result<(), NoMemory>
         ensures held { OnOk result (self.new ≡ self.old ++ list.now) }
         ensures kept { OnErr result (self.new ≡ self.old) }
+        ensures full { OnErr result (64 < length self.old + length list.now) }
     {
         self.listed.extend_from_slice(list)?;
         Ok(())
+    }
+
+    /// Holds the list of a message behind the held one, where they are 64 at most together. It takes no memory.
+    pub fn hold_within(&mut self, list: &[Extent])
+        requires { length self.old + length list.now ≤ 64 }
+        ensures { self.new ≡ self.old ++ list.now }
+    {
+        match self.listed.extend_from_slice(list) {
+            Ok(()) => (),
+            Err(_) => unreachable!(),
+        }
     }
 
     /// What a release gives back with this list of a message behind the held one: each extent with the tag and the
@@ -88,8 +113,12 @@ impl Releases {
     pub fn leaving_of(&self, accepted: &[Extent], list: &Extents) -> Result<Extents, NoMemory>
         ensures { IfOk result (λ leaving. leaving ≡ map (marked accepted.now) (self.now ++ list.now)) }
     {
-        let (alloc, held) = (self.listed.allocator(), self.listed.as_slice());
-        marked_lists(alloc, accepted, held, list.as_slice())
+        marked_lists(
+            self.alloc,
+            accepted,
+            self.listed.as_slice(),
+            list.as_slice(),
+        )
     }
 
     /// Reads a Release Dynamic Capacity of the host (4803h, CXL 3.1, 8.2.9.9.9.4): its list of extents and its More
@@ -123,7 +152,7 @@ impl Releases {
         ensures answer { AnswersRelease config.now host accepted.now.extents offered (self.old ++ list.now) more self.new result }
         ensures refused { KeepsHeld self.old self.new result }
     {
-        match broken_rule(config, host, accepted, offered, &self.listed, list, more)? {
+        match broken_rule(config, host, accepted, offered, self.held(), list, more)? {
             Some(rule) => {
                 self.drop_held();
                 Err(Refusal::Broken(rule))
@@ -167,7 +196,7 @@ pub fn broken_rule(
     host: HostId,
     accepted: &ExtentList,
     offered: usize,
-    held: &Extents,
+    held: &[Extent],
     list: &Extents,
     more: bool,
 ) -> Result<Option<Rule>, NoMemory>
@@ -175,31 +204,22 @@ pub fn broken_rule(
     requires few { length accepted.now.extents + offered ≤ 64 }
     ensures { IfOk result (λ found. found ≡ give_back_rule config.now host accepted.now.extents offered (held.now ++ list.now) more) }
 {
-    let alloc = held.allocator();
-    if held.is_empty() {
-        return broken_list_rule(
-            alloc,
-            config,
-            host,
-            accepted,
-            offered,
-            list.as_slice(),
-            more,
-        );
+    let (alloc, list) = (list.allocator(), list.as_slice());
+    let listed = held.len() + list.len();
+    if listed > LISTED_EXTENTS {
+        return Ok(Some(Rule::TooManyListed(listed as u64)));
     }
-    let whole = followed_by(held, list.as_slice())?;
-    broken_list_rule(
-        alloc,
-        config,
-        host,
-        accepted,
-        offered,
-        whole.as_slice(),
-        more,
-    )
+    if more {
+        return Ok(None);
+    }
+    if held.is_empty() {
+        return broken_list_rule(alloc, config, host, accepted, offered, list);
+    }
+    let whole = followed_by(alloc, held, list)?;
+    broken_list_rule(alloc, config, host, accepted, offered, whole.as_slice())
 }
 
-/// The first rule of its row that a release of this whole list breaks.
+/// The first rule that a whole list breaks, to which no more is to come.
 fn broken_list_rule(
     alloc: Global,
     config: &Config,
@@ -207,18 +227,12 @@ fn broken_list_rule(
     accepted: &ExtentList,
     offered: usize,
     whole: &[Extent],
-    more: bool,
 ) -> Result<Option<Rule>, NoMemory>
     requires host { host < config.now.hosts }
     requires few { length accepted.now.extents + offered ≤ 64 }
-    ensures { IfOk result (λ found. found ≡ give_back_rule config.now host accepted.now.extents offered whole.now more) }
+    requires listed { length whole.now ≤ 64 }
+    ensures { IfOk result (λ found. found ≡ give_back_rule config.now host accepted.now.extents offered whole.now false) }
 {
-    if let Some(rule) = too_many_listed(whole) {
-        return Ok(Some(rule));
-    }
-    if more {
-        return Ok(None);
-    }
     // That extents in regions end at an address, which a configuration says of itself where it is read.
     let _regions = config.regions();
     let owners = Owners::of(accepted.as_slice());
@@ -232,10 +246,11 @@ fn broken_list_rule(
 }
 
 /// The held list and then the message's.
-fn followed_by(held: &Extents, list: &[Extent]) -> Result<Extents, NoMemory>
+fn followed_by(alloc: Global, held: &[Extent], list: &[Extent]) -> Result<Extents, NoMemory>
     ensures { IfOk result (λ whole. whole ≡ held.now ++ list.now) }
 {
-    let mut whole = held.copy()?;
+    let mut whole = Extents::with_capacity(alloc, held.len() + list.len())?;
+    whole.extend_from_slice(held)?;
     whole.extend_from_slice(list)?;
     Ok(whole)
 }

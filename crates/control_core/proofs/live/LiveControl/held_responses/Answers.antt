@@ -10,5 +10,5 @@ use Rattle.control_core.proofs.live.LiveControl.held_responses.Goals as goal
 pub returns : goal.returns
 returns c =
     let host = subst (λ (d : LiveControlled). c.args.host < d.config.hosts) (sym c.self.view_is) c.requires in
-    subst (λ (d : LiveControlled). ByEveryPast d (λ past. c.as_slice.result.now ≡ held_of c.args.host HeldKind.Responses (effects past))) c.self.view_is
-    (λ past leads. c.as_slice.ensures ∙ c.responses.ensures ∙ ap (λ (part : HostPart). part.lists.responses) c.part.ensures ∙ responses_told c.self.inside.config past c.self.inside.state leads.kept c.args.host host)
+    subst (λ (d : LiveControlled). ByEveryPast d (λ past. c.responses.result.now ≡ held_of c.args.host HeldKind.Responses (effects past))) c.self.view_is
+    (λ past leads. c.responses.ensures ∙ ap (λ (part : HostPart). part.lists.responses) c.part.ensures ∙ responses_told c.self.inside.config past c.self.inside.state leads.kept c.args.host host)

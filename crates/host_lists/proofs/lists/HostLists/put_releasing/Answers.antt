@@ -1,4 +1,4 @@
-use Rattle.std.proofs.Common.{All, ◌≡◌, ◌+◌, ◌++◌, ◌<◌, ◌^◌, map, sym, subst, ap, ◌∙◌}
+use Rattle.std.proofs.Common.{All, ◌≡◌, ◌+◌, ◌++◌, ◌<◌, ◌^◌, map, sym, subst, ◌∙◌}
 use Rattle.dcd_base.specs.declared.capacity.Extent.{Extent}
 use Rattle.extent_list.specs.ExtentLists.{marked}
 use Rattle.release_core.specs.Leaving.{AllCanLeave}
