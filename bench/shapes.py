@@ -450,6 +450,47 @@ def in_messages(count):
     return device([(GRANULES, 1)]), lines
 
 
+# Tags that come and go
+
+
+def many_tags(count):
+    """Host 0 holds 60 granules by 30 tags, two to a tag. It is offered one by one more tag, takes it and gives it back; every 16th round all is zeroed."""
+    lines = Lines()
+    for number in range(30):
+        extents = blocks(8 * number, 2, 4)
+        lines.told(0, offer(0, PRESCRIPTIVE, 0, tag=tag_of(2 * number + 1), extents=extents), 2)
+        lines.host(0, respond(extents))
+    lines.clear(0)
+    rounds = 0
+    while len(lines) < count:
+        # 31 tags in turn, which stand between, before and behind those that are held.
+        extents = blocks(512 + 2 * (rounds % 16), 1)
+        lines.told(0, offer(0, PRESCRIPTIVE, 0, tag=tag_of(2 * (rounds % 31)), extents=extents), 1)
+        lines.host(0, respond(extents))
+        lines.host(0, give_back(extents))
+        rounds += 1
+        if rounds % 16 == 0:
+            lines.append(scrub(GRANULES))
+            lines.clear(0)
+    return device([(GRANULES, 1)]), lines
+
+
+def tags_by_turns(count):
+    """Each host in turn holds 62 granules by 31 tags, the two of a tag far apart, which come one by one, and gives every second back, and then the rest, at once."""
+    lines = Lines()
+    for n in range(count // 128):
+        host = n % HOSTS
+        extents = blocks(128 * host, 62, 2)
+        for number, extent in enumerate(extents):
+            lines.told(host, offer(host, PRESCRIPTIVE, 0, tag=tag_of(number % 31), extents=[extent]), 1)
+            lines.host(host, respond([extent]))
+        lines.clear(host)
+        lines.host(host, give_back(extents[::2]))
+        lines.host(host, give_back(extents[1::2]))
+        lines.append(scrub(GRANULES))
+    return device([(GRANULES, 1)]), lines
+
+
 # Commands that read lists and logs
 
 
@@ -570,6 +611,9 @@ KINDS = [
         ("32 offers wait, each is taken", waiting),
         ("32 offers wait, each is declined", waiting_declined),
         ("64 extents in eight messages", in_messages)]),
+    ("tags", "about 12,000 lines of a host that has many tags", 12000, [
+        ("one more comes and goes beside 30", many_tags),
+        ("62 of 31 tags come, and go at once", tags_by_turns)]),
     ("small", "48,003 lines that come to little", 48003, [
         ("one of the last two, declined", declined),
         ("scrubs with nothing dirty", nothing_to_zero)]),
