@@ -14,8 +14,8 @@ use std::marker::Model;
 
 /// The unanswered offers of one host, the oldest first, and the list that it holds.
 ///
-/// It has its memory for 64 offers and for 64 held extents from the start: more than a host has of either by the rules of the
-/// device. Contracts see the offers and the held list.
+/// It has its memory for 64 offers and for 64 held extents from the start: as many of either as a host can have by the rules of
+/// the device. Contracts see the offers and the held list.
 #[derive(Debug, Drop)]
 pub struct Offers {
     alloc: Global,
