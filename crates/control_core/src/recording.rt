@@ -68,7 +68,7 @@ fn put_records(
 {
     let alloc = effects.allocator();
     let mut items = replace(effects, Effects::new(alloc)).into_vec();
-    items.reserve(events.len())?;
+    make_room(&mut items, events.len())?;
     let fit = events.len().min(log.room() as usize);
     let (logged, missed) = events.split_at(fit);
     put_logged(&mut items, id, log.next_handle(), logged);
@@ -76,6 +76,28 @@ fn put_records(
     // What stood there meanwhile has no memory that could be let go.
     let _ = ManuallyDrop::new(replace(effects, Effects::from_vec(alloc, items)));
     Ok(())
+}
+
+/// Makes room for so many more effects.
+#[inline(always)]
+fn make_room(items: &mut Vec<Effect>, more: usize) -> Result<(), NoMemory>
+    ensures room { OnOk result (vec_len items.new + more ≤ vec_capacity items.new) }
+    ensures kept { items.new.items ≡ items.old.items }
+{
+    if more > items.capacity() - items.len() {
+        return grow(items, more);
+    }
+    Ok(())
+}
+
+/// The same, in new memory.
+#[cold]
+#[inline(never)]
+fn grow(items: &mut Vec<Effect>, more: usize) -> Result<(), NoMemory>
+    ensures room { OnOk result (vec_len items.new + more ≤ vec_capacity items.new) }
+    ensures kept { items.new.items ≡ items.old.items }
+{
+    Ok(items.reserve(more)?)
 }
 
 /// Puts records for a log that has room for them, the first one under this handle. There is memory for them.

@@ -74,7 +74,21 @@ impl Coder {
     }
 
     /// Writes a byte.
+    #[inline(always)]
     fn push(&mut self, byte: u8)
+        ensures { AddsBytes self.old self.new (byte ∷ []) }
+    {
+        if self.bytes.len() < self.bytes.capacity() {
+            self.push_reserved(byte);
+        } else {
+            self.push_grown(byte);
+        }
+    }
+
+    /// The same, where there may be no room for it.
+    #[cold]
+    #[inline(never)]
+    fn push_grown(&mut self, byte: u8)
         ensures { AddsBytes self.old self.new (byte ∷ []) }
     {
         if self.bytes.push(byte).is_err() {

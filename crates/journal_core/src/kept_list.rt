@@ -66,19 +66,50 @@ fn put_part(bytes: &mut Vec<u8>, part: &[u8])
     ensures room { vec_capacity bytes.old ≤ vec_capacity bytes.new }
 {
     if !part.is_empty() {
-        let _ = bytes.extend_from_slice(part);
+        put_some(bytes, part);
     }
 }
 
+/// The same, of some bytes.
+#[inline(never)]
+fn put_some(bytes: &mut Vec<u8>, part: &[u8])
+    requires { vec_len bytes.old + length part.now ≤ vec_capacity bytes.old }
+    ensures put { bytes.new.items ≡ bytes.old.items ++ part.now }
+    ensures room { vec_capacity bytes.old ≤ vec_capacity bytes.new }
+{
+    let _ = bytes.extend_from_slice(part);
+}
+
 /// Makes room for so many more bytes.
+#[inline(always)]
 fn reserve(bytes: &mut Vec<u8>, more: usize) -> Result<(), NoMemory>
     ensures room { OnOk result (vec_len bytes.new + more ≤ vec_capacity bytes.new) }
     ensures kept { bytes.new.items ≡ bytes.old.items }
 {
     if more > bytes.capacity() - bytes.len() {
-        bytes.reserve(more.max(BYTES_AT_ONCE))?;
+        return grow(bytes, more);
     }
     Ok(())
+}
+
+/// The same, in new memory.
+#[cold]
+#[inline(never)]
+fn grow(bytes: &mut Vec<u8>, more: usize) -> Result<(), NoMemory>
+    ensures room { OnOk result (vec_len bytes.new + more ≤ vec_capacity bytes.new) }
+    ensures kept { bytes.new.items ≡ bytes.old.items }
+{
+    Ok(bytes.reserve(more.max(BYTES_AT_ONCE))?)
+}
+
+/// Makes room for more entries.
+#[cold]
+#[inline(never)]
+fn grow_places(kept: &mut Vec<Kept>) -> Result<(), NoMemory>
+    ensures place { OnOk result (vec_len kept.new < vec_capacity kept.new) }
+    ensures kept { kept.new.items ≡ kept.old.items }
+{
+    Ok(kept.reserve(ENTRIES_AT_ONCE)?)
 }
 
 /// Puts the payloads of a step behind the bytes and what tells its effects behind them, and answers where that begins. Without
@@ -141,12 +172,13 @@ impl KeptList {
     }
 
     /// Makes room for one more entry.
+    #[inline(always)]
     pub(crate) fn reserve_place(&mut self) -> Result<(), NoMemory>
         ensures place { OnOk result (0 < self.new.spare) }
         ensures kept { self.new.entries ≡ self.old.entries }
     {
         if self.kept.len() == self.kept.capacity() {
-            self.kept.reserve(ENTRIES_AT_ONCE)?;
+            return grow_places(&mut self.kept);
         }
         Ok(())
     }

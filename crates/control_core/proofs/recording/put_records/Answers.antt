@@ -23,7 +23,7 @@ returns c =
       | inr from ↦ inr (omega (arith, c.min-fit.ensures, c.room.ensures, from))
     ] in
     let long : length front ≡ fit = search rules in
-    let start : c.reserve.new.self.items ≡ effects = search rules in
+    let start : c.make_room.new.items.items ≡ effects = search rules in
     c.replace-2.ensures.after
     ∙ c.from_vec.ensures
     ∙ c.put_missed.ensures next
