@@ -20,7 +20,7 @@ use std::marker::Model;
 /// Commands and scrubs in the order in which they happened.
 ///
 /// Contracts see the entries, and how many more there is room for. The payloads of an entry, and some bytes that tell its
-/// effects, lie in one block behind those of the entry before, and what else it says takes 40 bytes. An entry that is no
+/// effects, lie in one block behind those of the entry before, and what else it says takes 32 bytes. An entry that is no
 /// answered command and no scrub, or for which `push_reserved` finds no room, lies on the heap by itself.
 #[derive(Drop)]
 pub struct KeptEntries {

@@ -18,7 +18,7 @@ use dcd_base::{Actor, Boxed, NoMemory};
 use std::alloc::Global;
 use std::marker::Model;
 
-/// For how many entries room is made at a time at least, 40 bytes each: so much is a mapping of its own, which grows without a
+/// For how many entries room is made at a time at least, 32 bytes each: so much is a mapping of its own, which grows without a
 /// copy.
 const ENTRIES_AT_ONCE: usize = 4_096;
 

@@ -12,7 +12,10 @@ use crate::lent_steps::LentStep;
 use dcd_base::{Actor, Boxed, Stamp};
 use std::alloc::Global;
 
-/// A part of so many bytes or more is kept apart.
+/// An entry is kept apart where a payload has so many bytes or more.
+const LONG_PAYLOAD: usize = 0x1_0000;
+
+/// And where as many or more tell its effects.
 const LONG: usize = 0x4000_0000;
 
 /// A command that was answered, without its payloads.
@@ -48,12 +51,12 @@ pub enum Exchange {
 pub struct KeptStep {
     pub(crate) pass: u32,
     pub(crate) line: u32,
-    /// How many bytes the payload of the request has.
-    pub(crate) asked: u32,
-    /// How many that of the response has.
-    pub(crate) replied: u32,
-    /// How many there are with those that tell the effects.
+    /// How many bytes there are in all.
     pub(crate) width: u32,
+    /// How many of them the payload of the request has.
+    pub(crate) asked: u16,
+    /// How many that of the response has.
+    pub(crate) replied: u16,
     pub(crate) actor: Actor,
     pub(crate) exchange: Exchange,
 }
@@ -143,6 +146,19 @@ fn exchanged(act: &Act, reply: &Reply) -> Option<Exchange>
     }
 }
 
+/// How many bytes a payload has, if it is not long.
+#[inline]
+fn short(payload: &[u8]) -> Option<u16>
+    ensures { IfSome result (λ n. n ≡ length payload.now) }
+{
+    let n = payload.len();
+    if n < LONG_PAYLOAD {
+        Some(n as u16)
+    } else {
+        None
+    }
+}
+
 /// How many bytes there are, if they are few.
 #[inline]
 fn few(bytes: &[u8]) -> Option<u32>
@@ -167,15 +183,15 @@ impl KeptStep {
         ensures { IfSome result (λ step. Keeps step pass line actor act.now (reply.now, parts.now.told.now) (parts_bytes parts.now)) }
     {
         let exchange = exchanged(act, reply)?;
-        let asked = few(parts.asked)?;
-        let replied = few(parts.replied)?;
+        let asked = short(parts.asked)?;
+        let replied = short(parts.replied)?;
         let told = few(parts.told)?;
         Some(KeptStep {
             pass,
             line,
+            width: u32::from(asked) + u32::from(replied) + told,
             asked,
             replied,
-            width: asked + replied + told,
             actor,
             exchange,
         })

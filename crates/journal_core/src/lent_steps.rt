@@ -26,19 +26,19 @@ pub struct LentStep<'a> {
 
 /// The first bytes, so many or all.
 #[inline]
-fn first(bytes: &[u8], n: u32) -> &[u8]
+fn first(bytes: &[u8], n: u16) -> &[u8]
     ensures { result.now ≡ take n bytes.now }
 {
-    let (front, _) = bytes.split_at(bytes.len().min(n as usize));
+    let (front, _) = bytes.split_at(bytes.len().min(usize::from(n)));
     front
 }
 
 /// What is behind so many bytes.
 #[inline]
-fn behind(bytes: &[u8], n: u32) -> &[u8]
+fn behind(bytes: &[u8], n: u16) -> &[u8]
     ensures { result.now ≡ drop n bytes.now }
 {
-    let (_, back) = bytes.split_at(bytes.len().min(n as usize));
+    let (_, back) = bytes.split_at(bytes.len().min(usize::from(n)));
     back
 }
 
