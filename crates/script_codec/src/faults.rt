@@ -42,7 +42,7 @@ pub enum ScriptFault {
 
 impl ScriptFault {
     /// The same fault of bytes behind so many others, no more than a script may have.
-    pub(crate) fn moved(self, before: u64) -> ScriptFault
+    pub fn moved(self, before: u64) -> ScriptFault
         requires before { before ≤ 16777216 }
         requires within { IsWithin 16777216 self }
         ensures { result ≡ moved_fault before self }

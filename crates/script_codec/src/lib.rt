@@ -7,7 +7,7 @@
 
 mod faults;
 pub mod fields;
-mod heads;
+pub mod heads;
 mod laws;
 pub mod line_bytes;
 mod own_reader;

@@ -1,0 +1,4 @@
+mod Ahead
+mod FrontLines
+mod Handing
+pub mod Standing
