@@ -105,11 +105,9 @@ fn put_reply<K: Sink>(printer: &mut Printer, sink: &mut K, reply: &ReplySeen<'_>
     }
 }
 
-/// Puts the parts of the line of a step, where a piece ends in it.
-#[cold]
-#[inline(never)]
+/// Puts the parts of the line of a step.
 #[tactic(auto, using(crate::proofs::Parts::prints_then), unfolding(crate::specs::Texts::step_line))]
-fn put_step_parts<K: Sink>(printer: &mut Printer, sink: &mut K, number: u64, step: &StepSeen<'_>)
+fn put_step<K: Sink>(printer: &mut Printer, sink: &mut K, number: u64, step: &StepSeen<'_>)
     requires { IsShort (seen_reply step.now.reply) }
     ensures { Puts K.taken K.faults sink.old printer.old sink.new printer.new (seen_line number step.now) }
 {
@@ -119,27 +117,31 @@ fn put_step_parts<K: Sink>(printer: &mut Printer, sink: &mut K, number: u64, ste
     put_reply(printer, sink, &step.reply);
 }
 
-/// Puts the line of a step: its number, its line in the script, its actor, and its answer. It mostly fits into the piece.
-#[tactic(auto, using(crate::proofs::Parts::prints_waiting))]
-fn put_step<K: Sink>(printer: &mut Printer, sink: &mut K, number: &LineNumber, step: &StepSeen<'_>)
-    requires { IsShort (seen_reply step.now.reply) }
-    ensures { Puts K.taken K.faults sink.old printer.old sink.new printer.new (seen_line number.now step.now) }
+/// Puts the parts of the line of an entry, which is lent, where a piece ends in it.
+#[cold]
+#[inline(never)]
+#[tactic(auto, unfolding(crate::specs::Texts::entry_line))]
+fn put_parts<K: Sink>(printer: &mut Printer, sink: &mut K, number: u64, entry: &Lent<'_>)
+    requires { IsShort (lent_entry entry.now).reply }
+    ensures { Puts K.taken K.faults sink.old printer.old sink.new printer.new (entry_line (number, lent_entry entry.now)) }
 {
-    if step_room(&step.reply) <= printer.room() {
-        printer.store_step(number, step);
-    } else {
-        put_step_parts(printer, sink, number.number(), step);
-    }
+    let step = entry.seen();
+    put_step(printer, sink, number, &step);
 }
 
-/// Puts the line of an entry, which is lent.
-#[tactic(auto, unfolding(crate::specs::Texts::entry_line))]
+/// Puts the line of an entry, which is lent: its number, its line in the script, its actor, and its answer. It mostly fits into
+/// the piece.
+#[tactic(auto, using(crate::proofs::Parts::prints_waiting), unfolding(crate::specs::Texts::entry_line))]
 fn put_entry<K: Sink>(printer: &mut Printer, sink: &mut K, number: &LineNumber, entry: &Lent<'_>)
     requires { IsShort (lent_entry entry.now).reply }
     ensures { Puts K.taken K.faults sink.old printer.old sink.new printer.new (entry_line (number.now, lent_entry entry.now)) }
 {
     let step = entry.seen();
-    put_step(printer, sink, number, &step);
+    if step_room(&step.reply) <= printer.room() {
+        printer.store_step(number, &step);
+    } else {
+        put_parts(printer, sink, number.number(), entry);
+    }
 }
 
 /// Puts a line for each entry that is lent, numbered from 1, and answers how many there are. None is left then.

@@ -11,6 +11,8 @@ mod gates;
 #[cfg(test)]
 mod lanes;
 #[cfg(test)]
+mod pieces;
+#[cfg(test)]
 mod refusals;
 #[cfg(test)]
 mod seeing;

@@ -18,7 +18,7 @@ use Rattle.script_runner.specs.Taking.{IsInput, IsTaken, IsTakenWhole, most_read
 
 -- ---- all that was left
 
-up_to : (left : Option (List ℕ)) (input : List ℕ) → IfSome left (λ all. input ≡ all) → length input ≤ most_bytes → IsInput left input
+pub up_to : (left : Option (List ℕ)) (input : List ℕ) → IfSome left (λ all. input ≡ all) → length input ≤ most_bytes → IsInput left input
 up_to None input is short = tt
 up_to (Some all) input is short = is ∙ sym (take_all most_read all (omega (arith, ap length is, short)))
 

@@ -5,4 +5,5 @@ mod Inputs
 mod Lightness
 mod Printed
 mod Skimming
+mod Sources
 mod WordItems

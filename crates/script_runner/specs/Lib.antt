@@ -6,6 +6,7 @@ pub mod Lightness
 pub mod Planning
 pub mod Running
 pub mod Skimming
+pub mod Sources
 pub mod Statuses
 pub mod Taking
 pub mod Threads

@@ -1,8 +1,10 @@
 //! The text of an input, in either mode, or the line on its first fault.
 
 ghost use Rattle.script_runner.specs.Endings.{EndsAs, IsFaultPlan, IsPlannedFor};
+ghost use Rattle.script_runner.specs.Fronts.{RanScript};
+ghost use Rattle.script_runner.specs.Running.{IsLawful};
 ghost use Rattle.script_runner.specs.declared.words.Mode.{Mode};
-ghost use Rattle.std.specs.Prelude.{◌≢◌};
+ghost use Rattle.std.specs.Prelude.{◌≢◌, List, ℕ};
 
 use crate::in_threads::{run_input_in_threads, sharing_of};
 use crate::lines::part;
@@ -11,6 +13,7 @@ use crate::script::run_script;
 use crate::skim::has_light_phases;
 use crate::status::Status;
 use dcd_base::{Bytes, Failed, Gate, Sink};
+use device_plain::Device;
 use report::refusal;
 use script_codec::ScriptFault;
 use std::alloc::{AllocGlobal, Global};
@@ -27,15 +30,23 @@ pub(crate) fn text_serially<K: Sink>(
     ensures { EndsAs (IsPlannedFor Mode.Serial input) ⊥ K.taken K.faults sink.old sink.new result }
 {
     match run_script(alloc, input) {
-        Ok(device) => match print_text(&device, sink) {
-            Ok(()) => {
-                part(device, leaves);
-                Status::Done
-            }
-            Err(Failed) => Status::WriteFault,
-        },
+        Ok(device) => print_run(device, sink, leaves),
         Err(ScriptFault::NoMemory) => Status::NoMemory,
         Err(fault) => refused(fault, sink),
+    }
+}
+
+/// Writes the text of the journal of a device that ran a script.
+pub(crate) fn print_run<K: Sink>(device: Device, sink: &mut K, leaves: bool) -> Status
+    requires { IsLawful device.config device.journal }
+    ensures { (input : List ℕ) → RanScript input device.config device.journal → EndsAs (IsPlannedFor Mode.Serial input) ⊥ K.taken K.faults sink.old sink.new result }
+{
+    match print_text(&device, sink) {
+        Ok(()) => {
+            part(device, leaves);
+            Status::Done
+        }
+        Err(Failed) => Status::WriteFault,
     }
 }
 

@@ -25,9 +25,9 @@ use std::thread::Threads;
 /// its summary, and the source is not read. With `--mode serial` or `--mode=serial` the lines are done in their order by one
 /// thread, and with `--mode threads`, or without a mode, those of each lane by a worker of its own.
 ///
-/// The words are tried first, then the source is read, at most 16,777,217 bytes of it, then the lines of the script are
-/// read and run, then the text is written. All memory is taken before the first write of the text or the summary, and all
-/// of it goes back. In threads mode the gate is called once for each load and store.
+/// The words are tried first, then the source is read, at most 16,777,217 bytes of it, and the lines of the script are
+/// run, in serial mode while it is read, then the text is written. All memory is taken before the first write of the text or
+/// the summary, and all of it goes back. In threads mode the gate is called once for each load and store.
 pub fn run<R: Threads + Wait + Sync + AllocGlobal, S: Source, K: Sink, G: Gate>(
     rt: &R,
     alloc: Global,
