@@ -1,6 +1,6 @@
 -- What a seat with the turn of the control may do at each step of a command, and what it knows then.
 use Rattle.std.proofs.Common.{◌≡◌, ◌≢◌, ◌⊎◌, ℕ, zero, suc, ◌+◌, ◌^◌, ◌<◌, ◌≤◌, Bool, true, false, ◌&&◌, not, List, [], ◌∷◌, ◌++◌, length, set, sym, refl, ap, ◌∙◌, subst, ⊎_elim, inl, inr, arith, Option, Some, None, eq-eqb, ne_eqb, ◌==◌, ◌||◌}
-use Rattle.std.proofs.lemmas.Bool.{or_left, or_right}
+use Rattle.std.proofs.lemmas.Bool.{cases_lt, or_left, or_right}
 use Rattle.std.proofs.lemmas.List.{length_push}
 use mathlib.Core.Option.{some}
 use native.Mathlib.Decide.{dec_lt}
@@ -31,7 +31,7 @@ use Rattle.shard_laws.specs.Owed.{FollowsEffects}
 use Rattle.shard_laws.specs.Right.{stripe_reads}
 use Rattle.shard_laws.specs.Stripes.{Stripe}
 use Rattle.shared_device.specs.Commanding.{Commanding, commanding_reads}
-use Rattle.shared_device.specs.Entering.{HasNoted, HasOneMore, HasOnlyFirst, HasTouched, MayEnterStep}
+use Rattle.shared_device.specs.Entering.{AreApart, HasNoted, HasOneMore, HasOnlyFirst, HasTouched, MayEnterStep}
 use Rattle.shared_device.proofs.Turns.{same_cell, still_there}
 use Rattle.shared_device.proofs.TurnsBack.{last_given}
 
@@ -60,6 +60,13 @@ last_is (x ∷ y ∷ l) e = last_is (y ∷ l) e
 pub told_touch : (index : ℕ) (e f : Entry) (told b : Bool) → f ≡ e → told ≡ touches_shard index f → told ≡ b → touches_shard index e ≡ b
 told_touch index e f told b same is answer = ap (λ (z : Entry). touches_shard index z) (sym same) ∙ sym is ∙ answer
 
+-- it does not touch one more
+pub apart_more : (index at : ℕ) (e : Entry) → AreApart index at e → touches_shard at e ≡ false → AreApart index (at + 1) e
+apart_more index at e apart touch k from lt = ⊎_elim
+    (λ (same : k ≡ at). ap (λ n. touches_shard n e) same ∙ touch)
+    (λ (less : k < at). apart k from less)
+    (at_or_below k at lt (dec_lt k at))
+
 -- with one shard more it still may
 pub may_after : (s t : Worker) (index : ℕ) (o : Option (CellValue Commanding Stripe)) (c : Commanding) (plan : Plan) → IsSameSeat s t → turns_of t ≡ set (turns_of s) (suc index) o → seat_view t ≡ seat_view s
     → MayEnterStep s c plan → MayEnterStep t c plan
@@ -75,10 +82,14 @@ may_after s t index o c plan same turns view may = record {
   room = subst (λ (v : SeatView). length v.calls < 2 ^ 32) (sym view) may.room;
 }
 
-pub touched_none : (s : Worker) (index : ℕ) (e : Entry) → touches_shard index e ≡ false → HasTouched s index e → HasTouched s (index + 1) e
-touched_none s index e apart h = record {
-  below = λ k lt t. ⊎_elim (λ (same : k ≡ index). never (touches_shard k e) t (ap (λ n. touches_shard n e) same ∙ apart)) (λ (less : k < index). h.below k less t) (at_or_below k index lt (dec_lt k index));
-  no_others = λ k le. h.no_others k (omega (arith, le));
+-- it touches none of these
+pub touched_till : (s : Worker) (index at : ℕ) (e : Entry) → index ≤ at → AreApart index at e → HasTouched s index e → HasTouched s at e
+touched_till s index at e le apart h = record {
+  below = λ k lt t. elim (cases_lt k index) [
+    | inl less ↦ h.below k less t
+    | inr more ↦ never (touches_shard k e) t (apart k more lt)
+  ];
+  no_others = λ k above. h.no_others k (omega (arith, le, above));
 }
 
 pub touched_more : (s t : Worker) (index : ℕ) (e : Entry) (x : Stripe) → turns_of t ≡ set (turns_of s) (suc index) (Some (Rest x)) → HasCell t index x → HasTouched s index e → HasTouched t (index + 1) e
@@ -210,17 +221,17 @@ noted_more s t u e index x y has touch entries noted gave =
       not_yet = λ k lt. (λ i. (ne_eqb (suc k) (suc index) (λ q. omega (arith, q, lt)) i) || (noted.not_yet k (omega (arith, lt)) i));
     }
 
--- a shard that the entry does not touch
-pub noted_none : (index : ℕ) (e : Entry) (v v' : SeatView) → touches_shard index e ≡ false → HasNoted (index + 1) e v v' → HasNoted index e v v'
-noted_none index e v v' apart noted = record {
+-- shards that the entry does not touch
+pub noted_till : (index at : ℕ) (e : Entry) (v v' : SeatView) → index ≤ at → AreApart index at e → HasNoted at e v v' → HasNoted index e v v'
+noted_till index at e v v' le apart noted = record {
   changed = noted.changed;
   view_is = noted.view_is;
   above = noted.above;
-  done = λ k le lt t. ⊎_elim
-      (λ (same : k ≡ index). never (touches_shard k e) t (ap (λ n. touches_shard n e) same ∙ apart))
-      (λ (more : index + 1 ≤ k). noted.done k more lt t)
-      (at_or_above k index le (dec_lt index k));
-  not_yet = λ k lt. noted.not_yet k (omega (arith, lt));
+  done = λ k from lt t. elim (cases_lt k at) [
+    | inl less ↦ never (touches_shard k e) t (apart k from less)
+    | inr more ↦ noted.done k more lt t
+  ];
+  not_yet = λ k lt. noted.not_yet k (omega (arith, lt, le));
 }
 
 -- ---- the control is given back

@@ -78,6 +78,10 @@ pub record HasOnlyFirst (s : Seat Commanding Stripe) (c : Commanding) : Type 0 w
   pub legal : Legal taken.config taken.entries
   pub no_others : (k : ℕ) → NoCell s k
 
+-- the entry touches no shard from an index on, below another
+abbrev pub AreApart : ℕ → ℕ → Entry → Type 0
+AreApart from until e = (k : ℕ) → from ≤ k → k < until → touches_shard k e ≡ false
+
 -- of the shards below an index the seat has the turns of those that the entry touches, and it has none from the index on
 pub record HasTouched (s : Seat Commanding Stripe) (index : ℕ) (e : Entry) : Type 0 where
   pub below : (k : ℕ) → k < index → touches_shard k e ≡ true → (x : Stripe) × HasCell s k x

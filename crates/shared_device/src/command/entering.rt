@@ -5,8 +5,9 @@ ghost use Rattle.ruled_cells.specs.Calls.{IsOf, row_of};
 ghost use Rattle.ruled_cells.specs.Seats.{IsSameSeat, NoTurns, seat_number, seat_view, turns_of};
 ghost use Rattle.ruled_cells.specs.Stamps.{Below};
 ghost use Rattle.ruled_cells.specs.Telling.{begun, noted_view};
-ghost use Rattle.shared_device.specs.Entering.{HasCommanded, HasNoted, HasOneMore, HasOnlyFirst, HasTouched, MayEnterStep};
-ghost use Rattle.std.specs.Prelude.{◌≡◌, ◌^◌, ◌<◌, ◌≤◌, IfOk, None, OnErr, length};
+ghost use Rattle.shard_laws.specs.Belonging.{touches_shard};
+ghost use Rattle.shared_device.specs.Entering.{AreApart, HasCommanded, HasNoted, HasOneMore, HasOnlyFirst, HasTouched, MayEnterStep};
+ghost use Rattle.std.specs.Prelude.{◌≡◌, ◌^◌, ◌<◌, ◌≤◌, IfOk, None, OnErr, length, true};
 ghost use mathlib.Core.Option.{some};
 ghost use lib.ListN.{get_elem?};
 
@@ -38,6 +39,24 @@ fn note(
     cells.note(seat, control);
 }
 
+/// The first shard from an index on that the plan's entry touches, or 16 where it touches none of them.
+fn first_touched(plan: &Plan, index: u32) -> u32
+    requires { index ≤ 16 }
+    ensures from { index ≤ result }
+    ensures until { result ≤ 16 }
+    ensures apart { AreApart index result plan.now.entry }
+    ensures touched { result < 16 → touches_shard result plan.now.entry ≡ true }
+{
+    let mut at = index;
+    while at < 16 {
+        if touches(plan.entry(), at) {
+            return at;
+        }
+        at += 1;
+    }
+    16
+}
+
 /// Takes and changes each shard from an index on that the plan's entry touches, enters and notes the entry, and gives
 /// the shards back, the last one first. It takes no memory.
 fn enter_from<R: Wait>(
@@ -57,18 +76,15 @@ fn enter_from<R: Wait>(
     ensures view { HasNoted index plan.entry (seat_view seat.old) (seat_view seat.new) }
     ensures control { HasOneMore control.old control.new plan.entry }
 {
-    if index == 16 {
+    let at = first_touched(&plan, index);
+    if at == 16 {
         note(cells, seat, control, plan);
         return;
     }
-    if !touches(plan.entry(), index) {
-        enter_from(rt, cells, seat, control, plan, index + 1);
-        return;
-    }
-    let mut shard = cells.take(rt, seat, index);
+    let mut shard = cells.take(rt, seat, at);
     change(&mut shard, &plan);
-    enter_from(rt, cells, seat, control, plan, index + 1);
-    cells.give(seat, index, shard);
+    enter_from(rt, cells, seat, control, plan, at + 1);
+    cells.give(seat, at, shard);
 }
 
 /// Makes a prepared step the seat's call, and gives the control back. It takes no memory.
