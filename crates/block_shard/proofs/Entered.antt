@@ -9,7 +9,7 @@ use Rattle.dcd_base.specs.declared.ids.HostId.{HostId}
 use Rattle.dcd_base.specs.declared.media.Place.{Place}
 use Rattle.dcd_base.specs.declared.steps.Actor.{Actor}
 use Rattle.dcd_base.specs.declared.steps.Stamp.{Stamp}
-use Rattle.device_rules.specs.Legal.{stored_at, word_by, written_by}
+use Rattle.shard_laws.specs.device_rules.specs.Legal.{stored_at, word_by, written_by}
 use Rattle.granule_mem.specs.Contents.{Media, holders_in, word_in}
 use Rattle.journal_core.specs.declared.acts.Act.{Act}
 use Rattle.journal_core.specs.declared.entries.Entry.{Entry}

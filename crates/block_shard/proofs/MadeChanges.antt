@@ -7,7 +7,7 @@ use Rattle.std.proofs.lemmas.List.Folds.{list_any-append}
 use Rattle.std.proofs.lemmas.List.Sums.{fold_push}
 use Rattle.dcd_base.specs.Words.{has_granule}
 use Rattle.dcd_base.specs.declared.media.Change.{Change}
-use Rattle.device_rules.specs.ChangedRuns.{holders_after}
+use Rattle.shard_laws.specs.device_rules.specs.ChangedRuns.{holders_after}
 use Rattle.granule_mem.specs.Contents.{Media, SetsHolders, holders_in, word_in}
 use Rattle.shard_laws.specs.Changing.{AreMadeIn}
 use Rattle.shard_laws.specs.Stripes.{own_below}

@@ -1,6 +1,6 @@
 //! What a command or a scrub changes of a shard.
 
-ghost use Rattle.device_rules.specs.ChangedRuns.{LiesIn};
+ghost use Rattle.shard_laws.specs.device_rules.specs.ChangedRuns.{LiesIn};
 ghost use Rattle.dcd_base.specs.Words.{has_granule};
 ghost use Rattle.granule_mem.specs.Contents.{SetsHolders, word_in};
 ghost use Rattle.shard_laws.specs.Changing.{AreMadeIn};

@@ -8,4 +8,6 @@ mod shard;
 mod touching;
 
 pub use shard::Shard;
+pub use shard_laws;
+pub use shard_laws::{device_rules, ruled_cells};
 pub use touching::touches;

@@ -1,7 +1,7 @@
 //! One shard of the device.
 
 ghost use Rattle.dcd_base.specs.declared.steps.Actor.TheVariants.{Host};
-ghost use Rattle.device_rules.specs.ChangedRuns.{LiesIn};
+ghost use Rattle.shard_laws.specs.device_rules.specs.ChangedRuns.{LiesIn};
 ghost use Rattle.journal_core.specs.Accesses.{access_entry};
 ghost use Rattle.journal_core.specs.Entries.{is_control};
 ghost use Rattle.media_map.specs.Places.{locate};
@@ -19,7 +19,7 @@ use dcd_base::{AccessFault, Changes, HostId, NoMemory, Place, Stamp};
 use granule_mem::Memory;
 use journal_core::{Access, Accesses, Act, Reply};
 use region_config::Config;
-use ruled_cells::Member;
+use shard_laws::ruled_cells::Member;
 use std::alloc::Global;
 use std::marker::Model;
 

@@ -1,11 +1,11 @@
 //! The script of seed 5, against what a program in another language makes by the rules of `docs/formats.md`.
 
-ghost use Rattle.script_codec.specs.Writing.{IsWritable};
+ghost use Rattle.script_gen.specs.script_codec.specs.Writing.{IsWritable};
 
 use crate::seeing::{see, see_list};
 use dcd_base::{Bytes, NoMemory};
-use script_codec::{Script, entries_of, write};
 use script_gen::generate;
+use script_gen::script_codec::{Script, entries_of, write};
 use std::alloc::Global;
 use std::process::Abort;
 use std::test::Fail;

@@ -1,6 +1,6 @@
 //! Scripts that are read, and those that are refused.
 
-ghost use Rattle.script_codec.specs.Writing.{IsWritable};
+ghost use Rattle.script_gen.specs.script_codec.specs.Writing.{IsWritable};
 ghost use Rattle.std.specs.Prelude.{IfOk};
 
 use crate::seeing::{see, see_list};
@@ -8,7 +8,9 @@ use cci_codec::MessageFault;
 use dcd_base::{Actor, Bytes, HostId, NoMemory};
 use journal_core::Act;
 use region_config::ConfigFault;
-use script_codec::{Line, Reader, Script, ScriptFault, entries_of, pass_of, read, write};
+use script_gen::script_codec::{
+    Line, Reader, Script, ScriptFault, entries_of, pass_of, read, write,
+};
 use std::alloc::Global;
 use std::process::Abort;
 use std::test::Fail;

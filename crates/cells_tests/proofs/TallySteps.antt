@@ -9,24 +9,24 @@ use Rattle.dcd_base.specs.declared.steps.Stamp.{Stamp}
 use Rattle.dcd_base.specs.declared.steps.Actor.{Actor}
 use Rattle.journal_core.specs.declared.entries.Entry.{Entry}
 use Rattle.journal_core.specs.declared.acts.Act.{Act}
-use Rattle.ruled_cells.specs.declared.about.SeatView.{SeatView}
-use Rattle.ruled_cells.specs.declared.cell_value.CellValue.{CellValue}
-use Rattle.ruled_cells.specs.Turning.{NoTurn, HasTurn}
-use Rattle.ruled_cells.specs.Stamps.{Below, stamps_after, has_index, pending, stamp}
-use Rattle.ruled_cells.specs.Reads.{ChiefReads, about_of}
-use Rattle.ruled_cells.specs.Ruling.{Names, names, access_cell, touches_cell}
-use Rattle.ruled_cells.specs.Telling.{Alike, MayEnter, MayGive, MayGiveFirst, MayNote, GaveCell, last_of, entered_view, changed_view}
+use Rattle.block_shard.specs.ruled_cells.specs.declared.about.SeatView.{SeatView}
+use Rattle.block_shard.specs.ruled_cells.specs.declared.cell_value.CellValue.{CellValue}
+use Rattle.block_shard.specs.ruled_cells.specs.Turning.{NoTurn, HasTurn}
+use Rattle.block_shard.specs.ruled_cells.specs.Stamps.{Below, stamps_after, has_index, pending, stamp}
+use Rattle.block_shard.specs.ruled_cells.specs.Reads.{ChiefReads, about_of}
+use Rattle.block_shard.specs.ruled_cells.specs.Ruling.{Names, names, access_cell, touches_cell}
+use Rattle.block_shard.specs.ruled_cells.specs.Telling.{Alike, MayEnter, MayGive, MayGiveFirst, MayNote, GaveCell, last_of, entered_view, changed_view}
 use Rattle.cells_tests.specs.Tally.{Tally, Adds, IsAdded, MayHaveAdded, IsIdle, above_both, follows, scrubs, tally_reads, turns}
 use Rattle.journal_core.specs.Entries.{is_control}
-use Rattle.ruled_cells.specs.declared.cell_value.CellValue.TheVariants.{First, Rest}
-use Rattle.ruled_cells.specs.declared.seat.Seat.{Seat}
-use Rattle.ruled_cells.specs.declared.cells.Cells.{Cells}
-use Rattle.ruled_cells.specs.Seats.{IsSameSeat, NoTurns, seat_number}
-use Rattle.ruled_cells.specs.Calls.{IsOf, AreAll, seats_of}
-use Rattle.ruled_cells.proofs.Places.{some_some}
-use Rattle.ruled_cells.proofs.ClosingSteps.{at_end}
-use Rattle.ruled_cells.proofs.RuleSteps.{rest_same}
-use Rattle.ruled_cells.proofs.Order.{never, two, pending_new, pending_done}
+use Rattle.block_shard.specs.ruled_cells.specs.declared.cell_value.CellValue.TheVariants.{First, Rest}
+use Rattle.block_shard.specs.ruled_cells.specs.declared.seat.Seat.{Seat}
+use Rattle.block_shard.specs.ruled_cells.specs.declared.cells.Cells.{Cells}
+use Rattle.block_shard.specs.ruled_cells.specs.Seats.{IsSameSeat, NoTurns, seat_number}
+use Rattle.block_shard.specs.ruled_cells.specs.Calls.{IsOf, AreAll, seats_of}
+use Rattle.block_shard.specs.ruled_cells.proofs.Places.{some_some}
+use Rattle.block_shard.specs.ruled_cells.proofs.ClosingSteps.{at_end}
+use Rattle.block_shard.specs.ruled_cells.proofs.RuleSteps.{rest_same}
+use Rattle.block_shard.specs.ruled_cells.proofs.Order.{never, two, pending_new, pending_done}
 
 above_is : (s t : Stamp) → Dec (s.number < max s.number t.number) → Below s (above_both s t)
 above_is s t (yes h) = inl h

@@ -1,8 +1,8 @@
 //! A first cell that is a journal and no more.
 
+use block_shard::ruled_cells::Chief;
 use dcd_base::{Actor, NoMemory, Stamp};
 use journal_core::{Act, Effects, Entry, Journal, Reply};
-use ruled_cells::Chief;
 use std::alloc::Global;
 use std::marker::Model;
 

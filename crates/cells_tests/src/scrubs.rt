@@ -3,18 +3,18 @@ ghost use Rattle.std.specs.Prelude.{◌≡◌, ◌+◌, ◌-◌, ◌^◌, ◌<�
 ghost use Rattle.dcd_base.specs.declared.steps.Actor.TheVariants.{Sanitizer};
 ghost use Rattle.journal_core.specs.declared.acts.Act.TheVariants.{Scrub};
 ghost use Rattle.journal_core.specs.declared.entries.Entry.{Entry};
-ghost use Rattle.ruled_cells.specs.Calls.{IsOf, row_of};
-ghost use Rattle.ruled_cells.specs.Seats.{HasCell, HasFirst, IsSameSeat, NoTurns, turns_of, seat_view};
-ghost use Rattle.ruled_cells.specs.Stamps.{stamp};
+ghost use Rattle.block_shard.specs.ruled_cells.specs.Calls.{IsOf, row_of};
+ghost use Rattle.block_shard.specs.ruled_cells.specs.Seats.{HasCell, HasFirst, IsSameSeat, NoTurns, turns_of, seat_view};
+ghost use Rattle.block_shard.specs.ruled_cells.specs.Stamps.{stamp};
 ghost use Rattle.cells_tests.specs.Tally.{HasScrubbed, MayScrub, follows};
 
 use crate::counter::Counter;
 use crate::ledger::Ledger;
 use crate::runs::{Tallies, Worker, closed, made, put_back};
 use crate::seeing::see;
+use block_shard::ruled_cells::Chief;
 use dcd_base::{Actor, Stamp};
 use journal_core::{Act, Entry, EntryEffects, Reply};
-use ruled_cells::Chief;
 use std::process::Abort;
 use std::sync::Wait;
 use std::test::*;

@@ -1,11 +1,12 @@
 //! Shards: the loads and stores of one, the journal of two, and which of them a command touches.
 
 ghost use Rattle.journal_core.specs.Entries.{is_control};
-ghost use Rattle.shard_laws.specs.Belonging.{asked_at, shard_at};
+ghost use Rattle.block_shard.specs.shard_laws.specs.Belonging.{asked_at, shard_at};
 ghost use Rattle.std.specs.Prelude.{◌≡◌, ◌<◌, IfOk, false};
 
 use crate::ledger::Ledger;
 use crate::seeing::{see, see_list};
+use block_shard::shard_laws::{law_at_rest, law_changed, law_merged};
 use block_shard::{Shard, touches};
 use dcd_base::{
     AccessFault, Actor, Change, Changes, Granule, HostId, NoMemory, Place, Run, Stamp, shard_of,
@@ -13,7 +14,6 @@ use dcd_base::{
 use journal_core::{Access, Act, Effect, Effects, Entry, EntryEffects, Journal, Reply, merge};
 use media_map::locate;
 use region_config::{Config, ConfigFault, RegionSpec};
-use shard_laws::{law_at_rest, law_changed, law_merged};
 use std::alloc::Global;
 use std::test::Fail;
 

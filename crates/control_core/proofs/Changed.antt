@@ -10,8 +10,8 @@ use Rattle.dcd_base.specs.Words.{has_granule}
 use Rattle.dcd_base.specs.declared.media.Change.{Change}
 use Rattle.dcd_base.specs.declared.media.Run.{Run}
 use Rattle.journal_core.specs.declared.outcome.Effect.{Effect}
-use Rattle.device_rules.specs.Legal.{is_zeroing}
-use Rattle.device_rules.specs.ChangedRuns.{LiesIn, holders_after, touches}
+use Rattle.device_commands.specs.device_rules.specs.Legal.{is_zeroing}
+use Rattle.device_commands.specs.device_rules.specs.ChangedRuns.{LiesIn, holders_after, touches}
 use Rattle.control_core.specs.PutChanges.{AreAdded, PutOne, bits_after, bits_by, is_named, is_zero, is_zeroed, lies_between, touched_by}
 
 -- ---- numbers

@@ -17,12 +17,12 @@ use Rattle.journal_core.specs.declared.outcome.Effect.{Effect}
 use Rattle.journal_core.proofs.HoldingSteps.{holds-append}
 use Rattle.region_config.specs.Configurations.{Configuration}
 use Rattle.region_config.specs.Granules.{granule_total}
-use Rattle.table_laws.proofs.HostBits.{with_has, without_has}
+use Rattle.device_commands.specs.table_laws.proofs.HostBits.{with_has, without_has}
 use Rattle.dcd_base.specs.Hosts.{has_host, with_host, without_host}
-use Rattle.device_rules.specs.ChangedRuns.{AreChanges, IsSoundChange}
-use Rattle.device_state.specs.StateAfter.{IsStateAfter}
+use Rattle.device_commands.specs.device_rules.specs.ChangedRuns.{AreChanges, IsSoundChange}
+use Rattle.device_commands.specs.device_state.specs.StateAfter.{IsStateAfter}
 use Rattle.control_core.specs.PutChanges.{AreOfOneHost, ArePut, NameNoOthers, bits_after, is_of_host}
-use Rattle.device_state.specs.declared.state.State.{State}
+use Rattle.device_commands.specs.device_state.specs.declared.state.State.{State}
 
 -- ---- bits of the other hosts
 

@@ -22,21 +22,21 @@ use Rattle.journal_core.specs.declared.acts.Reply.{Reply}
 use Rattle.journal_core.specs.declared.entries.Entry.{Entry}
 use Rattle.journal_core.specs.declared.outcome.Effect.{Effect}
 use Rattle.journal_core.specs.declared.outcome.HeldKind.{HeldKind}
-use Rattle.device_state.specs.StateAfter.{lists_in}
+use Rattle.device_commands.specs.device_state.specs.StateAfter.{lists_in}
 use Rattle.device_commands.specs.Drafts.{as_records}
 use Rattle.device_commands.specs.declared.log_records.LogRecords.{LogRecords}
-use Rattle.device_rules.specs.Answers.{dropped, effects_with, host_outcome, host_result, host_result_in, host_rule, reply_with, response, unless}
-use Rattle.device_rules.specs.Outcomes.{Outcome}
-use Rattle.device_rules.specs.ResponseOutcomes.{response_records, respond_changes, unhold}
-use Rattle.device_rules.specs.Views.{View, view_after, view_of}
-use Rattle.step_laws.proofs.ViewOthers.{dropped-leaves}
-use Rattle.table_laws.proofs.QuietSteps.{table-refused}
+use Rattle.device_commands.specs.device_rules.specs.Answers.{dropped, effects_with, host_outcome, host_result, host_result_in, host_rule, reply_with, response, unless}
+use Rattle.device_commands.specs.device_rules.specs.Outcomes.{Outcome}
+use Rattle.device_commands.specs.device_rules.specs.ResponseOutcomes.{response_records, respond_changes, unhold}
+use Rattle.device_commands.specs.device_rules.specs.Views.{View, view_after, view_of}
+use Rattle.device_commands.specs.step_laws.proofs.ViewOthers.{dropped-leaves}
+use Rattle.device_commands.specs.table_laws.proofs.QuietSteps.{table-refused}
 use Rattle.control_core.specs.Deciding.{IsDecidedBy, IsShort}
 use Rattle.control_core.specs.Doing.{IsDone}
-use Rattle.device_state.specs.Entered.{lists_by, unheld}
-use Rattle.device_state.specs.Updates.{IsOfLog, IsUpdate, lists_after}
+use Rattle.device_commands.specs.device_state.specs.Entered.{lists_by, unheld}
+use Rattle.device_commands.specs.device_state.specs.Updates.{IsOfLog, IsUpdate, lists_after}
 use Rattle.control_core.specs.declared.decided.Decided.{Decided}
-use Rattle.device_state.specs.declared.updates.TagChange.{TagChange}
+use Rattle.device_commands.specs.device_state.specs.declared.updates.TagChange.{TagChange}
 use Rattle.control_core.proofs.Doing.{others_stay}
 
 -- ---- the logs that are told are of the device

@@ -12,38 +12,38 @@ use Rattle.dcd_base.specs.declared.ids.HostId.{HostId}
 use Rattle.dcd_codes.specs.declared.codes.Code.{Code}
 use Rattle.extent_list.specs.ExtentLists.{has_extent_of}
 use Rattle.region_config.specs.Configurations.{Configuration}
-use Rattle.host_lists.specs.Changes.{changed_by}
-use Rattle.host_lists.specs.Lists.{Lists}
-use Rattle.host_lists.specs.declared.lists_change.ListsChange.{ListsChange}
+use Rattle.device_commands.specs.host_lists.specs.Changes.{changed_by}
+use Rattle.device_commands.specs.host_lists.specs.Lists.{Lists}
+use Rattle.device_commands.specs.host_lists.specs.declared.lists_change.ListsChange.{ListsChange}
 use Rattle.journal_core.specs.Entries.{effects}
 use Rattle.journal_core.specs.declared.acts.Reply.{Reply}
 use Rattle.journal_core.specs.declared.entries.Entry.{Entry}
 use Rattle.journal_core.specs.declared.outcome.Effect.{Effect}
 use Rattle.journal_core.specs.declared.outcome.HeldKind.{HeldKind}
 use Rattle.device_commands.specs.Drafts.{AreAfter, Drafts}
-use Rattle.device_state.specs.StateAfter.{lists_in, IsStateAfter}
+use Rattle.device_commands.specs.device_state.specs.StateAfter.{lists_in, IsStateAfter}
 use Rattle.device_commands.specs.declared.draft.DraftParts.{DraftParts}
-use Rattle.device_rules.specs.Answers.{response}
-use Rattle.device_rules.specs.Hosts.{accepted_after, accepted_of, held_after, moves, offers_after, offers_of}
-use Rattle.device_rules.specs.Logs.{log_of}
-use Rattle.device_rules.specs.Tags.{open_tags}
-use Rattle.device_rules.specs.Outcomes.{Outcome, effects_of, ended, entered_all}
-use Rattle.device_rules.specs.Views.{View, view_after, view_of}
-use Rattle.device_rules.proofs.EffectKinds.{any_log, tells_any, told_passes}
-use Rattle.device_rules.proofs.Leaving.{both_pass, map_passes, over-leaving}
-use Rattle.device_rules.proofs.OutcomeSteps.{over-outcome}
-use Rattle.step_laws.proofs.ViewsLeft.{leaves_view, view_after-left}
-use Rattle.table_laws.specs.TagTable.{IsTable, among, among_offers, ending, host_of_tags_set}
+use Rattle.device_commands.specs.device_rules.specs.Answers.{response}
+use Rattle.device_commands.specs.device_rules.specs.Hosts.{accepted_after, accepted_of, held_after, moves, offers_after, offers_of}
+use Rattle.device_commands.specs.device_rules.specs.Logs.{log_of}
+use Rattle.device_commands.specs.device_rules.specs.Tags.{open_tags}
+use Rattle.device_commands.specs.device_rules.specs.Outcomes.{Outcome, effects_of, ended, entered_all}
+use Rattle.device_commands.specs.device_rules.specs.Views.{View, view_after, view_of}
+use Rattle.device_commands.specs.device_rules.proofs.EffectKinds.{any_log, tells_any, told_passes}
+use Rattle.device_commands.specs.device_rules.proofs.Leaving.{both_pass, map_passes, over-leaving}
+use Rattle.device_commands.specs.device_rules.proofs.OutcomeSteps.{over-outcome}
+use Rattle.device_commands.specs.step_laws.proofs.ViewsLeft.{leaves_view, view_after-left}
+use Rattle.device_commands.specs.table_laws.specs.TagTable.{IsTable, among, among_offers, ending, host_of_tags_set}
 use Rattle.tag_refs.specs.declared.entries.TagEntry.{TagEntry}
 use Rattle.control_core.specs.Doing.{IsDone, IsOfHost}
 use Rattle.device_commands.specs.TagChanges.{told_change}
-use Rattle.device_state.specs.Entered.{lists_by, lists_put, unheld}
+use Rattle.device_commands.specs.device_state.specs.Entered.{lists_by, lists_put, unheld}
 use Rattle.control_core.specs.Recording.{ending_with, lists_or_had, records_entered, told_now}
-use Rattle.device_state.specs.ListsUpdates.{lists_alone, lists_for}
-use Rattle.device_state.specs.Updates.{IsUpdate, lists_after}
-use Rattle.device_state.specs.declared.state.State.{State}
-use Rattle.device_state.specs.declared.updates.NewLists.{NewLists}
-use Rattle.device_state.specs.declared.updates.TagChange.{TagChange}
+use Rattle.device_commands.specs.device_state.specs.ListsUpdates.{lists_alone, lists_for}
+use Rattle.device_commands.specs.device_state.specs.Updates.{IsUpdate, lists_after}
+use Rattle.device_commands.specs.device_state.specs.declared.state.State.{State}
+use Rattle.device_commands.specs.device_state.specs.declared.updates.NewLists.{NewLists}
+use Rattle.device_commands.specs.device_state.specs.declared.updates.TagChange.{TagChange}
 use Rattle.control_core.proofs.Recorded.{told_is}
 
 -- ---- ends of tags and records change no lists

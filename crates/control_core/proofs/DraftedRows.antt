@@ -15,8 +15,8 @@ use Rattle.region_config.specs.Configurations.{Configuration}
 use Rattle.device_commands.specs.HostMessages.{IsDrafted}
 use Rattle.device_commands.specs.ManagerMessages.{rule_after}
 use Rattle.device_commands.specs.declared.draft.DraftParts.{DraftParts}
-use Rattle.device_rules.specs.Answers.{host_outcome, host_result, host_result_in, manager_outcome, manager_result, unless}
-use Rattle.device_rules.specs.Views.{View, view_of}
+use Rattle.device_commands.specs.device_rules.specs.Answers.{host_outcome, host_result, host_result_in, manager_outcome, manager_result, unless}
+use Rattle.device_commands.specs.device_rules.specs.Views.{View, view_of}
 use Rattle.control_core.specs.Broken.{HasRow}
 
 pub host_row : (c : Configuration) (h : HostId) (v : View) (q : Request) (r : Result DraftParts Refusal) → IsDrafted c h v q r → HasRow (result_err (host_result_in c h v q)) r

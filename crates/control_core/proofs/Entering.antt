@@ -9,13 +9,13 @@ use Rattle.journal_core.specs.declared.outcome.Effect.{Effect}
 use Rattle.journal_core.specs.Keeping.{next_stamp}
 use Rattle.journal_core.proofs.EachSteps.{Each-push}
 use Rattle.region_config.specs.Configurations.{Configuration}
-use Rattle.device_rules.specs.Legal.{Meets}
-use Rattle.device_state.specs.Entered.{IsEntered}
-use Rattle.device_state.specs.StateAfter.{IsReached}
-use Rattle.device_state.specs.Updates.{IsOfDevice, IsUpdate}
-use Rattle.device_state.specs.declared.state.State.{State}
-use Rattle.device_state.specs.declared.updates.Update.{Update}
-use Rattle.device_state.proofs.EnteredSteps.{kept-entered, of_device}
+use Rattle.device_commands.specs.device_rules.specs.Legal.{Meets}
+use Rattle.device_commands.specs.device_state.specs.Entered.{IsEntered}
+use Rattle.device_commands.specs.device_state.specs.StateAfter.{IsReached}
+use Rattle.device_commands.specs.device_state.specs.Updates.{IsOfDevice, IsUpdate}
+use Rattle.device_commands.specs.device_state.specs.declared.state.State.{State}
+use Rattle.device_commands.specs.device_state.specs.declared.updates.Update.{Update}
+use Rattle.device_commands.specs.device_state.proofs.EnteredSteps.{kept-entered, of_device}
 use Rattle.control_core.specs.Deciding.{Holds, IsShort}
 use Rattle.control_core.specs.Pasts.{CanEnter, EntersStep, IsOfStep, IsPast, LiveControlled}
 use Rattle.control_core.specs.PutChanges.{AreOfOneHost}

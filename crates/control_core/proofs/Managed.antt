@@ -19,7 +19,7 @@ use Rattle.fm_payloads.specs.ManagerPayloads.{manager_request}
 use Rattle.fm_payloads.specs.declared.requests.FmRequest.{FmRequest}
 use Rattle.region_config.specs.Configurations.{Configuration}
 use Rattle.region_config.specs.Soundness.{IsSound}
-use Rattle.host_lists.specs.Lists.{Lists}
+use Rattle.device_commands.specs.host_lists.specs.Lists.{Lists}
 use Rattle.journal_core.specs.Entries.{effects}
 use Rattle.journal_core.specs.declared.acts.Act.{Act}
 use Rattle.journal_core.specs.declared.acts.Reply.{Reply}
@@ -27,33 +27,33 @@ use Rattle.journal_core.specs.declared.entries.Entry.{Entry}
 use Rattle.journal_core.specs.declared.outcome.Effect.{Effect}
 use Rattle.journal_core.specs.declared.outcome.HeldKind.{HeldKind}
 use Rattle.device_commands.specs.Drafts.{IsOutcome, as_records}
-use Rattle.device_state.specs.StateAfter.{lists_in, IsStateAfter}
+use Rattle.device_commands.specs.device_state.specs.StateAfter.{lists_in, IsStateAfter}
 use Rattle.device_commands.specs.declared.draft.DraftParts.{DraftParts}
 use Rattle.device_commands.specs.declared.log_records.LogRecords.{LogRecords}
-use Rattle.device_rules.specs.Answers.{effects_with, manager_outcome, manager_result, manager_rule, reply_with, response, unless}
-use Rattle.device_rules.specs.Hosts.{accepted_after, held_after, moves, offers_after}
-use Rattle.device_rules.specs.Legal.{Legal}
-use Rattle.device_rules.specs.Logs.{log_of}
-use Rattle.device_rules.specs.Outcomes.{Outcome, effects_of, ended, entered_all}
-use Rattle.device_rules.specs.Views.{View, view_after, view_of}
-use Rattle.device_rules.proofs.EffectKinds.{PassClearing, clear_passes, reference_passes}
-use Rattle.device_rules.proofs.Leaving.{over-leaving}
-use Rattle.table_laws.specs.QuietRequests.{is_quiet_manager}
-use Rattle.table_laws.specs.TagTable.{IsTable}
-use Rattle.table_laws.proofs.QuietSteps.{table-manager}
-use Rattle.table_laws.proofs.ReferenceSteps.{ended-reference, table-add_reference, table-remove_reference}
-use Rattle.holding_laws.proofs.LegalSound.{legal_is_sound}
-use Rattle.device_rules.specs.Tags.{is_referenced}
+use Rattle.device_commands.specs.device_rules.specs.Answers.{effects_with, manager_outcome, manager_result, manager_rule, reply_with, response, unless}
+use Rattle.device_commands.specs.device_rules.specs.Hosts.{accepted_after, held_after, moves, offers_after}
+use Rattle.device_commands.specs.device_rules.specs.Legal.{Legal}
+use Rattle.device_commands.specs.device_rules.specs.Logs.{log_of}
+use Rattle.device_commands.specs.device_rules.specs.Outcomes.{Outcome, effects_of, ended, entered_all}
+use Rattle.device_commands.specs.device_rules.specs.Views.{View, view_after, view_of}
+use Rattle.device_commands.specs.device_rules.proofs.EffectKinds.{PassClearing, clear_passes, reference_passes}
+use Rattle.device_commands.specs.device_rules.proofs.Leaving.{over-leaving}
+use Rattle.device_commands.specs.table_laws.specs.QuietRequests.{is_quiet_manager}
+use Rattle.device_commands.specs.table_laws.specs.TagTable.{IsTable}
+use Rattle.device_commands.specs.table_laws.proofs.QuietSteps.{table-manager}
+use Rattle.device_commands.specs.table_laws.proofs.ReferenceSteps.{ended-reference, table-add_reference, table-remove_reference}
+use Rattle.device_commands.specs.holding_laws.proofs.LegalSound.{legal_is_sound}
+use Rattle.device_commands.specs.device_rules.specs.Tags.{is_referenced}
 use Rattle.tag_refs.specs.Tables.{is_used, passes, with_reference}
 use Rattle.control_core.specs.Deciding.{IsDecidedBy, IsShort}
 use Rattle.control_core.specs.Doing.{IsDone}
-use Rattle.device_state.specs.Entered.{lists_by}
+use Rattle.device_commands.specs.device_state.specs.Entered.{lists_by}
 use Rattle.control_core.specs.Managing.{IsOfNone, Manages, leaves_lists}
 use Rattle.control_core.specs.Recording.{records_entered}
-use Rattle.device_state.specs.Updates.{IsOfLog, IsUpdate}
+use Rattle.device_commands.specs.device_state.specs.Updates.{IsOfLog, IsUpdate}
 use Rattle.control_core.specs.declared.decided.Decided.{Decided}
-use Rattle.device_state.specs.declared.state.State.{State}
-use Rattle.device_state.specs.declared.updates.TagChange.{TagChange}
+use Rattle.device_commands.specs.device_state.specs.declared.state.State.{State}
+use Rattle.device_commands.specs.device_state.specs.declared.updates.TagChange.{TagChange}
 use Rattle.control_core.proofs.Doing.{lists_over, unheld_over}
 use Rattle.control_core.proofs.Decisions.{records_known}
 use Rattle.control_core.proofs.Recorded.{told_is}

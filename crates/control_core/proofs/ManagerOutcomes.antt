@@ -12,18 +12,18 @@ use Rattle.device_commands.specs.declared.log_records.LogRecords.{LogRecords}
 use Rattle.journal_core.specs.Entries.{effects}
 use Rattle.journal_core.specs.declared.entries.Entry.{Entry}
 use Rattle.journal_core.specs.declared.outcome.Effect.{Effect}
-use Rattle.device_rules.specs.Answers.{manager_outcome, manager_rule}
-use Rattle.device_rules.specs.Legal.{Legal}
-use Rattle.device_rules.specs.ReleaseOutcomes.{is_cleaning, is_forced, removed}
-use Rattle.device_rules.specs.Views.{View, view_of}
-use Rattle.device_rules.proofs.EffectKinds.{removals_pass}
-use Rattle.step_laws.proofs.ViewOthers.{remove-leaves}
-use Rattle.table_laws.proofs.GivingSteps.{table-removal}
-use Rattle.table_laws.proofs.LeavingSteps.{removal_row}
+use Rattle.device_commands.specs.device_rules.specs.Answers.{manager_outcome, manager_rule}
+use Rattle.device_commands.specs.device_rules.specs.Legal.{Legal}
+use Rattle.device_commands.specs.device_rules.specs.ReleaseOutcomes.{is_cleaning, is_forced, removed}
+use Rattle.device_commands.specs.device_rules.specs.Views.{View, view_of}
+use Rattle.device_commands.specs.device_rules.proofs.EffectKinds.{removals_pass}
+use Rattle.device_commands.specs.step_laws.proofs.ViewOthers.{remove-leaves}
+use Rattle.device_commands.specs.table_laws.proofs.GivingSteps.{table-removal}
+use Rattle.device_commands.specs.table_laws.proofs.LeavingSteps.{removal_row}
 use Rattle.control_core.specs.Doing.{IsOfHost}
-use Rattle.device_state.specs.StateAfter.{IsStateAfter}
-use Rattle.device_state.specs.Updates.{IsOfLog}
-use Rattle.device_state.specs.declared.state.State.{State}
+use Rattle.device_commands.specs.device_state.specs.StateAfter.{IsStateAfter}
+use Rattle.device_commands.specs.device_state.specs.Updates.{IsOfLog}
+use Rattle.device_commands.specs.device_state.specs.declared.state.State.{State}
 use Rattle.control_core.proofs.Decisions.{records_known}
 use Rattle.control_core.proofs.HostOutcomes.{holds_none, own_stay}
 

@@ -9,12 +9,12 @@ use Rattle.journal_core.specs.declared.entries.Entry.{Entry}
 use Rattle.journal_core.specs.declared.outcome.Effect.{Effect}
 use Rattle.region_config.specs.Configurations.{Configuration}
 use Rattle.journal_core.proofs.Lists.{rising_none}
-use Rattle.device_rules.specs.Answers.{answer}
-use Rattle.device_rules.specs.Legal.{Meets}
+use Rattle.device_commands.specs.device_rules.specs.Answers.{answer}
+use Rattle.device_commands.specs.device_rules.specs.Legal.{Meets}
 use Rattle.control_core.specs.Deciding.{AreStamped, Holds, IsDecidedBy, IsShort}
 use Rattle.control_core.specs.Pasts.{CanEnter, EntersStep, IsOfStep, IsPast, LiveControlled}
 use Rattle.control_core.specs.declared.decided.Decided.{Decided}
-use Rattle.device_state.specs.declared.updates.TagChange.{TagChange}
+use Rattle.device_commands.specs.device_state.specs.declared.updates.TagChange.{TagChange}
 use Rattle.journal_core.specs.Keeping.{next_entry}
 use Rattle.control_core.specs.Steps.{Controlled, IsNextEntry, MayStep, journal_entry}
 use Rattle.control_core.proofs.Entering.{holds_next, past_entered, past_held}

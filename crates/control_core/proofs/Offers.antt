@@ -13,11 +13,11 @@ use Rattle.dcd_base.specs.declared.ids.HostId.{HostId}
 use Rattle.dcd_codes.specs.declared.codes.Code.{Code}
 use Rattle.extent_list.specs.ExtentLists.{has_extent_of}
 use Rattle.fm_payloads.specs.declared.requests.FmRequest.{FmRequest}
-use Rattle.host_lists.specs.Changes.{changed_by}
-use Rattle.host_lists.specs.Lists.{Lists}
-use Rattle.host_lists.specs.declared.lists_change.ListsChange.{ListsChange}
+use Rattle.device_commands.specs.host_lists.specs.Changes.{changed_by}
+use Rattle.device_commands.specs.host_lists.specs.Lists.{Lists}
+use Rattle.device_commands.specs.host_lists.specs.declared.lists_change.ListsChange.{ListsChange}
 use Rattle.device_commands.specs.Drafts.{AreAfter, Drafts, as_records}
-use Rattle.device_state.specs.StateAfter.{lists_in, IsStateAfter}
+use Rattle.device_commands.specs.device_state.specs.StateAfter.{lists_in, IsStateAfter}
 use Rattle.device_commands.specs.declared.draft.DraftParts.{DraftParts}
 use Rattle.device_commands.specs.declared.log_records.LogRecords.{LogRecords}
 use Rattle.region_config.specs.Configurations.{Configuration}
@@ -28,39 +28,39 @@ use Rattle.journal_core.specs.Entries.{effects}
 use Rattle.journal_core.specs.declared.acts.Reply.{Reply}
 use Rattle.journal_core.specs.declared.entries.Entry.{Entry}
 use Rattle.journal_core.specs.declared.outcome.Effect.{Effect}
-use Rattle.holding_laws.specs.Pictures.{Picture, picture_of}
-use Rattle.holding_laws.specs.Standing.{IsMade}
-use Rattle.holding_laws.proofs.Adding.{IsAdded, IsRow, added, row_of}
-use Rattle.holding_laws.proofs.Holding.{present_whole}
-use Rattle.holding_laws.proofs.Homes.{made_granular, made_region}
-use Rattle.holding_laws.proofs.LegalSound.{legal_is_sound}
-use Rattle.device_rules.specs.Adding.{offered}
-use Rattle.device_rules.specs.Answers.{manager_outcome, manager_rule, response}
-use Rattle.device_rules.specs.Hosts.{accepted_of}
-use Rattle.device_rules.specs.Legal.{Legal}
-use Rattle.device_rules.specs.Logs.{log_of}
-use Rattle.device_rules.specs.Outcomes.{Outcome, effects_of, ended, entered_all}
-use Rattle.device_rules.specs.Views.{view_after, view_of}
-use Rattle.step_laws.proofs.ViewOthers.{add-leaves}
-use Rattle.table_laws.specs.TagTable.{IsTable}
-use Rattle.table_laws.proofs.AddSteps.{table-add}
-use Rattle.table_laws.proofs.TagEntries.{table_live}
+use Rattle.device_commands.specs.holding_laws.specs.Pictures.{Picture, picture_of}
+use Rattle.device_commands.specs.holding_laws.specs.Standing.{IsMade}
+use Rattle.device_commands.specs.holding_laws.proofs.Adding.{IsAdded, IsRow, added, row_of}
+use Rattle.device_commands.specs.holding_laws.proofs.Holding.{present_whole}
+use Rattle.device_commands.specs.holding_laws.proofs.Homes.{made_granular, made_region}
+use Rattle.device_commands.specs.holding_laws.proofs.LegalSound.{legal_is_sound}
+use Rattle.device_commands.specs.device_rules.specs.Adding.{offered}
+use Rattle.device_commands.specs.device_rules.specs.Answers.{manager_outcome, manager_rule, response}
+use Rattle.device_commands.specs.device_rules.specs.Hosts.{accepted_of}
+use Rattle.device_commands.specs.device_rules.specs.Legal.{Legal}
+use Rattle.device_commands.specs.device_rules.specs.Logs.{log_of}
+use Rattle.device_commands.specs.device_rules.specs.Outcomes.{Outcome, effects_of, ended, entered_all}
+use Rattle.device_commands.specs.device_rules.specs.Views.{view_after, view_of}
+use Rattle.device_commands.specs.step_laws.proofs.ViewOthers.{add-leaves}
+use Rattle.device_commands.specs.table_laws.specs.TagTable.{IsTable}
+use Rattle.device_commands.specs.table_laws.proofs.AddSteps.{table-add}
+use Rattle.device_commands.specs.table_laws.proofs.TagEntries.{table_live}
 use Rattle.tag_refs.specs.Tables.{entries_changed, has_entry, set_by, still_used}
 use Rattle.tag_refs.specs.declared.entries.TagEntry.{TagEntry}
 use Rattle.control_core.specs.Doing.{IsDone}
-use Rattle.device_state.specs.Entered.{lists_by, lists_put, tags_put}
+use Rattle.device_commands.specs.device_state.specs.Entered.{lists_by, lists_put, tags_put}
 use Rattle.device_commands.specs.TagChanges.{AreGranular, offer_change}
 use Rattle.control_core.specs.Offers.{IsOfOffer}
 use Rattle.control_core.specs.Recording.{records_entered}
-use Rattle.device_state.specs.ListsUpdates.{lists_for}
-use Rattle.device_state.specs.Updates.{CanChange, IsOfHosts, IsOfLog, IsUpdate, lists_after}
-use Rattle.device_state.specs.declared.state.State.{State}
-use Rattle.device_state.specs.declared.updates.TagChange.{TagChange}
+use Rattle.device_commands.specs.device_state.specs.ListsUpdates.{lists_for}
+use Rattle.device_commands.specs.device_state.specs.Updates.{CanChange, IsOfHosts, IsOfLog, IsUpdate, lists_after}
+use Rattle.device_commands.specs.device_state.specs.declared.state.State.{State}
+use Rattle.device_commands.specs.device_state.specs.declared.updates.TagChange.{TagChange}
 use Rattle.control_core.proofs.Decisions.{records_known}
 use Rattle.control_core.proofs.Doing.{lists_over, others_stay, unheld_over}
 use Rattle.control_core.proofs.Recorded.{told_is}
 use Rattle.media_map.proofs.RunLemmas.{granular_from}
-use Rattle.device_rules.proofs.TagSteps.{same_tag-self}
+use Rattle.device_commands.specs.device_rules.proofs.TagSteps.{same_tag-self}
 
 module _ (c : Configuration) (before : List Entry) (s : State) (kept : IsStateAfter c before s) (h : HostId) (r : ℕ) (tag : Tag) (new : List Extent) (o : Outcome) (of : IsOfOffer c before h r tag new o) where
   own_after : lists_after c h before (effects_of c (effects before) o) ≡ lists_in (view_after c h (view_of c h before) o.changes)

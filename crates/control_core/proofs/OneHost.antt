@@ -9,15 +9,15 @@ use Rattle.journal_core.specs.Entries.{effects}
 use Rattle.journal_core.specs.declared.entries.Entry.{Entry}
 use Rattle.journal_core.specs.declared.outcome.Effect.{Effect}
 use Rattle.region_config.specs.Configurations.{Configuration}
-use Rattle.device_rules.specs.Answers.{manager_outcome, scrubbed}
-use Rattle.device_rules.specs.Legal.{Meets}
-use Rattle.device_rules.specs.Logs.{log_of}
-use Rattle.device_rules.specs.Outcomes.{Outcome, effects_of}
-use Rattle.device_rules.specs.ReleaseOutcomes.{is_cleaning, is_forced, removed}
-use Rattle.device_rules.specs.Tags.{is_referenced}
-use Rattle.device_rules.specs.Views.{View, view_of}
-use Rattle.device_rules.proofs.EffectKinds.{PassClearing, PassHeld, PassRecords, any_log, clear_passes, host_passes, outcome_passes, reference_passes, removals_pass, tells_any, unhold_passes, zeroes_pass}
-use Rattle.device_rules.proofs.LegalSteps.{step_case}
+use Rattle.device_commands.specs.device_rules.specs.Answers.{manager_outcome, scrubbed}
+use Rattle.device_commands.specs.device_rules.specs.Legal.{Meets}
+use Rattle.device_commands.specs.device_rules.specs.Logs.{log_of}
+use Rattle.device_commands.specs.device_rules.specs.Outcomes.{Outcome, effects_of}
+use Rattle.device_commands.specs.device_rules.specs.ReleaseOutcomes.{is_cleaning, is_forced, removed}
+use Rattle.device_commands.specs.device_rules.specs.Tags.{is_referenced}
+use Rattle.device_commands.specs.device_rules.specs.Views.{View, view_of}
+use Rattle.device_commands.specs.device_rules.proofs.EffectKinds.{PassClearing, PassHeld, PassRecords, any_log, clear_passes, host_passes, outcome_passes, reference_passes, removals_pass, tells_any, unhold_passes, zeroes_pass}
+use Rattle.device_commands.specs.device_rules.proofs.LegalSteps.{step_case}
 use Rattle.control_core.specs.PutChanges.{AreOfOneHost, is_of_host}
 
 -- what is of no host is of any

@@ -14,15 +14,15 @@ use Rattle.journal_core.specs.Entries.{effects}
 use Rattle.journal_core.specs.declared.entries.Entry.{Entry}
 use Rattle.journal_core.specs.declared.outcome.Effect.{Effect}
 use Rattle.region_config.specs.Configurations.{Configuration}
-use Rattle.device_state.specs.StateAfter.{IsLogOf, IsStateAfter}
+use Rattle.device_commands.specs.device_state.specs.StateAfter.{IsLogOf, IsStateAfter}
 use Rattle.device_commands.specs.Drafts.{as_records}
 use Rattle.device_commands.specs.declared.log_records.LogRecords.{LogRecords}
-use Rattle.device_rules.specs.Logs.{log_after, log_of}
-use Rattle.device_rules.specs.Outcomes.{entered, entered_all, no_extent}
-use Rattle.step_laws.proofs.LogSteps.{IsSound, IsSound-recorded, room-recorded, same_log-self}
+use Rattle.device_commands.specs.device_rules.specs.Logs.{log_after, log_of}
+use Rattle.device_commands.specs.device_rules.specs.Outcomes.{entered, entered_all, no_extent}
+use Rattle.device_commands.specs.step_laws.proofs.LogSteps.{IsSound, IsSound-recorded, room-recorded, same_log-self}
 use Rattle.control_core.specs.Recording.{records_by, records_entered}
-use Rattle.device_state.specs.Updates.{IsOfLog, log_in}
-use Rattle.device_state.specs.declared.state.State.{State}
+use Rattle.device_commands.specs.device_state.specs.Updates.{IsOfLog, log_in}
+use Rattle.device_commands.specs.device_state.specs.declared.state.State.{State}
 
 -- the next handle goes on
 handle-recorded : (log : Log) (e : Event) → next_handle (recorded log e) ≡ handle_after (next_handle log)

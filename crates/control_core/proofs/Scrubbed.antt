@@ -7,24 +7,24 @@ use Rattle.dcd_base.specs.declared.steps.Actor.{Actor}
 use Rattle.region_config.specs.Configurations.{Configuration}
 use Rattle.region_config.specs.Granules.{same_region}
 use Rattle.granule_map.specs.Choices.{joined}
-use Rattle.device_state.specs.StateAfter.{lists_in}
-use Rattle.host_lists.specs.Lists.{Lists}
+use Rattle.device_commands.specs.device_state.specs.StateAfter.{lists_in}
+use Rattle.device_commands.specs.host_lists.specs.Lists.{Lists}
 use Rattle.journal_core.specs.Entries.{effects}
 use Rattle.journal_core.specs.declared.acts.Act.{Act}
 use Rattle.journal_core.specs.declared.acts.Reply.{Reply}
 use Rattle.journal_core.specs.declared.entries.Entry.{Entry}
 use Rattle.journal_core.specs.declared.outcome.Effect.{Effect}
-use Rattle.device_rules.specs.Answers.{scrubbed as rules_scrubbed, zeroes}
-use Rattle.device_rules.specs.Views.{view_of}
-use Rattle.device_rules.proofs.EffectKinds.{zeroes_pass}
-use Rattle.step_laws.proofs.ViewsLeft.{leaves_view, view_after-left}
+use Rattle.device_commands.specs.device_rules.specs.Answers.{scrubbed as rules_scrubbed, zeroes}
+use Rattle.device_commands.specs.device_rules.specs.Views.{view_of}
+use Rattle.device_commands.specs.device_rules.proofs.EffectKinds.{zeroes_pass}
+use Rattle.device_commands.specs.step_laws.proofs.ViewsLeft.{leaves_view, view_after-left}
 use Rattle.sanitizer.specs.Turns.{run_of_pair}
-use Rattle.table_laws.proofs.QuietSteps.{table-scrubbed}
+use Rattle.device_commands.specs.table_laws.proofs.QuietSteps.{table-scrubbed}
 use Rattle.control_core.specs.Deciding.{IsDecided}
-use Rattle.device_state.specs.Entered.{lists_by}
-use Rattle.device_state.specs.Updates.{IsUpdate}
-use Rattle.device_state.specs.declared.state.State.{State}
-use Rattle.device_state.specs.declared.updates.TagChange.{TagChange}
+use Rattle.device_commands.specs.device_state.specs.Entered.{lists_by}
+use Rattle.device_commands.specs.device_state.specs.Updates.{IsUpdate}
+use Rattle.device_commands.specs.device_state.specs.declared.state.State.{State}
+use Rattle.device_commands.specs.device_state.specs.declared.updates.TagChange.{TagChange}
 use Rattle.device_commands.proofs.ZeroedGranules.{map_twice}
 use Rattle.device_commands.specs.Scrub.{IsZeroed}
 use Rattle.device_commands.specs.declared.scrub.Zeroed.{Zeroed}

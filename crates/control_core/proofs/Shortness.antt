@@ -22,12 +22,12 @@ use Rattle.fm_payloads.specs.ManagerPayloads.{info_fields, info_head_fields, inf
 use Rattle.fm_payloads.specs.declared.requests.FmRequest.{FmRequest}
 use Rattle.dcd_codes.specs.Rules.{◌breaks◌}
 use Rattle.dcd_codes.specs.declared.rules.Rule.{Rule}
-use Rattle.step_laws.proofs.LogOutcomes.{whole as broken_not}
+use Rattle.device_commands.specs.step_laws.proofs.LogOutcomes.{whole as broken_not}
 use Rattle.region_config.proofs.Searches.{or_parts}
 use Rattle.region_config.specs.declared.region_spec.RegionSpec.{RegionSpec}
 use Rattle.journal_core.specs.declared.outcome.Effect.{Effect}
 use Rattle.tag_refs.specs.declared.entries.TagEntry.{TagEntry}
-use Rattle.host_lists.specs.Lists.{Lists}
+use Rattle.device_commands.specs.host_lists.specs.Lists.{Lists}
 use Rattle.host_payloads.specs.HostPayloads.{configuration_fields, configuration_head_fields, configuration_payload, counts_bytes, counts_fields, events_fields, events_head_fields, events_payload, extents_payload, page_fields, region_bytes, view_fields}
 use Rattle.field_bytes.specs.Extents.{extent_bytes, extent_fields}
 use Rattle.host_payloads.specs.declared.requests.HostRequest.{HostRequest}
@@ -37,17 +37,17 @@ use Rattle.journal_core.specs.Entries.{effects}
 use Rattle.journal_core.specs.declared.entries.Entry.{Entry}
 use Rattle.region_config.specs.Configurations.{Configuration}
 use Rattle.region_config.specs.Granules.{regions_of}
-use Rattle.device_rules.specs.Answers.{host_outcome, manager_outcome, manager_rule}
-use Rattle.device_rules.specs.EventCommands.{events_reply, log_named}
-use Rattle.device_rules.specs.Settings.{host_counts, host_flags, lists_reply, manager_flags, page, past_end, region_seen, regions_reply}
-use Rattle.device_rules.specs.Logs.{log_of}
-use Rattle.device_rules.specs.TagCommands.{tag_seen}
-use Rattle.device_rules.specs.Tags.{open_tags}
-use Rattle.device_rules.specs.Views.{View, generation_in, view_of}
+use Rattle.device_commands.specs.device_rules.specs.Answers.{host_outcome, manager_outcome, manager_rule}
+use Rattle.device_commands.specs.device_rules.specs.EventCommands.{events_reply, log_named}
+use Rattle.device_commands.specs.device_rules.specs.Settings.{host_counts, host_flags, lists_reply, manager_flags, page, past_end, region_seen, regions_reply}
+use Rattle.device_commands.specs.device_rules.specs.Logs.{log_of}
+use Rattle.device_commands.specs.device_rules.specs.TagCommands.{tag_seen}
+use Rattle.device_commands.specs.device_rules.specs.Tags.{open_tags}
+use Rattle.device_commands.specs.device_rules.specs.Views.{View, generation_in, view_of}
 use Rattle.control_core.specs.Fitting.{PartFits, RequestFits, TagFits}
-use Rattle.device_state.specs.StateAfter.{IsStateAfter, IsPart}
-use Rattle.device_state.specs.declared.parts.HostPart.{HostPart}
-use Rattle.device_state.specs.declared.state.State.{State}
+use Rattle.device_commands.specs.device_state.specs.StateAfter.{IsStateAfter, IsPart}
+use Rattle.device_commands.specs.device_state.specs.declared.parts.HostPart.{HostPart}
+use Rattle.device_commands.specs.device_state.specs.declared.state.State.{State}
 
 -- ---- lengths of layouts
 

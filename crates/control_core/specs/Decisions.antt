@@ -5,7 +5,7 @@ use Rattle.control_core.specs.declared.decided.Decided.{Decided}
 use Rattle.control_core.specs.declared.step_effects.TakenStep.{TakenStep}
 use Rattle.journal_core.specs.declared.acts.Reply.{Reply}
 use Rattle.journal_core.specs.declared.outcome.Effect.{Effect}
-use Rattle.device_state.specs.declared.updates.TagChange.{TagChange}
+use Rattle.device_commands.specs.device_state.specs.declared.updates.TagChange.{TagChange}
 
 -- what a step comes to that only replies
 abbrev pub only_replied : Reply → Decided

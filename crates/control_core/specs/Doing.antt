@@ -16,20 +16,20 @@ use Rattle.journal_core.specs.Entries.{effects}
 use Rattle.journal_core.specs.declared.entries.Entry.{Entry}
 use Rattle.device_commands.specs.HostMessages.{IsDrafted}
 use Rattle.device_commands.specs.Drafts.{Drafts}
-use Rattle.device_state.specs.StateAfter.{IsStateAfter, lists_in}
+use Rattle.device_commands.specs.device_state.specs.StateAfter.{IsStateAfter, lists_in}
 use Rattle.device_commands.specs.declared.draft.DraftParts.{DraftParts}
-use Rattle.device_rules.specs.Answers.{host_result_in, response}
-use Rattle.device_rules.specs.Legal.{Legal}
-use Rattle.device_rules.specs.Outcomes.{Outcome, effects_of}
-use Rattle.device_rules.specs.Views.{view_after, view_of}
-use Rattle.step_laws.proofs.ViewsLeft.{leaves_view}
-use Rattle.table_laws.specs.TagTableSteps.{IsHostOfTagsSet}
-use Rattle.table_laws.specs.TagTable.{IsTable}
+use Rattle.device_commands.specs.device_rules.specs.Answers.{host_result_in, response}
+use Rattle.device_commands.specs.device_rules.specs.Legal.{Legal}
+use Rattle.device_commands.specs.device_rules.specs.Outcomes.{Outcome, effects_of}
+use Rattle.device_commands.specs.device_rules.specs.Views.{view_after, view_of}
+use Rattle.device_commands.specs.step_laws.proofs.ViewsLeft.{leaves_view}
+use Rattle.device_commands.specs.table_laws.specs.TagTableSteps.{IsHostOfTagsSet}
+use Rattle.device_commands.specs.table_laws.specs.TagTable.{IsTable}
 use Rattle.tag_refs.specs.declared.entries.TagEntry.{TagEntry}
-use Rattle.device_state.specs.Entered.{lists_by}
-use Rattle.device_state.specs.Updates.{IsUpdate}
+use Rattle.device_commands.specs.device_state.specs.Entered.{lists_by}
+use Rattle.device_commands.specs.device_state.specs.Updates.{IsUpdate}
 use Rattle.control_core.specs.declared.decided.Decided.{Decided}
-use Rattle.device_state.specs.declared.state.State.{State}
+use Rattle.device_commands.specs.device_state.specs.declared.state.State.{State}
 
 -- It answers the outcome, has its effects, and puts in place what they make of lists and tags.
 pub record IsDone (c : Configuration) (before : List Entry) (q : Request) (o : Outcome) (d : Decided) : Type 0 where

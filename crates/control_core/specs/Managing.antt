@@ -15,19 +15,19 @@ use Rattle.journal_core.specs.declared.entries.Entry.{Entry}
 use Rattle.journal_core.specs.declared.outcome.Effect.{Effect}
 use Rattle.device_commands.specs.Drafts.{IsOutcome}
 use Rattle.device_commands.specs.declared.draft.DraftParts.{DraftParts}
-use Rattle.device_rules.specs.Answers.{manager_result}
-use Rattle.device_rules.specs.Legal.{Legal}
-use Rattle.device_rules.specs.Outcomes.{Outcome, effects_of, ended}
-use Rattle.table_laws.specs.TagTable.{IsTable}
+use Rattle.device_commands.specs.device_rules.specs.Answers.{manager_result}
+use Rattle.device_commands.specs.device_rules.specs.Legal.{Legal}
+use Rattle.device_commands.specs.device_rules.specs.Outcomes.{Outcome, effects_of, ended}
+use Rattle.device_commands.specs.table_laws.specs.TagTable.{IsTable}
 use Rattle.tag_refs.specs.declared.entries.TagEntry.{TagEntry}
 use Rattle.control_core.specs.Deciding.{IsDecided}
 use Rattle.control_core.specs.Doing.{IsDone}
-use Rattle.device_state.specs.Entered.{tags_put}
-use Rattle.device_state.specs.StateAfter.{IsStateAfter}
-use Rattle.device_state.specs.Updates.{CanChange, lists_after}
+use Rattle.device_commands.specs.device_state.specs.Entered.{tags_put}
+use Rattle.device_commands.specs.device_state.specs.StateAfter.{IsStateAfter}
+use Rattle.device_commands.specs.device_state.specs.Updates.{CanChange, lists_after}
 use Rattle.control_core.specs.declared.decided.Decided.{Decided}
-use Rattle.device_state.specs.declared.state.State.{State}
-use Rattle.device_state.specs.declared.updates.TagChange.{TagChange}
+use Rattle.device_commands.specs.device_state.specs.declared.state.State.{State}
+use Rattle.device_commands.specs.device_state.specs.declared.updates.TagChange.{TagChange}
 
 -- The message comes to this, or breaks this rule first.
 abbrev pub Manages : Configuration → State → Request → Result Decided Refusal → Type 0

@@ -12,16 +12,16 @@ use Rattle.journal_core.specs.declared.entries.Entry.{Entry}
 use Rattle.journal_core.specs.declared.outcome.Effect.{Effect}
 use Rattle.device_commands.specs.Drafts.{Drafts}
 use Rattle.device_commands.specs.declared.draft.DraftParts.{DraftParts}
-use Rattle.device_rules.specs.Outcomes.{Outcome, effects_of}
-use Rattle.device_rules.specs.Views.{view_of}
-use Rattle.step_laws.proofs.ViewsLeft.{leaves_view}
-use Rattle.table_laws.specs.TagTableSteps.{IsOffered}
-use Rattle.table_laws.specs.TagTable.{IsTable}
+use Rattle.device_commands.specs.device_rules.specs.Outcomes.{Outcome, effects_of}
+use Rattle.device_commands.specs.device_rules.specs.Views.{view_of}
+use Rattle.device_commands.specs.step_laws.proofs.ViewsLeft.{leaves_view}
+use Rattle.device_commands.specs.table_laws.specs.TagTableSteps.{IsOffered}
+use Rattle.device_commands.specs.table_laws.specs.TagTable.{IsTable}
 use Rattle.tag_refs.specs.declared.entries.TagEntry.{TagEntry}
 use Rattle.control_core.specs.Doing.{IsDone}
-use Rattle.device_state.specs.StateAfter.{IsStateAfter}
+use Rattle.device_commands.specs.device_state.specs.StateAfter.{IsStateAfter}
 use Rattle.control_core.specs.declared.decided.Decided.{Decided}
-use Rattle.device_state.specs.declared.state.State.{State}
+use Rattle.device_commands.specs.device_state.specs.declared.state.State.{State}
 
 -- The outcome is the offer of these extents with the tag, and the table of open tags follows it.
 pub record IsOfOffer (c : Configuration) (before : List Entry) (h : HostId) (r : ℕ) (tag : Tag) (new : List Extent) (o : Outcome) : Type 0 where

@@ -4,11 +4,11 @@ use Rattle.region_config.specs.Configurations.{Configuration}
 use Rattle.region_config.specs.Soundness.{IsSound}
 use Rattle.journal_core.specs.declared.entries.Entry.{Entry}
 use Rattle.journal_core.specs.declared.outcome.Effect.{Effect}
-use Rattle.device_rules.specs.Legal.{Legal, Meets}
-use Rattle.device_state.specs.StateAfter.{IsStateAfter}
-use Rattle.device_state.specs.Updates.{IsUpdate}
-use Rattle.device_state.specs.declared.state.State.{State}
-use Rattle.device_state.specs.declared.updates.Update.{Update}
+use Rattle.device_commands.specs.device_rules.specs.Legal.{Legal, Meets}
+use Rattle.device_commands.specs.device_state.specs.StateAfter.{IsStateAfter}
+use Rattle.device_commands.specs.device_state.specs.Updates.{IsUpdate}
+use Rattle.device_commands.specs.device_state.specs.declared.state.State.{State}
+use Rattle.device_commands.specs.device_state.specs.declared.updates.Update.{Update}
 
 -- The configuration that the control was made with, and what it keeps.
 pub record LiveControlled : Type 0 where

@@ -6,15 +6,15 @@ use Rattle.dcd_base.specs.declared.ids.HostId.{HostId}
 use Rattle.dcd_base.specs.declared.media.Change.{Change}
 use Rattle.dcd_base.specs.declared.media.Run.{Run}
 use Rattle.journal_core.specs.declared.outcome.Effect.{Effect}
-use Rattle.device_rules.specs.Legal.{is_zeroing}
+use Rattle.device_commands.specs.device_rules.specs.Legal.{is_zeroing}
 use Rattle.region_config.specs.Configurations.{Configuration}
 use Rattle.region_config.specs.Granules.{granule_total}
 use Rattle.dcd_base.specs.Hosts.{has_host, with_host, without_host}
-use Rattle.device_rules.specs.ChangedRuns.{IsWithinRegion, holders_after, touches, AreChanges, IsSoundChange, LiesIn}
+use Rattle.device_commands.specs.device_rules.specs.ChangedRuns.{IsWithinRegion, holders_after, touches, AreChanges, IsSoundChange, LiesIn}
 use Rattle.journal_core.specs.Entries.{effects as effects_of}
 use Rattle.journal_core.specs.declared.entries.Entry.{Entry}
-use Rattle.device_state.specs.StateAfter.{IsStateAfter}
-use Rattle.device_state.specs.declared.state.State.{State}
+use Rattle.device_commands.specs.device_state.specs.StateAfter.{IsStateAfter}
+use Rattle.device_commands.specs.device_state.specs.declared.state.State.{State}
 
 -- the granules that the effect gives, takes or zeroes
 abbrev pub touched_by : Effect → Option Run

@@ -5,25 +5,25 @@ use Rattle.event_log.specs.LogStates.{handle_after}
 use Rattle.event_records.specs.declared.events.Event.{Event}
 use Rattle.device_commands.specs.declared.log_records.LogRecords.{LogRecords}
 use Rattle.journal_core.specs.declared.outcome.Effect.{Effect}
-use Rattle.device_rules.specs.Logs.{log_of}
-use Rattle.device_rules.specs.Outcomes.{entered_all}
+use Rattle.device_commands.specs.device_rules.specs.Logs.{log_of}
+use Rattle.device_commands.specs.device_rules.specs.Outcomes.{entered_all}
 use Rattle.std.specs.List.{list_any}
 use Rattle.dcd_base.specs.declared.capacity.Tag.{Tag}
 use Rattle.dcd_base.specs.declared.ids.HostId.{HostId}
 use Rattle.extent_list.specs.ExtentLists.{has_extent_of}
-use Rattle.host_lists.specs.Changes.{changed_by}
-use Rattle.host_lists.specs.Lists.{Lists}
+use Rattle.device_commands.specs.host_lists.specs.Changes.{changed_by}
+use Rattle.device_commands.specs.host_lists.specs.Lists.{Lists}
 use Rattle.journal_core.specs.Entries.{effects}
 use Rattle.journal_core.specs.declared.entries.Entry.{Entry}
 use Rattle.region_config.specs.Configurations.{Configuration}
-use Rattle.table_laws.specs.TagTable.{ending}
+use Rattle.device_commands.specs.table_laws.specs.TagTable.{ending}
 use Rattle.tag_refs.specs.Tables.{is_used, passes, set_by}
 use Rattle.tag_refs.specs.declared.entries.TagEntry.{TagEntry}
-use Rattle.device_state.specs.StateAfter.{IsStateAfter}
-use Rattle.device_state.specs.declared.state.State.{State}
+use Rattle.device_commands.specs.device_state.specs.StateAfter.{IsStateAfter}
+use Rattle.device_commands.specs.device_state.specs.declared.state.State.{State}
 use Rattle.device_commands.specs.TagChanges.{told_change}
-use Rattle.device_state.specs.declared.updates.NewLists.{NewLists}
-use Rattle.device_state.specs.declared.updates.TagChange.{TagChange}
+use Rattle.device_commands.specs.device_state.specs.declared.updates.NewLists.{NewLists}
+use Rattle.device_commands.specs.device_state.specs.declared.updates.TagChange.{TagChange}
 
 -- one record, by the next handle and the room of its log, and the next handle after it
 abbrev pub record_by : LogId → ℕ → ℕ → Event → Effect

@@ -6,8 +6,8 @@ ghost use Rattle.control_core.specs.Steps.{MayStep};
 ghost use Rattle.dcd_base.specs.declared.steps.Actor.{Actor};
 ghost use Rattle.dcd_codes.specs.declared.rules.Rule.{Rule as BrokenRule};
 ghost use Rattle.device_commands.specs.ManagerMessages.{FewCleared, ManagerAnswers};
-ghost use Rattle.device_rules.specs.Answers.{broken as broken_by};
-ghost use Rattle.device_state.specs.StateAfter.{IsReached};
+ghost use Rattle.device_commands.specs.device_rules.specs.Answers.{broken as broken_by};
+ghost use Rattle.device_commands.specs.device_state.specs.StateAfter.{IsReached};
 ghost use Rattle.journal_core.specs.declared.acts.Act.{Act};
 ghost use Rattle.std.specs.Prelude.{◌≡◌, ◌<◌, IfOk, Option};
 
@@ -16,11 +16,11 @@ use crate::live::LiveControl;
 use cci_codec::Request;
 use dcd_base::{Actor, HostId, NoMemory};
 use dcd_codes::{Refusal, Rule};
+use device_commands::device_state::State;
 use device_commands::{
     AddRequest, Draft, RemoveRequest, Room, add, add_reference, host_draft, quiet_draft, remove,
     remove_reference,
 };
-use device_state::State;
 use fm_payloads::{FmRequest, PayloadFault, decode};
 use journal_core::Act;
 use region_config::Config;

@@ -2,13 +2,13 @@
 
 ghost use Rattle.control_core.specs.PutChanges.{AreChangesFrom, IsRunAdded, StayInside, StaySound, change_to, AreOfOneHost, ArePut};
 ghost use Rattle.control_core.specs.PutChanges.{IsRegionOrNone, NameNoOthers, PutOne, bits_by, is_zero, touched_by};
-ghost use Rattle.device_rules.specs.ChangedRuns.{IsWithinRegion, IsSoundChange, LiesIn};
-ghost use Rattle.device_state.specs.Updates.{IsOfDevice};
+ghost use Rattle.device_commands.specs.device_rules.specs.ChangedRuns.{IsWithinRegion, IsSoundChange, LiesIn};
+ghost use Rattle.device_commands.specs.device_state.specs.Updates.{IsOfDevice};
 ghost use Rattle.region_config.specs.Granules.{granule_total};
 ghost use Rattle.std.specs.Prelude.{◌≡◌, ℕ, ◌==◌, ◌+◌, ◌<◌, ◌≤◌, All, IfOk, List, OnOk, [], false, length, slice_index_or, take};
 
 use dcd_base::{Change, Changes, Granule, NoMemory, Run, host_bits};
-use device_state::{Holders, State};
+use device_commands::device_state::{Holders, State};
 use journal_core::Effect;
 use region_config::Config;
 use std::alloc::Global;

@@ -1,12 +1,12 @@
 //! The control: a configuration and the commands and scrubs so far.
 
 ghost use Rattle.control_core.specs.Steps.{IsNextEntry, MayStep, journal_entry};
-ghost use Rattle.device_rules.specs.ChangedRuns.{AreChanges, LiesIn};
+ghost use Rattle.device_commands.specs.device_rules.specs.ChangedRuns.{AreChanges, LiesIn};
 ghost use Rattle.control_core.specs.Deciding.{AreShort, IsDecidedBy, IsShort};
 ghost use Rattle.control_core.specs.Decisions.{decided_by, only_replied};
-ghost use Rattle.device_rules.specs.Answers.{answer as answer_to};
-ghost use Rattle.device_rules.specs.Legal.{Legal};
-ghost use Rattle.device_state.specs.Updates.{IsUpdate};
+ghost use Rattle.device_commands.specs.device_rules.specs.Answers.{answer as answer_to};
+ghost use Rattle.device_commands.specs.device_rules.specs.Legal.{Legal};
+ghost use Rattle.device_commands.specs.device_state.specs.Updates.{IsUpdate};
 ghost use Rattle.journal_core.specs.Entries.{effects};
 ghost use Rattle.journal_core.specs.Merging.{Rising};
 ghost use Rattle.region_config.specs.Granules.{granule_total};
@@ -18,8 +18,8 @@ use crate::plan::Plan;
 use crate::planned::PlannedEntry;
 use crate::step_effects::{StepEffects, TakenStep};
 use dcd_base::{Actor, Boxed, Changes, NoMemory, Stamp};
+use device_commands::device_state::Update;
 use device_commands::{DraftedStep, Room};
-use device_state::Update;
 use journal_core::{Act, Effects, Entry, EntryEffects, KeptEntries, Reply};
 use region_config::Config;
 use std::alloc::Global;

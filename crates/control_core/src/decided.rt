@@ -2,15 +2,15 @@
 
 ghost use Rattle.control_core.specs.Decisions.{decided_by, decided_where, only_replied};
 ghost use Rattle.dcd_codes.specs.declared.codes.Code.{Code};
-ghost use Rattle.device_rules.specs.Answers.{response};
-ghost use Rattle.device_state.specs.declared.updates.TagChange.{TagChange};
+ghost use Rattle.device_commands.specs.device_rules.specs.Answers.{response};
+ghost use Rattle.device_commands.specs.device_state.specs.declared.updates.TagChange.{TagChange};
 ghost use Rattle.std.specs.Prelude.{◌≡◌, [], IfOk, None};
 
 use cci_codec::Request;
 use dcd_base::{Bytes, NoMemory, Seq};
 use dcd_codes::Code;
+use device_commands::device_state::Update;
 use device_commands::{DraftedStep, Room, ShortList, answer};
-use device_state::Update;
 use journal_core::{Effects, Reply};
 use std::alloc::Global;
 use std::marker::Model;

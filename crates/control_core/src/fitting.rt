@@ -7,7 +7,7 @@ ghost use Rattle.std.specs.Prelude.{All};
 ghost use Rattle.tag_refs.specs.declared.entries.TagEntry.{TagEntry};
 
 use dcd_base::{Extent, Tag};
-use device_state::{HostPart, State};
+use device_commands::device_state::{HostPart, State};
 use event_log::EventLog;
 use fm_payloads::FmRequest;
 use tag_refs::Tags;

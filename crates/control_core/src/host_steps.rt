@@ -6,10 +6,10 @@ ghost use Rattle.control_core.specs.Doing.{Does, Drafted, Refuses};
 ghost use Rattle.control_core.specs.Decisions.{decided_by};
 ghost use Rattle.device_commands.specs.DraftContents.{draft_in};
 ghost use Rattle.dcd_codes.specs.declared.codes.Code.{Code};
-ghost use Rattle.device_rules.specs.Answers.{response};
-ghost use Rattle.device_state.specs.StateAfter.{IsReached, part_of};
-ghost use Rattle.device_state.specs.Updates.{IsOfLog};
-ghost use Rattle.host_lists.specs.Changes.{changed_by};
+ghost use Rattle.device_commands.specs.device_rules.specs.Answers.{response};
+ghost use Rattle.device_commands.specs.device_state.specs.StateAfter.{IsReached, part_of};
+ghost use Rattle.device_commands.specs.device_state.specs.Updates.{IsOfLog};
+ghost use Rattle.device_commands.specs.host_lists.specs.Changes.{changed_by};
 ghost use Rattle.dcd_base.specs.declared.steps.Actor.{Actor};
 ghost use Rattle.device_commands.specs.declared.log_records.LogRecords.{LogRecords};
 ghost use Rattle.journal_core.specs.declared.acts.Act.{Act};
@@ -23,12 +23,12 @@ use crate::recording::{put_ends, put_records_of_logs};
 use cci_codec::Request;
 use dcd_base::{Bytes, HostId, NoMemory, Seq, Tag};
 use dcd_codes::{Code, Refusal, Rule, number_of};
+use device_commands::device_state::{ListsUpdate, State, TagChange};
+use device_commands::host_lists::{Changed, HostLists, ListsChange};
 use device_commands::{
     Content, Draft, DraftedStep, Room, answer, dropped, host_draft, put_no_change, refused,
     told_change,
 };
-use device_state::{ListsUpdate, State, TagChange};
-use host_lists::{Changed, HostLists, ListsChange};
 use journal_core::{Effects, Reply};
 use region_config::Config;
 use std::alloc::Global;

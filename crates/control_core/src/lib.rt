@@ -24,6 +24,8 @@ mod step_effects;
 
 pub use control::Control;
 pub use decided::{Decided, Decision};
+pub use device_commands;
+pub use device_commands::{device_rules, device_state, holding_laws, step_laws};
 pub use live::LiveControl;
 pub use plan::Plan;
 pub use step_effects::StepEffects;

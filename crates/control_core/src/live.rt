@@ -3,7 +3,7 @@
 ghost use Rattle.control_core.specs.Deciding.{IsDecidedBy};
 ghost use Rattle.control_core.specs.Pasts.{ByEveryPast, CanEnter, EntersStep, IsOfStep, IsPast};
 ghost use Rattle.control_core.specs.Steps.{MayStep};
-ghost use Rattle.device_rules.specs.ChangedRuns.{AreChanges, LiesIn};
+ghost use Rattle.device_commands.specs.device_rules.specs.ChangedRuns.{AreChanges, LiesIn};
 ghost use Rattle.journal_core.specs.Entries.{effects};
 ghost use Rattle.region_config.specs.Granules.{granule_total};
 ghost use Rattle.std.specs.Prelude.{◌≡◌, ◌+◌, ◌<◌, ◌≤◌, [], All, IfOk, OnOk};
@@ -15,7 +15,7 @@ use crate::manager_steps::manager_step;
 use crate::scrub_steps::scrub_step;
 use dcd_base::{Actor, Changes, NoMemory};
 use device_commands::Room;
-use device_state::{State, Update};
+use device_commands::device_state::{State, Update};
 use journal_core::{Act, Effect, Effects};
 use region_config::Config;
 use std::alloc::Global;
@@ -34,7 +34,7 @@ pub struct LiveControl {
 
 impl Model for LiveControl {
     ghost use Rattle.control_core.specs.Pasts.{LiveControlled};
-    ghost use Rattle.device_state.specs.StateAfter.{IsReached};
+    ghost use Rattle.device_commands.specs.device_state.specs.StateAfter.{IsReached};
 
     ghost Value = { LiveControlled };
 

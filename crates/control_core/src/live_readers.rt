@@ -3,15 +3,15 @@
 
 ghost use Rattle.control_core.specs.HeldExtents.{AreHeld};
 ghost use Rattle.control_core.specs.Pasts.{ByEveryPast};
-ghost use Rattle.device_rules.specs.Adding.{is_free_now, present as present_in, region_free_blocks as blocks_free};
-ghost use Rattle.device_rules.specs.Counts.{dirty_count, extent_count, free_count, granules_held, missed_of, records_of};
-ghost use Rattle.device_rules.specs.Hosts.{accepted_of, held_of, offers_of};
-ghost use Rattle.device_rules.specs.Logs.{log_of};
-ghost use Rattle.device_rules.specs.Tags.{all_granules, status};
-ghost use Rattle.device_state.specs.StateAfter.{part_of};
-ghost use Rattle.device_state.specs.Updates.{IsOfLog, log_in};
+ghost use Rattle.device_commands.specs.device_rules.specs.Adding.{is_free_now, present as present_in, region_free_blocks as blocks_free};
+ghost use Rattle.device_commands.specs.device_rules.specs.Counts.{dirty_count, extent_count, free_count, granules_held, missed_of, records_of};
+ghost use Rattle.device_commands.specs.device_rules.specs.Hosts.{accepted_of, held_of, offers_of};
+ghost use Rattle.device_commands.specs.device_rules.specs.Logs.{log_of};
+ghost use Rattle.device_commands.specs.device_rules.specs.Tags.{all_granules, status};
+ghost use Rattle.device_commands.specs.device_state.specs.StateAfter.{part_of};
+ghost use Rattle.device_commands.specs.device_state.specs.Updates.{IsOfLog, log_in};
 ghost use Rattle.event_log.specs.Logs.{places_in, state_of};
-ghost use Rattle.table_laws.specs.GranuleCells.{status_of};
+ghost use Rattle.device_commands.specs.table_laws.specs.GranuleCells.{status_of};
 ghost use Rattle.journal_core.specs.Entries.{effects};
 ghost use Rattle.journal_core.specs.Holders.{holds};
 ghost use Rattle.journal_core.specs.declared.outcome.HeldKind.{HeldKind};

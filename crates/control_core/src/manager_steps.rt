@@ -1,15 +1,15 @@
 //! A command of the Fabric Manager, from its message to its response and effects.
 
 ghost use Rattle.control_core.specs.Deciding.{IsDecided};
-ghost use Rattle.device_state.specs.StateAfter.{IsReached};
+ghost use Rattle.device_commands.specs.device_state.specs.StateAfter.{IsReached};
 ghost use Rattle.control_core.specs.Decisions.{decided_by};
 ghost use Rattle.device_commands.specs.DraftContents.{draft_in};
 ghost use Rattle.control_core.specs.Managing.{EntersDraft, Manages};
 ghost use Rattle.device_commands.specs.ManagerMessages.{FewCleared};
 ghost use Rattle.device_commands.specs.TagChanges.{OffersGranular};
 ghost use Rattle.control_core.specs.Offers.{Offers};
-ghost use Rattle.device_state.specs.Updates.{IsOfLog};
-ghost use Rattle.device_state.specs.declared.updates.TagChange.{TagChange};
+ghost use Rattle.device_commands.specs.device_state.specs.Updates.{IsOfLog};
+ghost use Rattle.device_commands.specs.device_state.specs.declared.updates.TagChange.{TagChange};
 ghost use Rattle.dcd_base.specs.declared.steps.Actor.{Actor};
 ghost use Rattle.fm_payloads.specs.ManagerPayloads.{manager_request};
 ghost use Rattle.fm_payloads.specs.declared.requests.FmRequest.{FmRequest};
@@ -17,7 +17,7 @@ ghost use Rattle.device_commands.specs.declared.log_records.LogRecords.{LogRecor
 ghost use Rattle.journal_core.specs.declared.acts.Act.{Act};
 ghost use Rattle.std.specs.Prelude.{◌≡◌, ◌<◌, ◌∷◌, [], All, IfOk, OnOk, false, if◌then◌else◌, length, not, true};
 ghost use Rattle.std.specs.declared.result.Result.TheVariants.{Ok};
-ghost use Rattle.table_laws.specs.QuietRequests.{is_quiet_manager};
+ghost use Rattle.device_commands.specs.table_laws.specs.QuietRequests.{is_quiet_manager};
 ghost use Rattle.tag_refs.specs.Tables.{is_used, passes, with_reference};
 
 use crate::decided::{Decision, replied};
@@ -27,11 +27,11 @@ use crate::recording::{put_ends, put_records_of_logs};
 use cci_codec::Request;
 use dcd_base::{Extents, HostId, NoMemory, RegionId, Seq, Tag};
 use dcd_codes::{Refusal, Rule};
+use device_commands::device_state::{State, TagChange};
 use device_commands::{
     AddRequest, Content, Draft, DraftedStep, RemoveRequest, Room, add, add_reference,
     put_offer_change, quiet_draft, refused, remove, remove_reference,
 };
-use device_state::{State, TagChange};
 use fm_payloads::{FmRequest, PayloadFault, decode};
 use region_config::Config;
 use std::alloc::Global;

@@ -4,7 +4,7 @@ ghost use Rattle.std.specs.Prelude.{◌≡◌};
 
 use crate::planned::PlannedEntry;
 use dcd_base::Changes;
-use device_state::Update;
+use device_commands::device_state::Update;
 use journal_core::{Effects, Entry};
 
 /// A step of the control with all the memory that it needs: `Control::apply` takes it.

@@ -2,14 +2,14 @@
 
 ghost use Rattle.control_core.specs.Deciding.{IsDecided};
 ghost use Rattle.dcd_base.specs.declared.steps.Actor.{Actor};
-ghost use Rattle.device_state.specs.StateAfter.{IsReached};
+ghost use Rattle.device_commands.specs.device_state.specs.StateAfter.{IsReached};
 ghost use Rattle.journal_core.specs.declared.acts.Act.{Act};
 ghost use Rattle.std.specs.Prelude.{IfOk};
 
 use crate::decided::Decision;
 use dcd_base::NoMemory;
+use device_commands::device_state::State;
 use device_commands::{Room, zero_dirty};
-use device_state::State;
 use journal_core::Reply;
 use region_config::Config;
 use std::alloc::Global;

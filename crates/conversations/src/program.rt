@@ -2,13 +2,13 @@
 
 use dcd_base::{MemSink, MemSource, NoGate};
 use host_driver::run_driver;
-use journal_check::run_check;
 use pool_planner::run_plan;
 use script_runner::{chosen, run};
 use std::alloc::{AllocGlobal, Global};
 use std::io::{self, ErrorKind};
 use std::sync::Wait;
 use std::thread::Threads;
+use text_converter::journal_check::run_check;
 use text_converter::run as run_text;
 use tunnel_fabric::run_fabric;
 

@@ -12,7 +12,7 @@ use Rattle.script_codec.specs.Reading.{script_in}
 use Rattle.script_codec.specs.Unread.{Unread}
 use Rattle.script_codec.specs.declared.faults.ScriptFault.{ScriptFault}
 use Rattle.script_codec.specs.declared.heads.Head.{Head}
-use Rattle.device_rules.specs.Legal.{right_answer}
+use Rattle.live_device.specs.device_rules.specs.Legal.{right_answer}
 use Rattle.live_device.specs.Lives.{ByEveryLife, IsLife, Living, TakesStep, payload_length}
 use Rattle.dcd_c.specs.declared.faults.Fault.{Fault}
 

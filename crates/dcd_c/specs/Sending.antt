@@ -7,7 +7,7 @@ use Rattle.cci_codec.specs.declared.messages.Response.{Response}
 use Rattle.dcd_base.specs.declared.steps.Actor.{Actor}
 use Rattle.journal_core.specs.declared.acts.Act.{Act}
 use Rattle.journal_core.specs.declared.acts.Reply.{Reply}
-use Rattle.device_rules.specs.Legal.{right_answer}
+use Rattle.live_device.specs.device_rules.specs.Legal.{right_answer}
 use Rattle.live_device.specs.Lives.{ByEveryLife, Living, payload_length}
 use Rattle.dcd_c.specs.Calls.{Steps}
 use Rattle.dcd_c.specs.declared.faults.Fault.{Fault}

@@ -2,7 +2,7 @@
 
 use cci_codec::MessageFault;
 use region_config::ConfigFault;
-use script_codec::ScriptFault;
+use script_runner::script_codec::ScriptFault;
 use std::fmt::{self, Display};
 
 /// The fault of a script, which prints as what is wrong, with its values.

@@ -10,7 +10,7 @@ use crate::fault_words::{FaultWords, place_in_lines};
 use crate::watched::Watched;
 use dcd_base::NoGate;
 use edge_io::{StdSink, StdSource, words};
-use script_codec::ScriptFault;
+use script_runner::script_codec::ScriptFault;
 use script_runner::{Status, chosen, run_and_leave};
 use std::alloc::AllocGlobal;
 use std::fmt::Display;

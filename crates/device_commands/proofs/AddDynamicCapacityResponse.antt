@@ -17,14 +17,14 @@ use Rattle.media_map.specs.Places.{run_of}
 use Rattle.extent_list.specs.ExtentLists.{count_in, marked, tags_of}
 use Rattle.offer_core.specs.Offerings.{oldest_of}
 use Rattle.offer_core.specs.Responses.{respond_rule}
-use Rattle.host_lists.specs.Answers.{IsAccepted, generation_after}
-use Rattle.host_lists.specs.Lists.{Lists, extent_total}
+use Rattle.device_state.specs.host_lists.specs.Answers.{IsAccepted, generation_after}
+use Rattle.device_state.specs.host_lists.specs.Lists.{Lists, extent_total}
 use Rattle.device_state.specs.ListsUpdates.{left_by, lists_alone}
 use Rattle.device_state.specs.declared.updates.NewLists.{NewLists}
-use Rattle.device_rules.specs.Hosts.{accepted_after, held_after, moves, offers_after}
-use Rattle.device_rules.specs.ResponseOutcomes.{answered, hold, respond_changes, respond_outcome, response_records, unhold}
-use Rattle.device_rules.specs.Views.{View, generation_in, view_after}
-use Rattle.holding_laws.proofs.Homes.{run_same}
+use Rattle.device_state.specs.device_rules.specs.Hosts.{accepted_after, held_after, moves, offers_after}
+use Rattle.device_state.specs.device_rules.specs.ResponseOutcomes.{answered, hold, respond_changes, respond_outcome, response_records, unhold}
+use Rattle.device_state.specs.device_rules.specs.Views.{View, generation_in, view_after}
+use Rattle.device_state.specs.holding_laws.proofs.Homes.{run_same}
 use Rattle.device_commands.specs.declared.draft.DraftParts.{DraftParts}
 use Rattle.device_commands.specs.Drafts.{Drafts, LeadsTo}
 use Rattle.device_state.specs.Entered.{lists_by}

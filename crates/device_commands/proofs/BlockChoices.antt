@@ -15,7 +15,7 @@ use Rattle.region_config.specs.Granules.{first_granule, region_granules, region_
 use Rattle.region_config.proofs.Faultless.{granules_within}
 use Rattle.region_config.proofs.GranuleLemmas.{region_is}
 use Rattle.selection.specs.Selections.{AreBetween, contiguous_runs, free_runs, too_few_free}
-use Rattle.device_rules.specs.Adding.{area_of, by_length_rule, region_free_blocks, region_longest_free, per_block}
+use Rattle.device_state.specs.device_rules.specs.Adding.{area_of, by_length_rule, region_free_blocks, region_longest_free, per_block}
 use Rattle.device_commands.specs.InitiateDynamicCapacityAdd.{block_runs, by_length_runs}
 use Rattle.device_state.specs.declared.state.State.{State}
 

@@ -6,7 +6,7 @@ use Rattle.dcd_codes.specs.declared.refusals.Refusal.{Refusal}
 use Rattle.dcd_codes.specs.Rules.{ByRow}
 use Rattle.event_log.specs.Logs.{Log, places_in, state_of}
 use Rattle.event_log.specs.LogStates.{LogState}
-use Rattle.device_rules.specs.EventCommands.{clear_outcome, clear_rule}
+use Rattle.device_state.specs.device_rules.specs.EventCommands.{clear_outcome, clear_rule}
 use Rattle.device_commands.specs.ClearEventRecords.{clearing_outcome, clearing_rule}
 use Rattle.device_state.specs.StateAfter.{IsLogOf}
 use Rattle.device_commands.specs.Drafts.{IsOutcome}

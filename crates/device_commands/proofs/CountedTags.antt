@@ -14,12 +14,12 @@ use Rattle.region_config.specs.Configurations.{Configuration}
 use Rattle.region_config.specs.Granules.{granule_total}
 use Rattle.region_config.specs.Soundness.{IsSound}
 use Rattle.region_config.proofs.Faultless.{granules_rise}
-use Rattle.device_rules.specs.Tags.{tag_runs}
-use Rattle.holding_laws.specs.Pictures.{Picture}
-use Rattle.holding_laws.specs.Standing.{IsMade, IsOpen, Stands}
-use Rattle.holding_laws.proofs.BlockRuns.{block_run}
-use Rattle.holding_laws.proofs.Homes.{supported_whole}
-use Rattle.device_rules.proofs.TagSteps.{same_tag-self}
+use Rattle.device_state.specs.device_rules.specs.Tags.{tag_runs}
+use Rattle.device_state.specs.holding_laws.specs.Pictures.{Picture}
+use Rattle.device_state.specs.holding_laws.specs.Standing.{IsMade, IsOpen, Stands}
+use Rattle.device_state.specs.holding_laws.proofs.BlockRuns.{block_run}
+use Rattle.device_state.specs.holding_laws.proofs.Homes.{supported_whole}
+use Rattle.device_state.specs.device_rules.proofs.TagSteps.{same_tag-self}
 
 abbrev sum_below : (ℕ → ℕ) → ℕ → ℕ
 sum_below f zero = 0

@@ -3,7 +3,7 @@ use Rattle.std.proofs.Common.{◌≡◌, ℕ, List, [], None, refl, sym, subst}
 use Rattle.journal_core.specs.declared.outcome.Effect.{Effect}
 use Rattle.device_commands.specs.Drafts.{IsOutcome}
 use Rattle.device_commands.specs.declared.draft.DraftParts.{DraftParts}
-use Rattle.device_rules.specs.Outcomes.{only}
+use Rattle.device_state.specs.device_rules.specs.Outcomes.{only}
 
 -- of changes
 pub changes_alone : (changes new : List Effect) (d : DraftParts) → d ≡ record { payload = []; changes = changes; tags = []; log_records = []; lists = None } → changes ≡ new →

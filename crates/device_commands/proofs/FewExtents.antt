@@ -4,10 +4,10 @@ use Rattle.std.proofs.lemmas.List.{length-append}
 use Rattle.std.proofs.lemmas.List.Concat.{length-flat_map}
 use Rattle.dcd_base.specs.declared.capacity.Extent.{Extent}
 use Rattle.dcd_base.specs.declared.ids.HostId.{HostId}
-use Rattle.host_lists.specs.Lists.{Lists, extent_total}
+use Rattle.device_state.specs.host_lists.specs.Lists.{Lists, extent_total}
 use Rattle.region_config.specs.Configurations.{Configuration}
-use Rattle.holding_laws.proofs.LegalSound.{legal_is_sound}
-use Rattle.device_rules.specs.Views.{View, view_of}
+use Rattle.device_state.specs.holding_laws.proofs.LegalSound.{legal_is_sound}
+use Rattle.device_state.specs.device_rules.specs.Views.{View, view_of}
 use Rattle.device_state.specs.StateAfter.{IsReached, part_of}
 use Rattle.device_state.specs.declared.state.State.{State}
 

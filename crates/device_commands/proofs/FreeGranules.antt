@@ -7,12 +7,12 @@ use Rattle.std.proofs.lemmas.List.Sums.{length-filter}
 use Rattle.granule_map.specs.StateLists.{count_of, is_free_state, same_state}
 use Rattle.granule_map.specs.declared.states.GranuleState.{GranuleState}
 use Rattle.granule_table.specs.Tables.{CellTable, cell_at}
-use Rattle.table_laws.specs.GranuleCells.{IsCell, status_of}
+use Rattle.device_state.specs.table_laws.specs.GranuleCells.{IsCell, status_of}
 use Rattle.journal_core.specs.declared.outcome.Effect.{Effect}
 use Rattle.region_config.specs.Configurations.{Configuration}
 use Rattle.region_config.specs.Granules.{granule_total}
 use Rattle.selection.proofs.Agreeing.{Agree}
-use Rattle.device_rules.specs.Tags.{Status, dirty_granules, free_granules, is_dirty, is_free, status}
+use Rattle.device_state.specs.device_rules.specs.Tags.{Status, dirty_granules, free_granules, is_dirty, is_free, status}
 
 free_state : (s : GranuleState) → same_state GranuleState.Free s ≡ is_free (status_of s)
 free_state GranuleState.Free = refl

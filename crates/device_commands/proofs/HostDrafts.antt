@@ -11,9 +11,9 @@ use Rattle.dcd_codes.specs.declared.rules.Rule.{Rule}
 use Rattle.host_payloads.specs.HostPayloads.{host_request}
 use Rattle.host_payloads.specs.declared.requests.HostRequest.{HostRequest}
 use Rattle.region_config.specs.Configurations.{Configuration}
-use Rattle.device_rules.specs.Answers.{host_outcome, host_rule}
-use Rattle.device_rules.specs.Outcomes.{Outcome, only}
-use Rattle.device_rules.specs.Views.{View, view_after}
+use Rattle.device_state.specs.device_rules.specs.Answers.{host_outcome, host_rule}
+use Rattle.device_state.specs.device_rules.specs.Outcomes.{Outcome, only}
+use Rattle.device_state.specs.device_rules.specs.Views.{View, view_after}
 use Rattle.device_commands.specs.declared.draft.DraftParts.{DraftParts}
 use Rattle.device_commands.specs.Drafts.{AreAfter, Drafts, IsOutcome}
 use Rattle.device_commands.specs.HostMessages.{IsDrafted}

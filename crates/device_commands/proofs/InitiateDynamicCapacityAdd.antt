@@ -22,7 +22,7 @@ use Rattle.granule_map.specs.StateLists.{is_free_at}
 use Rattle.device_commands.specs.Drafts.{Drafts, LeadsTo}
 use Rattle.device_state.specs.StateAfter.{lists_in, IsStateAfter, part_of}
 use Rattle.device_commands.specs.declared.draft.DraftParts.{DraftParts}
-use Rattle.host_lists.specs.Lists.{Lists, extent_total}
+use Rattle.device_state.specs.host_lists.specs.Lists.{Lists, extent_total}
 use Rattle.journal_core.specs.Entries.{effects}
 use Rattle.journal_core.specs.declared.entries.Entry.{Entry}
 use Rattle.journal_core.specs.declared.outcome.Effect.{Effect}
@@ -37,19 +37,19 @@ use Rattle.selection.proofs.Agreeing.{Agree, contiguous_runs_agree, free_blocks_
 use Rattle.selection.specs.Selections.{prescribed_rule, too_few_free}
 use Rattle.tag_refs.specs.Tables.{entry_with, has_entry, passes, some_passes}
 use Rattle.tag_refs.specs.declared.entries.TagEntry.{TagEntry}
-use Rattle.table_laws.specs.TagTable.{IsEntry}
-use Rattle.device_rules.specs.Adding.{add_outcome, add_rule, area_of, by_length_rule, chosen, extents_of, region_free_blocks, is_free_now, is_open_in, region_longest_free, offered, per_block, present, with_tag, too_many_tags}
-use Rattle.device_rules.specs.Hosts.{accepted_of, block_of, offers_of}
-use Rattle.device_rules.specs.Legal.{Legal}
-use Rattle.device_rules.specs.Outcomes.{log_full, records_of_extents}
-use Rattle.device_rules.specs.Tags.{last_offer, open_tags, tag_runs, is_live as is_tag_live}
-use Rattle.device_rules.specs.Views.{View, extents_in, view_after, view_of}
-use Rattle.holding_laws.specs.Pictures.{picture_of}
-use Rattle.holding_laws.specs.Standing.{IsMade, Stands}
-use Rattle.holding_laws.proofs.Homes.{first_same, made_is_run, region_of_same, supported_whole}
-use Rattle.device_rules.proofs.ListSteps.{each-change, each-map}
-use Rattle.holding_laws.proofs.Overlaps.{neither, not_broken}
-use Rattle.device_rules.proofs.TagSteps.{same_tag-is}
+use Rattle.device_state.specs.table_laws.specs.TagTable.{IsEntry}
+use Rattle.device_state.specs.device_rules.specs.Adding.{add_outcome, add_rule, area_of, by_length_rule, chosen, extents_of, region_free_blocks, is_free_now, is_open_in, region_longest_free, offered, per_block, present, with_tag, too_many_tags}
+use Rattle.device_state.specs.device_rules.specs.Hosts.{accepted_of, block_of, offers_of}
+use Rattle.device_state.specs.device_rules.specs.Legal.{Legal}
+use Rattle.device_state.specs.device_rules.specs.Outcomes.{log_full, records_of_extents}
+use Rattle.device_state.specs.device_rules.specs.Tags.{last_offer, open_tags, tag_runs, is_live as is_tag_live}
+use Rattle.device_state.specs.device_rules.specs.Views.{View, extents_in, view_after, view_of}
+use Rattle.device_state.specs.holding_laws.specs.Pictures.{picture_of}
+use Rattle.device_state.specs.holding_laws.specs.Standing.{IsMade, Stands}
+use Rattle.device_state.specs.holding_laws.proofs.Homes.{first_same, made_is_run, region_of_same, supported_whole}
+use Rattle.device_state.specs.device_rules.proofs.ListSteps.{each-change, each-map}
+use Rattle.device_state.specs.holding_laws.proofs.Overlaps.{neither, not_broken}
+use Rattle.device_state.specs.device_rules.proofs.TagSteps.{same_tag-is}
 use Rattle.device_commands.proofs.CountedTags.{HasOne, no_more, own_first}
 use Rattle.device_commands.proofs.FreeGranules.{free_at}
 use Rattle.device_commands.proofs.TagReadings.{tags_live, tags_open, tags_open_in}

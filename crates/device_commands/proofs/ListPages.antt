@@ -4,7 +4,7 @@ use Rattle.std.specs.Prelude.{flat_map, option_map}
 use Rattle.std.specs.List.{enumerate_from, range_with_len}
 use Rattle.std.proofs.lemmas.List.{drop-map, length-drop, take-map, take_min}
 use Rattle.std.proofs.lemmas.Option.{none-some, same_Some}
-use Rattle.device_rules.specs.Settings.{page}
+use Rattle.device_state.specs.device_rules.specs.Settings.{page}
 
 -- as many as there are, where more are asked for
 pub page_capped : {X : Type 0} (first count : ℕ) (xs : List X) → take (min count (length xs - first)) (drop first xs) ≡ page first count xs

@@ -19,8 +19,8 @@ use Rattle.offer_core.specs.Responses.{extent_rule, respond_rule}
 use Rattle.release_core.specs.Leaving.{count_after}
 use Rattle.release_core.specs.Releases.{give_back_rule}
 use Rattle.selection.proofs.Placed.{is_made_of_granules, placed}
-use Rattle.holding_laws.proofs.LeftStanding.{going_rule}
-use Rattle.holding_laws.proofs.Overlaps.{neither, not_broken, row_each}
+use Rattle.device_state.specs.holding_laws.proofs.LeftStanding.{going_rule}
+use Rattle.device_state.specs.holding_laws.proofs.Overlaps.{neither, not_broken, row_each}
 
 -- the extent is made of granules of one region
 abbrev pub Granular : Configuration → HostId → Extent → Type 0

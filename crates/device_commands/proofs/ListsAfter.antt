@@ -8,11 +8,11 @@ use Rattle.dcd_base.specs.declared.ids.HostId.{HostId}
 use Rattle.dcd_base.specs.declared.capacity.Extent.{Extent}
 use Rattle.journal_core.specs.declared.outcome.Effect.{Effect}
 use Rattle.journal_core.specs.declared.outcome.HeldKind.{HeldKind}
-use Rattle.device_rules.specs.Hosts.{held_after, moves, same_kind}
-use Rattle.device_rules.specs.ResponseOutcomes.{hold, unhold}
+use Rattle.device_state.specs.device_rules.specs.Hosts.{held_after, moves, same_kind}
+use Rattle.device_state.specs.device_rules.specs.ResponseOutcomes.{hold, unhold}
 use Rattle.device_state.specs.Entered.{lists_by}
-use Rattle.host_lists.specs.Changes.{changed_by}
-use Rattle.host_lists.specs.Lists.{Lists, extent_total, next_generation}
+use Rattle.device_state.specs.host_lists.specs.Changes.{changed_by}
+use Rattle.device_state.specs.host_lists.specs.Lists.{Lists, extent_total, next_generation}
 use Rattle.device_state.specs.ListsUpdates.{left_by, lists_alone}
 use Rattle.device_state.specs.declared.updates.NewLists.{NewLists}
 use Rattle.device_commands.specs.Drafts.{LeadsTo}

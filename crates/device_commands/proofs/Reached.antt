@@ -16,13 +16,13 @@ use Rattle.journal_core.specs.declared.outcome.Effect.{Effect}
 use Rattle.dcd_base.specs.declared.capacity.Extent.{Extent}
 use Rattle.extent_list.specs.ExtentLists.{count_in}
 use Rattle.tag_refs.specs.declared.entries.TagEntry.{TagEntry}
-use Rattle.host_lists.specs.Lists.{Lists, extent_total}
-use Rattle.device_rules.specs.Hosts.{accepted_of, block_of, offers_of}
-use Rattle.device_rules.specs.Legal.{Legal}
-use Rattle.device_rules.specs.Views.{view_of}
-use Rattle.holding_laws.specs.Pictures.{picture_of}
-use Rattle.holding_laws.specs.Standing.{Stands}
-use Rattle.holding_laws.proofs.LegalSound.{legal_is_sound}
+use Rattle.device_state.specs.host_lists.specs.Lists.{Lists, extent_total}
+use Rattle.device_state.specs.device_rules.specs.Hosts.{accepted_of, block_of, offers_of}
+use Rattle.device_state.specs.device_rules.specs.Legal.{Legal}
+use Rattle.device_state.specs.device_rules.specs.Views.{view_of}
+use Rattle.device_state.specs.holding_laws.specs.Pictures.{picture_of}
+use Rattle.device_state.specs.holding_laws.specs.Standing.{Stands}
+use Rattle.device_state.specs.holding_laws.proofs.LegalSound.{legal_is_sound}
 use Rattle.device_commands.proofs.CountedTags.{few_tags}
 use Rattle.device_state.specs.StateAfter.{IsStateAfter, IsReached, part_of}
 use Rattle.device_commands.specs.SetDcRegionConfiguration.{ListsAreOf, LogsAreOf}

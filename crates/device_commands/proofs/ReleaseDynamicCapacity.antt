@@ -16,17 +16,17 @@ use Rattle.media_map.specs.Places.{IsRunOf, bytes_of_run, run_of, start_of}
 use Rattle.media_map.proofs.RunLemmas.{run_told}
 use Rattle.selection.proofs.Placed.{granular_run}
 use Rattle.extent_list.specs.ExtentLists.{count_in, cut, cut_all, marked, tags_of}
-use Rattle.host_lists.specs.Answers.{given_up}
-use Rattle.host_lists.specs.Lists.{Lists}
+use Rattle.device_state.specs.host_lists.specs.Answers.{given_up}
+use Rattle.device_state.specs.host_lists.specs.Lists.{Lists}
 use Rattle.device_state.specs.ListsUpdates.{left_by}
 use Rattle.device_state.specs.declared.updates.NewLists.{NewLists}
 use Rattle.release_core.specs.Releases.{give_back_rule}
-use Rattle.device_rules.specs.Hosts.{accepted_after, held_after, moves, offers_after}
-use Rattle.device_rules.specs.Outcomes.{records_of_extents}
-use Rattle.device_rules.specs.ReleaseOutcomes.{give_back_changes, give_back_outcome, leaves, removals}
-use Rattle.device_rules.specs.ResponseOutcomes.{hold, unhold}
-use Rattle.device_rules.specs.Views.{View, view_after}
-use Rattle.holding_laws.proofs.Homes.{bytes_same, run_same, start_same}
+use Rattle.device_state.specs.device_rules.specs.Hosts.{accepted_after, held_after, moves, offers_after}
+use Rattle.device_state.specs.device_rules.specs.Outcomes.{records_of_extents}
+use Rattle.device_state.specs.device_rules.specs.ReleaseOutcomes.{give_back_changes, give_back_outcome, leaves, removals}
+use Rattle.device_state.specs.device_rules.specs.ResponseOutcomes.{hold, unhold}
+use Rattle.device_state.specs.device_rules.specs.Views.{View, view_after}
+use Rattle.device_state.specs.holding_laws.proofs.Homes.{bytes_same, run_same, start_same}
 use Rattle.device_commands.specs.declared.draft.DraftParts.{DraftParts}
 use Rattle.device_commands.specs.Drafts.{Drafts, LeadsTo}
 use Rattle.device_state.specs.Entered.{lists_by}

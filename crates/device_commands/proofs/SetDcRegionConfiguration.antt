@@ -20,12 +20,12 @@ use Rattle.region_config.specs.declared.region_spec.RegionSpec.{RegionSpec}
 use Rattle.region_config.proofs.Faultless.{granules_within}
 use Rattle.region_config.proofs.PresentBlocks.{granules_in-with_blocks}
 use Rattle.selection.proofs.Agreeing.{Agree}
-use Rattle.device_rules.specs.Adding.{is_free_now}
-use Rattle.device_rules.specs.Hosts.{block_of}
-use Rattle.device_rules.specs.Outcomes.{log_full}
-use Rattle.device_rules.specs.Settings.{in_use, no_such_region, set_outcome, set_rule}
-use Rattle.device_rules.specs.Tags.{is_free, status}
-use Rattle.device_rules.specs.Views.{View}
+use Rattle.device_state.specs.device_rules.specs.Adding.{is_free_now}
+use Rattle.device_state.specs.device_rules.specs.Hosts.{block_of}
+use Rattle.device_state.specs.device_rules.specs.Outcomes.{log_full}
+use Rattle.device_state.specs.device_rules.specs.Settings.{in_use, no_such_region, set_outcome, set_rule}
+use Rattle.device_state.specs.device_rules.specs.Tags.{is_free, status}
+use Rattle.device_state.specs.device_rules.specs.Views.{View}
 use Rattle.device_commands.proofs.FreeGranules.{filter_agree, free_at}
 use Rattle.device_commands.proofs.Reached.{first_kept, hosts_kept, region_kept}
 use Rattle.device_commands.proofs.Rows.{kept_rule, not_up_to}

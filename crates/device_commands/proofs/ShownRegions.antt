@@ -8,9 +8,9 @@ use Rattle.region_config.specs.Configurations.{Configuration}
 use Rattle.region_config.specs.Granules.{base_of, region_spec, with_blocks}
 use Rattle.region_config.proofs.PresentBlocks.{region_spec-with_blocks}
 use Rattle.host_payloads.specs.declared.views.RegionView.{RegionView}
-use Rattle.device_rules.specs.Settings.{no_such_region, region_seen}
-use Rattle.device_rules.specs.Views.{View}
-use Rattle.holding_laws.proofs.Homes.{base_same}
+use Rattle.device_state.specs.device_rules.specs.Settings.{no_such_region, region_seen}
+use Rattle.device_state.specs.device_rules.specs.Views.{View}
+use Rattle.device_state.specs.holding_laws.proofs.Homes.{base_same}
 use Rattle.device_commands.specs.declared.pages.Flags.{Flags}
 use Rattle.device_commands.specs.ShownFlags.{flags_of}
 

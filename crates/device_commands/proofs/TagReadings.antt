@@ -11,17 +11,17 @@ use Rattle.region_config.specs.Granules.{hosts_of}
 use Rattle.region_config.specs.Soundness.{IsSound}
 use Rattle.tag_refs.specs.Tables.{has_entry, passes, tag_view, entry_referenced as is_entry_referenced}
 use Rattle.tag_refs.specs.declared.entries.TagEntry.{TagEntry}
-use Rattle.device_rules.specs.Adding.{is_open_in}
-use Rattle.device_rules.specs.Hosts.{accepted_of, offers_of}
-use Rattle.device_rules.specs.Legal.{Legal}
-use Rattle.device_rules.specs.TagCommands.{tag_seen}
-use Rattle.device_rules.specs.Tags.{is_referenced, open_tags, is_live as is_tag_live}
-use Rattle.table_laws.specs.TagTable.{IsTable}
-use Rattle.table_laws.proofs.AddSteps.{table_in_use, table_open_in}
-use Rattle.table_laws.proofs.TagEntries.{table_live}
-use Rattle.table_laws.proofs.Listing.{table_length, table_seen}
-use Rattle.table_laws.proofs.ReferenceSteps.{table_referenced}
-use Rattle.table_laws.proofs.ReferencedTags.{referenced_open}
+use Rattle.device_state.specs.device_rules.specs.Adding.{is_open_in}
+use Rattle.device_state.specs.device_rules.specs.Hosts.{accepted_of, offers_of}
+use Rattle.device_state.specs.device_rules.specs.Legal.{Legal}
+use Rattle.device_state.specs.device_rules.specs.TagCommands.{tag_seen}
+use Rattle.device_state.specs.device_rules.specs.Tags.{is_referenced, open_tags, is_live as is_tag_live}
+use Rattle.device_state.specs.table_laws.specs.TagTable.{IsTable}
+use Rattle.device_state.specs.table_laws.proofs.AddSteps.{table_in_use, table_open_in}
+use Rattle.device_state.specs.table_laws.proofs.TagEntries.{table_live}
+use Rattle.device_state.specs.table_laws.proofs.Listing.{table_length, table_seen}
+use Rattle.device_state.specs.table_laws.proofs.ReferenceSteps.{table_referenced}
+use Rattle.device_state.specs.table_laws.proofs.ReferencedTags.{referenced_open}
 
 -- there are as many open tags as entries
 pub tags_length : (c : Configuration) (before : List Entry) (entries : List TagEntry) → IsSound c → Legal c before → IsTable c (effects before) entries →

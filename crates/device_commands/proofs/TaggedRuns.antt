@@ -8,7 +8,7 @@ use Rattle.dcd_base.specs.Words.{zero_tag}
 use Rattle.dcd_base.specs.declared.capacity.Extent.{Extent}
 use Rattle.dcd_base.specs.declared.capacity.Tag.{Tag}
 use Rattle.dcd_base.specs.declared.media.Run.{Run}
-use Rattle.device_rules.specs.Adding.{extents_of, with_tag}
+use Rattle.device_state.specs.device_rules.specs.Adding.{extents_of, with_tag}
 use Rattle.device_state.specs.declared.state.State.{State}
 use Rattle.media_map.specs.Places.{extent_of}
 use Rattle.device_commands.proofs.ListPages.{numbered_more}

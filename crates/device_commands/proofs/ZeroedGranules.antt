@@ -8,7 +8,7 @@ use Rattle.std.proofs.lemmas.List.Sums.{length-filter, sum_by-cons}
 use Rattle.dcd_base.specs.declared.media.Run.{Run}
 use Rattle.region_config.specs.Configurations.{Configuration}
 use Rattle.region_config.specs.Granules.{granule_total, same_region}
-use Rattle.table_laws.specs.GranuleCells.{IsCell, status_of}
+use Rattle.device_state.specs.table_laws.specs.GranuleCells.{IsCell, status_of}
 use Rattle.granule_map.specs.Choices.{joined}
 use Rattle.granule_map.specs.StateLists.{count_of, is_dirty_at, is_dirty_state, same_state}
 use Rattle.granule_map.specs.declared.states.GranuleState.{GranuleState}
@@ -18,8 +18,8 @@ use Rattle.journal_core.specs.Entries.{effects}
 use Rattle.journal_core.specs.declared.acts.Reply.{Reply}
 use Rattle.journal_core.specs.declared.entries.Entry.{Entry}
 use Rattle.journal_core.specs.declared.outcome.Effect.{Effect}
-use Rattle.device_rules.specs.Answers.{scrubbed as rules_scrubbed, zeroes}
-use Rattle.device_rules.specs.Tags.{is_dirty, status}
+use Rattle.device_state.specs.device_rules.specs.Answers.{scrubbed as rules_scrubbed, zeroes}
+use Rattle.device_state.specs.device_rules.specs.Tags.{is_dirty, status}
 use Rattle.sanitizer.specs.Turns.{granules_of_runs, run_of_pair, scrub_runs, lowest_dirty}
 use Rattle.sanitizer.proofs.Scrubbed.{scrub_runs_agree, scrubbed_agree}
 use Rattle.device_state.specs.declared.state.State.{State}

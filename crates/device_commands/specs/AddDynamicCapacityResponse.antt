@@ -8,17 +8,17 @@ use Rattle.region_config.specs.Configurations.{Configuration}
 use Rattle.region_config.specs.Granules.{with_blocks}
 use Rattle.journal_core.specs.declared.outcome.Effect.{Effect}
 use Rattle.media_map.specs.Places.{run_of}
-use Rattle.device_rules.specs.Outcomes.{no_extent, record_for, records_of_extents}
-use Rattle.device_rules.specs.Views.{View}
+use Rattle.device_state.specs.device_rules.specs.Outcomes.{no_extent, record_for, records_of_extents}
+use Rattle.device_state.specs.device_rules.specs.Views.{View}
 use Rattle.extent_list.specs.ExtentLists.{tags_of}
 use Rattle.offer_core.specs.Offerings.{oldest_of}
 use Rattle.journal_core.specs.declared.outcome.HeldKind.{HeldKind}
-use Rattle.device_rules.specs.ResponseOutcomes.{respond_outcome, unhold}
+use Rattle.device_state.specs.device_rules.specs.ResponseOutcomes.{respond_outcome, unhold}
 use Rattle.device_commands.specs.Drafts.{Drafts}
 use Rattle.device_commands.specs.ListDrafts.{Tells}
 use Rattle.device_state.specs.StateAfter.{lists_in}
 use Rattle.device_commands.specs.declared.draft.DraftParts.{DraftParts}
-use Rattle.host_lists.specs.Lists.{Lists}
+use Rattle.device_state.specs.host_lists.specs.Lists.{Lists}
 
 -- the host takes each of the extents
 abbrev pub takes : Configuration → HostId → List Extent → List Effect

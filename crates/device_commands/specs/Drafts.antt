@@ -4,12 +4,12 @@ use Rattle.dcd_base.specs.declared.ids.HostId.{HostId}
 use Rattle.dcd_base.specs.declared.steps.LogId.{LogId}
 use Rattle.event_records.specs.declared.events.Event.{Event}
 use Rattle.region_config.specs.Configurations.{Configuration}
-use Rattle.host_lists.specs.Changes.{changed_by}
-use Rattle.host_lists.specs.Lists.{Lists}
-use Rattle.host_lists.specs.declared.lists_change.ListsChange.{ListsChange}
+use Rattle.device_state.specs.host_lists.specs.Changes.{changed_by}
+use Rattle.device_state.specs.host_lists.specs.Lists.{Lists}
+use Rattle.device_state.specs.host_lists.specs.declared.lists_change.ListsChange.{ListsChange}
 use Rattle.journal_core.specs.declared.outcome.Effect.{Effect}
-use Rattle.device_rules.specs.Outcomes.{Outcome}
-use Rattle.device_rules.specs.Views.{View, view_after}
+use Rattle.device_state.specs.device_rules.specs.Outcomes.{Outcome}
+use Rattle.device_state.specs.device_rules.specs.Views.{View, view_after}
 use Rattle.device_state.specs.Entered.{lists_by}
 use Rattle.device_state.specs.StateAfter.{lists_in}
 use Rattle.device_commands.specs.declared.draft.DraftParts.{DraftParts}

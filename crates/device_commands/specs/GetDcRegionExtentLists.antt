@@ -1,7 +1,7 @@
 -- What is replied of the extents of a host, 5603h.
 use Rattle.std.specs.Prelude.{◌≡◌, ℕ, List}
-use Rattle.device_rules.specs.Settings.{lists_reply}
-use Rattle.device_rules.specs.Views.{View}
+use Rattle.device_state.specs.device_rules.specs.Settings.{lists_reply}
+use Rattle.device_state.specs.device_rules.specs.Views.{View}
 use Rattle.device_state.specs.StateAfter.{lists_in, part_of}
 use Rattle.device_state.specs.declared.state.State.{State}
 

@@ -4,12 +4,12 @@ use Rattle.std.specs.declared.result.Result.{Result}
 use Rattle.dcd_base.specs.declared.ids.HostId.{HostId}
 use Rattle.dcd_codes.specs.Rules.{ByRow}
 use Rattle.dcd_codes.specs.declared.refusals.Refusal.{Refusal}
-use Rattle.host_lists.specs.Lists.{Lists}
+use Rattle.device_state.specs.host_lists.specs.Lists.{Lists}
 use Rattle.region_config.specs.Configurations.{Configuration}
 use Rattle.region_config.specs.Granules.{with_blocks}
-use Rattle.device_rules.specs.Outcomes.{only}
-use Rattle.device_rules.specs.Settings.{configuration_reply, no_such_region}
-use Rattle.device_rules.specs.Views.{View}
+use Rattle.device_state.specs.device_rules.specs.Outcomes.{only}
+use Rattle.device_state.specs.device_rules.specs.Settings.{configuration_reply, no_such_region}
+use Rattle.device_state.specs.device_rules.specs.Views.{View}
 use Rattle.device_state.specs.StateAfter.{lists_in}
 use Rattle.device_commands.specs.Drafts.{IsOutcome}
 use Rattle.device_commands.specs.declared.draft.DraftParts.{DraftParts}

@@ -3,10 +3,10 @@ use Rattle.std.specs.Prelude.{◌≡◌, ℕ, length}
 use Rattle.std.specs.declared.result.Result.{Result}
 use Rattle.dcd_codes.specs.Rules.{ByRow}
 use Rattle.dcd_codes.specs.declared.refusals.Refusal.{Refusal}
-use Rattle.host_lists.specs.Lists.{Lists}
-use Rattle.device_rules.specs.Outcomes.{only}
-use Rattle.device_rules.specs.Settings.{extents_reply, past_end}
-use Rattle.device_rules.specs.Views.{View}
+use Rattle.device_state.specs.host_lists.specs.Lists.{Lists}
+use Rattle.device_state.specs.device_rules.specs.Outcomes.{only}
+use Rattle.device_state.specs.device_rules.specs.Settings.{extents_reply, past_end}
+use Rattle.device_state.specs.device_rules.specs.Views.{View}
 use Rattle.device_state.specs.StateAfter.{lists_in}
 use Rattle.device_commands.specs.Drafts.{IsOutcome}
 use Rattle.device_commands.specs.declared.draft.DraftParts.{DraftParts}

@@ -6,8 +6,8 @@ use Rattle.dcd_codes.specs.Rules.{ByRow}
 use Rattle.dcd_codes.specs.declared.refusals.Refusal.{Refusal}
 use Rattle.event_log.specs.LogStates.{LogState}
 use Rattle.event_log.specs.Logs.{Log}
-use Rattle.device_rules.specs.EventCommands.{events_reply, log_named, no_such_log}
-use Rattle.device_rules.specs.Outcomes.{only}
+use Rattle.device_state.specs.device_rules.specs.EventCommands.{events_reply, log_named, no_such_log}
+use Rattle.device_state.specs.device_rules.specs.Outcomes.{only}
 use Rattle.device_state.specs.StateAfter.{IsLogOf}
 use Rattle.device_commands.specs.Drafts.{IsOutcome}
 use Rattle.device_commands.specs.declared.draft.DraftParts.{DraftParts}

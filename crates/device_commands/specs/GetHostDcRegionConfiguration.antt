@@ -2,8 +2,8 @@
 use Rattle.std.specs.Prelude.{◌≡◌, ℕ, List}
 use Rattle.region_config.specs.Configurations.{Configuration}
 use Rattle.region_config.specs.Granules.{with_blocks}
-use Rattle.device_rules.specs.Settings.{regions_reply}
-use Rattle.device_rules.specs.Views.{View}
+use Rattle.device_state.specs.device_rules.specs.Settings.{regions_reply}
+use Rattle.device_state.specs.device_rules.specs.Views.{View}
 use Rattle.device_state.specs.StateAfter.{lists_in, part_of}
 use Rattle.device_state.specs.declared.state.State.{State}
 

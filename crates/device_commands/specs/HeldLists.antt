@@ -3,8 +3,8 @@ use Rattle.std.specs.Prelude.{ℕ, ◌==◌, List, [], if◌then◌else◌}
 use Rattle.dcd_base.specs.declared.ids.HostId.{HostId}
 use Rattle.journal_core.specs.declared.outcome.Effect.{Effect}
 use Rattle.journal_core.specs.declared.outcome.HeldKind.{HeldKind}
-use Rattle.host_lists.specs.Lists.{Lists}
-use Rattle.device_rules.specs.ResponseOutcomes.{unhold}
+use Rattle.device_state.specs.host_lists.specs.Lists.{Lists}
+use Rattle.device_state.specs.device_rules.specs.ResponseOutcomes.{unhold}
 
 -- the held list of the command ends
 abbrev pub unheld_by : HostId → Lists → ℕ → List Effect

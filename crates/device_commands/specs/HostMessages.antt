@@ -12,9 +12,9 @@ use Rattle.region_config.specs.Configurations.{Configuration}
 use Rattle.region_config.specs.Granules.{with_blocks}
 use Rattle.host_payloads.specs.HostPayloads.{host_request}
 use Rattle.host_payloads.specs.declared.requests.HostRequest.{HostRequest}
-use Rattle.host_lists.specs.Lists.{Lists}
-use Rattle.device_rules.specs.Answers.{host_outcome, host_result_in, host_rule}
-use Rattle.device_rules.specs.Views.{View}
+use Rattle.device_state.specs.host_lists.specs.Lists.{Lists}
+use Rattle.device_state.specs.device_rules.specs.Answers.{host_outcome, host_result_in, host_rule}
+use Rattle.device_state.specs.device_rules.specs.Views.{View}
 use Rattle.device_commands.specs.declared.draft.DraftParts.{DraftParts}
 use Rattle.device_commands.specs.Drafts.{Drafts}
 use Rattle.device_state.specs.StateAfter.{IsLogOf, lists_in}

@@ -16,16 +16,16 @@ use Rattle.granule_map.specs.StateLists.{is_free_at}
 use Rattle.device_state.specs.StateAfter.{lists_in, part_of, IsLogOf}
 use Rattle.device_commands.specs.Drafts.{LeadsTo, as_records}
 use Rattle.device_commands.specs.declared.draft.DraftParts.{DraftParts}
-use Rattle.host_lists.specs.Lists.{Lists, extent_total, extents_of_lists}
+use Rattle.device_state.specs.host_lists.specs.Lists.{Lists, extent_total, extents_of_lists}
 use Rattle.journal_core.specs.declared.outcome.Effect.{Effect}
 use Rattle.list_rules.specs.Listing.{too_many_extents}
 use Rattle.region_config.specs.Granules.{hosts_of, region_spec}
 use Rattle.selection.specs.Selections.{contiguous_runs, free_runs, prescribed_rule}
 use Rattle.tag_refs.specs.Tables.{entry_referenced, passes}
 use Rattle.tag_refs.specs.declared.entries.TagEntry.{TagEntry}
-use Rattle.device_rules.specs.Adding.{extents_of, area_of, by_length_rule, chosen, per_block, with_tag, too_many_tags}
-use Rattle.device_rules.specs.Outcomes.{log_full, records_of_extents}
-use Rattle.device_rules.specs.Views.{View}
+use Rattle.device_state.specs.device_rules.specs.Adding.{extents_of, area_of, by_length_rule, chosen, per_block, with_tag, too_many_tags}
+use Rattle.device_state.specs.device_rules.specs.Outcomes.{log_full, records_of_extents}
+use Rattle.device_state.specs.device_rules.specs.Views.{View}
 use Rattle.device_state.specs.Entered.{runs_in}
 use Rattle.device_state.specs.declared.state.State.{State}
 use Rattle.dcd_codes.specs.declared.refusals.Refusal.{Refusal}

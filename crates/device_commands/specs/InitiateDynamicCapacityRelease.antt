@@ -12,22 +12,22 @@ use Rattle.extent_list.specs.ExtentLists.{count_in, cut_all, tags_of}
 use Rattle.device_state.specs.StateAfter.{lists_in, IsStateAfter, part_of}
 use Rattle.device_commands.specs.Drafts.{Drafts, LeadsTo, as_records}
 use Rattle.device_commands.specs.declared.draft.DraftParts.{DraftParts}
-use Rattle.host_lists.specs.Answers.{generation_after}
-use Rattle.host_lists.specs.Lists.{Lists}
+use Rattle.device_state.specs.host_lists.specs.Answers.{generation_after}
+use Rattle.device_state.specs.host_lists.specs.Lists.{Lists}
 use Rattle.journal_core.specs.declared.outcome.Effect.{Effect}
 use Rattle.media_map.specs.Places.{is_granular}
 use Rattle.region_config.specs.Configurations.{Configuration}
 use Rattle.release_core.specs.Leaving.{AllCanLeave}
 use Rattle.release_core.specs.Removals.{by_tag_rule, prescribed_removal_rule}
-use Rattle.device_rules.specs.Hosts.{accepted_after, offers_after}
-use Rattle.device_rules.specs.Outcomes.{Outcome, records_of_extents, log_full}
-use Rattle.device_rules.specs.ReleaseOutcomes.{is_cleaning, is_forced, policy_in, removals, removed}
-use Rattle.device_rules.specs.Views.{View, view_after, view_of}
+use Rattle.device_state.specs.device_rules.specs.Hosts.{accepted_after, offers_after}
+use Rattle.device_state.specs.device_rules.specs.Outcomes.{Outcome, records_of_extents, log_full}
+use Rattle.device_state.specs.device_rules.specs.ReleaseOutcomes.{is_cleaning, is_forced, policy_in, removals, removed}
+use Rattle.device_state.specs.device_rules.specs.Views.{View, view_after, view_of}
 use Rattle.std.specs.declared.result.Result.{Result}
 use Rattle.dcd_codes.specs.declared.refusals.Refusal.{Refusal}
 use Rattle.fm_payloads.specs.declared.requests.FmRequest.{FmRequest}
 use Rattle.journal_core.specs.declared.entries.Entry.{Entry}
-use Rattle.device_rules.specs.Legal.{Legal}
+use Rattle.device_state.specs.device_rules.specs.Legal.{Legal}
 use Rattle.device_state.specs.declared.state.State.{State}
 use Rattle.device_commands.specs.declared.initiate_dynamic_capacity_release.RemoveRequest.{RemoveRequest}
 

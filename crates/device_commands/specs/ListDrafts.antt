@@ -4,15 +4,15 @@ use Rattle.dcd_base.specs.declared.capacity.Tag.{Tag}
 use Rattle.dcd_base.specs.declared.capacity.Extent.{Extent}
 use Rattle.dcd_base.specs.declared.ids.HostId.{HostId}
 use Rattle.event_records.specs.declared.events.EventKind.{EventKind}
-use Rattle.device_rules.specs.Outcomes.{records_of_extents}
+use Rattle.device_state.specs.device_rules.specs.Outcomes.{records_of_extents}
 use Rattle.device_commands.specs.declared.log_records.LogRecords.{LogRecords}
 use Rattle.dcd_base.specs.declared.steps.LogId.{LogId}
 use Rattle.event_records.specs.declared.events.Event.{Event}
 use Rattle.journal_core.specs.declared.outcome.Effect.{Effect}
-use Rattle.host_lists.specs.Lists.{Lists}
+use Rattle.device_state.specs.host_lists.specs.Lists.{Lists}
 use Rattle.device_state.specs.ListsUpdates.{lists_alone}
 use Rattle.device_state.specs.declared.updates.NewLists.{NewLists}
-use Rattle.device_rules.specs.Views.{View}
+use Rattle.device_state.specs.device_rules.specs.Views.{View}
 use Rattle.device_commands.specs.declared.draft.DraftParts.{DraftParts}
 use Rattle.device_state.specs.StateAfter.{lists_in}
 use Rattle.device_commands.specs.Drafts.{LeadsTo, as_records}

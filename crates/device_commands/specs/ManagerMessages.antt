@@ -8,10 +8,10 @@ use Rattle.fm_payloads.specs.declared.requests.FmRequest.{FmRequest}
 use Rattle.region_config.specs.Configurations.{Configuration}
 use Rattle.journal_core.specs.Entries.{effects}
 use Rattle.journal_core.specs.declared.entries.Entry.{Entry}
-use Rattle.device_rules.specs.Answers.{manager_outcome, manager_rule}
-use Rattle.device_rules.specs.Legal.{Legal}
-use Rattle.device_rules.specs.Outcomes.{Outcome}
-use Rattle.device_rules.specs.Views.{view_of}
+use Rattle.device_state.specs.device_rules.specs.Answers.{manager_outcome, manager_rule}
+use Rattle.device_state.specs.device_rules.specs.Legal.{Legal}
+use Rattle.device_state.specs.device_rules.specs.Outcomes.{Outcome}
+use Rattle.device_state.specs.device_rules.specs.Views.{view_of}
 use Rattle.device_state.specs.StateAfter.{IsStateAfter}
 use Rattle.device_state.specs.declared.state.State.{State}
 use Rattle.device_commands.specs.Drafts.{Drafts, IsOutcome}

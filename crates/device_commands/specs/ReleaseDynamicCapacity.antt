@@ -4,15 +4,15 @@ use Rattle.dcd_base.specs.declared.capacity.Extent.{Extent}
 use Rattle.dcd_base.specs.declared.ids.HostId.{HostId}
 use Rattle.event_records.specs.declared.events.EventKind.{EventKind}
 use Rattle.extent_list.specs.ExtentLists.{tags_of}
-use Rattle.host_lists.specs.Lists.{Lists}
+use Rattle.device_state.specs.host_lists.specs.Lists.{Lists}
 use Rattle.journal_core.specs.declared.outcome.Effect.{Effect}
 use Rattle.journal_core.specs.declared.outcome.HeldKind.{HeldKind}
 use Rattle.region_config.specs.Configurations.{Configuration}
 use Rattle.region_config.specs.Granules.{with_blocks}
-use Rattle.device_rules.specs.Outcomes.{records_of_extents}
-use Rattle.device_rules.specs.ReleaseOutcomes.{give_back_outcome, removals}
-use Rattle.device_rules.specs.ResponseOutcomes.{unhold}
-use Rattle.device_rules.specs.Views.{View}
+use Rattle.device_state.specs.device_rules.specs.Outcomes.{records_of_extents}
+use Rattle.device_state.specs.device_rules.specs.ReleaseOutcomes.{give_back_outcome, removals}
+use Rattle.device_state.specs.device_rules.specs.ResponseOutcomes.{unhold}
+use Rattle.device_state.specs.device_rules.specs.Views.{View}
 use Rattle.device_state.specs.StateAfter.{lists_in}
 use Rattle.device_commands.specs.Drafts.{Drafts}
 use Rattle.device_commands.specs.ListDrafts.{Tells}

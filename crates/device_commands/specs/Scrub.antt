@@ -4,8 +4,8 @@ use Rattle.journal_core.specs.declared.acts.Act.{Act}
 use Rattle.journal_core.specs.declared.acts.Reply.{Reply}
 use Rattle.journal_core.specs.declared.entries.Entry.{Entry}
 use Rattle.region_config.specs.Configurations.{Configuration}
-use Rattle.device_rules.specs.Answers.{scrub_answer}
-use Rattle.device_rules.specs.Legal.{Legal}
+use Rattle.device_state.specs.device_rules.specs.Answers.{scrub_answer}
+use Rattle.device_state.specs.device_rules.specs.Legal.{Legal}
 use Rattle.device_state.specs.StateAfter.{IsStateAfter}
 use Rattle.device_state.specs.declared.state.State.{State}
 use Rattle.device_commands.specs.declared.scrub.Zeroed.{Zeroed}

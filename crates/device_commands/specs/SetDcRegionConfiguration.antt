@@ -4,8 +4,8 @@ use Rattle.dcd_base.specs.declared.ids.HostId.{HostId}
 use Rattle.dcd_base.specs.declared.steps.LogId.{LogId}
 use Rattle.dcd_codes.specs.Rules.{◌breaks◌, each_in}
 use Rattle.dcd_codes.specs.declared.rules.Rule.{Rule}
-use Rattle.device_rules.specs.Outcomes.{no_extent, record_for, log_full}
-use Rattle.device_rules.specs.Views.{View}
+use Rattle.device_state.specs.device_rules.specs.Outcomes.{no_extent, record_for, log_full}
+use Rattle.device_state.specs.device_rules.specs.Views.{View}
 use Rattle.device_state.specs.StateAfter.{IsLogOf, lists_in, part_of}
 use Rattle.device_state.specs.declared.state.State.{State}
 use Rattle.event_records.specs.declared.events.Event.{Event}
@@ -15,7 +15,7 @@ use Rattle.region_config.specs.Granules.{first_granule, region_granules, is_supp
 use Rattle.region_config.specs.declared.region_spec.RegionSpec.{RegionSpec}
 use Rattle.std.specs.List.{range_with_len}
 use Rattle.std.specs.Prelude.{◌≡◌, ℕ, ◌<◌, Bool, List, [], Option, count_by, false, not, ◌==◌, nat_lt, ◌∷◌, map}
-use Rattle.device_rules.specs.Settings.{set_outcome}
+use Rattle.device_state.specs.device_rules.specs.Settings.{set_outcome}
 use Rattle.device_commands.specs.Drafts.{IsOutcome, as_records}
 use Rattle.device_commands.specs.declared.draft.DraftParts.{DraftParts}
 use Rattle.device_commands.specs.declared.log_records.LogRecords.{LogRecords}

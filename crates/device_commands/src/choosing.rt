@@ -3,7 +3,7 @@
 ghost use Rattle.device_commands.specs.InitiateDynamicCapacityAdd.{length_rule, length_runs, new_offer, policy_rule, tagged_runs};
 ghost use Rattle.device_state.specs.Entered.{runs_in};
 ghost use Rattle.dcd_codes.specs.Rules.{ByRow};
-ghost use Rattle.device_rules.specs.Adding.{with_tag};
+ghost use Rattle.device_state.specs.device_rules.specs.Adding.{with_tag};
 ghost use Rattle.media_map.specs.Places.{IsRun, extent_of};
 ghost use Rattle.region_config.specs.Granules.{granule_total};
 ghost use Rattle.std.specs.Prelude.{◌≡◌, ◌^◌, ◌<◌, ◌≤◌, All, IfOk, if◌then◌else◌, length};

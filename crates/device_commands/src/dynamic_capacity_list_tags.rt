@@ -6,7 +6,7 @@
 ghost use Rattle.device_commands.specs.ManagerMessages.{ManagerAnswers};
 ghost use Rattle.device_state.specs.StateAfter.{IsReached};
 ghost use Rattle.fm_payloads.specs.declared.requests.FmRequest.{FmRequest};
-ghost use Rattle.device_rules.specs.Settings.{page};
+ghost use Rattle.device_state.specs.device_rules.specs.Settings.{page};
 ghost use Rattle.std.specs.Prelude.{◌≡◌, ◌≤◌, IfOk, length, map};
 ghost use Rattle.tag_refs.specs.Tables.{tag_view};
 

@@ -7,7 +7,7 @@ ghost use Rattle.device_commands.specs.GetDcRegionExtentLists.{IsListsReply};
 ghost use Rattle.device_commands.specs.ManagerMessages.{ManagerAnswers};
 ghost use Rattle.device_state.specs.StateAfter.{IsReached, part_of};
 ghost use Rattle.fm_payloads.specs.declared.requests.FmRequest.{FmRequest};
-ghost use Rattle.host_lists.specs.Lists.{extent_total};
+ghost use Rattle.device_state.specs.host_lists.specs.Lists.{extent_total};
 ghost use Rattle.std.specs.Prelude.{◌<◌, ◌≤◌, IfOk, length};
 
 use crate::draft::Draft;

@@ -4,8 +4,8 @@
 //! Bytes: docs/formats.md, 'Commands of a host', 'Replies to a host'.
 
 ghost use Rattle.device_commands.specs.GetDynamicCapacityConfiguration.{AnswersConfiguration};
-ghost use Rattle.device_rules.specs.Outcomes.{only};
-ghost use Rattle.host_lists.specs.Lists.{extent_total};
+ghost use Rattle.device_state.specs.device_rules.specs.Outcomes.{only};
+ghost use Rattle.device_state.specs.host_lists.specs.Lists.{extent_total};
 ghost use Rattle.std.specs.Prelude.{◌≡◌, ◌<◌, ◌≤◌, IfOk, None};
 
 use crate::draft::Draft;
@@ -13,7 +13,7 @@ use crate::pages::{Flags, host_counts, regions_seen};
 use crate::rooms::Room;
 use dcd_base::HostId;
 use dcd_codes::{Refusal, Rule};
-use host_lists::HostLists;
+use device_state::host_lists::HostLists;
 use host_payloads::write_configuration;
 use region_config::Config;
 

@@ -4,15 +4,15 @@
 //! Bytes: docs/formats.md, 'Commands of a host', 'Replies to a host'.
 
 ghost use Rattle.device_commands.specs.GetDynamicCapacityExtentList.{AnswersExtents};
-ghost use Rattle.device_rules.specs.Outcomes.{only};
-ghost use Rattle.host_lists.specs.Lists.{extent_total};
+ghost use Rattle.device_state.specs.device_rules.specs.Outcomes.{only};
+ghost use Rattle.device_state.specs.host_lists.specs.Lists.{extent_total};
 ghost use Rattle.std.specs.Prelude.{◌≡◌, ◌≤◌, IfOk, None};
 
 use crate::draft::Draft;
 use crate::pages::extents_page;
 use crate::rooms::Room;
 use dcd_codes::{Refusal, Rule};
-use host_lists::HostLists;
+use device_state::host_lists::HostLists;
 use host_payloads::write_extents;
 
 /// At most `count` accepted extents from `first` on, 50 at most, with how many there are and how often the list

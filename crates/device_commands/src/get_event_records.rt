@@ -4,7 +4,7 @@
 //! Bytes: docs/formats.md, 'Commands of a host', 'Replies to a host'.
 
 ghost use Rattle.device_commands.specs.GetEventRecords.{AnswersEvents};
-ghost use Rattle.device_rules.specs.Outcomes.{only};
+ghost use Rattle.device_state.specs.device_rules.specs.Outcomes.{only};
 ghost use Rattle.host_payloads.specs.HostPayloads.{events_payload};
 ghost use Rattle.std.specs.Prelude.{◌≡◌, ◌≤◌, IfOk, None, [], length, nat_lt, take, false};
 

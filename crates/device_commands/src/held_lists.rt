@@ -1,12 +1,12 @@
 //! The extents that a host has sent of a list in several messages.
 
-ghost use Rattle.device_rules.specs.ResponseOutcomes.{hold, unhold};
+ghost use Rattle.device_state.specs.device_rules.specs.ResponseOutcomes.{hold, unhold};
 ghost use Rattle.std.specs.Prelude.{◌≡◌, ◌++◌, ◌<◌, IfOk, OnOk};
 ghost use Rattle.device_commands.specs.HeldLists.{unheld_by};
 
 use crate::rooms::Room;
 use dcd_base::{Extent, Extents, HostId, NoMemory};
-use host_lists::HostLists;
+use device_state::host_lists::HostLists;
 use journal_core::{Effect, Effects, HeldKind};
 
 /// The opcodes whose refusal ends a held list: Add Dynamic Capacity Response and Release Dynamic Capacity.

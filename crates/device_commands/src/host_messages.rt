@@ -2,8 +2,8 @@
 
 ghost use Rattle.device_commands.specs.HostMessages.{DraftsHost};
 ghost use Rattle.dcd_base.specs.declared.steps.LogId.{LogId};
-ghost use Rattle.host_lists.specs.Changes.{changed_by};
-ghost use Rattle.host_lists.specs.Lists.{extent_total};
+ghost use Rattle.device_state.specs.host_lists.specs.Changes.{changed_by};
+ghost use Rattle.device_state.specs.host_lists.specs.Lists.{extent_total};
 ghost use Rattle.std.specs.Prelude.{◌≡◌, ◌<◌, ◌≤◌, IfOk, IfSome};
 
 use crate::add_dynamic_capacity_response::add_response;
@@ -17,8 +17,8 @@ use crate::rooms::Room;
 use cci_codec::Request;
 use dcd_base::{HostId, LogId, NoMemory};
 use dcd_codes::{Refusal, Rule};
+use device_state::host_lists::HostLists;
 use event_log::EventLog;
-use host_lists::HostLists;
 use host_payloads::{HostRequest, PayloadFault, decode};
 use region_config::Config;
 use std::alloc::Global;

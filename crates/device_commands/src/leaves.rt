@@ -1,6 +1,6 @@
 //! Extents that leave their host.
 
-ghost use Rattle.device_rules.specs.ReleaseOutcomes.{removals, soils};
+ghost use Rattle.device_state.specs.device_rules.specs.ReleaseOutcomes.{removals, soils};
 ghost use Rattle.journal_core.specs.declared.outcome.Effect.{Effect};
 ghost use Rattle.media_map.specs.Places.{is_granular};
 ghost use Rattle.std.specs.Prelude.{◌≡◌, ◌++◌, ◌∷◌, ◌<◌, All, IsTrue, OnOk};

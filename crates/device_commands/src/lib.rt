@@ -39,6 +39,8 @@ mod set_dc_region_configuration;
 mod tag_changes;
 mod tags;
 
+pub use device_state;
+pub use device_state::{device_rules, holding_laws, host_lists, step_laws, table_laws};
 pub use draft::{Content, Draft, DraftParts, DraftedStep};
 pub use dynamic_capacity_add_reference::add_reference;
 pub use dynamic_capacity_remove_reference::remove_reference;

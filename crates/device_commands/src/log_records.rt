@@ -1,12 +1,12 @@
 //! Records that a command adds to event logs, and whether a log has room for them.
 
-ghost use Rattle.device_rules.specs.Outcomes.{record_for, records_of_extents, no_extent, log_full};
-ghost use Rattle.device_rules.specs.Views.{View};
+ghost use Rattle.device_state.specs.device_rules.specs.Outcomes.{record_for, records_of_extents, no_extent, log_full};
+ghost use Rattle.device_state.specs.device_rules.specs.Views.{View};
 ghost use Rattle.event_records.specs.declared.events.EventKind.{EventKind};
 ghost use Rattle.device_state.specs.StateAfter.{lists_in, part_of, IsLogOf};
 ghost use Rattle.dcd_base.specs.Limits.{tags_supported};
 ghost use Rattle.extent_list.specs.ExtentLists.{real_tags};
-ghost use Rattle.host_lists.specs.Lists.{extent_total, extents_of_lists};
+ghost use Rattle.device_state.specs.host_lists.specs.Lists.{extent_total, extents_of_lists};
 ghost use Rattle.std.specs.Prelude.{◌≡◌, ◌-◌, ◌≤◌, ◌∷◌, [], IfOk, ◌<◌, length, map};
 ghost use Rattle.dcd_base.specs.declared.steps.LogId.{LogId};
 ghost use Rattle.device_commands.specs.Drafts.{as_records};
@@ -15,8 +15,8 @@ ghost use Rattle.event_log.specs.Logs.{Log};
 use dcd_base::{Extent, HostId, LogId, NoMemory, Seq, no_tag};
 use dcd_codes::Rule;
 use device_state::State;
+use device_state::host_lists::Changed;
 use event_records::{Event, EventKind};
-use host_lists::Changed;
 use short_list::ShortList;
 use std::alloc::Global;
 

@@ -3,7 +3,7 @@
 ghost use Rattle.device_commands.specs.ManagerMessages.{FewCleared, ManagerAnswers};
 ghost use Rattle.device_state.specs.StateAfter.{IsReached};
 ghost use Rattle.std.specs.Prelude.{◌≡◌, true};
-ghost use Rattle.table_laws.specs.QuietRequests.{is_quiet_manager};
+ghost use Rattle.device_state.specs.table_laws.specs.QuietRequests.{is_quiet_manager};
 
 use crate::clear_event_records::clear_events;
 use crate::draft::Draft;

@@ -18,8 +18,8 @@ use Rattle.media_map.specs.Places.{locate}
 use Rattle.region_config.specs.Configurations.{Configuration}
 use Rattle.region_config.specs.Granules.{granule_total}
 use Rattle.region_config.specs.Soundness.{IsSound}
-use Rattle.control_core.specs.Deciding.{IsShort}
-use Rattle.control_core.specs.Steps.{MayStep, journal_entry}
+use Rattle.live_device.specs.control_core.specs.Deciding.{IsShort}
+use Rattle.live_device.specs.control_core.specs.Steps.{MayStep, journal_entry}
 use Rattle.live_device.specs.Accesses.{AreZeroed, Stored, StoresAt, granted_place, store_said, word_from}
 use Rattle.device_plain.specs.Keeping.{Keeps, KeepsBoth}
 use Rattle.device_plain.specs.Numbering.{IsReachedBy, accesses_of}

@@ -8,9 +8,9 @@ use Rattle.granule_mem.specs.Contents.{word_kept}
 use Rattle.journal_core.specs.declared.entries.Entry.{Entry}
 use Rattle.journal_core.specs.Entries.{Each, effects}
 use Rattle.journal_core.specs.Merging.{Numbered, commands_in, merged}
-use Rattle.device_rules.specs.Hosts.{changes_of}
-use Rattle.device_rules.specs.Legal.{Legal, word_of}
-use Rattle.control_core.specs.Deciding.{AreShort}
+use Rattle.live_device.specs.device_rules.specs.Hosts.{changes_of}
+use Rattle.live_device.specs.device_rules.specs.Legal.{Legal, word_of}
+use Rattle.live_device.specs.control_core.specs.Deciding.{AreShort}
 use Rattle.live_device.specs.Accesses.{Stored}
 use Rattle.device_plain.specs.Numbering.{IsCounted, IsReachedBy, accesses_of, accesses_since, commands_of}
 

@@ -5,3 +5,5 @@ mod accesses;
 mod device;
 
 pub use device::Device;
+pub use live_device;
+pub use live_device::{control_core, isolation_laws};

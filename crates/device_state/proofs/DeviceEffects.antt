@@ -28,17 +28,17 @@ use Rattle.journal_core.specs.declared.outcome.Effect.{Effect}
 use Rattle.region_config.proofs.Searches.{or_parts}
 use Rattle.region_config.specs.Configurations.{Configuration}
 use Rattle.region_config.specs.Granules.{is_supported, region_spec}
-use Rattle.device_rules.specs.Answers.{dropped, effects_with, host_outcome, host_result, host_rule, manager_outcome, manager_result, manager_rule, scrubbed, unless}
-use Rattle.device_rules.specs.Legal.{Legal, Meets, right_answer}
-use Rattle.device_rules.specs.Logs.{log_of}
-use Rattle.device_rules.specs.Outcomes.{Outcome, effects_of, log_full, no_extent, record_for}
-use Rattle.device_rules.specs.ReleaseOutcomes.{is_cleaning, is_forced, policy_in, remove_rule, removed}
-use Rattle.device_rules.specs.Settings.{no_such_region, set_rule}
-use Rattle.device_rules.specs.Tags.{is_referenced}
-use Rattle.device_rules.specs.Views.{View, view_of}
-use Rattle.holding_laws.proofs.Adding.{row_of}
-use Rattle.device_rules.proofs.EffectKinds.{PassClearing, PassHeld, PassLists, PassRecords, clear_passes, dropped_passes, host_passes, outcome_passes, reference_passes, removals_pass, tells, zeroes_pass}
-use Rattle.step_laws.proofs.LogOutcomes.{whole}
+use Rattle.table_laws.specs.device_rules.specs.Answers.{dropped, effects_with, host_outcome, host_result, host_rule, manager_outcome, manager_result, manager_rule, scrubbed, unless}
+use Rattle.table_laws.specs.device_rules.specs.Legal.{Legal, Meets, right_answer}
+use Rattle.table_laws.specs.device_rules.specs.Logs.{log_of}
+use Rattle.table_laws.specs.device_rules.specs.Outcomes.{Outcome, effects_of, log_full, no_extent, record_for}
+use Rattle.table_laws.specs.device_rules.specs.ReleaseOutcomes.{is_cleaning, is_forced, policy_in, remove_rule, removed}
+use Rattle.table_laws.specs.device_rules.specs.Settings.{no_such_region, set_rule}
+use Rattle.table_laws.specs.device_rules.specs.Tags.{is_referenced}
+use Rattle.table_laws.specs.device_rules.specs.Views.{View, view_of}
+use Rattle.table_laws.specs.holding_laws.proofs.Adding.{row_of}
+use Rattle.table_laws.specs.device_rules.proofs.EffectKinds.{PassClearing, PassHeld, PassLists, PassRecords, clear_passes, dropped_passes, host_passes, outcome_passes, reference_passes, removals_pass, tells, zeroes_pass}
+use Rattle.table_laws.specs.step_laws.proofs.LogOutcomes.{whole}
 use Rattle.device_state.specs.Updates.{IsOfDevice, IsOfLog}
 
 -- ---- the same as a test

@@ -5,7 +5,7 @@ use Rattle.journal_core.specs.declared.entries.Entry.{Entry}
 use Rattle.region_config.specs.Configurations.{Configuration}
 use Rattle.region_config.specs.Soundness.{IsSound}
 use Rattle.table_laws.proofs.GranuleCommands.{granules_kept}
-use Rattle.device_rules.specs.Legal.{Legal, Meets}
+use Rattle.table_laws.specs.device_rules.specs.Legal.{Legal, Meets}
 use Rattle.device_state.specs.Entered.{IsEntered}
 use Rattle.device_state.specs.StateAfter.{IsStateAfter}
 use Rattle.device_state.specs.Updates.{IsOfDevice, IsUpdate}

@@ -17,8 +17,8 @@ use Rattle.region_config.specs.Configurations.{Configuration}
 use Rattle.region_config.specs.declared.region_spec.RegionSpec.{RegionSpec}
 use Rattle.region_config.specs.Granules.{granule_total, hosts_of, no_region, region_of, region_spec, with_blocks}
 use Rattle.region_config.proofs.PresentBlocks.{region_spec-with_blocks}
-use Rattle.device_rules.specs.Tags.{Dirty, Free, Held, Offered, Status, Tagged, is_offered, status}
-use Rattle.device_rules.specs.Views.{view_of}
+use Rattle.table_laws.specs.device_rules.specs.Tags.{Dirty, Free, Held, Offered, Status, Tagged, is_offered, status}
+use Rattle.table_laws.specs.device_rules.specs.Views.{view_of}
 use Rattle.dcd_base.specs.Hosts.{has_host}
 use Rattle.table_laws.specs.TagTable.{IsTable}
 use Rattle.device_state.specs.declared.state.State.{State}

@@ -31,15 +31,15 @@ use Rattle.table_laws.specs.TagTable.{IsEntry, IsTable}
 use Rattle.dcd_base.specs.Hosts.{has_host}
 use Rattle.tag_refs.specs.Tables.{entry_with}
 use Rattle.tag_refs.specs.declared.entries.TagEntry.{TagEntry}
-use Rattle.holding_laws.proofs.LegalSound.{legal_is_sound}
-use Rattle.device_rules.proofs.ViewSteps.{view_of-push}
-use Rattle.device_rules.specs.Adding.{present}
-use Rattle.device_rules.specs.Hosts.{block_after, block_of, offers_of}
-use Rattle.device_rules.specs.Legal.{Legal, Meets}
-use Rattle.device_rules.specs.Logs.{log_after, log_of}
-use Rattle.device_rules.specs.Tags.{last_offer, open_tags, tag_runs}
-use Rattle.device_rules.specs.Views.{view_of}
-use Rattle.step_laws.proofs.LegalLogs.{legal_logs}
+use Rattle.table_laws.specs.holding_laws.proofs.LegalSound.{legal_is_sound}
+use Rattle.table_laws.specs.device_rules.proofs.ViewSteps.{view_of-push}
+use Rattle.table_laws.specs.device_rules.specs.Adding.{present}
+use Rattle.table_laws.specs.device_rules.specs.Hosts.{block_after, block_of, offers_of}
+use Rattle.table_laws.specs.device_rules.specs.Legal.{Legal, Meets}
+use Rattle.table_laws.specs.device_rules.specs.Logs.{log_after, log_of}
+use Rattle.table_laws.specs.device_rules.specs.Tags.{last_offer, open_tags, tag_runs}
+use Rattle.table_laws.specs.device_rules.specs.Views.{view_of}
+use Rattle.table_laws.specs.step_laws.proofs.LegalLogs.{legal_logs}
 use Rattle.device_state.proofs.DeviceEffects.{each_of_device}
 use Rattle.device_state.proofs.HolderBits.{holding_over, length-over, none_over}
 use Rattle.device_state.proofs.RecordSteps.{log_all}

@@ -9,7 +9,7 @@ use Rattle.region_config.proofs.PresentBlocks.{region_spec-with_blocks}
 use Rattle.region_config.specs.Configurations.{Configuration}
 use Rattle.region_config.specs.Granules.{no_region, region_spec, with_blocks}
 use Rattle.region_config.specs.declared.region_spec.RegionSpec.{RegionSpec}
-use Rattle.device_rules.specs.Hosts.{block_of}
+use Rattle.table_laws.specs.device_rules.specs.Hosts.{block_of}
 use Rattle.device_state.specs.StateAfter.{IsStateAfter}
 use Rattle.device_state.specs.declared.state.State.{State}
 

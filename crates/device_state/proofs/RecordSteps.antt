@@ -9,7 +9,7 @@ use Rattle.event_log.specs.LogStates.{LogState, with_missed, with_record, withou
 use Rattle.event_log.specs.Logs.{Log, cleared_of, missed_by, next_handle, places_in, records_in, reset, state_of}
 use Rattle.event_records.specs.declared.events.Event.{Event}
 use Rattle.journal_core.specs.declared.outcome.Effect.{Effect}
-use Rattle.device_rules.specs.Logs.{log_after, same_log}
+use Rattle.table_laws.specs.device_rules.specs.Logs.{log_after, same_log}
 use Rattle.device_state.specs.Entered.{log_by, put_in}
 use Rattle.device_state.specs.Rooms.{HasRoom, HaveRoom, IsNextRecord}
 

@@ -19,7 +19,7 @@ use Rattle.journal_core.specs.declared.outcome.HeldKind.{HeldKind}
 use Rattle.offer_core.specs.Offerings.{oldest_of}
 use Rattle.region_config.specs.Blocks.{with_block}
 use Rattle.region_config.specs.Configurations.{Configuration}
-use Rattle.device_rules.specs.Logs.{same_log}
+use Rattle.table_laws.specs.device_rules.specs.Logs.{same_log}
 use Rattle.table_laws.specs.TagTable.{host_of_tags_set}
 use Rattle.dcd_base.specs.Hosts.{with_host, without_host}
 use Rattle.tag_refs.specs.Tables.{entries_changed, entry_with, opened, still_used, with_reference, set_by}

@@ -6,3 +6,8 @@ pub mod Rooms
 pub mod Stages
 pub mod StateAfter
 pub mod Updates
+pub use Rattle.table_laws.specs.device_rules
+pub use Rattle.table_laws.specs.holding_laws
+pub use Rattle.table_laws
+pub use Rattle.host_lists
+pub use Rattle.table_laws.specs.step_laws

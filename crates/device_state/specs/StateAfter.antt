@@ -15,10 +15,10 @@ use Rattle.granule_table.specs.Tables.{cell_at}
 use Rattle.table_laws.specs.GranuleCells.{IsCell}
 use Rattle.table_laws.specs.TagTable.{IsTable}
 use Rattle.host_lists.specs.Lists.{Lists, no_lists}
-use Rattle.device_rules.specs.Adding.{present}
-use Rattle.device_rules.specs.Legal.{Legal}
-use Rattle.device_rules.specs.Logs.{log_of}
-use Rattle.device_rules.specs.Views.{View, generation_in, view_of}
+use Rattle.table_laws.specs.device_rules.specs.Adding.{present}
+use Rattle.table_laws.specs.device_rules.specs.Legal.{Legal}
+use Rattle.table_laws.specs.device_rules.specs.Logs.{log_of}
+use Rattle.table_laws.specs.device_rules.specs.Views.{View, generation_in, view_of}
 use Rattle.device_state.specs.declared.parts.HostPart.{HostPart}
 use Rattle.device_state.specs.declared.state.State.{State}
 

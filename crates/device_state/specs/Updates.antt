@@ -9,7 +9,7 @@ use Rattle.journal_core.specs.declared.entries.Entry.{Entry}
 use Rattle.journal_core.specs.declared.outcome.Effect.{Effect}
 use Rattle.device_state.specs.StateAfter.{lists_in, part_of, IsStateAfter}
 use Rattle.host_lists.specs.Lists.{Lists}
-use Rattle.device_rules.specs.Views.{view_after, view_of}
+use Rattle.table_laws.specs.device_rules.specs.Views.{view_after, view_of}
 use Rattle.table_laws.specs.TagTable.{IsTable}
 use Rattle.tag_refs.specs.Tables.{has_entry}
 use Rattle.tag_refs.specs.declared.entries.TagEntry.{TagEntry}

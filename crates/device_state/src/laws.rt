@@ -1,6 +1,6 @@
 //! That what is kept stays right.
 
-ghost use Rattle.device_rules.specs.Legal.{Legal, Meets};
+ghost use Rattle.table_laws.specs.device_rules.specs.Legal.{Legal, Meets};
 ghost use Rattle.device_state.specs.Updates.{IsOfDevice, KeepsEntered};
 ghost use Rattle.journal_core.specs.declared.entries.Entry.{Entry};
 ghost use Rattle.region_config.specs.Configurations.{Configuration};

@@ -19,9 +19,12 @@ mod state;
 mod updates;
 
 pub use holders::Holders;
+pub use host_lists;
 pub use laws::law_kept_entered;
 pub use lists_update::ListsUpdate;
 pub use parts::HostPart;
 pub use records::change_log_named;
 pub use state::State;
+pub use table_laws;
+pub use table_laws::{device_rules, holding_laws, step_laws};
 pub use updates::{NewLists, TagChange, Update};

@@ -1,7 +1,7 @@
 //! What effects make of the logs, the block sizes and the held lists.
 
 ghost use Rattle.device_state.specs.Entered.{with_lists, with_log, log_by, put_in, unheld};
-ghost use Rattle.device_rules.specs.Logs.{same_log};
+ghost use Rattle.table_laws.specs.device_rules.specs.Logs.{same_log};
 ghost use Rattle.device_state.specs.Changes.{AreLogged, log_changed, log_told};
 ghost use Rattle.device_state.specs.StateAfter.{part_of};
 ghost use Rattle.device_state.specs.Updates.{IsOfLog};

@@ -5,10 +5,10 @@ ghost use Rattle.std.specs.Prelude.{◌≡◌, IfOk};
 
 use crate::seeing::see;
 use crate::steps::{HOST, MIB, OFFER, REGION, RESPONSE, Told, command, kind_of};
-use control_core::LiveControl;
 use dcd_base::{Actor, LogId};
+use device_plain::control_core::LiveControl;
+use device_plain::live_device::{LiveDevice, StepFault, law_lives};
 use journal_core::{Act, Reply};
-use live_device::{LiveDevice, StepFault, law_lives};
 use region_config::Config;
 use std::alloc::Global;
 use std::process::Abort;

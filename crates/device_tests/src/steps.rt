@@ -4,9 +4,9 @@ ghost use Rattle.std.specs.Prelude.{◌≡◌, IfOk};
 
 use crate::seeing::see;
 use cci_codec::{Payload, Request};
-use control_core::Control;
 use dcd_base::{AccessFault, Actor, HostId, LogId, NoMemory};
 use device_plain::Device;
+use device_plain::control_core::Control;
 use event_records::EventKind;
 use journal_core::{Act, Entry, Reply, copies};
 use region_config::{Config, RegionSpec};

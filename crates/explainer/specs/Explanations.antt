@@ -12,11 +12,11 @@ use Rattle.journal_core.specs.declared.acts.Reply.{Reply}
 use Rattle.journal_core.specs.declared.entries.Entry.{Entry}
 use Rattle.journal_core.specs.declared.outcome.Effect.{Effect}
 use Rattle.journal_core.specs.Entries.{effects}
-use Rattle.device_rules.specs.Counts.{dirty_count, extent_count, free_count, granules_held, missed_of, records_of}
-use Rattle.report.specs.Texts.{host_name, log_name}
-use Rattle.script_codec.specs.declared.script_line.Line.{Line}
-use Rattle.script_codec.specs.declared.scripts.Script.{Script}
-use Rattle.text_lines.specs.declared.actors.Frame.{Frame}
+use Rattle.journal_check.specs.device_rules.specs.Counts.{dirty_count, extent_count, free_count, granules_held, missed_of, records_of}
+use Rattle.journal_check.specs.report.specs.Texts.{host_name, log_name}
+use Rattle.text_printing.specs.script_codec.specs.declared.script_line.Line.{Line}
+use Rattle.text_printing.specs.script_codec.specs.declared.scripts.Script.{Script}
+use Rattle.text_printing.specs.text_lines.specs.declared.actors.Frame.{Frame}
 use Rattle.text_printing.specs.Printing.{printed_words}
 use Rattle.text_words.specs.Words.{line_text}
 use Rattle.reply_words.specs.PartWords.{detail, labelled, labelled_size}

@@ -3,18 +3,18 @@
 ghost use Rattle.explainer.specs.Explaining.{IsExplained};
 ghost use Rattle.explainer.specs.Explanations.{end_explained, entries_explained, explanation};
 ghost use Rattle.journal_core.specs.Entries.{effects};
-ghost use Rattle.script_codec.specs.Writing.{IsWritable};
+ghost use Rattle.text_printing.specs.script_codec.specs.Writing.{IsWritable};
 ghost use Rattle.std.specs.Prelude.{◌≡◌, ◌++◌, IfOk, OnOk};
 
 use crate::entries::put_entries;
 use crate::logs::put_logs;
 use crate::states::put_state;
-use control_core::Control;
 use dcd_base::{Bytes, NoMemory};
-use device_plain::Device;
+use journal_check::control_core::Control;
+use journal_check::device_plain::Device;
 use journal_check::replay;
-use script_codec::Script;
 use std::alloc::Global;
+use text_printing::script_codec::Script;
 
 /// The entries of a device in words.
 fn entries_of(alloc: Global, script: &Script, device: &Device) -> Result<Bytes, NoMemory>

@@ -8,3 +8,5 @@ mod logs;
 mod states;
 
 pub use explaining::explain;
+pub use journal_check;
+pub use journal_check::report;

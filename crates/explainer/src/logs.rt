@@ -1,15 +1,15 @@
 //! What is left in the logs, in words.
 
 ghost use Rattle.dcd_base.specs.declared.steps.LogId.{LogId};
-ghost use Rattle.device_state.specs.Updates.{IsOfLog};
+ghost use Rattle.journal_check.specs.device_state.specs.Updates.{IsOfLog};
 ghost use Rattle.explainer.specs.Explanations.{left_for_hosts, left_in_log, left_record, logs_explained, logs_title};
 ghost use Rattle.journal_core.specs.Entries.{effects};
-ghost use Rattle.report.specs.Texts.{host_name, log_name};
+ghost use Rattle.journal_check.specs.report.specs.Texts.{host_name, log_name};
 ghost use Rattle.std.specs.Prelude.{◌≡◌, ◌++◌, OnOk};
 
-use control_core::Control;
 use dcd_base::{Bytes, HostId, LogId, NoMemory};
 use event_records::{Event, encode};
+use journal_check::control_core::Control;
 use reply_words::{put_labelled, put_record};
 
 /// Appends the name of a host.

@@ -1,16 +1,16 @@
 //! The state in words.
 
 ghost use Rattle.dcd_base.specs.declared.steps.LogId.{LogId};
-ghost use Rattle.device_rules.specs.Counts.{dirty_count, extent_count, free_count, granules_held, missed_of, records_of};
+ghost use Rattle.journal_check.specs.device_rules.specs.Counts.{dirty_count, extent_count, free_count, granules_held, missed_of, records_of};
 ghost use Rattle.explainer.specs.Explanations.{granules_state, host_state, hosts_state, manager_state, state_explained, state_title};
 ghost use Rattle.journal_core.specs.Entries.{effects};
-ghost use Rattle.report.specs.Texts.{host_name};
+ghost use Rattle.journal_check.specs.report.specs.Texts.{host_name};
 ghost use Rattle.reply_words.specs.PartWords.{labelled};
 ghost use Rattle.std.specs.Prelude.{◌≡◌, ◌<◌, ◌++◌, OnOk, codes, length};
 
 use crate::logs::put_host;
-use control_core::Control;
 use dcd_base::{Bytes, HostId, LogId, NoMemory};
+use journal_check::control_core::Control;
 use reply_words::put_labelled;
 
 /// Appends the name of a host at the start of its line.

@@ -16,3 +16,4 @@ pub use fabric_lines::{FabricLine, FabricLines};
 pub use fabric_scripts::{Configs, FabricScript};
 pub use faults::FabricFault;
 pub use reading::read_fabric;
+pub use script_codec;

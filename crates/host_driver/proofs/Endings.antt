@@ -15,12 +15,12 @@ use Rattle.journal_core.specs.declared.entries.Entry.{Entry}
 use Rattle.region_config.specs.Configurations.{Configuration}
 use Rattle.report.specs.Texts.{text}
 use Rattle.report.specs.Refusals.{refusal_line}
-use Rattle.script_codec.specs.declared.faults.ScriptFault.{ScriptFault}
-use Rattle.script_codec.specs.declared.scripts.Script.{Script}
-use Rattle.script_codec.specs.Reading.{fault_of, first_fault, script_in}
-use Rattle.script_codec.specs.Scripts.{ReadsScript}
-use Rattle.script_codec.proofs.Beginnings.{too_long}
-use Rattle.script_codec.proofs.ScriptLaws.{script_is}
+use Rattle.report.specs.script_codec.specs.declared.faults.ScriptFault.{ScriptFault}
+use Rattle.report.specs.script_codec.specs.declared.scripts.Script.{Script}
+use Rattle.report.specs.script_codec.specs.Reading.{fault_of, first_fault, script_in}
+use Rattle.report.specs.script_codec.specs.Scripts.{ReadsScript}
+use Rattle.report.specs.script_codec.proofs.Beginnings.{too_long}
+use Rattle.report.specs.script_codec.proofs.ScriptLaws.{script_is}
 use Rattle.host_driver.specs.declared.status.DriveStatus.{DriveStatus}
 use Rattle.host_driver.specs.declared.words.DriveChoice.{DriveChoice}
 use Rattle.host_driver.specs.Planning.{EndsBy, EndsDriven, DriveEndsFor, EndsOn, DriveEndsRefused, EndsWith, HasNoSuchHost, IsDriveBegun, IsDrivePlanned, IsDrivePlannedBy, IsDrivePlannedFor, IsDrivePlannedOf, IsSoundDrive, IsDriveText, IsDriveWritten, IsDriveWrittenOf, extent_lines, most_of_input}

@@ -4,7 +4,7 @@ use Rattle.std.specs.Prelude.{flat_map}
 use Rattle.std.specs.List.{enumerate_from}
 use Rattle.std.proofs.lemmas.Grind.{flat_map-append}
 use Rattle.dcd_base.specs.declared.ids.HostId.{HostId}
-use Rattle.script_codec.specs.declared.script_line.Line.{Line}
+use Rattle.report.specs.script_codec.specs.declared.script_line.Line.{Line}
 use Rattle.host_driver.specs.Journals.{line_of_others, lines_of_others}
 
 numbered-push : (n : ℕ) (xs : List Line) (x : Line) → enumerate_from n (xs ++ x ∷ []) ≡ enumerate_from n xs ++ (n + length xs, x) ∷ []

@@ -5,10 +5,10 @@ use Rattle.dcd_base.specs.Streams.{HasRisen, IsAtEnd, Passes}
 use Rattle.dcd_base.specs.declared.capacity.Extent.{Extent}
 use Rattle.device_plain.specs.Devices.{Plain}
 use Rattle.journal_core.specs.declared.entries.Entry.{Entry}
-use Rattle.script_codec.specs.declared.faults.ScriptFault.{ScriptFault}
-use Rattle.script_codec.specs.declared.scripts.Script.{Script}
-use Rattle.script_codec.specs.Reading.{first_fault}
-use Rattle.script_codec.specs.Scripts.{ReadsScript}
+use Rattle.report.specs.script_codec.specs.declared.faults.ScriptFault.{ScriptFault}
+use Rattle.report.specs.script_codec.specs.declared.scripts.Script.{Script}
+use Rattle.report.specs.script_codec.specs.Reading.{first_fault}
+use Rattle.report.specs.script_codec.specs.Scripts.{ReadsScript}
 use Rattle.report.specs.Texts.{line_of, text}
 use Rattle.report.specs.Refusals.{refusal_line}
 use Rattle.host_driver.specs.declared.words.DriveChoice.{DriveChoice}

@@ -3,10 +3,10 @@
 ghost use Rattle.device_plain.specs.Devices.{Appends};
 ghost use Rattle.host_driver.specs.Journals.{IsDrive, is_at_rest, is_fitting};
 ghost use Rattle.host_driver.specs.Running.{EndsSpelled, GoInTurns, HasLine, HasLines};
-ghost use Rattle.isolation_laws.specs.Solo.{acts_for};
+ghost use Rattle.device_plain.specs.isolation_laws.specs.Solo.{acts_for};
 ghost use Rattle.journal_core.specs.Entries.{fits};
-ghost use Rattle.script_codec.specs.Covering.{pass_of};
-ghost use Rattle.script_codec.specs.declared.script_line.Line.{Line};
+ghost use Rattle.report.specs.script_codec.specs.Covering.{pass_of};
+ghost use Rattle.report.specs.script_codec.specs.declared.script_line.Line.{Line};
 ghost use Rattle.std.specs.List.{list_all};
 ghost use Rattle.std.specs.Prelude.{◌≡◌, ◌<◌, ◌^◌, [], IfOk, IsFalse, IsTrue, OnOk, length, ℕ};
 
@@ -17,7 +17,7 @@ use dcd_base::{Actor, HostId, NoMemory};
 use device_plain::Device;
 use journal_core::Act;
 use region_config::Config;
-use script_codec::{Line, Lines, pass_of};
+use report::script_codec::{Line, Lines, pass_of};
 use std::alloc::Global;
 
 /// Whether the actor is this host.

@@ -6,8 +6,8 @@ ghost use Rattle.host_driver.specs.Planning.{DriveEndsFor, DriveEndsRefused, End
 ghost use Rattle.host_driver.specs.Planning.{IsDriveBegun, IsDriveWritten, IsDrivenSoundly, drive_usage_line, printed_of};
 ghost use Rattle.host_driver.specs.Statuses.{IfDriveWhole, OnDriveDone, OnDriveNothing, OnDriveReadFault, OnDriveWriteFault, UnlessDriveFinished};
 ghost use Rattle.host_driver.specs.Words.{AsksForNoDrive};
-ghost use Rattle.script_codec.specs.Scripts.{is_sound_line};
-ghost use Rattle.script_codec.specs.declared.faults.ScriptFault.{ScriptFault};
+ghost use Rattle.report.specs.script_codec.specs.Scripts.{is_sound_line};
+ghost use Rattle.report.specs.script_codec.specs.declared.faults.ScriptFault.{ScriptFault};
 ghost use Rattle.std.specs.List.{list_all};
 ghost use Rattle.std.specs.Prelude.{◌≡◌, ◌≢◌, ◌<◌, ◌≤◌, IsTrue, List, [], OnErr, OnOk, length, ℕ};
 
@@ -20,7 +20,7 @@ use dcd_base::{Bytes, Failed, HostId, NoMemory, Sink, Source, write_all};
 use device_plain::Device;
 use edge_io::{ReadEnd, read_all};
 use report::refusal;
-use script_codec::{Script, ScriptFault, read};
+use report::script_codec::{Script, ScriptFault, read};
 use std::alloc::Global;
 
 /// The most bytes that a script has.

@@ -7,7 +7,7 @@ ghost use Rattle.host_driver.specs.Running.{EndsSpelled, GoInTurns, HasAsked, Ha
 ghost use Rattle.host_driver.specs.Standing.{next_fault, taking, took_fault};
 ghost use Rattle.journal_core.specs.Entries.{fits};
 ghost use Rattle.region_config.specs.Soundness.{IsSound};
-ghost use Rattle.script_codec.specs.Covering.{pass_of};
+ghost use Rattle.report.specs.script_codec.specs.Covering.{pass_of};
 ghost use Rattle.std.specs.Prelude.{◌≡◌, None, IfOk, IsFalse, IsTrue, OnOk, true};
 
 use crate::driver::Driver;
@@ -17,7 +17,7 @@ use cci_codec::{Request, Response};
 use dcd_base::{Actor, NoMemory};
 use device_plain::Device;
 use journal_core::{Act, Reply};
-use script_codec::pass_of;
+use report::script_codec::pass_of;
 
 /// Steps an act that has no line, and answers its reply.
 fn step_act(device: &mut Device, actor: Actor, act: &Act) -> Result<Reply, NoMemory>

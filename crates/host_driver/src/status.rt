@@ -3,7 +3,7 @@
 ghost use Rattle.host_driver.specs.Statuses.{drive_status_number};
 ghost use Rattle.std.specs.Prelude.{◌≡◌};
 
-use script_codec::ScriptFault;
+use report::script_codec::ScriptFault;
 
 /// How a run of the driver ends.
 #[derive(Clone, Copy, Debug, PartialEq, Eq)]

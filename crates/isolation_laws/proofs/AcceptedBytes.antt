@@ -12,9 +12,9 @@ use Rattle.journal_core.specs.declared.outcome.Effect.{Effect}
 use Rattle.media_map.specs.Places.{bytes_of_run, start_of}
 use Rattle.region_config.specs.Configurations.{Configuration}
 use Rattle.region_config.specs.Granules.{is_supported, region_spec}
-use Rattle.device_rules.specs.Hosts.{accepted_after}
-use Rattle.device_rules.specs.Outcomes.{no_extent, record_for}
-use Rattle.device_rules.specs.Views.{View}
+use Rattle.device_commands.specs.device_rules.specs.Hosts.{accepted_after}
+use Rattle.device_commands.specs.device_rules.specs.Outcomes.{no_extent, record_for}
+use Rattle.device_commands.specs.device_rules.specs.Views.{View}
 use Rattle.isolation_laws.specs.Solo.{accepts_byte, has_byte, solo_after, with_log_records}
 use Rattle.isolation_laws.specs.declared.items.Item.{Item}
 use Rattle.isolation_laws.proofs.BroughtItems.{is_brought}

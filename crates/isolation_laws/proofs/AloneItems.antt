@@ -7,7 +7,7 @@ use Rattle.std.proofs.lemmas.List.Sums.{fold_push}
 use Rattle.dcd_base.specs.declared.failures.AccessFault.{AccessFault}
 use Rattle.dcd_base.specs.declared.ids.HostId.{HostId}
 use Rattle.dcd_base.specs.declared.media.Place.{Place}
-use Rattle.device_rules.specs.Views.{View, first_view}
+use Rattle.device_commands.specs.device_rules.specs.Views.{View, first_view}
 use Rattle.journal_core.specs.declared.acts.Act.{Act}
 use Rattle.media_map.specs.Places.{locate}
 use Rattle.region_config.specs.Configurations.{Configuration}

@@ -14,14 +14,14 @@ use Rattle.event_records.specs.declared.events.EventKind.{EventKind}
 use Rattle.journal_core.specs.declared.outcome.Effect.{Effect}
 use Rattle.region_config.specs.Configurations.{Configuration}
 use Rattle.region_config.specs.Granules.{hosts_of, is_supported, region_spec}
-use Rattle.holding_laws.proofs.Overlaps.{neither}
-use Rattle.device_rules.specs.Logs.{log_after, log_of}
-use Rattle.device_rules.specs.Outcomes.{Outcome, effects_of, entered, entered_all, log_full, no_extent, record_for}
-use Rattle.device_rules.specs.Settings.{set_outcome}
-use Rattle.device_rules.specs.Views.{View, view_after}
-use Rattle.step_laws.proofs.LogHistories.{entered_all-other, told as records_for}
-use Rattle.step_laws.proofs.LogOutcomes.{room_for}
-use Rattle.step_laws.proofs.LogSteps.{IsSound, entered_all-room}
+use Rattle.device_commands.specs.holding_laws.proofs.Overlaps.{neither}
+use Rattle.device_commands.specs.device_rules.specs.Logs.{log_after, log_of}
+use Rattle.device_commands.specs.device_rules.specs.Outcomes.{Outcome, effects_of, entered, entered_all, log_full, no_extent, record_for}
+use Rattle.device_commands.specs.device_rules.specs.Settings.{set_outcome}
+use Rattle.device_commands.specs.device_rules.specs.Views.{View, view_after}
+use Rattle.device_commands.specs.step_laws.proofs.LogHistories.{entered_all-other, told as records_for}
+use Rattle.device_commands.specs.step_laws.proofs.LogOutcomes.{room_for}
+use Rattle.device_commands.specs.step_laws.proofs.LogSteps.{IsSound, entered_all-room}
 use Rattle.isolation_laws.specs.Solo.{extents_recorded, told_by, with_log_records}
 use Rattle.isolation_laws.specs.declared.items.Item.{Item}
 use Rattle.isolation_laws.proofs.JoinedViews.{view_after-told}

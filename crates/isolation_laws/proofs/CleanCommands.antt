@@ -21,35 +21,35 @@ use Rattle.offer_core.specs.Responses.{response_list_rule, respond_rule}
 use Rattle.region_config.specs.Configurations.{Configuration}
 use Rattle.region_config.specs.Granules.{granule_size, region_of, region_spec, with_blocks}
 use Rattle.region_config.specs.Soundness.{IsSound}
-use Rattle.holding_laws.specs.Pictures.{Picture, extents_at, picture_of}
-use Rattle.holding_laws.specs.Standing.{IsHome, IsMade, Sound, Stands}
-use Rattle.holding_laws.proofs.Adding.{added, row_of}
-use Rattle.holding_laws.proofs.CutSteps.{in_has}
-use Rattle.holding_laws.proofs.Holding.{home_made, present_whole}
-use Rattle.holding_laws.proofs.Homes.{made_of_region}
-use Rattle.device_rules.proofs.ListSteps.{any-map, each-at, each-back, each-both, each-change, each-front}
-use Rattle.holding_laws.proofs.OneOffer.{reaches}
-use Rattle.holding_laws.proofs.Overlaps.{neither}
-use Rattle.holding_laws.proofs.Responding.{answer_of}
-use Rattle.device_rules.specs.Adding.{add_outcome, add_rule, offered}
-use Rattle.device_rules.specs.Answers.{host_outcome, host_rule, manager_outcome, manager_rule}
-use Rattle.device_rules.specs.EventCommands.{clear_outcome}
-use Rattle.device_rules.specs.Hosts.{offers_of}
-use Rattle.device_rules.specs.Invariants.{Holdings}
-use Rattle.device_rules.specs.Legal.{Meets}
-use Rattle.device_rules.specs.Logs.{log_of}
-use Rattle.device_rules.specs.Outcomes.{Outcome, effects_of}
-use Rattle.device_rules.specs.ReleaseOutcomes.{give_back_outcome, is_cleaning, is_forced, remove_outcome, removed}
-use Rattle.device_rules.specs.ResponseOutcomes.{respond_changes, respond_outcome, unhold}
-use Rattle.device_rules.specs.Settings.{set_outcome}
-use Rattle.device_rules.specs.TagCommands.{add_reference_outcome, remove_reference_outcome}
-use Rattle.device_rules.specs.Tags.{is_referenced}
-use Rattle.device_rules.specs.Views.{View, view_of}
-use Rattle.device_rules.proofs.EffectKinds.{PassClearing, PassHeld, clear_passes, hold_passes, reference_passes, removals_pass, unhold_passes}
-use Rattle.device_rules.proofs.Leaving.{both_pass, map_passes}
-use Rattle.device_rules.proofs.LegalSteps.{Cases, step_case}
-use Rattle.device_rules.proofs.RunEffects.{in_extents}
-use Rattle.step_laws.proofs.StatusOutcomes.{unhold-quiet}
+use Rattle.device_commands.specs.holding_laws.specs.Pictures.{Picture, extents_at, picture_of}
+use Rattle.device_commands.specs.holding_laws.specs.Standing.{IsHome, IsMade, Sound, Stands}
+use Rattle.device_commands.specs.holding_laws.proofs.Adding.{added, row_of}
+use Rattle.device_commands.specs.holding_laws.proofs.CutSteps.{in_has}
+use Rattle.device_commands.specs.holding_laws.proofs.Holding.{home_made, present_whole}
+use Rattle.device_commands.specs.holding_laws.proofs.Homes.{made_of_region}
+use Rattle.device_commands.specs.device_rules.proofs.ListSteps.{any-map, each-at, each-back, each-both, each-change, each-front}
+use Rattle.device_commands.specs.holding_laws.proofs.OneOffer.{reaches}
+use Rattle.device_commands.specs.holding_laws.proofs.Overlaps.{neither}
+use Rattle.device_commands.specs.holding_laws.proofs.Responding.{answer_of}
+use Rattle.device_commands.specs.device_rules.specs.Adding.{add_outcome, add_rule, offered}
+use Rattle.device_commands.specs.device_rules.specs.Answers.{host_outcome, host_rule, manager_outcome, manager_rule}
+use Rattle.device_commands.specs.device_rules.specs.EventCommands.{clear_outcome}
+use Rattle.device_commands.specs.device_rules.specs.Hosts.{offers_of}
+use Rattle.device_commands.specs.device_rules.specs.Invariants.{Holdings}
+use Rattle.device_commands.specs.device_rules.specs.Legal.{Meets}
+use Rattle.device_commands.specs.device_rules.specs.Logs.{log_of}
+use Rattle.device_commands.specs.device_rules.specs.Outcomes.{Outcome, effects_of}
+use Rattle.device_commands.specs.device_rules.specs.ReleaseOutcomes.{give_back_outcome, is_cleaning, is_forced, remove_outcome, removed}
+use Rattle.device_commands.specs.device_rules.specs.ResponseOutcomes.{respond_changes, respond_outcome, unhold}
+use Rattle.device_commands.specs.device_rules.specs.Settings.{set_outcome}
+use Rattle.device_commands.specs.device_rules.specs.TagCommands.{add_reference_outcome, remove_reference_outcome}
+use Rattle.device_commands.specs.device_rules.specs.Tags.{is_referenced}
+use Rattle.device_commands.specs.device_rules.specs.Views.{View, view_of}
+use Rattle.device_commands.specs.device_rules.proofs.EffectKinds.{PassClearing, PassHeld, clear_passes, hold_passes, reference_passes, removals_pass, unhold_passes}
+use Rattle.device_commands.specs.device_rules.proofs.Leaving.{both_pass, map_passes}
+use Rattle.device_commands.specs.device_rules.proofs.LegalSteps.{Cases, step_case}
+use Rattle.device_commands.specs.device_rules.proofs.RunEffects.{in_extents}
+use Rattle.device_commands.specs.step_laws.proofs.StatusOutcomes.{unhold-quiet}
 use Rattle.isolation_laws.proofs.CalmEffects.{is_calm}
 use Rattle.isolation_laws.proofs.CleanSteps.{KeepsClean, keeps_answer, keeps_calm, keeps_offer, keeps_outcome, keeps_scrub}
 use Rattle.isolation_laws.proofs.OfferedFree.{free_untaken, offered_free}

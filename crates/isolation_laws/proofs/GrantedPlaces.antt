@@ -21,12 +21,12 @@ use Rattle.region_config.specs.Granules.{base_of, first_granule, granule_size, r
 use Rattle.region_config.specs.Soundness.{IsSound}
 use Rattle.region_config.proofs.Faultless.{granule_from}
 use Rattle.region_config.proofs.GranuleLemmas.{region_is}
-use Rattle.device_rules.specs.Hosts.{accepted_of}
-use Rattle.holding_laws.specs.Pictures.{Picture, picture_of}
-use Rattle.holding_laws.specs.Standing.{IsHome, IsMade, Stands}
-use Rattle.holding_laws.proofs.Holding.{home_made, present_whole}
-use Rattle.holding_laws.proofs.Homes.{made_begins, made_long, made_of_region, made_run}
-use Rattle.device_rules.proofs.ListSteps.{any-map, each-change, each-front}
+use Rattle.device_commands.specs.device_rules.specs.Hosts.{accepted_of}
+use Rattle.device_commands.specs.holding_laws.specs.Pictures.{Picture, picture_of}
+use Rattle.device_commands.specs.holding_laws.specs.Standing.{IsHome, IsMade, Stands}
+use Rattle.device_commands.specs.holding_laws.proofs.Holding.{home_made, present_whole}
+use Rattle.device_commands.specs.holding_laws.proofs.Homes.{made_begins, made_long, made_of_region, made_run}
+use Rattle.device_commands.specs.device_rules.proofs.ListSteps.{any-map, each-change, each-front}
 use Rattle.isolation_laws.specs.Solo.{has_byte}
 
 -- what is located is the place

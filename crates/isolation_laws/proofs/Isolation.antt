@@ -3,7 +3,7 @@ use Rattle.std.proofs.Common.{List}
 use Rattle.journal_core.specs.declared.entries.Entry.{Entry}
 use Rattle.region_config.specs.Configurations.{Configuration}
 use Rattle.region_config.specs.Soundness.{IsSound}
-use Rattle.device_rules.specs.Legal.{Legal}
+use Rattle.device_commands.specs.device_rules.specs.Legal.{Legal}
 use Rattle.isolation_laws.specs.Laws.{Clean}
 use Rattle.isolation_laws.specs.Solo.{Isolated}
 use Rattle.isolation_laws.proofs.HostReplies.{isolated_with}

@@ -7,7 +7,7 @@ use Rattle.event_log.proofs.Histories.{follows, stays}
 use Rattle.event_log.specs.LogStates.{LogState, with_record}
 use Rattle.event_log.specs.Logs.{Log, logged, places_in, recorded}
 use Rattle.event_records.specs.declared.events.Event.{Event}
-use Rattle.device_state.specs.StateAfter.{IsLogOf}
+use Rattle.device_commands.specs.device_state.specs.StateAfter.{IsLogOf}
 
 pub put_count : (log : LogState) (events : List Event) → length (fold with_record log events).records ≡ length log.records + length events
 put_count log [] = omega arith

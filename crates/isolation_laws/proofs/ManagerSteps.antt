@@ -23,25 +23,25 @@ use Rattle.region_config.specs.Configurations.{Configuration}
 use Rattle.region_config.specs.Granules.{hosts_of, is_supported, region_spec, with_blocks}
 use Rattle.region_config.specs.Soundness.{IsSound}
 use Rattle.release_core.specs.Removals.{by_tag_rule, prescribed_removal_rule}
-use Rattle.holding_laws.specs.Pictures.{picture_of}
-use Rattle.holding_laws.specs.Standing.{Sound}
-use Rattle.holding_laws.proofs.Adding.{added, row_of}
-use Rattle.holding_laws.proofs.Overlaps.{neither, not_broken}
-use Rattle.device_rules.specs.Adding.{add_outcome, add_rule, offered}
-use Rattle.device_rules.specs.Answers.{effects_with, manager_outcome, manager_result, manager_rule, unless}
-use Rattle.device_rules.specs.EventCommands.{clear_outcome}
-use Rattle.device_rules.specs.Logs.{log_of}
-use Rattle.device_rules.specs.Outcomes.{Outcome, effects_of, log_full}
-use Rattle.device_rules.specs.ReleaseOutcomes.{is_cleaning, is_forced, policy_in, remove_outcome, remove_rule, removed}
-use Rattle.device_rules.specs.Settings.{in_use, no_such_region, set_outcome, set_rule}
-use Rattle.device_rules.specs.TagCommands.{add_reference_outcome, remove_reference_outcome}
-use Rattle.device_rules.specs.Tags.{is_referenced}
-use Rattle.device_rules.specs.Views.{View, view_of}
-use Rattle.device_rules.proofs.EffectKinds.{clear_passes, reference_passes}
-use Rattle.step_laws.proofs.LogOutcomes.{last_of, room_for}
-use Rattle.step_laws.proofs.LogSteps.{IsSound as IsSoundLog}
-use Rattle.step_laws.proofs.ViewOthers.{add-leaves, remove-leaves}
-use Rattle.step_laws.proofs.ViewsLeft.{leaves_view, outcome-leaves}
+use Rattle.device_commands.specs.holding_laws.specs.Pictures.{picture_of}
+use Rattle.device_commands.specs.holding_laws.specs.Standing.{Sound}
+use Rattle.device_commands.specs.holding_laws.proofs.Adding.{added, row_of}
+use Rattle.device_commands.specs.holding_laws.proofs.Overlaps.{neither, not_broken}
+use Rattle.device_commands.specs.device_rules.specs.Adding.{add_outcome, add_rule, offered}
+use Rattle.device_commands.specs.device_rules.specs.Answers.{effects_with, manager_outcome, manager_result, manager_rule, unless}
+use Rattle.device_commands.specs.device_rules.specs.EventCommands.{clear_outcome}
+use Rattle.device_commands.specs.device_rules.specs.Logs.{log_of}
+use Rattle.device_commands.specs.device_rules.specs.Outcomes.{Outcome, effects_of, log_full}
+use Rattle.device_commands.specs.device_rules.specs.ReleaseOutcomes.{is_cleaning, is_forced, policy_in, remove_outcome, remove_rule, removed}
+use Rattle.device_commands.specs.device_rules.specs.Settings.{in_use, no_such_region, set_outcome, set_rule}
+use Rattle.device_commands.specs.device_rules.specs.TagCommands.{add_reference_outcome, remove_reference_outcome}
+use Rattle.device_commands.specs.device_rules.specs.Tags.{is_referenced}
+use Rattle.device_commands.specs.device_rules.specs.Views.{View, view_of}
+use Rattle.device_commands.specs.device_rules.proofs.EffectKinds.{clear_passes, reference_passes}
+use Rattle.device_commands.specs.step_laws.proofs.LogOutcomes.{last_of, room_for}
+use Rattle.device_commands.specs.step_laws.proofs.LogSteps.{IsSound as IsSoundLog}
+use Rattle.device_commands.specs.step_laws.proofs.ViewOthers.{add-leaves, remove-leaves}
+use Rattle.device_commands.specs.step_laws.proofs.ViewsLeft.{leaves_view, outcome-leaves}
 use Rattle.isolation_laws.proofs.BlockSizes.{brings_block}
 use Rattle.isolation_laws.proofs.OfferViews.{brings_offer}
 use Rattle.isolation_laws.proofs.OtherSteps.{BringsAlone, brings_nothing}

@@ -7,7 +7,7 @@ use Rattle.std.proofs.lemmas.List.{length-map}
 use Rattle.std.proofs.lemmas.List.FromFn.{length-enumerate_from}
 use Rattle.dcd_base.specs.Words.{flag_of}
 use Rattle.dcd_base.specs.declared.ids.HostId.{HostId}
-use Rattle.device_rules.specs.Views.{View}
+use Rattle.device_commands.specs.device_rules.specs.Views.{View}
 use Rattle.region_config.proofs.PresentBlocks.{region_spec-with_blocks, with_block-with_blocks}
 use Rattle.region_config.specs.Blocks.{block_fault, with_block}
 use Rattle.region_config.specs.Configurations.{Configuration}

@@ -14,15 +14,15 @@ use Rattle.region_config.specs.Configurations.{Configuration}
 use Rattle.region_config.specs.Granules.{region_of, region_spec}
 use Rattle.region_config.specs.Soundness.{IsSound}
 use Rattle.selection.specs.Selections.{too_few_free}
-use Rattle.holding_laws.specs.Pictures.{Picture, picture_of}
-use Rattle.holding_laws.specs.Standing.{Sound, Stands}
-use Rattle.holding_laws.proofs.AddChoices.{contiguous_reached, free_reached, marked_runs, prescribed_reached, reach_runs}
-use Rattle.holding_laws.proofs.Adding.{IsRow}
-use Rattle.holding_laws.proofs.OneOffer.{reaches}
-use Rattle.holding_laws.proofs.Overlaps.{neither, not_broken}
-use Rattle.device_rules.specs.Adding.{is_free_now, offered, present, with_tag}
-use Rattle.device_rules.specs.Adding.{region_longest_free as blocks_together}
-use Rattle.device_rules.specs.Tags.{Dirty, Free, Held, Offered, Tagged, is_free, is_held, is_offered, is_tagged, status}
+use Rattle.device_commands.specs.holding_laws.specs.Pictures.{Picture, picture_of}
+use Rattle.device_commands.specs.holding_laws.specs.Standing.{Sound, Stands}
+use Rattle.device_commands.specs.holding_laws.proofs.AddChoices.{contiguous_reached, free_reached, marked_runs, prescribed_reached, reach_runs}
+use Rattle.device_commands.specs.holding_laws.proofs.Adding.{IsRow}
+use Rattle.device_commands.specs.holding_laws.proofs.OneOffer.{reaches}
+use Rattle.device_commands.specs.holding_laws.proofs.Overlaps.{neither, not_broken}
+use Rattle.device_commands.specs.device_rules.specs.Adding.{is_free_now, offered, present, with_tag}
+use Rattle.device_commands.specs.device_rules.specs.Adding.{region_longest_free as blocks_together}
+use Rattle.device_commands.specs.device_rules.specs.Tags.{Dirty, Free, Held, Offered, Tagged, is_free, is_held, is_offered, is_tagged, status}
 
 -- ---- a free granule was not taken since it was zeroed
 

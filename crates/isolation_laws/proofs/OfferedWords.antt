@@ -29,25 +29,25 @@ use Rattle.offer_core.specs.Responses.{response_list_rule}
 use Rattle.region_config.specs.Configurations.{Configuration}
 use Rattle.region_config.specs.Granules.{hosts_of, region_of, region_spec, with_blocks}
 use Rattle.region_config.specs.Soundness.{IsSound}
-use Rattle.holding_laws.specs.Pictures.{Picture, count_on, extents_at, picture_of}
-use Rattle.holding_laws.specs.Standing.{IsHome, Stands}
-use Rattle.holding_laws.proofs.LegalSound.{legal_is_sound}
-use Rattle.device_rules.proofs.ListSteps.{any-map, each-at, each-back, each-change, each-front, many-any, many-append}
-use Rattle.holding_laws.proofs.OneAnswer.{any-of-each}
-use Rattle.holding_laws.proofs.OneOffer.{any-implies, reaches}
-use Rattle.holding_laws.proofs.Overlaps.{neither}
-use Rattle.holding_laws.proofs.Responding.{answer_of}
-use Rattle.device_rules.specs.Answers.{dropped, host_outcome, host_result, host_rule, unless}
-use Rattle.device_rules.specs.Hosts.{accepted_of, offers_of}
-use Rattle.device_rules.specs.Legal.{Legal, word_of}
-use Rattle.device_rules.specs.Outcomes.{Outcome}
-use Rattle.device_rules.specs.ReleaseOutcomes.{leaves}
-use Rattle.device_rules.specs.ResponseOutcomes.{answered, unhold}
-use Rattle.device_rules.specs.Tags.{is_free, is_held, is_offered, status}
-use Rattle.device_rules.specs.Views.{View, view_of}
-use Rattle.device_rules.proofs.EffectKinds.{PassHeld, clear_passes, dropped_passes, hold_passes, unhold_passes}
-use Rattle.device_rules.proofs.HostSearches.{any_none}
-use Rattle.device_rules.proofs.Leaving.{both_pass, map_passes}
+use Rattle.device_commands.specs.holding_laws.specs.Pictures.{Picture, count_on, extents_at, picture_of}
+use Rattle.device_commands.specs.holding_laws.specs.Standing.{IsHome, Stands}
+use Rattle.device_commands.specs.holding_laws.proofs.LegalSound.{legal_is_sound}
+use Rattle.device_commands.specs.device_rules.proofs.ListSteps.{any-map, each-at, each-back, each-change, each-front, many-any, many-append}
+use Rattle.device_commands.specs.holding_laws.proofs.OneAnswer.{any-of-each}
+use Rattle.device_commands.specs.holding_laws.proofs.OneOffer.{any-implies, reaches}
+use Rattle.device_commands.specs.holding_laws.proofs.Overlaps.{neither}
+use Rattle.device_commands.specs.holding_laws.proofs.Responding.{answer_of}
+use Rattle.device_commands.specs.device_rules.specs.Answers.{dropped, host_outcome, host_result, host_rule, unless}
+use Rattle.device_commands.specs.device_rules.specs.Hosts.{accepted_of, offers_of}
+use Rattle.device_commands.specs.device_rules.specs.Legal.{Legal, word_of}
+use Rattle.device_commands.specs.device_rules.specs.Outcomes.{Outcome}
+use Rattle.device_commands.specs.device_rules.specs.ReleaseOutcomes.{leaves}
+use Rattle.device_commands.specs.device_rules.specs.ResponseOutcomes.{answered, unhold}
+use Rattle.device_commands.specs.device_rules.specs.Tags.{is_free, is_held, is_offered, status}
+use Rattle.device_commands.specs.device_rules.specs.Views.{View, view_of}
+use Rattle.device_commands.specs.device_rules.proofs.EffectKinds.{PassHeld, clear_passes, dropped_passes, hold_passes, unhold_passes}
+use Rattle.device_commands.specs.device_rules.proofs.HostSearches.{any_none}
+use Rattle.device_commands.specs.device_rules.proofs.Leaving.{both_pass, map_passes}
 use Rattle.isolation_laws.specs.Laws.{Clean, is_offered_status}
 use Rattle.isolation_laws.specs.Solo.{accepts_byte, changes_with, has_byte, own_changes}
 use Rattle.isolation_laws.proofs.AcceptedBytes.{or_either, within_has}

@@ -7,25 +7,25 @@ use Rattle.dcd_base.specs.declared.ids.HostId.{HostId}
 use Rattle.dcd_base.specs.declared.steps.LogId.{LogId}
 use Rattle.event_log.specs.Logs.{IsHistory}
 use Rattle.event_log.specs.LogStates.{LogState}
-use Rattle.device_state.specs.StateAfter.{IsLogOf}
+use Rattle.device_commands.specs.device_state.specs.StateAfter.{IsLogOf}
 use Rattle.host_payloads.specs.declared.requests.HostRequest.{HostRequest}
 use Rattle.journal_core.specs.declared.outcome.Effect.{Effect}
 use Rattle.region_config.specs.Configurations.{Configuration}
 use Rattle.region_config.specs.Granules.{with_blocks}
-use Rattle.device_rules.specs.Answers.{host_outcome, host_rule}
-use Rattle.device_rules.specs.Hosts.{block_after}
-use Rattle.device_rules.specs.Logs.{log_after}
-use Rattle.device_rules.specs.ReleaseOutcomes.{give_back_changes}
-use Rattle.device_rules.specs.ResponseOutcomes.{respond_changes}
-use Rattle.device_rules.specs.Views.{View, view_after}
-use Rattle.device_state.proofs.RecordSteps.{log_all}
-use Rattle.device_state.proofs.Rooms.{records_none, rooms_none}
-use Rattle.device_state.specs.Entered.{log_by}
-use Rattle.step_laws.proofs.Clearing.{own_clear-history}
-use Rattle.device_rules.proofs.EffectKinds.{PassClearing, PassHeld, PassLists, clear_passes, give_back_passes, respond_passes}
-use Rattle.device_rules.proofs.Leaving.{all_pass, over-leaving}
-use Rattle.step_laws.proofs.LogHistories.{leaves_logs, log-left}
-use Rattle.step_laws.proofs.LogOutcomes.{held_leaves, lists_leave}
+use Rattle.device_commands.specs.device_rules.specs.Answers.{host_outcome, host_rule}
+use Rattle.device_commands.specs.device_rules.specs.Hosts.{block_after}
+use Rattle.device_commands.specs.device_rules.specs.Logs.{log_after}
+use Rattle.device_commands.specs.device_rules.specs.ReleaseOutcomes.{give_back_changes}
+use Rattle.device_commands.specs.device_rules.specs.ResponseOutcomes.{respond_changes}
+use Rattle.device_commands.specs.device_rules.specs.Views.{View, view_after}
+use Rattle.device_commands.specs.device_state.proofs.RecordSteps.{log_all}
+use Rattle.device_commands.specs.device_state.proofs.Rooms.{records_none, rooms_none}
+use Rattle.device_commands.specs.device_state.specs.Entered.{log_by}
+use Rattle.device_commands.specs.step_laws.proofs.Clearing.{own_clear-history}
+use Rattle.device_commands.specs.device_rules.proofs.EffectKinds.{PassClearing, PassHeld, PassLists, clear_passes, give_back_passes, respond_passes}
+use Rattle.device_commands.specs.device_rules.proofs.Leaving.{all_pass, over-leaving}
+use Rattle.device_commands.specs.step_laws.proofs.LogHistories.{leaves_logs, log-left}
+use Rattle.device_commands.specs.step_laws.proofs.LogOutcomes.{held_leaves, lists_leave}
 
 -- no block size and no record
 abbrev pub is_own : Effect → Bool

@@ -15,13 +15,13 @@ use Rattle.journal_core.specs.declared.acts.Act.{Act}
 use Rattle.journal_core.specs.declared.entries.Entry.{Entry}
 use Rattle.journal_core.specs.declared.outcome.Effect.{Effect}
 use Rattle.region_config.specs.Configurations.{Configuration}
-use Rattle.device_rules.specs.Answers.{dropped, effects_with, host_outcome, host_result, host_rule, unless}
-use Rattle.device_rules.specs.Legal.{right_answer}
-use Rattle.device_rules.specs.Outcomes.{Outcome}
-use Rattle.device_rules.specs.ResponseOutcomes.{respond_changes, response_records}
-use Rattle.device_rules.specs.Views.{View, view_after, view_of}
-use Rattle.device_rules.proofs.EffectKinds.{tells}
-use Rattle.step_laws.proofs.ViewsLeft.{is_other_log}
+use Rattle.device_commands.specs.device_rules.specs.Answers.{dropped, effects_with, host_outcome, host_result, host_rule, unless}
+use Rattle.device_commands.specs.device_rules.specs.Legal.{right_answer}
+use Rattle.device_commands.specs.device_rules.specs.Outcomes.{Outcome}
+use Rattle.device_commands.specs.device_rules.specs.ResponseOutcomes.{respond_changes, response_records}
+use Rattle.device_commands.specs.device_rules.specs.Views.{View, view_after, view_of}
+use Rattle.device_commands.specs.device_rules.proofs.EffectKinds.{tells}
+use Rattle.device_commands.specs.step_laws.proofs.ViewsLeft.{is_other_log}
 use Rattle.isolation_laws.specs.Solo.{changes_with, solo_after}
 use Rattle.isolation_laws.specs.declared.items.Item.{Item}
 use Rattle.isolation_laws.proofs.JoinedViews.{view_after-outcome}

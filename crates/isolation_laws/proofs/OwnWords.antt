@@ -20,11 +20,11 @@ use Rattle.media_map.proofs.PlaceLemmas.{address_back}
 use Rattle.region_config.specs.Configurations.{Configuration}
 use Rattle.region_config.specs.Granules.{base_of, first_granule, granule_size, region_of, region_spec}
 use Rattle.region_config.specs.Soundness.{IsSound}
-use Rattle.holding_laws.proofs.ExclusiveHolding.{sound_apart}
-use Rattle.holding_laws.proofs.LegalSound.{legal_is_sound}
-use Rattle.device_rules.specs.Legal.{Legal, Meets, access_at, access_reply, is_zeroing, right_answer, stored_at, word_after, word_by, word_of, written_by}
-use Rattle.device_rules.specs.Views.{View, first_view, view_of}
-use Rattle.device_rules.proofs.LegalSteps.{by_steps}
+use Rattle.device_commands.specs.holding_laws.proofs.ExclusiveHolding.{sound_apart}
+use Rattle.device_commands.specs.holding_laws.proofs.LegalSound.{legal_is_sound}
+use Rattle.device_commands.specs.device_rules.specs.Legal.{Legal, Meets, access_at, access_reply, is_zeroing, right_answer, stored_at, word_after, word_by, word_of, written_by}
+use Rattle.device_commands.specs.device_rules.specs.Views.{View, first_view, view_of}
+use Rattle.device_commands.specs.device_rules.proofs.LegalSteps.{by_steps}
 use Rattle.isolation_laws.specs.Laws.{Clean}
 use Rattle.isolation_laws.specs.Solo.{accepts_byte, delivered, has_byte, acts_for, items_of, own_changes, own_items, solo_after, solo_view, solo_word, solo_word_after}
 use Rattle.isolation_laws.specs.declared.items.Item.{Item}

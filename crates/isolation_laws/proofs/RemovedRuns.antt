@@ -16,15 +16,15 @@ use Rattle.region_config.specs.Granules.{with_blocks}
 use Rattle.region_config.specs.Soundness.{IsSound}
 use Rattle.release_core.specs.Leaving.{count_after}
 use Rattle.release_core.specs.Removals.{by_tag_rule, prescribed_removal_rule, extents_of_tag}
-use Rattle.holding_laws.specs.Pictures.{Picture}
-use Rattle.holding_laws.specs.Standing.{IsMade, Stands}
-use Rattle.holding_laws.proofs.Going.{IsGoing, some_going}
-use Rattle.holding_laws.proofs.Holding.{present_whole}
-use Rattle.holding_laws.proofs.Homes.{made_bytes, made_starts}
-use Rattle.holding_laws.proofs.LeftStanding.{going_of, going_rule}
-use Rattle.device_rules.proofs.ListSteps.{each-change, each-map}
-use Rattle.holding_laws.proofs.OneLeave.{loose}
-use Rattle.holding_laws.proofs.Overlaps.{neither}
+use Rattle.device_commands.specs.holding_laws.specs.Pictures.{Picture}
+use Rattle.device_commands.specs.holding_laws.specs.Standing.{IsMade, Stands}
+use Rattle.device_commands.specs.holding_laws.proofs.Going.{IsGoing, some_going}
+use Rattle.device_commands.specs.holding_laws.proofs.Holding.{present_whole}
+use Rattle.device_commands.specs.holding_laws.proofs.Homes.{made_bytes, made_starts}
+use Rattle.device_commands.specs.holding_laws.proofs.LeftStanding.{going_of, going_rule}
+use Rattle.device_commands.specs.device_rules.proofs.ListSteps.{each-change, each-map}
+use Rattle.device_commands.specs.holding_laws.proofs.OneLeave.{loose}
+use Rattle.device_commands.specs.holding_laws.proofs.Overlaps.{neither}
 use Rattle.isolation_laws.proofs.RemovalViews.{IsOwnRun}
 
 module _ (c : Configuration) (sound : IsSound c) (p : Picture) (s : Stands c p) (h : HostId) (known : h < c.hosts) where

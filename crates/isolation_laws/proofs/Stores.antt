@@ -15,7 +15,7 @@ use Rattle.journal_core.specs.declared.acts.Reply.{Reply}
 use Rattle.journal_core.specs.declared.entries.Entry.{Entry}
 use Rattle.media_map.specs.Places.{locate}
 use Rattle.region_config.specs.Configurations.{Configuration}
-use Rattle.device_rules.specs.Legal.{Meets, access_at, right_answer, stored_at, word_by}
+use Rattle.device_commands.specs.device_rules.specs.Legal.{Meets, access_at, right_answer, stored_at, word_by}
 use Rattle.isolation_laws.specs.Laws.{is_in_granule, stores_in}
 
 -- It writes no word of the granule.

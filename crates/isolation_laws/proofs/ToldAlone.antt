@@ -8,12 +8,12 @@ use Rattle.std.proofs.lemmas.List.Concat.{length-flat_map}
 use Rattle.dcd_base.specs.declared.capacity.Extent.{Extent}
 use Rattle.dcd_base.specs.declared.ids.HostId.{HostId}
 use Rattle.dcd_base.specs.declared.steps.LogId.{LogId}
-use Rattle.device_rules.specs.Views.{View, extents_in}
+use Rattle.device_commands.specs.device_rules.specs.Views.{View, extents_in}
 use Rattle.event_log.specs.LogStates.{LogState, with_record}
 use Rattle.event_log.specs.Logs.{logged, records_in}
 use Rattle.event_records.specs.declared.events.Event.{Event}
-use Rattle.device_state.specs.StateAfter.{IsLogOf, lists_in}
-use Rattle.host_lists.specs.Lists.{extent_total}
+use Rattle.device_commands.specs.device_state.specs.StateAfter.{IsLogOf, lists_in}
+use Rattle.device_commands.specs.host_lists.specs.Lists.{extent_total}
 use Rattle.region_config.specs.Configurations.{Configuration}
 use Rattle.isolation_laws.specs.Alone.{IsAlone, TakesItem}
 use Rattle.isolation_laws.specs.Solo.{solo_after, solo_word_after, with_log_records}

@@ -10,7 +10,7 @@ use Rattle.journal_core.specs.Holders.{taking_after}
 use Rattle.journal_core.specs.declared.outcome.Effect.{Effect}
 use Rattle.media_map.specs.Places.{run_of}
 use Rattle.region_config.specs.Configurations.{Configuration}
-use Rattle.device_rules.proofs.RunEffects.{in_extents, run_from, takes, zeros}
+use Rattle.device_commands.specs.device_rules.proofs.RunEffects.{in_extents, run_from, takes, zeros}
 use Rattle.isolation_laws.specs.Laws.{Writers, writers_by}
 
 -- nobody has

@@ -24,17 +24,17 @@ use Rattle.journal_core.specs.declared.entries.Entry.{Entry}
 use Rattle.journal_core.specs.declared.outcome.Effect.{Effect}
 use Rattle.region_config.specs.Configurations.{Configuration}
 use Rattle.region_config.specs.Granules.{region_of, region_spec, same_region}
-use Rattle.device_rules.proofs.ListSteps.{any-map}
-use Rattle.device_rules.specs.Answers.{dropped, effects_with, host_outcome, host_result, host_rule, manager_outcome, manager_result, manager_rule, scrubbed, unless, zeroes}
-use Rattle.device_rules.specs.Legal.{is_zeroing, right_answer}
-use Rattle.device_rules.specs.Logs.{log_of}
-use Rattle.device_rules.specs.Outcomes.{Outcome, effects_of}
-use Rattle.device_rules.specs.ReleaseOutcomes.{is_cleaning, is_forced, removed}
-use Rattle.device_rules.specs.Tags.{dirty_granules, all_granules, is_dirty, is_referenced, status}
-use Rattle.device_rules.specs.Views.{view_of}
-use Rattle.device_rules.proofs.EffectKinds.{PassClearing, PassHeld, PassLists, PassRecords, any_log, clear_passes, dropped_passes, host_passes, outcome_passes, reference_passes, removals_pass, tells_any}
-use Rattle.step_laws.proofs.JoinedRuns.{any_taken, joined_has, passes_there}
-use Rattle.device_rules.proofs.RunEffects.{run_from}
+use Rattle.device_commands.specs.device_rules.proofs.ListSteps.{any-map}
+use Rattle.device_commands.specs.device_rules.specs.Answers.{dropped, effects_with, host_outcome, host_result, host_rule, manager_outcome, manager_result, manager_rule, scrubbed, unless, zeroes}
+use Rattle.device_commands.specs.device_rules.specs.Legal.{is_zeroing, right_answer}
+use Rattle.device_commands.specs.device_rules.specs.Logs.{log_of}
+use Rattle.device_commands.specs.device_rules.specs.Outcomes.{Outcome, effects_of}
+use Rattle.device_commands.specs.device_rules.specs.ReleaseOutcomes.{is_cleaning, is_forced, removed}
+use Rattle.device_commands.specs.device_rules.specs.Tags.{dirty_granules, all_granules, is_dirty, is_referenced, status}
+use Rattle.device_commands.specs.device_rules.specs.Views.{view_of}
+use Rattle.device_commands.specs.device_rules.proofs.EffectKinds.{PassClearing, PassHeld, PassLists, PassRecords, any_log, clear_passes, dropped_passes, host_passes, outcome_passes, reference_passes, removals_pass, tells_any}
+use Rattle.device_commands.specs.step_laws.proofs.JoinedRuns.{any_taken, joined_has, passes_there}
+use Rattle.device_commands.specs.device_rules.proofs.RunEffects.{run_from}
 
 -- ---- what zeroes nothing
 

@@ -3,11 +3,11 @@ use Rattle.std.specs.Prelude.{◌≡◌, ℕ, List, [], ◌==◌, fold, Option, 
 use Rattle.std.specs.List.{list_any}
 use Rattle.dcd_base.specs.declared.ids.HostId.{HostId}
 use Rattle.dcd_base.specs.declared.steps.LogId.{LogId}
-use Rattle.device_state.specs.Entered.{log_by}
+use Rattle.device_commands.specs.device_state.specs.Entered.{log_by}
 use Rattle.granule_mem.specs.Contents.{word_among}
-use Rattle.host_lists.specs.Changes.{changed_by}
-use Rattle.host_lists.specs.Lists.{Lists}
-use Rattle.host_lists.specs.declared.lists_change.ListsChange.{ListsChange}
+use Rattle.device_commands.specs.host_lists.specs.Changes.{changed_by}
+use Rattle.device_commands.specs.host_lists.specs.Lists.{Lists}
+use Rattle.device_commands.specs.host_lists.specs.declared.lists_change.ListsChange.{ListsChange}
 use Rattle.journal_core.specs.declared.outcome.Effect.{Effect}
 use Rattle.isolation_laws.specs.Solo.{accepts_byte}
 use Rattle.isolation_laws.specs.declared.alone.Alone.{Alone}

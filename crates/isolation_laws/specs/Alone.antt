@@ -8,12 +8,12 @@ use Rattle.dcd_base.specs.declared.ids.HostId.{HostId}
 use Rattle.dcd_base.specs.declared.steps.LogId.{LogId}
 use Rattle.dcd_base.specs.declared.failures.AccessFault.{AccessFault}
 use Rattle.dcd_base.specs.declared.media.Place.{Place}
-use Rattle.device_rules.specs.Answers.{host_result_in, reply_with}
-use Rattle.device_rules.specs.Views.{View, extents_in}
+use Rattle.device_commands.specs.device_rules.specs.Answers.{host_result_in, reply_with}
+use Rattle.device_commands.specs.device_rules.specs.Views.{View, extents_in}
 use Rattle.event_log.specs.Logs.{records_in}
 use Rattle.granule_mem.specs.Contents.{word_among}
-use Rattle.device_state.specs.StateAfter.{IsLogOf, lists_in}
-use Rattle.host_lists.specs.Lists.{extent_total}
+use Rattle.device_commands.specs.device_state.specs.StateAfter.{IsLogOf, lists_in}
+use Rattle.device_commands.specs.host_lists.specs.Lists.{extent_total}
 use Rattle.journal_core.specs.declared.acts.Act.{Act}
 use Rattle.journal_core.specs.declared.acts.Reply.{Reply}
 use Rattle.media_map.specs.Places.{locate}

@@ -19,9 +19,9 @@ use Rattle.media_map.specs.Places.{locate}
 use Rattle.dcd_base.specs.Words.{has_granule}
 use Rattle.journal_core.specs.Entries.{effects}
 use Rattle.journal_core.specs.Holders.{holds, is_taken}
-use Rattle.device_rules.specs.Views.{view_of}
-use Rattle.device_rules.specs.Tags.{Status, status, is_free}
-use Rattle.device_rules.specs.Legal.{word_of}
+use Rattle.device_commands.specs.device_rules.specs.Views.{view_of}
+use Rattle.device_commands.specs.device_rules.specs.Tags.{Status, status, is_free}
+use Rattle.device_commands.specs.device_rules.specs.Legal.{word_of}
 use Rattle.isolation_laws.specs.Alone.{IsUnlawful}
 use Rattle.isolation_laws.specs.Solo.{acts_for, items_of, own_items, solo_view, solo}
 

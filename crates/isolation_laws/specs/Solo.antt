@@ -25,11 +25,11 @@ use Rattle.isolation_laws.specs.declared.items.SoloReply.{SoloReply}
 use Rattle.region_config.specs.Granules.{region_spec, is_supported}
 use Rattle.media_map.specs.Places.{locate}
 use Rattle.event_log.specs.Logs.{logged}
-use Rattle.device_rules.specs.Views.{View, view_after, first_view}
+use Rattle.device_commands.specs.device_rules.specs.Views.{View, view_after, first_view}
 use Rattle.event_records.specs.Records.{kind_number}
-use Rattle.device_rules.specs.Outcomes.{Outcome, record_for, records_of_extents, no_extent}
+use Rattle.device_commands.specs.device_rules.specs.Outcomes.{Outcome, record_for, records_of_extents, no_extent}
 use Rattle.extent_list.specs.ExtentLists.{cut_all}
-use Rattle.device_rules.specs.Answers.{dropped, reply_with, host_result_in}
+use Rattle.device_commands.specs.device_rules.specs.Answers.{dropped, reply_with, host_result_in}
 use Rattle.journal_core.specs.Entries.{Each}
 
 -- ---- a host's own acts, and what others bring it

@@ -3,8 +3,8 @@ use Rattle.std.specs.Prelude.{◌≡◌, ℕ, ◌<◌, false, List, [], ◌∷�
 use Rattle.std.specs.declared.result.Result.{Result}
 use Rattle.std.specs.declared.result.Result.TheVariants.{Ok, Err}
 use Rattle.dcd_base.specs.declared.ids.HostId.{HostId}
-use Rattle.device_rules.specs.Outcomes.{record_for, no_extent}
-use Rattle.device_rules.specs.Views.{View}
+use Rattle.device_commands.specs.device_rules.specs.Outcomes.{record_for, no_extent}
+use Rattle.device_commands.specs.device_rules.specs.Views.{View}
 use Rattle.event_log.specs.Logs.{records_in}
 use Rattle.event_records.specs.declared.events.Event.{Event}
 use Rattle.event_records.specs.declared.events.EventKind.{EventKind}

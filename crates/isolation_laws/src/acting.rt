@@ -1,7 +1,7 @@
 //! What the host of a device with one host alone does, and what it is replied.
 
-ghost use Rattle.device_rules.specs.Answers.{response};
-ghost use Rattle.host_lists.specs.Lists.{extent_total};
+ghost use Rattle.device_commands.specs.device_rules.specs.Answers.{response};
+ghost use Rattle.device_commands.specs.host_lists.specs.Lists.{extent_total};
 ghost use Rattle.isolation_laws.specs.Acting.{ChangesAlone, changed_lists, without_held};
 ghost use Rattle.isolation_laws.specs.Alone.{DoesAlone};
 ghost use Rattle.isolation_laws.specs.Solo.{has_byte as has_byte_in};
@@ -14,9 +14,9 @@ use crate::words_alone::{clear_words, has_byte, store_word, word_at};
 use cci_codec::Request;
 use dcd_base::{AccessFault, HostId, LogId, NoMemory};
 use dcd_codes::{Code, Refusal};
+use device_commands::device_state::change_log_named;
+use device_commands::host_lists::ListsChange;
 use device_commands::{Draft, DraftParts, Room, answer, host_draft, refused};
-use device_state::change_log_named;
-use host_lists::ListsChange;
 use journal_core::{Act, Effect, Reply};
 use media_map::locate;
 use region_config::Config;

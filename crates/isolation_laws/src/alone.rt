@@ -1,14 +1,14 @@
 //! What a device with one host alone keeps.
 
 ghost use Rattle.dcd_base.specs.declared.ids.HostId.{HostId};
-ghost use Rattle.device_rules.specs.Views.{first_view};
+ghost use Rattle.device_commands.specs.device_rules.specs.Views.{first_view};
 ghost use Rattle.isolation_laws.specs.Alone.{IsAlone};
 ghost use Rattle.std.specs.Prelude.{IfOk};
 
 use dcd_base::NoMemory;
 use dcd_base::limits::HOST_RECORDS;
+use device_commands::host_lists::HostLists;
 use event_log::EventLog;
-use host_lists::HostLists;
 use region_config::Config;
 use std::alloc::Global;
 use std::collections::BTreeMap;

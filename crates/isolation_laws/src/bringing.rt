@@ -1,9 +1,9 @@
 //! What others bring a device with one host alone.
 
 ghost use Rattle.dcd_base.specs.declared.ids.HostId.{HostId};
-ghost use Rattle.device_rules.specs.Outcomes.{records_of_extents};
+ghost use Rattle.device_commands.specs.device_rules.specs.Outcomes.{records_of_extents};
 ghost use Rattle.event_log.specs.LogStates.{with_record};
-ghost use Rattle.host_lists.specs.Lists.{extent_total};
+ghost use Rattle.device_commands.specs.host_lists.specs.Lists.{extent_total};
 ghost use Rattle.isolation_laws.specs.Alone.{TakesItem};
 ghost use Rattle.isolation_laws.specs.Telling.{Logs, resized};
 ghost use Rattle.isolation_laws.specs.declared.items.Item.{Item};
@@ -13,10 +13,10 @@ ghost use Rattle.std.specs.Prelude.{◌≡◌, ◌+◌, ◌^◌, ◌<◌, ◌≤
 use crate::alone::{Alone, Stop};
 use dcd_base::limits::EXTENTS;
 use dcd_base::{Extent, Extents, HostId, RegionId};
+use device_commands::host_lists::Changed;
 use device_commands::{event_for, no_extent, records_of_extents};
 use event_log::EventLog;
 use event_records::{Event, EventKind};
-use host_lists::Changed;
 use std::alloc::Global;
 
 impl Alone {

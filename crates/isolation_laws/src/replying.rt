@@ -1,6 +1,6 @@
 //! What a device with one host alone replies.
 
-ghost use Rattle.host_lists.specs.Lists.{extent_total};
+ghost use Rattle.device_commands.specs.host_lists.specs.Lists.{extent_total};
 ghost use Rattle.isolation_laws.specs.Alone.{IsFaultOf, TakesItem, solo_replies as solo_replies_of};
 ghost use Rattle.isolation_laws.specs.Telling.{Replies};
 ghost use Rattle.std.specs.Prelude.{◌≡◌, ◌<◌, ◌≤◌, IfErr, IfOk, OnOk};

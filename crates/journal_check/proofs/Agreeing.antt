@@ -6,9 +6,9 @@ use Rattle.std.proofs.lemmas.List.Concat.{flat_map-cons}
 use Rattle.std.proofs.lemmas.Option.{same_Some}
 use Rattle.journal_core.specs.declared.entries.Entry.{Entry}
 use Rattle.journal_core.proofs.EachSteps.{Each-front}
-use Rattle.script_codec.specs.declared.scripts.Script.{Script}
-use Rattle.script_codec.specs.Covering.{Covers}
-use Rattle.device_rules.specs.Legal.{Legal, Meets}
+use Rattle.report.specs.script_codec.specs.declared.scripts.Script.{Script}
+use Rattle.report.specs.script_codec.specs.Covering.{Covers}
+use Rattle.report.specs.device_rules.specs.Legal.{Legal, Meets}
 use Rattle.report.specs.Texts.{text, entry_line, entry_lines, first_line}
 use Rattle.journal_check.specs.Claims.{behind_line, Claims}
 use Rattle.journal_check.specs.Following.{FollowsPasses, IsNextInPass, left_after, left_by_entry, without_line}

@@ -7,11 +7,11 @@ use Rattle.std.specs.Option.{IfSome}
 use Rattle.dcd_base.specs.Streams.{HasRisen, Passes}
 use Rattle.dcd_base.proofs.Passing.{taken_after_nothing}
 use Rattle.report.specs.Refusals.{refusal_line}
-use Rattle.script_codec.specs.declared.faults.ScriptFault.{ScriptFault}
-use Rattle.script_codec.specs.declared.scripts.Script.{Script}
-use Rattle.script_codec.specs.Reading.{fault_of, first_fault}
-use Rattle.script_codec.specs.Scripts.{ReadsScript}
-use Rattle.script_codec.proofs.ScriptLaws.{script_is}
+use Rattle.report.specs.script_codec.specs.declared.faults.ScriptFault.{ScriptFault}
+use Rattle.report.specs.script_codec.specs.declared.scripts.Script.{Script}
+use Rattle.report.specs.script_codec.specs.Reading.{fault_of, first_fault}
+use Rattle.report.specs.script_codec.specs.Scripts.{ReadsScript}
+use Rattle.report.specs.script_codec.proofs.ScriptLaws.{script_is}
 use Rattle.journal_check.specs.declared.status.CheckStatus.{CheckStatus}
 use Rattle.journal_check.specs.CheckPlanning.{CheckEndsBy, CheckEndsFor, CheckEndsOn, CheckEndsRefused, CheckEndsWith, IsAnsweredFrame, IsCheckBegun, IsCheckPlanned, IsCheckPlannedFor, IsCheckWritten, IsCheckWrittenOf, IsShortFrame, IsSoundCheck, are_taken, no_line, yes_line}
 use Rattle.journal_check.specs.CheckStatuses.{IfCheckWhole, OnCheckReadFault, OnCheckWriteFault, UnlessCheckFinished}

@@ -3,9 +3,9 @@ use Rattle.std.proofs.Common.{◌≡◌, ℕ, zero, suc, ◌-◌, ◌<◌, ◌�
 use Rattle.std.proofs.lemmas.List.{length_push}
 use Rattle.std.proofs.lemmas.Option.{slice_get_within}
 use Rattle.journal_core.specs.declared.entries.Entry.{Entry}
-use Rattle.script_codec.specs.declared.script_line.Line.{Line}
-use Rattle.script_codec.specs.declared.scripts.Script.{Script}
-use Rattle.script_codec.specs.Covering.{is_line}
+use Rattle.report.specs.script_codec.specs.declared.script_line.Line.{Line}
+use Rattle.report.specs.script_codec.specs.declared.scripts.Script.{Script}
+use Rattle.report.specs.script_codec.specs.Covering.{is_line}
 use Rattle.device_plain.specs.Devices.{Plain}
 use Rattle.journal_check.specs.Claims.{behind_line, claim_in, Claims}
 use Rattle.journal_check.specs.Following.{FollowsPasses, IsClaimedEnd, IsNextInPass, StepsLine, behind_lines, left_after, left_by_entry, without_line}

@@ -8,12 +8,12 @@ use Rattle.std.specs.Option.{is_some}
 use Rattle.region_config.specs.Configurations.{Configuration}
 use Rattle.journal_core.specs.declared.entries.Entry.{Entry}
 use Rattle.journal_core.specs.Entries.{effects}
-use Rattle.script_codec.specs.declared.script_line.Line.{Line}
-use Rattle.script_codec.specs.declared.scripts.Script.{Script}
-use Rattle.script_codec.specs.Covering.{Covers}
-use Rattle.script_codec.specs.Scripts.{is_sound_line}
-use Rattle.script_codec.proofs.CoveringLaws.{runs_cover}
-use Rattle.device_rules.specs.Legal.{Legal}
+use Rattle.report.specs.script_codec.specs.declared.script_line.Line.{Line}
+use Rattle.report.specs.script_codec.specs.declared.scripts.Script.{Script}
+use Rattle.report.specs.script_codec.specs.Covering.{Covers}
+use Rattle.report.specs.script_codec.specs.Scripts.{is_sound_line}
+use Rattle.report.specs.script_codec.proofs.CoveringLaws.{runs_cover}
+use Rattle.report.specs.device_rules.specs.Legal.{Legal}
 use Rattle.report.specs.Texts.{text, first_line, entry_line, entry_lines, all_records, state_lines}
 use Rattle.journal_check.specs.Following.{without_line, FollowsPasses, left_after}
 use Rattle.journal_check.specs.FirstWrong.{IsRightTo}

@@ -6,10 +6,10 @@ use Rattle.std.proofs.lemmas.Option.{same_Some, slice_get_read, slice_get_within
 use Rattle.dcd_base.specs.declared.steps.Actor.{Actor}
 use Rattle.journal_core.specs.declared.acts.Act.{Act}
 use Rattle.journal_core.specs.declared.entries.Entry.{Entry}
-use Rattle.script_codec.specs.declared.script_line.Line.{Line}
-use Rattle.script_codec.specs.declared.scripts.Script.{Script}
-use Rattle.script_codec.specs.Covering.{pass_of}
-use Rattle.script_codec.specs.Scripts.{is_sound_line}
+use Rattle.report.specs.script_codec.specs.declared.script_line.Line.{Line}
+use Rattle.report.specs.script_codec.specs.declared.scripts.Script.{Script}
+use Rattle.report.specs.script_codec.specs.Covering.{pass_of}
+use Rattle.report.specs.script_codec.specs.Scripts.{is_sound_line}
 use Rattle.journal_check.specs.Following.{IsNextInPass}
 use Rattle.journal_check.specs.Fronts.{AreFronts, undone_of}
 use Rattle.journal_check.proofs.FrontLaws.{IsDueEntry}

@@ -4,10 +4,10 @@ use Rattle.std.specs.List.{list_all}
 use Rattle.std.proofs.Math.Seq.{take-append_seam}
 use Rattle.std.proofs.lemmas.Option.{slice_get_within}
 use Rattle.journal_core.specs.declared.entries.Entry.{Entry}
-use Rattle.script_codec.specs.declared.script_line.Line.{Line}
-use Rattle.script_codec.specs.declared.scripts.Script.{Script}
-use Rattle.script_codec.specs.Covering.{is_line}
-use Rattle.script_codec.specs.Scripts.{is_sound_line}
+use Rattle.report.specs.script_codec.specs.declared.script_line.Line.{Line}
+use Rattle.report.specs.script_codec.specs.declared.scripts.Script.{Script}
+use Rattle.report.specs.script_codec.specs.Covering.{is_line}
+use Rattle.report.specs.script_codec.specs.Scripts.{is_sound_line}
 use Rattle.journal_check.specs.Claims.{claim_in}
 use Rattle.journal_check.specs.Following.{IsFollowed, IsNextInPass}
 use Rattle.journal_check.specs.Fronts.{undone_of}

@@ -4,9 +4,9 @@ use Rattle.std.specs.Prelude.{nat_lt, slice_get, if◌then◌else◌}
 use Rattle.std.proofs.lemmas.Bool.{cases_Bool, eqb-true, false≢true, le-ltb, lt-ltb}
 use Rattle.std.proofs.lemmas.Option.{same_Some, slice_get_within}
 use Rattle.journal_core.specs.declared.entries.Entry.{Entry}
-use Rattle.script_codec.specs.declared.script_line.Line.{Line}
-use Rattle.script_codec.specs.declared.scripts.Script.{Script}
-use Rattle.script_codec.specs.Covering.{IsOfLine, pass_of}
+use Rattle.report.specs.script_codec.specs.declared.script_line.Line.{Line}
+use Rattle.report.specs.script_codec.specs.declared.scripts.Script.{Script}
+use Rattle.report.specs.script_codec.specs.Covering.{IsOfLine, pass_of}
 use Rattle.journal_check.specs.Following.{IsNextInPass, has_pass}
 use Rattle.journal_check.specs.Fronts.{AreFronts, IsDue, pass_front, undone, undone_of}
 use Rattle.journal_check.proofs.CoveringOrders.{all_false, each_false, lt_cases}

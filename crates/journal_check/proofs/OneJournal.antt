@@ -7,8 +7,8 @@ use Rattle.journal_core.specs.declared.entries.Entry.{Entry}
 use Rattle.journal_core.specs.Entries.{EachFrom, is_control}
 use Rattle.journal_core.specs.Merging.{IsStamped, commands_in}
 use Rattle.journal_core.proofs.JournalSteps.{commands_in-push}
-use Rattle.script_codec.specs.declared.scripts.Script.{Script}
-use Rattle.script_codec.specs.Scripts.{IsScript}
+use Rattle.report.specs.script_codec.specs.declared.scripts.Script.{Script}
+use Rattle.report.specs.script_codec.specs.Scripts.{IsScript}
 use Rattle.journal_check.specs.FirstWrong.{IsJournalOf, SameButCounts, without_count}
 use Rattle.journal_check.proofs.Deciding.{one_text}
 use Rattle.journal_check.proofs.Unstamped.{unstamped}

@@ -11,10 +11,10 @@ use Rattle.dcd_base.specs.declared.steps.Actor.{Actor}
 use Rattle.journal_core.specs.declared.acts.Act.{Act}
 use Rattle.journal_core.specs.declared.entries.Entry.{Entry}
 use Rattle.journal_core.specs.Entries.{fits}
-use Rattle.script_codec.specs.declared.script_line.Line.{Line}
-use Rattle.script_codec.specs.declared.scripts.Script.{Script}
-use Rattle.script_codec.specs.Covering.{pass_of}
-use Rattle.script_codec.specs.Scripts.{is_lane, is_sound_line}
+use Rattle.report.specs.script_codec.specs.declared.script_line.Line.{Line}
+use Rattle.report.specs.script_codec.specs.declared.scripts.Script.{Script}
+use Rattle.report.specs.script_codec.specs.Covering.{pass_of}
+use Rattle.report.specs.script_codec.specs.Scripts.{is_lane, is_sound_line}
 use Rattle.journal_check.specs.Following.{IsNextInPass, has_pass, without_line}
 use Rattle.journal_check.specs.Fronts.{AreFronts, IsDue, IsNextFront, pass_front, undone, undone_of}
 use Rattle.journal_check.proofs.CoveringOrders.{lt_cases, nat_cases, now_mark, others_kept}

@@ -6,9 +6,9 @@ use Rattle.std.proofs.lemmas.Option.{same_Some}
 use Rattle.dcd_base.specs.declared.steps.Actor.{Actor}
 use Rattle.device_plain.specs.Devices.{Appends, Plain}
 use Rattle.journal_core.specs.declared.acts.Act.{Act}
-use Rattle.script_codec.specs.declared.script_line.Line.{Line}
-use Rattle.script_codec.specs.declared.scripts.Script.{Script}
-use Rattle.script_codec.specs.Covering.{pass_of}
+use Rattle.report.specs.script_codec.specs.declared.script_line.Line.{Line}
+use Rattle.report.specs.script_codec.specs.declared.scripts.Script.{Script}
+use Rattle.report.specs.script_codec.specs.Covering.{pass_of}
 use Rattle.journal_check.specs.Following.{IsNumbered, StepsLine}
 
 apart : (actor : Actor) (lane : ℕ) (act : Act) → Line.Mark ≡ Line.Do actor lane act → ⊥

@@ -2,10 +2,10 @@
 use Rattle.std.specs.Prelude.{◌≡◌, ℕ, Bool, true, false, ◌<◌, ◌≤◌, List, [], ◌∷◌, length, codes, decimal, Option, Some, None}
 use Rattle.std.specs.Option.{IfSome}
 use Rattle.dcd_base.specs.Streams.{HasRisen, IsAtEnd, Passes}
-use Rattle.script_codec.specs.declared.scripts.Script.{Script}
-use Rattle.script_codec.specs.declared.faults.ScriptFault.{ScriptFault}
-use Rattle.script_codec.specs.Reading.{first_fault}
-use Rattle.script_codec.specs.Scripts.{ReadsScript}
+use Rattle.report.specs.script_codec.specs.declared.scripts.Script.{Script}
+use Rattle.report.specs.script_codec.specs.declared.faults.ScriptFault.{ScriptFault}
+use Rattle.report.specs.script_codec.specs.Reading.{first_fault}
+use Rattle.report.specs.script_codec.specs.Scripts.{ReadsScript}
 use Rattle.report.specs.Texts.{line_of}
 use Rattle.report.specs.Refusals.{refusal_line}
 use Rattle.journal_check.specs.declared.status.CheckStatus.{CheckStatus}

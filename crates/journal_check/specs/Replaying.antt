@@ -2,7 +2,7 @@
 use Rattle.std.specs.Prelude.{◌≡◌, ℕ, List, Option, Some, None, Result, Ok, Err}
 use Rattle.device_plain.specs.Devices.{Plain}
 use Rattle.journal_core.specs.declared.entries.Entry.{Entry}
-use Rattle.script_codec.specs.declared.scripts.Script.{Script}
+use Rattle.report.specs.script_codec.specs.declared.scripts.Script.{Script}
 use Rattle.journal_check.specs.FirstWrong.{IsFirstWrong, IsJournalOf}
 
 -- What comparing a text with that of the journal that it claims answers: no line where it is this journal's text, else

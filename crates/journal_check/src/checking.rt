@@ -1,14 +1,14 @@
 //! The first wrong line of a text.
 
 ghost use Rattle.journal_check.specs.FirstWrong.{IfNoneWrong, IsChecked, TellsLawful};
-ghost use Rattle.script_codec.specs.Writing.{IsWritable};
+ghost use Rattle.report.specs.script_codec.specs.Writing.{IsWritable};
 ghost use Rattle.std.specs.Prelude.{IfOk};
 
 use crate::replaying::replay;
 use dcd_base::NoMemory;
-use holding_laws::law_exclusive;
-use isolation_laws::law_isolated;
-use script_codec::Script;
+use device_plain::isolation_laws::law_isolated;
+use report::holding_laws::law_exclusive;
+use report::script_codec::Script;
 use std::alloc::Global;
 
 /// Each legal journal of the script's device is exclusive and isolated. It does nothing.

@@ -1,11 +1,11 @@
 //! The journal of the order that a text claims.
 
-ghost use Rattle.device_rules.specs.Legal.{Legal};
+ghost use Rattle.report.specs.device_rules.specs.Legal.{Legal};
 ghost use Rattle.journal_check.specs.Claims.{behind_line};
 ghost use Rattle.journal_check.specs.Following.{IsFollowed, IsNumbered, StepsLine};
 ghost use Rattle.journal_check.specs.Fronts.{AreFronts, undone_of};
 ghost use Rattle.journal_core.specs.Merging.{Numbered};
-ghost use Rattle.script_codec.specs.Scripts.{is_sound_line};
+ghost use Rattle.report.specs.script_codec.specs.Scripts.{is_sound_line};
 ghost use Rattle.std.specs.List.{list_all};
 ghost use Rattle.std.specs.Prelude.{◌≡◌, ◌≤◌, [], IfOk, IsTrue, OnOk, length};
 
@@ -13,7 +13,7 @@ use crate::claims::{behind, claim};
 use crate::fronts::{first_fronts, pass_due, pass_on};
 use dcd_base::NoMemory;
 use device_plain::Device;
-use script_codec::{Line, Script, entries_of};
+use report::script_codec::{Line, Script, entries_of};
 use std::alloc::Global;
 
 /// Takes the step of the line of this number, which its pass has to do next.

@@ -3,13 +3,13 @@
 ghost use Rattle.journal_check.specs.Following.{IsNextInPass, has_pass, without_line};
 ghost use Rattle.journal_check.specs.Fronts.{AreFronts, IsDue, IsNextFront, undone_of};
 ghost use Rattle.journal_core.specs.declared.entries.Entry.{Entry};
-ghost use Rattle.script_codec.specs.Scripts.{is_sound_line};
+ghost use Rattle.report.specs.script_codec.specs.Scripts.{is_sound_line};
 ghost use Rattle.std.specs.List.{list_all};
 ghost use Rattle.std.specs.Option.{IfNone, IfSome};
 ghost use Rattle.std.specs.Prelude.{◌≡◌, ◌≢◌, ◌-◌, ◌≤◌, IfOk, IsTrue, length};
 
 use dcd_base::NoMemory;
-use script_codec::{Line, Script, pass_of};
+use report::script_codec::{Line, Script, pass_of};
 use std::alloc::Global;
 
 /// Whether the line is an act of the pass.

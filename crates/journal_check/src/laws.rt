@@ -2,8 +2,8 @@
 
 ghost use Rattle.journal_check.specs.FirstWrong.{IsChecked, IsJournalOf, SameButCounts};
 ghost use Rattle.journal_core.specs.declared.entries.Entry.{Entry};
-ghost use Rattle.script_codec.specs.Scripts.{IsScript};
-ghost use Rattle.script_codec.specs.declared.scripts.Script.{Script};
+ghost use Rattle.report.specs.script_codec.specs.Scripts.{IsScript};
+ghost use Rattle.report.specs.script_codec.specs.declared.scripts.Script.{Script};
 ghost use Rattle.std.specs.Prelude.{◌≡◌, List, Option, ℕ};
 
 /// Of each script and text there is one answer. It does nothing.

@@ -14,7 +14,10 @@ mod replaying;
 mod status;
 
 pub use checking::check;
+pub use device_plain;
 pub use laws::{law_one_answer, law_one_journal};
 pub use program::run_check;
 pub use replaying::replay;
+pub use report;
+pub use report::{control_core, device_rules, device_state};
 pub use status::CheckStatus;

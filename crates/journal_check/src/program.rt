@@ -6,8 +6,8 @@ ghost use Rattle.journal_check.specs.CheckPlanning.{IsCheckBegun, IsCheckWritten
 ghost use Rattle.journal_check.specs.CheckStatuses.{IfCheckWhole, OnCheckNothing, OnCheckRead, OnCheckReadFault, OnCheckUsage};
 ghost use Rattle.journal_check.specs.CheckStatuses.{OnCheckWriteFault, UnlessCheckFinished};
 ghost use Rattle.journal_check.specs.Frames.{needed, script_part, text_part};
-ghost use Rattle.script_codec.specs.Writing.{IsWritable};
-ghost use Rattle.script_codec.specs.declared.faults.ScriptFault.{ScriptFault};
+ghost use Rattle.report.specs.script_codec.specs.Writing.{IsWritable};
+ghost use Rattle.report.specs.script_codec.specs.declared.faults.ScriptFault.{ScriptFault};
 ghost use Rattle.std.specs.Prelude.{◌≡◌, ◌≢◌, ◌≤◌, Some, length};
 
 use crate::checking::check;
@@ -17,7 +17,7 @@ use dcd_base::{Failed, NoMemory, Sink, Source, write_all};
 use edge_io::{ReadEnd, read_all};
 use field_bytes::u32_at;
 use report::refusal;
-use script_codec::{Script, ScriptFault, read};
+use report::script_codec::{Script, ScriptFault, read};
 use std::alloc::Global;
 
 /// The most bytes of an input.

@@ -1,19 +1,19 @@
 //! The device that took the steps of a text, or the first wrong line.
 
-ghost use Rattle.device_rules.specs.Legal.{Legal};
+ghost use Rattle.report.specs.device_rules.specs.Legal.{Legal};
 ghost use Rattle.journal_check.specs.Claims.{behind_line};
 ghost use Rattle.journal_check.specs.Following.{IsFollowed};
 ghost use Rattle.journal_check.specs.Replaying.{IsCompared, IsReplayed};
 ghost use Rattle.journal_core.specs.Merging.{Numbered};
-ghost use Rattle.script_codec.specs.Scripts.{IsScript};
-ghost use Rattle.script_codec.specs.Writing.{IsWritable};
+ghost use Rattle.report.specs.script_codec.specs.Scripts.{IsScript};
+ghost use Rattle.report.specs.script_codec.specs.Writing.{IsWritable};
 ghost use Rattle.std.specs.Prelude.{◌≡◌, ◌==◌, ◌+◌, ◌<◌, ◌≤◌, ◌^◌, IfOk, count_by, length, take};
 
 use crate::comparing::compare;
 use crate::following::follow;
 use dcd_base::NoMemory;
 use device_plain::Device;
-use script_codec::Script;
+use report::script_codec::Script;
 use std::alloc::Global;
 
 /// How many line feeds there are.

@@ -3,7 +3,7 @@
 ghost use Rattle.journal_check.specs.CheckStatuses.{check_status_number};
 ghost use Rattle.std.specs.Prelude.{◌≡◌};
 
-use script_codec::ScriptFault;
+use report::script_codec::ScriptFault;
 
 /// How a check ends.
 #[derive(Clone, Copy, Debug, PartialEq, Eq)]

@@ -8,14 +8,14 @@ use Rattle.journal_core.specs.Entries.{effects}
 use Rattle.journal_core.specs.Holders.{holds}
 use Rattle.journal_core.specs.declared.entries.Entry.{Entry}
 use Rattle.journal_core.specs.declared.outcome.Effect.{Effect}
-use Rattle.table_laws.specs.GranuleCells.{IsCell}
-use Rattle.table_laws.specs.TagTable.{IsTable}
-use Rattle.device_rules.specs.Adding.{present}
-use Rattle.device_rules.specs.Logs.{log_of}
-use Rattle.device_rules.specs.Views.{View, view_after, view_of}
-use Rattle.device_rules.proofs.ViewSteps.{view_of-push}
-use Rattle.device_state.specs.StateAfter.{IsLogOf, IsPart, IsStateAfter, part_of}
-use Rattle.device_state.specs.declared.state.State.{State}
+use Rattle.isolation_laws.specs.table_laws.specs.GranuleCells.{IsCell}
+use Rattle.isolation_laws.specs.table_laws.specs.TagTable.{IsTable}
+use Rattle.isolation_laws.specs.device_rules.specs.Adding.{present}
+use Rattle.isolation_laws.specs.device_rules.specs.Logs.{log_of}
+use Rattle.isolation_laws.specs.device_rules.specs.Views.{View, view_after, view_of}
+use Rattle.isolation_laws.specs.device_rules.proofs.ViewSteps.{view_of-push}
+use Rattle.isolation_laws.specs.device_state.specs.StateAfter.{IsLogOf, IsPart, IsStateAfter, part_of}
+use Rattle.isolation_laws.specs.device_state.specs.declared.state.State.{State}
 use Rattle.tag_refs.specs.declared.entries.TagEntry.{TagEntry}
 use Rattle.live_device.proofs.MemorySteps.{effects_stay}
 

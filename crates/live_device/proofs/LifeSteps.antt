@@ -15,14 +15,14 @@ use Rattle.media_map.specs.Places.{locate}
 use Rattle.region_config.specs.Configurations.{Configuration}
 use Rattle.region_config.specs.Granules.{granule_total}
 use Rattle.fm_payloads.specs.ManagerPayloads.{manager_request}
-use Rattle.device_rules.specs.Answers.{answer, host_result_in, manager_result, reply_with}
-use Rattle.device_rules.specs.Views.{view_of}
+use Rattle.isolation_laws.specs.device_rules.specs.Answers.{answer, host_result_in, manager_result, reply_with}
+use Rattle.isolation_laws.specs.device_rules.specs.Views.{view_of}
 use Rattle.std.specs.declared.result.Result.{Result}
 use Rattle.std.specs.declared.result.Result.TheVariants.{Ok, Err}
-use Rattle.device_rules.specs.Legal.{Meets, right_answer, word_by}
-use Rattle.device_state.specs.Updates.{IsUpdate}
-use Rattle.device_state.specs.declared.state.State.{State}
-use Rattle.device_state.specs.declared.updates.Update.{Update}
+use Rattle.isolation_laws.specs.device_rules.specs.Legal.{Meets, right_answer, word_by}
+use Rattle.isolation_laws.specs.device_state.specs.Updates.{IsUpdate}
+use Rattle.isolation_laws.specs.device_state.specs.declared.state.State.{State}
+use Rattle.isolation_laws.specs.device_state.specs.declared.updates.Update.{Update}
 use Rattle.control_core.specs.Deciding.{IsDecidedBy}
 use Rattle.control_core.specs.Pasts.{CanEnter, EntersStep, IsOfStep, IsPast, LiveControlled}
 use Rattle.control_core.specs.Steps.{MayStep, journal_entry}

@@ -2,7 +2,7 @@
 use Rattle.std.proofs.Common.{◌≡◌, List, [], ◌∷◌, ◌++◌, refl, sym, ap, subst, append-nil, map}
 use Rattle.std.proofs.lemmas.List.{append_assoc}
 use Rattle.journal_core.specs.declared.entries.Entry.{Entry}
-use Rattle.device_rules.specs.Legal.{right_answer}
+use Rattle.isolation_laws.specs.device_rules.specs.Legal.{right_answer}
 use Rattle.live_device.specs.Lives.{IsLife, Living, TakesSteps, ToldStep, step_told}
 
 -- what it lived since then: the journal behind one that led to it, and what it tells

@@ -22,7 +22,7 @@ use Rattle.journal_core.proofs.JournalSteps.{effects-push}
 use Rattle.media_map.specs.Places.{locate}
 use Rattle.region_config.specs.Configurations.{Configuration}
 use Rattle.region_config.specs.Granules.{granule_total}
-use Rattle.device_rules.specs.Legal.{access_at, granted_reply, is_zeroing, stored_at, word_after, word_by, word_of, written_by}
+use Rattle.isolation_laws.specs.device_rules.specs.Legal.{access_at, granted_reply, is_zeroing, stored_at, word_after, word_by, word_of, written_by}
 use Rattle.live_device.specs.Accesses.{AreZeroed, Stored, held_at, store_said, word_from}
 
 never : IsTrue false → ⊥

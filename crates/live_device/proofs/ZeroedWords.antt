@@ -11,7 +11,7 @@ use Rattle.media_map.specs.Places.{IsWord}
 use Rattle.region_config.specs.Configurations.{Configuration}
 use Rattle.region_config.specs.Granules.{granule_total}
 use Rattle.region_config.proofs.Faultless.{granules_rise}
-use Rattle.device_rules.specs.Legal.{is_zeroing}
+use Rattle.isolation_laws.specs.device_rules.specs.Legal.{is_zeroing}
 use Rattle.live_device.specs.Accesses.{AreZeroed, IsZeroedBy, Stored}
 
 -- a word's granule is one of the device

@@ -12,7 +12,7 @@ use Rattle.journal_core.specs.declared.acts.Reply.{Reply}
 use Rattle.journal_core.specs.declared.outcome.Effect.{Effect}
 use Rattle.media_map.specs.Places.{locate}
 use Rattle.region_config.specs.Configurations.{Configuration}
-use Rattle.device_rules.specs.Legal.{is_zeroing, stored_at}
+use Rattle.isolation_laws.specs.device_rules.specs.Legal.{is_zeroing, stored_at}
 
 -- the words that were stored in each granule, by their numbers
 abbrev pub Stored : Type 0

@@ -10,12 +10,12 @@ use Rattle.journal_core.specs.declared.acts.Act.{Act}
 use Rattle.journal_core.specs.declared.acts.Reply.{Reply}
 use Rattle.journal_core.specs.declared.entries.Entry.{Entry}
 use Rattle.journal_core.specs.declared.outcome.Effect.{Effect}
-use Rattle.device_rules.specs.ChangedRuns.{AreHolders}
-use Rattle.device_rules.specs.Legal.{Exclusive, Legal, Meets, right_answer, word_of}
-use Rattle.device_state.specs.StateAfter.{IsStateAfter}
-use Rattle.device_state.specs.Updates.{IsUpdate}
-use Rattle.device_state.specs.declared.state.State.{State}
-use Rattle.device_state.specs.declared.updates.Update.{Update}
+use Rattle.isolation_laws.specs.device_rules.specs.ChangedRuns.{AreHolders}
+use Rattle.isolation_laws.specs.device_rules.specs.Legal.{Exclusive, Legal, Meets, right_answer, word_of}
+use Rattle.isolation_laws.specs.device_state.specs.StateAfter.{IsStateAfter}
+use Rattle.isolation_laws.specs.device_state.specs.Updates.{IsUpdate}
+use Rattle.isolation_laws.specs.device_state.specs.declared.state.State.{State}
+use Rattle.isolation_laws.specs.device_state.specs.declared.updates.Update.{Update}
 use Rattle.isolation_laws.specs.Laws.{Clean}
 use Rattle.isolation_laws.specs.Solo.{Isolated}
 use Rattle.live_device.specs.Accesses.{Stored}

@@ -3,7 +3,7 @@
 ghost use Rattle.live_device.specs.Lives.{HasLived, IsLife, Living, TakesSteps, ToldStep};
 ghost use Rattle.std.specs.Prelude.{List, []};
 
-use holding_laws::law_exclusive;
+use isolation_laws::holding_laws::law_exclusive;
 use isolation_laws::{law_clean, law_isolated};
 
 /// A fresh device that took steps one after another, each as `LiveDevice::step` says, has lived as it told: a legal journal

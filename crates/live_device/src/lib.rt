@@ -9,7 +9,10 @@ mod laws;
 mod zeroing;
 
 pub use accesses::{granted, loaded, refused_by, store_at, stored, word_at};
+pub use control_core;
 pub use device::LiveDevice;
 pub use faults::StepFault;
+pub use isolation_laws;
+pub use isolation_laws::{device_rules, device_state, holding_laws, table_laws};
 pub use laws::law_lives;
 pub use zeroing::zero_all;

@@ -14,4 +14,6 @@ pub use holdings::{blocks_in, extents_in_region};
 pub use letting_go::{clear_step, refusal_step, removal_step};
 pub use messages::PlanStep;
 pub use naming::{bad_dead, bad_demand};
+pub use plan_rules;
+pub use plan_rules::device_rules;
 pub use returning::return_step;

@@ -14,7 +14,7 @@ use Rattle.list_rules.specs.Listing.{is_shareable_at, lies_in_region, misplaced}
 use Rattle.media_map.specs.Places.{region_at}
 use Rattle.region_config.specs.Configurations.{Configuration}
 use Rattle.region_config.specs.Granules.{region_spec, with_blocks}
-use Rattle.device_rules.proofs.ListSteps.{each-both}
+use Rattle.holding_laws.specs.device_rules.proofs.ListSteps.{each-both}
 use Rattle.holding_laws.specs.Pictures.{Picture}
 use Rattle.holding_laws.specs.Standing.{IsMade}
 use Rattle.holding_laws.proofs.AllLeave.{Behind}

@@ -15,9 +15,9 @@ use Rattle.journal_core.specs.Entries.{effects}
 use Rattle.journal_core.specs.declared.acts.Act.{Act}
 use Rattle.journal_core.specs.declared.entries.Entry.{Entry}
 use Rattle.journal_core.specs.declared.outcome.Effect.{Effect}
-use Rattle.device_rules.specs.Answers.{answer, dropped, effects_with, host_outcome, host_result, host_rule, manager_outcome, manager_result, manager_rule, reply_with, response, unless}
-use Rattle.device_rules.specs.Outcomes.{Outcome, effects_of}
-use Rattle.device_rules.specs.Views.{View, view_of}
+use Rattle.holding_laws.specs.device_rules.specs.Answers.{answer, dropped, effects_with, host_outcome, host_result, host_rule, manager_outcome, manager_result, manager_rule, reply_with, response, unless}
+use Rattle.holding_laws.specs.device_rules.specs.Outcomes.{Outcome, effects_of}
+use Rattle.holding_laws.specs.device_rules.specs.Views.{View, view_of}
 use Rattle.plan_laws.specs.Kept.{Succeeds}
 
 -- it succeeds without a payload, with the effects of what it does

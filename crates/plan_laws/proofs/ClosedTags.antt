@@ -17,10 +17,10 @@ use Rattle.media_map.specs.Places.{bytes_of_run, region_at, run_of, start_of}
 use Rattle.media_map.proofs.PlaceLemmas.{has}
 use Rattle.media_map.proofs.RunLemmas.{region_at_is}
 use Rattle.journal_core.specs.declared.outcome.Effect.{Effect}
-use Rattle.device_rules.specs.Outcomes.{Outcome, effects_of, ended}
-use Rattle.device_rules.specs.ReleaseOutcomes.{leaves, removals, soils}
-use Rattle.device_rules.proofs.ListSteps.{each-append, each-at, each-both, each-change, each-map, flat-push}
-use Rattle.device_rules.proofs.TagSteps.{open_before, same_tag-is}
+use Rattle.holding_laws.specs.device_rules.specs.Outcomes.{Outcome, effects_of, ended}
+use Rattle.holding_laws.specs.device_rules.specs.ReleaseOutcomes.{leaves, removals, soils}
+use Rattle.holding_laws.specs.device_rules.proofs.ListSteps.{each-append, each-at, each-both, each-change, each-map, flat-push}
+use Rattle.holding_laws.specs.device_rules.proofs.TagSteps.{open_before, same_tag-is}
 use Rattle.holding_laws.specs.Pictures.{Picture, extents_at, is_with_a_host, lives, picture_after, picture_of}
 use Rattle.holding_laws.specs.Standing.{IsHome, IsMade, Sound}
 use Rattle.holding_laws.proofs.CutSteps.{lies}

@@ -4,7 +4,7 @@ use Rattle.std.specs.List.{AllByRecursion, filter}
 use Rattle.std.proofs.lemmas.Bool.{and_from, cases_Bool, false≢true, false_from_ne_true, le-leb, le-ltb, lt-ltb}
 use Rattle.dcd_base.specs.declared.capacity.Extent.{Extent}
 use Rattle.extent_list.specs.ExtentLists.{cut, cut_all, has_range, lies_in, overlaps, piece}
-use Rattle.device_rules.proofs.ListSteps.{each-append, each-both}
+use Rattle.holding_laws.specs.device_rules.proofs.ListSteps.{each-append, each-both}
 use Rattle.holding_laws.proofs.AllLeave.{Behind}
 use Rattle.holding_laws.proofs.CutSteps.{lies}
 

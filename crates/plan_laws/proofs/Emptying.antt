@@ -31,14 +31,14 @@ use Rattle.release_core.specs.Removals.{prescribed_removal_rule}
 use Rattle.journal_core.specs.Entries.{effects}
 use Rattle.journal_core.specs.declared.entries.Entry.{Entry}
 use Rattle.journal_core.specs.declared.outcome.Effect.{Effect}
-use Rattle.device_rules.specs.Hosts.{accepted_after, accepted_of, offers_after, offers_of}
-use Rattle.device_rules.specs.Legal.{Legal}
-use Rattle.device_rules.specs.Logs.{log_of}
-use Rattle.device_rules.specs.Outcomes.{Outcome, records_of_extents}
-use Rattle.device_rules.specs.ReleaseOutcomes.{removals, remove_outcome, remove_rule}
-use Rattle.device_rules.specs.Views.{view_after, view_of}
-use Rattle.device_rules.proofs.Leaving.{map_passes}
-use Rattle.device_rules.proofs.ListSteps.{each-all, each-change}
+use Rattle.holding_laws.specs.device_rules.specs.Hosts.{accepted_after, accepted_of, offers_after, offers_of}
+use Rattle.holding_laws.specs.device_rules.specs.Legal.{Legal}
+use Rattle.holding_laws.specs.device_rules.specs.Logs.{log_of}
+use Rattle.holding_laws.specs.device_rules.specs.Outcomes.{Outcome, records_of_extents}
+use Rattle.holding_laws.specs.device_rules.specs.ReleaseOutcomes.{removals, remove_outcome, remove_rule}
+use Rattle.holding_laws.specs.device_rules.specs.Views.{view_after, view_of}
+use Rattle.holding_laws.specs.device_rules.proofs.Leaving.{map_passes}
+use Rattle.holding_laws.specs.device_rules.proofs.ListSteps.{each-all, each-change}
 use Rattle.holding_laws.specs.Pictures.{Picture, picture_of}
 use Rattle.holding_laws.specs.Standing.{IsMade, Sound, Stands}
 use Rattle.holding_laws.proofs.AllLeave.{all_leave}

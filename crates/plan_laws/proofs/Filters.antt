@@ -2,7 +2,7 @@
 use Rattle.std.proofs.Common.{◌≡◌, ◌≤◌, Bool, true, false, not, ◌&&◌, List, [], ◌∷◌, length, refl, ap, inl, inr, arith}
 use Rattle.std.specs.List.{AllByRecursion, filter}
 use Rattle.std.proofs.lemmas.Bool.{cases_Bool}
-use Rattle.device_rules.proofs.ListSteps.{many}
+use Rattle.holding_laws.specs.device_rules.proofs.ListSteps.{many}
 
 module _ {X : Type 0} where
   -- two tests one behind the other

@@ -32,17 +32,17 @@ use Rattle.journal_core.specs.Entries.{effects}
 use Rattle.journal_core.specs.Holders.{holds}
 use Rattle.journal_core.specs.declared.entries.Entry.{Entry}
 use Rattle.journal_core.specs.declared.outcome.Effect.{Effect}
-use Rattle.device_rules.specs.Adding.{add_outcome, add_rule, area_of, extents_of, is_free_now, per_block, present, region_free_blocks}
-use Rattle.device_rules.specs.Answers.{manager_outcome, manager_result, manager_rule, unless}
-use Rattle.device_rules.specs.Hosts.{accepted_of, block_of, offers_of}
-use Rattle.device_rules.specs.Legal.{Legal}
-use Rattle.device_rules.specs.Outcomes.{Outcome, effects_of}
-use Rattle.device_rules.specs.Tags.{is_free, last_offer, open_tags, status, tag_runs}
-use Rattle.device_rules.specs.Views.{view_of}
-use Rattle.device_rules.proofs.HostSearches.{any_none}
-use Rattle.device_rules.proofs.ListSteps.{any-map, each-at, each-change, many, many-any, many-append}
-use Rattle.device_rules.proofs.RunEffects.{in_extents}
-use Rattle.device_rules.proofs.TagSteps.{same_tag-is}
+use Rattle.holding_laws.specs.device_rules.specs.Adding.{add_outcome, add_rule, area_of, extents_of, is_free_now, per_block, present, region_free_blocks}
+use Rattle.holding_laws.specs.device_rules.specs.Answers.{manager_outcome, manager_result, manager_rule, unless}
+use Rattle.holding_laws.specs.device_rules.specs.Hosts.{accepted_of, block_of, offers_of}
+use Rattle.holding_laws.specs.device_rules.specs.Legal.{Legal}
+use Rattle.holding_laws.specs.device_rules.specs.Outcomes.{Outcome, effects_of}
+use Rattle.holding_laws.specs.device_rules.specs.Tags.{is_free, last_offer, open_tags, status, tag_runs}
+use Rattle.holding_laws.specs.device_rules.specs.Views.{view_of}
+use Rattle.holding_laws.specs.device_rules.proofs.HostSearches.{any_none}
+use Rattle.holding_laws.specs.device_rules.proofs.ListSteps.{any-map, each-at, each-change, many, many-any, many-append}
+use Rattle.holding_laws.specs.device_rules.proofs.RunEffects.{in_extents}
+use Rattle.holding_laws.specs.device_rules.proofs.TagSteps.{same_tag-is}
 use Rattle.holding_laws.specs.Pictures.{Picture, picture_of}
 use Rattle.holding_laws.specs.Standing.{IsMade, Sound, Stands}
 use Rattle.holding_laws.proofs.AddChoices.{marked_from, marked_runs, reach_runs, runs_back}
@@ -59,7 +59,7 @@ use Rattle.plan_laws.specs.Taking.{IsOfferedFree, OffersFreeBlocks, blocks_free_
 use Rattle.plan_laws.proofs.Answering.{manager_does}
 use Rattle.plan_laws.proofs.FreeBlocks.{all_agree, blocks_gone, filter_agree, free_then, granules_in, sum_runs}
 use Rattle.dcd_base.specs.declared.steps.LogId.{LogId}
-use Rattle.device_rules.specs.Logs.{log_of}
+use Rattle.holding_laws.specs.device_rules.specs.Logs.{log_of}
 use Rattle.plan_laws.proofs.KeptLogs.{log_kept, other_log}
 use Rattle.plan_laws.proofs.Keeping.{others_kept, outcome_accepted, outcome_blocks, outcome_held, outcome_holds, outcome_offers}
 use Rattle.plan_laws.proofs.WholeOffers.{status_told}

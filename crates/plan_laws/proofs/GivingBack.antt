@@ -26,14 +26,14 @@ use Rattle.journal_core.specs.Entries.{effects}
 use Rattle.journal_core.specs.declared.entries.Entry.{Entry}
 use Rattle.journal_core.specs.declared.outcome.Effect.{Effect}
 use Rattle.journal_core.specs.declared.outcome.HeldKind.{HeldKind}
-use Rattle.device_rules.specs.Answers.{host_outcome, host_rule}
-use Rattle.device_rules.specs.Hosts.{accepted_after, accepted_of, offers_after, offers_of, block_of}
-use Rattle.device_rules.specs.Legal.{Legal}
-use Rattle.device_rules.specs.Outcomes.{Outcome, effects_of}
-use Rattle.device_rules.specs.ReleaseOutcomes.{leaves, removals}
-use Rattle.device_rules.specs.ResponseOutcomes.{unhold}
-use Rattle.device_rules.specs.Views.{view_of}
-use Rattle.device_rules.proofs.ListSteps.{each-all, each-both, each-change, many}
+use Rattle.holding_laws.specs.device_rules.specs.Answers.{host_outcome, host_rule}
+use Rattle.holding_laws.specs.device_rules.specs.Hosts.{accepted_after, accepted_of, offers_after, offers_of, block_of}
+use Rattle.holding_laws.specs.device_rules.specs.Legal.{Legal}
+use Rattle.holding_laws.specs.device_rules.specs.Outcomes.{Outcome, effects_of}
+use Rattle.holding_laws.specs.device_rules.specs.ReleaseOutcomes.{leaves, removals}
+use Rattle.holding_laws.specs.device_rules.specs.ResponseOutcomes.{unhold}
+use Rattle.holding_laws.specs.device_rules.specs.Views.{view_of}
+use Rattle.holding_laws.specs.device_rules.proofs.ListSteps.{each-all, each-both, each-change, many}
 use Rattle.holding_laws.specs.Pictures.{Picture, count_on, picture_of}
 use Rattle.holding_laws.specs.Standing.{IsMade, Sound, Stands}
 use Rattle.holding_laws.proofs.AllLeave.{Behind, all_leave}
@@ -51,7 +51,7 @@ use Rattle.plan_laws.proofs.Answering.{host_does}
 use Rattle.plan_laws.proofs.ClosedTags.{leaves_are}
 use Rattle.plan_laws.proofs.Emptying.{accepted_few, leaves_pass, none_of_two, over_leaves_offers, unbroken}
 use Rattle.dcd_base.specs.declared.steps.LogId.{LogId}
-use Rattle.device_rules.specs.Logs.{log_of}
+use Rattle.holding_laws.specs.device_rules.specs.Logs.{log_of}
 use Rattle.journal_core.specs.Holders.{holding_after, holds}
 use Rattle.step_laws.proofs.LogHistories.{leaves_logs}
 use Rattle.plan_laws.proofs.KeptLogs.{log_kept}

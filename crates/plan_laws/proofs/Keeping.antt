@@ -13,10 +13,10 @@ use Rattle.region_config.specs.Granules.{region_spec}
 use Rattle.journal_core.specs.Holders.{holding_after, holds}
 use Rattle.journal_core.specs.declared.outcome.Effect.{Effect}
 use Rattle.journal_core.specs.declared.outcome.HeldKind.{HeldKind}
-use Rattle.device_rules.specs.Hosts.{accepted_after, accepted_of, block_after, block_of, held_after, held_of, offers_after, offers_of, same_kind}
-use Rattle.device_rules.specs.Outcomes.{Outcome, effects_of}
-use Rattle.device_rules.proofs.Leaving.{over-leaving}
-use Rattle.device_rules.proofs.OutcomeSteps.{after-outcome}
+use Rattle.holding_laws.specs.device_rules.specs.Hosts.{accepted_after, accepted_of, block_after, block_of, held_after, held_of, offers_after, offers_of, same_kind}
+use Rattle.holding_laws.specs.device_rules.specs.Outcomes.{Outcome, effects_of}
+use Rattle.holding_laws.specs.device_rules.proofs.Leaving.{over-leaving}
+use Rattle.holding_laws.specs.device_rules.proofs.OutcomeSteps.{after-outcome}
 use Rattle.plan_laws.specs.Kept.{KeepsHost, KeepsOthers}
 
 -- the effect changes no list of the host

@@ -13,11 +13,11 @@ use Rattle.event_records.specs.declared.events.EventKind.{EventKind}
 use Rattle.extent_list.specs.ExtentLists.{marked}
 use Rattle.region_config.specs.Configurations.{Configuration}
 use Rattle.journal_core.specs.declared.outcome.Effect.{Effect}
-use Rattle.device_rules.specs.Logs.{log_after, log_of, same_log}
-use Rattle.device_rules.specs.Outcomes.{Outcome, effects_of, ended, no_extent, record_for, records_of_extents}
-use Rattle.device_rules.specs.ResponseOutcomes.{response_records}
-use Rattle.device_rules.specs.Views.{View}
-use Rattle.device_rules.proofs.Leaving.{after_front, both_pass, map_passes, over-leaving}
+use Rattle.holding_laws.specs.device_rules.specs.Logs.{log_after, log_of, same_log}
+use Rattle.holding_laws.specs.device_rules.specs.Outcomes.{Outcome, effects_of, ended, no_extent, record_for, records_of_extents}
+use Rattle.holding_laws.specs.device_rules.specs.ResponseOutcomes.{response_records}
+use Rattle.holding_laws.specs.device_rules.specs.Views.{View}
+use Rattle.holding_laws.specs.device_rules.proofs.Leaving.{after_front, both_pass, map_passes, over-leaving}
 use Rattle.step_laws.proofs.LogHistories.{entered_all-other, leaves_logs, log-left, told, told_one}
 use Rattle.step_laws.proofs.LogSteps.{IsSound, IsSound-recorded, entered_all-room}
 

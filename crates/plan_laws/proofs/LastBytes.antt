@@ -10,7 +10,7 @@ use Rattle.std.proofs.lemmas.List.{reverse-append}
 use Rattle.std.proofs.lemmas.List.Elements.{filter-append}
 use Rattle.dcd_base.specs.declared.capacity.Extent.{Extent}
 use Rattle.extent_list.specs.ExtentLists.{cut, cut_all, has_range, lies_in, overlaps, without}
-use Rattle.device_rules.proofs.ListSteps.{each-append, each-both, each-change}
+use Rattle.holding_laws.specs.device_rules.proofs.ListSteps.{each-append, each-both, each-change}
 use Rattle.holding_laws.proofs.AllLeave.{Behind}
 use Rattle.plan_rules.specs.Listing.{last_bytes, last_part, listed}
 use Rattle.plan_laws.specs.LastBytes.{without_last_bytes}

@@ -19,21 +19,21 @@ use Rattle.journal_core.specs.Entries.{effects}
 use Rattle.journal_core.specs.declared.entries.Entry.{Entry}
 use Rattle.journal_core.specs.declared.outcome.Effect.{Effect}
 use Rattle.journal_core.specs.declared.outcome.HeldKind.{HeldKind}
-use Rattle.device_rules.specs.Answers.{host_outcome, scrubbed, zeroes}
-use Rattle.device_rules.specs.EventCommands.{cleared, rule_of}
-use Rattle.device_rules.specs.Hosts.{accepted_after, accepted_of, offers_after, offers_of, held_of}
-use Rattle.device_rules.specs.Legal.{Legal}
-use Rattle.device_rules.specs.Logs.{log_after, log_of, same_log}
-use Rattle.device_rules.specs.Tags.{dirty_granules}
-use Rattle.device_rules.proofs.Leaving.{over-leaving}
+use Rattle.holding_laws.specs.device_rules.specs.Answers.{host_outcome, scrubbed, zeroes}
+use Rattle.holding_laws.specs.device_rules.specs.EventCommands.{cleared, rule_of}
+use Rattle.holding_laws.specs.device_rules.specs.Hosts.{accepted_after, accepted_of, offers_after, offers_of, held_of}
+use Rattle.holding_laws.specs.device_rules.specs.Legal.{Legal}
+use Rattle.holding_laws.specs.device_rules.specs.Logs.{log_after, log_of, same_log}
+use Rattle.holding_laws.specs.device_rules.specs.Tags.{dirty_granules}
+use Rattle.holding_laws.specs.device_rules.proofs.Leaving.{over-leaving}
 use Rattle.step_laws.proofs.LogHistories.{leaves_logs, log-left}
 use Rattle.plan_laws.proofs.KeptLogs.{other_log, response_kept}
 use Rattle.std.proofs.lemmas.List.{length-take}
 use Rattle.journal_core.specs.declared.acts.Reply.{Reply}
-use Rattle.device_rules.specs.Outcomes.{Outcome, effects_of}
-use Rattle.device_rules.specs.ResponseOutcomes.{answered, respond_changes, unhold}
-use Rattle.device_rules.specs.Views.{view_after, view_of}
-use Rattle.device_rules.proofs.EffectKinds.{clear_passes, zeroes_pass}
+use Rattle.holding_laws.specs.device_rules.specs.Outcomes.{Outcome, effects_of}
+use Rattle.holding_laws.specs.device_rules.specs.ResponseOutcomes.{answered, respond_changes, unhold}
+use Rattle.holding_laws.specs.device_rules.specs.Views.{view_after, view_of}
+use Rattle.holding_laws.specs.device_rules.proofs.EffectKinds.{clear_passes, zeroes_pass}
 use Rattle.holding_laws.proofs.InOrderResponses.{legal_allows}
 use Rattle.step_laws.proofs.LogSteps.{same_log-self}
 use Rattle.plan_laws.specs.Kept.{KeepsHosts, KeepsOthers}

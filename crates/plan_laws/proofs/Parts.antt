@@ -6,8 +6,8 @@ use Rattle.std.proofs.lemmas.List.Folds.{list_any-append}
 use Rattle.dcd_base.specs.declared.capacity.Extent.{Extent}
 use Rattle.dcd_base.specs.Words.{same_tag}
 use Rattle.extent_list.specs.ExtentLists.{cut, has_range, is_in, lies_in, marked, owner_of, piece, without}
-use Rattle.device_rules.proofs.ListSteps.{each-append, each-at, each-change}
-use Rattle.device_rules.proofs.TagSteps.{same_tag-is, same_tag-self}
+use Rattle.holding_laws.specs.device_rules.proofs.ListSteps.{each-append, each-at, each-change}
+use Rattle.holding_laws.specs.device_rules.proofs.TagSteps.{same_tag-is, same_tag-self}
 use Rattle.holding_laws.proofs.CutSteps.{lies, lies-from}
 use Rattle.holding_laws.proofs.OneOffer.{any-implies}
 

@@ -28,16 +28,16 @@ use Rattle.journal_core.specs.declared.outcome.Effect.{Effect}
 use Rattle.journal_core.specs.declared.outcome.HeldKind.{HeldKind}
 use Rattle.journal_core.specs.Entries.{EachFrom, effects, fits}
 use Rattle.journal_core.proofs.JournalSteps.{effects-push}
-use Rattle.device_rules.specs.Adding.{add_outcome, add_rule, is_open_in, offered, too_many_tags}
-use Rattle.device_rules.specs.Answers.{dropped, effects_with, host_outcome, host_result, host_rule, manager_outcome, manager_result, manager_rule, scrubbed, unless, zeroes}
-use Rattle.device_rules.specs.Legal.{Legal, Meets, right_answer}
-use Rattle.device_rules.specs.Logs.{log_of}
-use Rattle.device_rules.specs.Outcomes.{Outcome, effects_of, log_full}
-use Rattle.device_rules.specs.ReleaseOutcomes.{give_back_outcome, is_cleaning, is_forced, leaves, removals, remove_outcome, removed}
-use Rattle.device_rules.specs.ResponseOutcomes.{respond_changes, respond_outcome, unhold}
-use Rattle.device_rules.specs.TagCommands.{add_reference_outcome, remove_reference_outcome}
-use Rattle.device_rules.specs.Tags.{is_live, is_referenced, last_offer, open_tags, tag_region}
-use Rattle.device_rules.specs.Views.{View, extents_in, view_of}
+use Rattle.holding_laws.specs.device_rules.specs.Adding.{add_outcome, add_rule, is_open_in, offered, too_many_tags}
+use Rattle.holding_laws.specs.device_rules.specs.Answers.{dropped, effects_with, host_outcome, host_result, host_rule, manager_outcome, manager_result, manager_rule, scrubbed, unless, zeroes}
+use Rattle.holding_laws.specs.device_rules.specs.Legal.{Legal, Meets, right_answer}
+use Rattle.holding_laws.specs.device_rules.specs.Logs.{log_of}
+use Rattle.holding_laws.specs.device_rules.specs.Outcomes.{Outcome, effects_of, log_full}
+use Rattle.holding_laws.specs.device_rules.specs.ReleaseOutcomes.{give_back_outcome, is_cleaning, is_forced, leaves, removals, remove_outcome, removed}
+use Rattle.holding_laws.specs.device_rules.specs.ResponseOutcomes.{respond_changes, respond_outcome, unhold}
+use Rattle.holding_laws.specs.device_rules.specs.TagCommands.{add_reference_outcome, remove_reference_outcome}
+use Rattle.holding_laws.specs.device_rules.specs.Tags.{is_live, is_referenced, last_offer, open_tags, tag_region}
+use Rattle.holding_laws.specs.device_rules.specs.Views.{View, extents_in, view_of}
 use Rattle.holding_laws.specs.Pictures.{Picture, picture_after, picture_of, extents_at}
 use Rattle.holding_laws.specs.Standing.{Sound}
 use Rattle.holding_laws.proofs.Holding.{first_is_sound}

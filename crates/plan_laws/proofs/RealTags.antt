@@ -8,7 +8,7 @@ use Rattle.dcd_base.specs.Words.{has_tag, is_zero_tag, same_tag}
 use Rattle.dcd_base.specs.declared.capacity.Extent.{Extent}
 use Rattle.dcd_base.specs.declared.capacity.Tag.{Tag}
 use Rattle.extent_list.specs.ExtentLists.{has_extent_of, real_tags, tags_of}
-use Rattle.device_rules.proofs.TagSteps.{has_tag-filter, has_tag-kept, same_tag-back, same_tag-is, same_tag-self, without_tag}
+use Rattle.holding_laws.specs.device_rules.proofs.TagSteps.{has_tag-filter, has_tag-kept, same_tag-back, same_tag-is, same_tag-self, without_tag}
 use Rattle.holding_laws.proofs.OneAnswer.{tags_of-has}
 
 -- ---- lists without a tag twice

@@ -20,14 +20,14 @@ use Rattle.selection.specs.Selections.{free_runs, too_few_free}
 use Rattle.journal_core.specs.Entries.{effects}
 use Rattle.journal_core.specs.declared.entries.Entry.{Entry}
 use Rattle.journal_core.specs.declared.outcome.Effect.{Effect}
-use Rattle.device_rules.specs.Adding.{add_rule, area_of, by_length_rule, extents_of, is_free_now, per_block, present, region_free_blocks, too_many_tags}
-use Rattle.device_rules.specs.Hosts.{block_of}
-use Rattle.device_rules.specs.Legal.{Legal}
-use Rattle.device_rules.specs.Logs.{log_of}
-use Rattle.device_rules.specs.Outcomes.{log_full}
-use Rattle.device_rules.specs.Views.{extents_in, view_of}
-use Rattle.device_rules.proofs.ListSteps.{each-at}
-use Rattle.device_rules.proofs.TagSteps.{same_tag-is}
+use Rattle.holding_laws.specs.device_rules.specs.Adding.{add_rule, area_of, by_length_rule, extents_of, is_free_now, per_block, present, region_free_blocks, too_many_tags}
+use Rattle.holding_laws.specs.device_rules.specs.Hosts.{block_of}
+use Rattle.holding_laws.specs.device_rules.specs.Legal.{Legal}
+use Rattle.holding_laws.specs.device_rules.specs.Logs.{log_of}
+use Rattle.holding_laws.specs.device_rules.specs.Outcomes.{log_full}
+use Rattle.holding_laws.specs.device_rules.specs.Views.{extents_in, view_of}
+use Rattle.holding_laws.specs.device_rules.proofs.ListSteps.{each-at}
+use Rattle.holding_laws.specs.device_rules.proofs.TagSteps.{same_tag-is}
 use Rattle.holding_laws.proofs.AddChoices.{marked_tags}
 use Rattle.plan_laws.specs.Taking.{CanBeOfferedFree, OnlyRoomIsWanting, free_offer_of}
 use Rattle.plan_laws.proofs.Emptying.{none_of_two, unbroken}

@@ -11,9 +11,9 @@ use Rattle.extent_list.specs.ExtentLists.{has_extent_of, lies_in, real_tags}
 use Rattle.region_config.specs.Configurations.{Configuration}
 use Rattle.region_config.specs.Soundness.{IsSound}
 use Rattle.journal_core.specs.declared.outcome.Effect.{Effect}
-use Rattle.device_rules.specs.Outcomes.{Outcome, effects_of, ended}
-use Rattle.device_rules.proofs.ListSteps.{each-at, flat-push}
-use Rattle.device_rules.proofs.TagSteps.{open_before, same_tag-is, without_tags}
+use Rattle.holding_laws.specs.device_rules.specs.Outcomes.{Outcome, effects_of, ended}
+use Rattle.holding_laws.specs.device_rules.proofs.ListSteps.{each-at, flat-push}
+use Rattle.holding_laws.specs.device_rules.proofs.TagSteps.{open_before, same_tag-is, without_tags}
 use Rattle.holding_laws.specs.Pictures.{Picture, extents_at, picture_after, picture_of}
 use Rattle.holding_laws.specs.Standing.{Sound}
 use Rattle.holding_laws.proofs.OneOffer.{any-implies}

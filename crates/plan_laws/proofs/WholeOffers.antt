@@ -28,19 +28,19 @@ use Rattle.journal_core.specs.Entries.{effects}
 use Rattle.journal_core.specs.declared.entries.Entry.{Entry}
 use Rattle.journal_core.specs.declared.outcome.Effect.{Effect}
 use Rattle.journal_core.specs.declared.outcome.HeldKind.{HeldKind}
-use Rattle.device_rules.specs.Adding.{is_free_now, region_free_blocks}
-use Rattle.device_rules.specs.Answers.{host_outcome}
-use Rattle.device_rules.specs.Hosts.{accepted_after, accepted_of, block_of, held_of, offers_after, offers_of}
-use Rattle.device_rules.specs.Legal.{Legal}
-use Rattle.device_rules.specs.Logs.{log_of}
-use Rattle.device_rules.specs.Outcomes.{Outcome, effects_of, ended, entered_all}
-use Rattle.device_rules.specs.ResponseOutcomes.{answered, respond_changes, unhold}
-use Rattle.device_rules.specs.Tags.{is_free, is_live, open_tags, region_of_offer, status}
-use Rattle.device_rules.specs.Views.{view_after, view_of}
-use Rattle.device_rules.proofs.EffectKinds.{any_log, tells_any, told_passes}
-use Rattle.device_rules.proofs.Leaving.{is_quiet, map_passes}
-use Rattle.device_rules.proofs.ListSteps.{any-map, each-at, each-back, each-both, each-front, many, many-any, many-append}
-use Rattle.device_rules.proofs.RunEffects.{holding-takes, in_extents, takes}
+use Rattle.holding_laws.specs.device_rules.specs.Adding.{is_free_now, region_free_blocks}
+use Rattle.holding_laws.specs.device_rules.specs.Answers.{host_outcome}
+use Rattle.holding_laws.specs.device_rules.specs.Hosts.{accepted_after, accepted_of, block_of, held_of, offers_after, offers_of}
+use Rattle.holding_laws.specs.device_rules.specs.Legal.{Legal}
+use Rattle.holding_laws.specs.device_rules.specs.Logs.{log_of}
+use Rattle.holding_laws.specs.device_rules.specs.Outcomes.{Outcome, effects_of, ended, entered_all}
+use Rattle.holding_laws.specs.device_rules.specs.ResponseOutcomes.{answered, respond_changes, unhold}
+use Rattle.holding_laws.specs.device_rules.specs.Tags.{is_free, is_live, open_tags, region_of_offer, status}
+use Rattle.holding_laws.specs.device_rules.specs.Views.{view_after, view_of}
+use Rattle.holding_laws.specs.device_rules.proofs.EffectKinds.{any_log, tells_any, told_passes}
+use Rattle.holding_laws.specs.device_rules.proofs.Leaving.{is_quiet, map_passes}
+use Rattle.holding_laws.specs.device_rules.proofs.ListSteps.{any-map, each-at, each-back, each-both, each-front, many, many-any, many-append}
+use Rattle.holding_laws.specs.device_rules.proofs.RunEffects.{holding-takes, in_extents, takes}
 use Rattle.holding_laws.specs.Pictures.{Picture, extents_at, picture_of}
 use Rattle.holding_laws.specs.Standing.{IsMade, Sound, Stands}
 use Rattle.holding_laws.proofs.FreeGranules.{free_none}

@@ -19,9 +19,9 @@ use Rattle.media_map.specs.Places.{region_at, run_of}
 use Rattle.region_config.specs.Configurations.{Configuration}
 use Rattle.region_config.specs.Granules.{region_spec, with_blocks}
 use Rattle.region_config.specs.Soundness.{IsSound}
-use Rattle.device_rules.specs.Tags.{tag_runs}
-use Rattle.device_rules.proofs.ListSteps.{each-append, each-at, each-both, each-change, each-front}
-use Rattle.device_rules.proofs.TagSteps.{same_tag-is}
+use Rattle.holding_laws.specs.device_rules.specs.Tags.{tag_runs}
+use Rattle.holding_laws.specs.device_rules.proofs.ListSteps.{each-append, each-at, each-both, each-change, each-front}
+use Rattle.holding_laws.specs.device_rules.proofs.TagSteps.{same_tag-is}
 use Rattle.holding_laws.specs.Pictures.{Picture, extents_at}
 use Rattle.holding_laws.specs.Standing.{IsHome, IsMade, IsOpen, IsUnder, Stands}
 use Rattle.holding_laws.proofs.AddChoices.{reach_runs}

@@ -13,8 +13,8 @@ use Rattle.journal_core.specs.Entries.{effects}
 use Rattle.journal_core.specs.Holders.{holds}
 use Rattle.journal_core.specs.declared.entries.Entry.{Entry}
 use Rattle.journal_core.specs.declared.outcome.HeldKind.{HeldKind}
-use Rattle.device_rules.specs.Hosts.{accepted_of, block_of, held_of, offers_of}
-use Rattle.device_rules.specs.Logs.{log_of}
+use Rattle.holding_laws.specs.device_rules.specs.Hosts.{accepted_of, block_of, held_of, offers_of}
+use Rattle.holding_laws.specs.device_rules.specs.Logs.{log_of}
 use Rattle.plan_laws.specs.Kept.{KeepsOthers, Succeeds, begins_in, behind_host, bytes_in}
 use Rattle.plan_rules.specs.Listing.{last_bytes}
 use Rattle.plan_laws.specs.LastBytes.{without_last_bytes}

@@ -12,8 +12,8 @@ use Rattle.journal_core.specs.declared.acts.Act.{Act}
 use Rattle.journal_core.specs.declared.entries.Entry.{Entry}
 use Rattle.journal_core.specs.declared.outcome.Effect.{Effect}
 use Rattle.journal_core.specs.declared.outcome.HeldKind.{HeldKind}
-use Rattle.device_rules.specs.Answers.{answer, broken, response}
-use Rattle.device_rules.specs.Hosts.{accepted_of, block_of, held_of, offers_of}
+use Rattle.holding_laws.specs.device_rules.specs.Answers.{answer, broken, response}
+use Rattle.holding_laws.specs.device_rules.specs.Hosts.{accepted_of, block_of, held_of, offers_of}
 
 -- whether the extent begins in the region
 abbrev pub begins_in : Configuration → HostId → ℕ → Extent → Bool

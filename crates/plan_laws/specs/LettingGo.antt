@@ -20,10 +20,10 @@ use Rattle.journal_core.specs.declared.acts.Reply.{Reply}
 use Rattle.journal_core.specs.declared.entries.Entry.{Entry}
 use Rattle.journal_core.specs.declared.outcome.Effect.{Effect}
 use Rattle.journal_core.specs.declared.outcome.HeldKind.{HeldKind}
-use Rattle.device_rules.specs.Answers.{answer}
-use Rattle.device_rules.specs.Hosts.{accepted_of, held_of, offers_of}
-use Rattle.device_rules.specs.Logs.{log_of}
-use Rattle.device_rules.specs.Tags.{dirty_granules}
+use Rattle.holding_laws.specs.device_rules.specs.Answers.{answer}
+use Rattle.holding_laws.specs.device_rules.specs.Hosts.{accepted_of, held_of, offers_of}
+use Rattle.holding_laws.specs.device_rules.specs.Logs.{log_of}
+use Rattle.holding_laws.specs.device_rules.specs.Tags.{dirty_granules}
 use Rattle.plan_laws.specs.Kept.{KeepsHosts, KeepsOthers, Succeeds, begins_in, behind_host, behind_manager, effects_behind}
 
 -- ---- 0101h with all handles of the host's log

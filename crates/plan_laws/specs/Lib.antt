@@ -4,3 +4,7 @@ pub mod LastBytes
 pub mod LettingGo
 pub mod PrivateTags
 pub mod Taking
+pub use Rattle.holding_laws.specs.device_rules
+pub use Rattle.holding_laws
+pub use Rattle.step_laws
+pub use Rattle.plan_rules

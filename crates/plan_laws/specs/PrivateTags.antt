@@ -11,8 +11,8 @@ use Rattle.region_config.specs.Granules.{region_spec}
 use Rattle.media_map.specs.Places.{region_at}
 use Rattle.journal_core.specs.Entries.{effects}
 use Rattle.journal_core.specs.declared.entries.Entry.{Entry}
-use Rattle.device_rules.specs.Tags.{open_tags}
-use Rattle.device_rules.specs.Views.{extents_in, view_of}
+use Rattle.holding_laws.specs.device_rules.specs.Tags.{open_tags}
+use Rattle.holding_laws.specs.device_rules.specs.Views.{extents_in, view_of}
 
 -- An extent that a host has accepted or is offered in a region that is not shareable has a tag that is not open.
 abbrev pub PrivateTagsClosed : Configuration → List Entry → Type 0

@@ -1,7 +1,7 @@
 -- What is left once a host is offered free blocks, and takes its oldest offer whole.
 use Rattle.list_rules.specs.Listing.{too_many_extents}
-use Rattle.device_rules.specs.Views.{extents_in, view_of}
-use Rattle.device_rules.specs.Outcomes.{log_full}
+use Rattle.holding_laws.specs.device_rules.specs.Views.{extents_in, view_of}
+use Rattle.holding_laws.specs.device_rules.specs.Outcomes.{log_full}
 use Rattle.std.specs.Prelude.{◌≡◌, ◌≢◌, ℕ, ◌+◌, ◌/◌, ◌<◌, false, IsFalse, IsTrue, List, [], ◌∷◌, ◌++◌, None, drop, filter, length, map, sum_by, ◌%◌, ◌≤◌}
 use Rattle.std.specs.declared.result.Result.TheVariants.{Ok}
 use Rattle.cci_codec.specs.declared.messages.Request.{Request}
@@ -12,7 +12,7 @@ use Rattle.dcd_base.specs.Words.{zero_tag, ◌or◌}
 use Rattle.dcd_base.specs.declared.capacity.Extent.{Extent}
 use Rattle.fm_payloads.specs.ManagerPayloads.{manager_request}
 use Rattle.fm_payloads.specs.declared.requests.FmRequest.{FmRequest}
-use Rattle.device_rules.specs.Answers.{broken, manager_rule}
+use Rattle.holding_laws.specs.device_rules.specs.Answers.{broken, manager_rule}
 use Rattle.host_payloads.specs.HostPayloads.{host_request}
 use Rattle.host_payloads.specs.declared.requests.HostRequest.{HostRequest}
 use Rattle.offer_core.specs.Offerings.{oldest_of}
@@ -24,10 +24,10 @@ use Rattle.journal_core.specs.declared.acts.Act.{Act}
 use Rattle.journal_core.specs.declared.entries.Entry.{Entry}
 use Rattle.journal_core.specs.declared.outcome.Effect.{Effect}
 use Rattle.journal_core.specs.declared.outcome.HeldKind.{HeldKind}
-use Rattle.device_rules.specs.Adding.{is_free_now, offered, present, region_free_blocks}
-use Rattle.device_rules.specs.Hosts.{accepted_of, block_of, held_of, offers_of}
-use Rattle.device_rules.specs.Tags.{region_of_offer}
-use Rattle.device_rules.specs.Logs.{log_of}
+use Rattle.holding_laws.specs.device_rules.specs.Adding.{is_free_now, offered, present, region_free_blocks}
+use Rattle.holding_laws.specs.device_rules.specs.Hosts.{accepted_of, block_of, held_of, offers_of}
+use Rattle.holding_laws.specs.device_rules.specs.Tags.{region_of_offer}
+use Rattle.holding_laws.specs.device_rules.specs.Logs.{log_of}
 use Rattle.plan_laws.specs.Kept.{KeepsOthers, Succeeds, begins_in, behind_host, behind_manager}
 use Rattle.plan_rules.specs.Listing.{listed}
 

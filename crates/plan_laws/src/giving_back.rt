@@ -1,6 +1,6 @@
 //! What a host's act leaves by which it gives back what it has above its demand.
 
-ghost use Rattle.device_rules.specs.Legal.{Legal};
+ghost use Rattle.holding_laws.specs.device_rules.specs.Legal.{Legal};
 ghost use Rattle.journal_core.specs.declared.entries.Entry.{Entry};
 ghost use Rattle.plan_laws.specs.GivingBack.{GivesLastBytesBack, MadeOfBlocks};
 ghost use Rattle.region_config.specs.Configurations.{Configuration};

@@ -1,6 +1,6 @@
 //! What the acts leave by which a dead host lets all go, and what a scrub leaves.
 
-ghost use Rattle.device_rules.specs.Legal.{Legal};
+ghost use Rattle.holding_laws.specs.device_rules.specs.Legal.{Legal};
 ghost use Rattle.journal_core.specs.declared.entries.Entry.{Entry};
 ghost use Rattle.plan_laws.specs.LettingGo.{ClearsWholeLogs, EmptiesRegions, LetsOffersGo, ScrubsKeep};
 ghost use Rattle.region_config.specs.Configurations.{Configuration};

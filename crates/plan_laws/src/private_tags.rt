@@ -1,6 +1,6 @@
 //! Tags of the hosts' extents.
 
-ghost use Rattle.device_rules.specs.Legal.{Legal};
+ghost use Rattle.holding_laws.specs.device_rules.specs.Legal.{Legal};
 ghost use Rattle.journal_core.specs.declared.entries.Entry.{Entry};
 ghost use Rattle.plan_laws.specs.PrivateTags.{HostsTagsFew, PrivateTagsClosed};
 ghost use Rattle.region_config.specs.Configurations.{Configuration};

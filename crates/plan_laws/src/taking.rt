@@ -1,6 +1,6 @@
 //! What the acts leave by which a host gains blocks.
 
-ghost use Rattle.device_rules.specs.Legal.{Legal};
+ghost use Rattle.holding_laws.specs.device_rules.specs.Legal.{Legal};
 ghost use Rattle.journal_core.specs.declared.entries.Entry.{Entry};
 ghost use Rattle.plan_laws.specs.Taking.{OffersFreeBlocks, OnlyRoomIsWanting, TakesWholeOffers};
 ghost use Rattle.region_config.specs.Configurations.{Configuration};

@@ -7,8 +7,8 @@ use Rattle.dcd_base.specs.declared.capacity.Extent.{Extent}
 use Rattle.region_config.specs.Configurations.{Configuration}
 use Rattle.journal_core.specs.declared.outcome.Effect.{Effect}
 use Rattle.demand_codec.specs.declared.demands.Demand.{Demand}
-use Rattle.plan_rules.specs.Holding.{Step, stepped}
-use Rattle.plan_rules.specs.Listing.{gained, gaining}
+use Rattle.plan_acts.specs.plan_rules.specs.Holding.{Step, stepped}
+use Rattle.plan_acts.specs.plan_rules.specs.Listing.{gained, gaining}
 use Rattle.plan_maker.specs.Trials.{GoesOnTo, TriesMore}
 use Rattle.plan_maker.specs.declared.trial.Trial.{Trial}
 use Rattle.plan_maker.proofs.Taking.{takes_none, takes_then}

@@ -17,14 +17,14 @@ use Rattle.region_config.proofs.Faultless.{region_ends}
 use Rattle.journal_core.specs.Entries.{effects}
 use Rattle.journal_core.specs.declared.entries.Entry.{Entry}
 use Rattle.journal_core.specs.declared.outcome.Effect.{Effect}
-use Rattle.device_rules.specs.Counts.{dirty_count, records_of}
-use Rattle.device_rules.specs.Hosts.{accepted_of, offers_of}
-use Rattle.device_rules.specs.Legal.{Legal}
-use Rattle.device_rules.specs.Logs.{log_of}
-use Rattle.device_rules.specs.Tags.{all_granules, is_dirty, status}
-use Rattle.holding_laws.specs.Pictures.{Picture, picture_of}
-use Rattle.holding_laws.specs.Standing.{IsHome}
-use Rattle.holding_laws.proofs.LegalSound.{legal_is_sound}
+use Rattle.plan_acts.specs.device_rules.specs.Counts.{dirty_count, records_of}
+use Rattle.plan_acts.specs.device_rules.specs.Hosts.{accepted_of, offers_of}
+use Rattle.plan_acts.specs.device_rules.specs.Legal.{Legal}
+use Rattle.plan_acts.specs.device_rules.specs.Logs.{log_of}
+use Rattle.plan_acts.specs.device_rules.specs.Tags.{all_granules, is_dirty, status}
+use Rattle.plan_meets.specs.holding_laws.specs.Pictures.{Picture, picture_of}
+use Rattle.plan_meets.specs.holding_laws.specs.Standing.{IsHome}
+use Rattle.plan_meets.specs.holding_laws.proofs.LegalSound.{legal_is_sound}
 
 Ends : Extent → Type 0
 Ends x = x.start + x.length < 2 ^ 64

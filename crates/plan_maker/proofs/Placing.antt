@@ -12,7 +12,7 @@ use Rattle.region_config.specs.Granules.{region_spec}
 use Rattle.region_config.specs.Soundness.{IsSound}
 use Rattle.demand_codec.specs.declared.demands.Demand.{Demand}
 use Rattle.demand_codec.specs.declared.demands.Demands.{Demands}
-use Rattle.plan_rules.specs.Planning.{has_number, is_bad_dead, is_bad_demand, no_demand, same_place}
+use Rattle.plan_acts.specs.plan_rules.specs.Planning.{has_number, is_bad_dead, is_bad_demand, no_demand, same_place}
 use Rattle.plan_maker.specs.Naming.{ArePlaced, IsPlaced}
 
 not_false : true ≡ false → ⊥

@@ -9,14 +9,14 @@ use Rattle.journal_core.specs.Entries.{effects}
 use Rattle.journal_core.specs.declared.entries.Entry.{Entry}
 use Rattle.journal_core.specs.declared.outcome.Effect.{Effect}
 use Rattle.demand_codec.specs.declared.demands.Demands.{Demands}
-use Rattle.plan_rules.specs.Holding.{Step, stepped}
-use Rattle.plan_rules.specs.Listing.{gaining, losing, planned, prepared, zeroing}
-use Rattle.plan_rules.specs.PlanAlike.{PlanAlike, replayed}
-use Rattle.plan_rules.specs.Planning.{AllSucceed, IsOfRoom, IsPlan, is_open, lowest_below, named_fault, plan_fault, refused_in, short_fault}
-use Rattle.plan_rules.specs.declared.faults.PlanFault.{PlanFault}
-use Rattle.plan_rules.proofs.AlikePlans.{plan_fault_same, planned_same}
-use Rattle.plan_rules.proofs.Succeeding.{all_succeed}
-use Rattle.plan_rules.specs.Meeting.{MeetsDemands}
+use Rattle.plan_acts.specs.plan_rules.specs.Holding.{Step, stepped}
+use Rattle.plan_acts.specs.plan_rules.specs.Listing.{gaining, losing, planned, prepared, zeroing}
+use Rattle.plan_acts.specs.plan_rules.specs.PlanAlike.{PlanAlike, replayed}
+use Rattle.plan_acts.specs.plan_rules.specs.Planning.{AllSucceed, IsOfRoom, IsPlan, is_open, lowest_below, named_fault, plan_fault, refused_in, short_fault}
+use Rattle.plan_acts.specs.plan_rules.specs.declared.faults.PlanFault.{PlanFault}
+use Rattle.plan_acts.specs.plan_rules.proofs.AlikePlans.{plan_fault_same, planned_same}
+use Rattle.plan_acts.specs.plan_rules.proofs.Succeeding.{all_succeed}
+use Rattle.plan_acts.specs.plan_rules.specs.Meeting.{MeetsDemands}
 use Rattle.plan_meets.specs.WholePlans.{PlansMeetDemands, PlansWantRoomOnly}
 use Rattle.plan_maker.specs.Trials.{IsFinished, IsPrepared, IsTried, TriesMore, short_between}
 use Rattle.plan_maker.specs.declared.trial.Trial.{Trial}

@@ -6,10 +6,10 @@ use Rattle.dcd_base.specs.Words.{◌or◌}
 use Rattle.dcd_codes.specs.declared.rules.Rule.{Rule}
 use Rattle.region_config.specs.Configurations.{Configuration}
 use Rattle.journal_core.specs.declared.entries.Entry.{Entry}
-use Rattle.device_rules.specs.Answers.{broken}
-use Rattle.plan_rules.specs.Holding.{Step, stepped}
-use Rattle.plan_rules.specs.Planning.{broken_at, broken_by, refused_in}
-use Rattle.plan_rules.specs.declared.faults.PlanFault.{PlanFault}
+use Rattle.plan_acts.specs.device_rules.specs.Answers.{broken}
+use Rattle.plan_acts.specs.plan_rules.specs.Holding.{Step, stepped}
+use Rattle.plan_acts.specs.plan_rules.specs.Planning.{broken_at, broken_by, refused_in}
+use Rattle.plan_acts.specs.plan_rules.specs.declared.faults.PlanFault.{PlanFault}
 
 or_none : {X : Type 0} (a : Option X) → (a or None) ≡ a
 or_none None = refl

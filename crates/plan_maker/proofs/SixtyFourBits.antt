@@ -5,8 +5,8 @@ use Rattle.dcd_base.specs.Words.{zero_tag}
 use Rattle.dcd_base.specs.declared.ids.HostId.{HostId}
 use Rattle.dcd_base.specs.declared.steps.Actor.{Actor}
 use Rattle.journal_core.specs.declared.acts.Act.{Act}
-use Rattle.plan_rules.specs.Holding.{Step}
-use Rattle.plan_rules.specs.Listing.{add_step}
+use Rattle.plan_acts.specs.plan_rules.specs.Holding.{Step}
+use Rattle.plan_acts.specs.plan_rules.specs.Listing.{add_step}
 
 byte_0 : (n : ℕ) → n % 18446744073709551616 % 256 ≡ n % 256
 byte_0 n = omega arith

@@ -5,7 +5,7 @@ use Rattle.region_config.specs.Configurations.{Configuration}
 use Rattle.journal_core.specs.Entries.{fits}
 use Rattle.journal_core.specs.declared.entries.Entry.{Entry}
 use Rattle.journal_core.proofs.EachPlaces.{Each-all}
-use Rattle.device_rules.specs.Legal.{Legal, Meets}
+use Rattle.plan_acts.specs.device_rules.specs.Legal.{Legal, Meets}
 
 pub all_fit : (c : Configuration) (journal : List Entry) → Legal c journal → All (λ (e : Entry). IsTrue (fits c.hosts e.actor e.act)) journal
 all_fit c journal legal = Each-all (Meets c) (λ (e : Entry). IsTrue (fits c.hosts e.actor e.act)) (λ before e meets. meets.allowed) journal legal

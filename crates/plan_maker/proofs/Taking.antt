@@ -10,10 +10,10 @@ use Rattle.std.proofs.lemmas.List.{take_more}
 use Rattle.dcd_base.specs.Words.{◌or◌}
 use Rattle.region_config.specs.Configurations.{Configuration}
 use Rattle.journal_core.specs.declared.entries.Entry.{Entry}
-use Rattle.device_rules.specs.Answers.{broken}
-use Rattle.plan_rules.specs.Holding.{Step, entry_of_step, stepped}
-use Rattle.plan_rules.specs.Listing.{for_some}
-use Rattle.plan_rules.specs.declared.faults.PlanFault.{PlanFault}
+use Rattle.plan_acts.specs.device_rules.specs.Answers.{broken}
+use Rattle.plan_acts.specs.plan_rules.specs.Holding.{Step, entry_of_step, stepped}
+use Rattle.plan_acts.specs.plan_rules.specs.Listing.{for_some}
+use Rattle.plan_acts.specs.plan_rules.specs.declared.faults.PlanFault.{PlanFault}
 use Rattle.plan_maker.specs.Trials.{IsTried, TriesMore}
 use Rattle.plan_maker.specs.declared.trial.Trial.{Trial}
 use Rattle.plan_maker.proofs.Refusing.{refused_push}

@@ -4,14 +4,14 @@ use Rattle.std.specs.declared.result.Result.{Result}
 use Rattle.std.specs.declared.result.Result.TheVariants.{Ok, Err}
 use Rattle.region_config.specs.Configurations.{Configuration}
 use Rattle.journal_core.specs.declared.entries.Entry.{Entry}
-use Rattle.plan_rules.specs.Holding.{Step, gain, stepped}
-use Rattle.plan_rules.specs.Planning.{free_in, lowest_below, need_in, refused_in}
+use Rattle.plan_acts.specs.plan_rules.specs.Holding.{Step, gain, stepped}
+use Rattle.plan_acts.specs.plan_rules.specs.Planning.{free_in, lowest_below, need_in, refused_in}
 use Rattle.journal_core.specs.declared.outcome.Effect.{Effect}
 use Rattle.demand_codec.specs.declared.demands.Demand.{Demand}
 use Rattle.demand_codec.specs.declared.demands.Demands.{Demands}
-use Rattle.plan_rules.specs.declared.faults.PlanFault.{PlanFault}
-use Rattle.plan_rules.specs.Listing.{prepared}
-use Rattle.plan_rules.specs.PlanAlike.{PlanAlike, replayed}
+use Rattle.plan_acts.specs.plan_rules.specs.declared.faults.PlanFault.{PlanFault}
+use Rattle.plan_acts.specs.plan_rules.specs.Listing.{prepared}
+use Rattle.plan_acts.specs.plan_rules.specs.PlanAlike.{PlanAlike, replayed}
 use Rattle.plan_maker.specs.declared.trial.Trial.{Trial}
 
 -- These acts were tried from these entries on, and the first refused one is known.

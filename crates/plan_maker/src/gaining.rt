@@ -4,7 +4,7 @@ ghost use Rattle.demand_codec.specs.declared.demands.Demand.{Demand};
 ghost use Rattle.journal_core.specs.Entries.{effects};
 ghost use Rattle.plan_maker.specs.Naming.{IsPlaced};
 ghost use Rattle.plan_maker.specs.Trials.{TriesMore};
-ghost use Rattle.plan_rules.specs.Listing.{gained, gaining, offer_taken};
+ghost use Rattle.plan_acts.specs.plan_rules.specs.Listing.{gained, gaining, offer_taken};
 ghost use Rattle.std.specs.Prelude.{◌≡◌, ◌∷◌, ◌<◌, [], IfOk, OnOk, get_or, length, ℕ};
 
 use crate::held::block_size;

@@ -1,9 +1,9 @@
 //! What a control tells of a host's extents in a region.
 
-ghost use Rattle.device_rules.specs.Hosts.{block_of};
+ghost use Rattle.plan_acts.specs.device_rules.specs.Hosts.{block_of};
 ghost use Rattle.journal_core.specs.Entries.{effects};
 ghost use Rattle.plan_maker.specs.Naming.{IsPlaced};
-ghost use Rattle.plan_rules.specs.Holding.{blocks_held as held_by, extents_in_region as extents_held};
+ghost use Rattle.plan_acts.specs.plan_rules.specs.Holding.{blocks_held as held_by, extents_in_region as extents_held};
 ghost use Rattle.std.specs.Prelude.{◌≡◌, ◌+◌, ◌*◌, ◌^◌, ◌<◌, ◌≤◌, All, IfOk, length};
 
 use control_core::Control;

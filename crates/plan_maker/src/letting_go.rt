@@ -3,7 +3,7 @@
 ghost use Rattle.event_records.specs.declared.events.Event.{Event};
 ghost use Rattle.journal_core.specs.Entries.{effects};
 ghost use Rattle.plan_maker.specs.Trials.{TriesMore};
-ghost use Rattle.plan_rules.specs.Listing.{clearing, let_go as let_go_by, refusals, removal};
+ghost use Rattle.plan_acts.specs.plan_rules.specs.Listing.{clearing, let_go as let_go_by, refusals, removal};
 ghost use Rattle.region_config.specs.Granules.{regions_of};
 ghost use Rattle.std.specs.List.{flat_map};
 ghost use Rattle.std.specs.Prelude.{◌≡◌, ◌<◌, ◌≤◌, IfOk, OnOk, length, map};

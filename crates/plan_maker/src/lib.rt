@@ -12,4 +12,7 @@ mod replaying;
 mod shortness;
 mod trial;
 
+pub use plan_acts;
+pub use plan_acts::{device_rules, plan_rules};
+pub use plan_meets::holding_laws;
 pub use planning::{Planned, plan};

@@ -3,7 +3,7 @@
 ghost use Rattle.journal_core.specs.Entries.{effects};
 ghost use Rattle.plan_maker.specs.Naming.{ArePlaced, IsPlaced};
 ghost use Rattle.plan_maker.specs.Trials.{TriesMore};
-ghost use Rattle.plan_rules.specs.Listing.{give_back_surplus, let_go as let_go_by, losing as lost_by, zeroing};
+ghost use Rattle.plan_acts.specs.plan_rules.specs.Listing.{give_back_surplus, let_go as let_go_by, losing as lost_by, zeroing};
 ghost use Rattle.std.specs.List.{flat_map};
 ghost use Rattle.std.specs.Prelude.{◌≡◌, ◌<◌, OnOk, get_or, length, ℕ};
 

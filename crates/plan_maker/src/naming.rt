@@ -1,12 +1,12 @@
 //! The faults of what is named.
 
 ghost use Rattle.plan_maker.specs.Naming.{ArePlaced};
-ghost use Rattle.plan_rules.specs.Planning.{named_fault as fault_named};
+ghost use Rattle.plan_acts.specs.plan_rules.specs.Planning.{named_fault as fault_named};
 ghost use Rattle.std.specs.Prelude.{◌≡◌, IfNone};
 
 use demand_codec::Demands;
+use plan_acts::plan_rules::PlanFault;
 use plan_acts::{bad_dead, bad_demand};
-use plan_rules::PlanFault;
 use region_config::Config;
 
 /// The first demand or dead host that is named wrongly. Where there is none, all name what the device has.

@@ -1,7 +1,7 @@
 //! Hosts with something open: held lists, or offers that they have not answered.
 
 ghost use Rattle.journal_core.specs.Entries.{effects};
-ghost use Rattle.plan_rules.specs.Planning.{has_held as holds_lists, has_number, is_demanded as demanded_by, is_open as open_by, lowest_below};
+ghost use Rattle.plan_acts.specs.plan_rules.specs.Planning.{has_held as holds_lists, has_number, is_demanded as demanded_by, is_open as open_by, lowest_below};
 ghost use Rattle.std.specs.Prelude.{◌≡◌, ◌<◌};
 
 use control_core::Control;

@@ -3,9 +3,9 @@
 ghost use Rattle.journal_core.specs.Entries.{effects};
 ghost use Rattle.plan_maker.specs.Naming.{ArePlaced};
 ghost use Rattle.plan_maker.specs.Trials.{IsFinished, IsPrepared};
-ghost use Rattle.plan_rules.specs.Holding.{stepped};
-ghost use Rattle.plan_rules.specs.Meeting.{MeetsDemands};
-ghost use Rattle.plan_rules.specs.Planning.{AllSucceed, IsOfRoom, IsPlan};
+ghost use Rattle.plan_acts.specs.plan_rules.specs.Holding.{stepped};
+ghost use Rattle.plan_acts.specs.plan_rules.specs.Meeting.{MeetsDemands};
+ghost use Rattle.plan_acts.specs.plan_rules.specs.Planning.{AllSucceed, IsOfRoom, IsPlan};
 ghost use Rattle.std.specs.Prelude.{◌≡◌, IfErr, IfOk};
 
 use crate::gaining::gain_all;
@@ -18,8 +18,8 @@ use crate::trial::Trial;
 use control_core::Control;
 use dcd_base::NoMemory;
 use demand_codec::Demands;
+use plan_acts::plan_rules::PlanFault;
 use plan_meets::{law_meets, law_of_room};
-use plan_rules::PlanFault;
 use region_config::Config;
 use std::alloc::Global;
 

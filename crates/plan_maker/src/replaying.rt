@@ -1,10 +1,10 @@
 //! A fresh control that takes again what a device had done.
 
-ghost use Rattle.device_rules.specs.Legal.{Legal};
+ghost use Rattle.plan_acts.specs.device_rules.specs.Legal.{Legal};
 ghost use Rattle.journal_core.specs.Entries.{fits};
 ghost use Rattle.journal_core.specs.Lending.{lent_entry};
 ghost use Rattle.journal_core.specs.Merging.{Rising};
-ghost use Rattle.plan_rules.specs.PlanAlike.{replayed as taken_again, with_act_of};
+ghost use Rattle.plan_acts.specs.plan_rules.specs.PlanAlike.{replayed as taken_again, with_act_of};
 ghost use Rattle.std.specs.Prelude.{◌≡◌, [], IfOk, IsTrue, OnOk};
 
 use control_core::Control;

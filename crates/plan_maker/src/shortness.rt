@@ -4,15 +4,15 @@ ghost use Rattle.demand_codec.specs.declared.demands.Demand.{Demand};
 ghost use Rattle.journal_core.specs.Entries.{effects};
 ghost use Rattle.plan_maker.specs.Naming.{ArePlaced, IsPlaced};
 ghost use Rattle.plan_maker.specs.Trials.{gain_in_region, short_between};
-ghost use Rattle.plan_rules.specs.Holding.{gain as gain_of};
-ghost use Rattle.plan_rules.specs.Planning.{need_in as needed_in};
+ghost use Rattle.plan_acts.specs.plan_rules.specs.Holding.{gain as gain_of};
+ghost use Rattle.plan_acts.specs.plan_rules.specs.Planning.{need_in as needed_in};
 ghost use Rattle.std.specs.Prelude.{◌≡◌, ◌==◌, ◌^◌, ◌<◌, ◌≤◌, IfOk, if◌then◌else◌, length, get_or, sum_by, ℕ};
 
 use crate::held::blocks_held;
 use control_core::Control;
 use dcd_base::{NoMemory, RegionId};
 use demand_codec::{Demand, Demands};
-use plan_rules::PlanFault;
+use plan_acts::plan_rules::PlanFault;
 use std::alloc::Global;
 
 /// How many blocks the demanded host is to gain.

@@ -2,10 +2,10 @@
 
 ghost use Rattle.control_core.specs.Steps.{MayStep};
 ghost use Rattle.dcd_base.specs.Words.{◌or◌};
-ghost use Rattle.device_rules.specs.Legal.{Legal};
+ghost use Rattle.plan_acts.specs.device_rules.specs.Legal.{Legal};
 ghost use Rattle.journal_core.specs.Merging.{Rising};
 ghost use Rattle.plan_maker.specs.Trials.{IsTried, TriesMore};
-ghost use Rattle.plan_rules.specs.PlanAlike.{replayed as taken_again};
+ghost use Rattle.plan_acts.specs.plan_rules.specs.PlanAlike.{replayed as taken_again};
 ghost use Rattle.std.specs.Prelude.{◌≡◌, ◌∷◌, [], IfOk, OnOk, option_map};
 
 use crate::replaying::replayed;
@@ -14,7 +14,7 @@ use dcd_base::{NoMemory, Seq};
 use dcd_codes::Rule;
 use journal_core::KeptEntries;
 use plan_acts::PlanStep;
-use plan_rules::PlanFault;
+use plan_acts::plan_rules::PlanFault;
 use region_config::Config;
 use std::alloc::Global;
 

@@ -19,17 +19,17 @@ use Rattle.journal_core.specs.declared.acts.Act.{Act}
 use Rattle.journal_core.specs.declared.outcome.HeldKind.{HeldKind}
 use Rattle.journal_core.specs.declared.entries.Entry.{Entry}
 use Rattle.journal_core.proofs.JournalSteps.{effects-push}
-use Rattle.device_rules.specs.Answers.{effects_with, host_outcome, host_result, host_rule, unless}
-use Rattle.device_rules.specs.Hosts.{held_of, offers_of}
-use Rattle.device_rules.specs.Legal.{Legal}
-use Rattle.device_rules.specs.Outcomes.{Outcome}
-use Rattle.device_rules.specs.Views.{View, view_of}
-use Rattle.device_rules.proofs.EffectKinds.{clear_passes}
+use Rattle.plan_laws.specs.device_rules.specs.Answers.{effects_with, host_outcome, host_result, host_rule, unless}
+use Rattle.plan_laws.specs.device_rules.specs.Hosts.{held_of, offers_of}
+use Rattle.plan_laws.specs.device_rules.specs.Legal.{Legal}
+use Rattle.plan_laws.specs.device_rules.specs.Outcomes.{Outcome}
+use Rattle.plan_laws.specs.device_rules.specs.Views.{View, view_of}
+use Rattle.plan_laws.specs.device_rules.proofs.EffectKinds.{clear_passes}
 use Rattle.plan_laws.specs.Kept.{KeepsHosts, effects_behind}
 use Rattle.plan_laws.proofs.Keeping.{blocks_over, host_kept, leaves_blocks, leaves_host, outcome_blocks, outcome_host_kept}
 use Rattle.plan_laws.proofs.LettingGo.{lets_offers_go, scrubs_keep}
-use Rattle.plan_rules.specs.Holding.{Step, entry_of_step}
-use Rattle.plan_rules.specs.Listing.{by_host}
+use Rattle.plan_laws.specs.plan_rules.specs.Holding.{Step, entry_of_step}
+use Rattle.plan_laws.specs.plan_rules.specs.Listing.{by_host}
 use Rattle.plan_meets.specs.ActsLeft.{OldestOfferGoes, journal_behind}
 use Rattle.plan_meets.proofs.Heard.{response_heard}
 

@@ -4,12 +4,12 @@ use Rattle.region_config.specs.Configurations.{Configuration}
 use Rattle.region_config.specs.Soundness.{IsSound}
 use Rattle.journal_core.specs.Entries.{effects}
 use Rattle.journal_core.specs.declared.entries.Entry.{Entry}
-use Rattle.device_rules.specs.Legal.{Legal}
+use Rattle.plan_laws.specs.device_rules.specs.Legal.{Legal}
 use Rattle.demand_codec.specs.declared.demands.Demands.{Demands}
-use Rattle.plan_rules.specs.Holding.{stepped}
-use Rattle.plan_rules.specs.Listing.{planned}
-use Rattle.plan_rules.specs.Meeting.{MeetsDemands}
-use Rattle.plan_rules.specs.Planning.{plan_fault}
+use Rattle.plan_laws.specs.plan_rules.specs.Holding.{stepped}
+use Rattle.plan_laws.specs.plan_rules.specs.Listing.{planned}
+use Rattle.plan_laws.specs.plan_rules.specs.Meeting.{MeetsDemands}
+use Rattle.plan_laws.specs.plan_rules.specs.Planning.{plan_fault}
 use Rattle.plan_meets.specs.ActsLeft.{ActsLeaveAll}
 use Rattle.plan_meets.proofs.Acts.{clearing_keeps, refusal_leaves, scrub_leaves}
 use Rattle.plan_meets.proofs.Emptying.{emptying_leaves}

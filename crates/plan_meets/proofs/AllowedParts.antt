@@ -23,17 +23,17 @@ use Rattle.journal_core.specs.declared.acts.Act.{Act}
 use Rattle.journal_core.specs.declared.outcome.Effect.{Effect}
 use Rattle.journal_core.specs.declared.outcome.HeldKind.{HeldKind}
 use Rattle.journal_core.specs.declared.entries.Entry.{Entry}
-use Rattle.device_rules.specs.Counts.{dirty_count, records_of}
-use Rattle.device_rules.specs.Hosts.{accepted_of, block_of, held_of, offers_of}
-use Rattle.device_rules.specs.Legal.{Legal}
-use Rattle.device_rules.specs.Logs.{log_of}
-use Rattle.holding_laws.specs.Pictures.{picture_of}
-use Rattle.holding_laws.proofs.LegalSound.{legal_is_sound}
+use Rattle.plan_laws.specs.device_rules.specs.Counts.{dirty_count, records_of}
+use Rattle.plan_laws.specs.device_rules.specs.Hosts.{accepted_of, block_of, held_of, offers_of}
+use Rattle.plan_laws.specs.device_rules.specs.Legal.{Legal}
+use Rattle.plan_laws.specs.device_rules.specs.Logs.{log_of}
+use Rattle.plan_laws.specs.holding_laws.specs.Pictures.{picture_of}
+use Rattle.plan_laws.specs.holding_laws.proofs.LegalSound.{legal_is_sound}
 use Rattle.plan_laws.specs.Kept.{begins_in}
 use Rattle.plan_laws.proofs.Emptying.{accepted_few, empties_regions}
 use Rattle.plan_laws.proofs.LettingGo.{clears_whole_logs, lets_offers_go}
-use Rattle.plan_rules.specs.Holding.{Step, extents_in_region, stepped, surplus}
-use Rattle.plan_rules.specs.Listing.{by_host, by_manager, clearing, give_back_surplus, last_bytes, let_go, losing, prepared, refusals, removal, zeroing, refusal_step}
+use Rattle.plan_laws.specs.plan_rules.specs.Holding.{Step, extents_in_region, stepped, surplus}
+use Rattle.plan_laws.specs.plan_rules.specs.Listing.{by_host, by_manager, clearing, give_back_surplus, last_bytes, let_go, losing, prepared, refusals, removal, zeroing, refusal_step}
 use Rattle.plan_meets.specs.ActsLeft.{Unbroken, emptying, journal_behind}
 use Rattle.plan_meets.proofs.Acts.{behind_is, refusal_leaves}
 use Rattle.plan_meets.proofs.AllActs.{acts_leave}

@@ -18,11 +18,11 @@ use Rattle.journal_core.specs.Entries.{effects}
 use Rattle.journal_core.specs.declared.outcome.Effect.{Effect}
 use Rattle.journal_core.specs.declared.outcome.HeldKind.{HeldKind}
 use Rattle.journal_core.specs.declared.entries.Entry.{Entry}
-use Rattle.device_rules.specs.Counts.{records_of}
-use Rattle.device_rules.specs.Hosts.{held_of, offers_of}
-use Rattle.device_rules.specs.Legal.{Legal}
-use Rattle.plan_rules.specs.Holding.{Step, extents_in_region, stepped}
-use Rattle.plan_rules.specs.Listing.{by_host, by_manager, clearing, let_go, refusals, removal, refusal_step}
+use Rattle.plan_laws.specs.device_rules.specs.Counts.{records_of}
+use Rattle.plan_laws.specs.device_rules.specs.Hosts.{held_of, offers_of}
+use Rattle.plan_laws.specs.device_rules.specs.Legal.{Legal}
+use Rattle.plan_laws.specs.plan_rules.specs.Holding.{Step, extents_in_region, stepped}
+use Rattle.plan_laws.specs.plan_rules.specs.Listing.{by_host, by_manager, clearing, let_go, refusals, removal, refusal_step}
 use Rattle.plan_meets.specs.ActsLeft.{ActsLeaveAll, Unbroken, emptying, journal_behind}
 use Rattle.plan_meets.proofs.Stillness.{Still, still_all, still_elsewhere, still_others, still_self, still_then}
 use Rattle.plan_meets.proofs.UnbrokenActs.{host_legal, manager_legal, stepped-append, unbroken_parts}

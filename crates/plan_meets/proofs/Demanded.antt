@@ -14,12 +14,12 @@ use Rattle.journal_core.specs.Entries.{effects}
 use Rattle.journal_core.specs.declared.outcome.Effect.{Effect}
 use Rattle.journal_core.specs.declared.outcome.HeldKind.{HeldKind}
 use Rattle.journal_core.specs.declared.entries.Entry.{Entry}
-use Rattle.device_rules.specs.Hosts.{block_of, held_of, offers_of}
-use Rattle.device_rules.specs.Legal.{Legal}
+use Rattle.plan_laws.specs.device_rules.specs.Hosts.{block_of, held_of, offers_of}
+use Rattle.plan_laws.specs.device_rules.specs.Legal.{Legal}
 use Rattle.demand_codec.specs.declared.demands.Demand.{Demand}
-use Rattle.plan_rules.specs.Holding.{Step, blocks_held, extents_in_region, gain, stepped, surplus}
-use Rattle.plan_rules.specs.Listing.{by_host, by_manager, gained, gaining, give_back_surplus, last_bytes, offer_taken}
-use Rattle.plan_rules.specs.Meeting.{HoldsStill}
+use Rattle.plan_laws.specs.plan_rules.specs.Holding.{Step, blocks_held, extents_in_region, gain, stepped, surplus}
+use Rattle.plan_laws.specs.plan_rules.specs.Listing.{by_host, by_manager, gained, gaining, give_back_surplus, last_bytes, offer_taken}
+use Rattle.plan_laws.specs.plan_rules.specs.Meeting.{HoldsStill}
 use Rattle.plan_laws.specs.Kept.{bytes_in}
 use Rattle.plan_meets.specs.ActsLeft.{ActsLeaveAll, ChangesOnly, IsPlain, Unbroken, giving_back, journal_behind, offering, providing}
 use Rattle.plan_meets.proofs.Stillness.{Still, still_elsewhere, still_self}

@@ -24,16 +24,16 @@ use Rattle.region_config.proofs.Searches.{or_parts as option_parts}
 use Rattle.media_map.specs.Places.{region_at}
 use Rattle.journal_core.specs.Entries.{effects}
 use Rattle.journal_core.specs.declared.entries.Entry.{Entry}
-use Rattle.device_rules.specs.Answers.{manager_outcome, manager_result, manager_rule, unless}
-use Rattle.device_rules.specs.Hosts.{accepted_of}
-use Rattle.device_rules.specs.Legal.{Legal}
-use Rattle.device_rules.specs.Logs.{log_of}
-use Rattle.device_rules.specs.Outcomes.{Outcome}
-use Rattle.device_rules.specs.Views.{view_of}
-use Rattle.device_rules.proofs.ListSteps.{each-both}
-use Rattle.holding_laws.proofs.Overlaps.{not_broken}
+use Rattle.plan_laws.specs.device_rules.specs.Answers.{manager_outcome, manager_result, manager_rule, unless}
+use Rattle.plan_laws.specs.device_rules.specs.Hosts.{accepted_of}
+use Rattle.plan_laws.specs.device_rules.specs.Legal.{Legal}
+use Rattle.plan_laws.specs.device_rules.specs.Logs.{log_of}
+use Rattle.plan_laws.specs.device_rules.specs.Outcomes.{Outcome}
+use Rattle.plan_laws.specs.device_rules.specs.Views.{view_of}
+use Rattle.plan_laws.specs.device_rules.proofs.ListSteps.{each-both}
+use Rattle.plan_laws.specs.holding_laws.proofs.Overlaps.{not_broken}
 use Rattle.plan_laws.proofs.Emptying.{empties_regions}
-use Rattle.plan_rules.specs.Holding.{extents_in_region}
+use Rattle.plan_laws.specs.plan_rules.specs.Holding.{extents_in_region}
 use Rattle.plan_meets.specs.ActsLeft.{RegionLeft, Unbroken, emptying, journal_behind}
 use Rattle.plan_meets.proofs.Acts.{behind_is}
 use Rattle.plan_meets.proofs.GivingBack.{EndsLow, each_filter, region_few, region_low}

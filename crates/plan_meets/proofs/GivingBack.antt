@@ -16,12 +16,12 @@ use Rattle.media_map.specs.Places.{region_at}
 use Rattle.journal_core.specs.Entries.{effects}
 use Rattle.journal_core.specs.declared.outcome.HeldKind.{HeldKind}
 use Rattle.journal_core.specs.declared.entries.Entry.{Entry}
-use Rattle.device_rules.specs.Hosts.{accepted_of, block_of, held_of}
-use Rattle.device_rules.specs.Legal.{Legal}
-use Rattle.device_rules.proofs.ListSteps.{each-change}
-use Rattle.holding_laws.specs.Pictures.{picture_of}
-use Rattle.holding_laws.specs.Standing.{IsHome}
-use Rattle.holding_laws.proofs.LegalSound.{legal_is_sound}
+use Rattle.plan_laws.specs.device_rules.specs.Hosts.{accepted_of, block_of, held_of}
+use Rattle.plan_laws.specs.device_rules.specs.Legal.{Legal}
+use Rattle.plan_laws.specs.device_rules.proofs.ListSteps.{each-change}
+use Rattle.plan_laws.specs.holding_laws.specs.Pictures.{picture_of}
+use Rattle.plan_laws.specs.holding_laws.specs.Standing.{IsHome}
+use Rattle.plan_laws.specs.holding_laws.proofs.LegalSound.{legal_is_sound}
 use Rattle.demand_codec.specs.declared.demands.Demand.{Demand}
 use Rattle.cci_codec.specs.declared.messages.Request.{Request}
 use Rattle.plan_laws.specs.GivingBack.{IsGivenBack}
@@ -29,8 +29,8 @@ use Rattle.plan_laws.proofs.Emptying.{accepted_few}
 use Rattle.plan_laws.proofs.Filters.{fewer}
 use Rattle.plan_laws.proofs.GivingBack.{gives_last_bytes_back}
 use Rattle.plan_laws.proofs.LastBytes.{each-reverse, last_few, same_last}
-use Rattle.plan_rules.specs.Holding.{extents_in_region}
-use Rattle.plan_rules.specs.Listing.{last_bytes, last_part}
+use Rattle.plan_laws.specs.plan_rules.specs.Holding.{extents_in_region}
+use Rattle.plan_laws.specs.plan_rules.specs.Listing.{last_bytes, last_part}
 use Rattle.plan_meets.specs.ActsLeft.{BytesLeave, IsPlain, Unbroken, giving_back, journal_behind}
 use Rattle.plan_meets.proofs.Acts.{behind_is}
 use Rattle.plan_meets.proofs.Heard.{release_heard}

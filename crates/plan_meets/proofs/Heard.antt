@@ -17,9 +17,9 @@ use Rattle.event_records.specs.declared.events.Event.{Event}
 use Rattle.dcd_base.specs.declared.steps.LogId.{LogId}
 use Rattle.journal_core.specs.Entries.{effects}
 use Rattle.journal_core.specs.declared.entries.Entry.{Entry}
-use Rattle.device_rules.specs.Legal.{Legal}
-use Rattle.device_rules.specs.Logs.{log_of}
-use Rattle.step_laws.proofs.LegalLogs.{legal_logs}
+use Rattle.plan_laws.specs.device_rules.specs.Legal.{Legal}
+use Rattle.plan_laws.specs.device_rules.specs.Logs.{log_of}
+use Rattle.plan_laws.specs.step_laws.proofs.LegalLogs.{legal_logs}
 use Rattle.isolation_laws.proofs.LogSizes.{few_records}
 use Rattle.field_bytes.specs.Layouts.{FitsField, spelling}
 use Rattle.field_bytes.proofs.Agreement.{Agrees-spelled}
@@ -27,7 +27,7 @@ use Rattle.host_payloads.specs.HostPayloads.{FitsListed, host_fields, host_opcod
 use Rattle.host_payloads.specs.declared.requests.HostRequest.{HostRequest}
 use Rattle.host_payloads.proofs.HostLaws.{host_only}
 use Rattle.host_payloads.proofs.Written.{list_fits}
-use Rattle.plan_rules.specs.Listing.{listed}
+use Rattle.plan_laws.specs.plan_rules.specs.Listing.{listed}
 
 abbrev pub IsHeard : HostRequest → Type 0
 IsHeard q = host_request (host_opcode q) (spelling (host_fields q)) ≡ Ok q

@@ -19,20 +19,20 @@ use Rattle.journal_core.specs.declared.acts.Act.{Act}
 use Rattle.journal_core.specs.declared.outcome.Effect.{Effect}
 use Rattle.journal_core.specs.declared.outcome.HeldKind.{HeldKind}
 use Rattle.journal_core.specs.declared.entries.Entry.{Entry}
-use Rattle.device_rules.specs.Adding.{is_free_now}
-use Rattle.device_rules.specs.Counts.{dirty_count}
-use Rattle.device_rules.specs.Hosts.{accepted_of, block_of}
-use Rattle.device_rules.specs.Legal.{Legal}
-use Rattle.holding_laws.specs.Pictures.{Picture, picture_of}
-use Rattle.holding_laws.specs.Standing.{IsHome}
-use Rattle.holding_laws.proofs.Homes.{made_region, supported_some, supported_whole}
-use Rattle.holding_laws.proofs.LegalSound.{legal_is_sound}
+use Rattle.plan_laws.specs.device_rules.specs.Adding.{is_free_now}
+use Rattle.plan_laws.specs.device_rules.specs.Counts.{dirty_count}
+use Rattle.plan_laws.specs.device_rules.specs.Hosts.{accepted_of, block_of}
+use Rattle.plan_laws.specs.device_rules.specs.Legal.{Legal}
+use Rattle.plan_laws.specs.holding_laws.specs.Pictures.{Picture, picture_of}
+use Rattle.plan_laws.specs.holding_laws.specs.Standing.{IsHome}
+use Rattle.plan_laws.specs.holding_laws.proofs.Homes.{made_region, supported_some, supported_whole}
+use Rattle.plan_laws.specs.holding_laws.proofs.LegalSound.{legal_is_sound}
 use Rattle.demand_codec.specs.declared.demands.Demand.{Demand}
 use Rattle.demand_codec.specs.declared.demands.Demands.{Demands}
-use Rattle.plan_rules.specs.Holding.{blocks_held, extents_in_region, gain, stepped, surplus}
-use Rattle.plan_rules.specs.Listing.{gaining, give_back_surplus, let_go, losing, planned, prepared, ready, zeroing}
-use Rattle.plan_rules.specs.Meeting.{IsNamed, MeetsDemands}
-use Rattle.plan_rules.specs.Planning.{named_fault, need_in, plan_fault, refused_in, short_fault}
+use Rattle.plan_laws.specs.plan_rules.specs.Holding.{blocks_held, extents_in_region, gain, stepped, surplus}
+use Rattle.plan_laws.specs.plan_rules.specs.Listing.{gaining, give_back_surplus, let_go, losing, planned, prepared, ready, zeroing}
+use Rattle.plan_laws.specs.plan_rules.specs.Meeting.{IsNamed, MeetsDemands}
+use Rattle.plan_laws.specs.plan_rules.specs.Planning.{named_fault, need_in, plan_fault, refused_in, short_fault}
 use Rattle.plan_laws.specs.Kept.{bytes_in}
 use Rattle.plan_meets.specs.ActsLeft.{ActsLeaveAll, IsPlain, Unbroken}
 use Rattle.plan_meets.proofs.DeadHosts.{HasNothing, IsReadyToGo, dead_gone, touches_host}

@@ -21,22 +21,22 @@ use Rattle.region_config.proofs.Searches.{or_parts as option_parts}
 use Rattle.journal_core.specs.Entries.{effects}
 use Rattle.journal_core.specs.declared.outcome.Effect.{Effect}
 use Rattle.journal_core.specs.declared.entries.Entry.{Entry}
-use Rattle.device_rules.specs.Answers.{broken, manager_outcome, manager_result, manager_rule, unless}
-use Rattle.device_rules.specs.Hosts.{block_of}
-use Rattle.device_rules.specs.Legal.{Legal}
-use Rattle.device_rules.specs.Outcomes.{Outcome, log_full}
-use Rattle.device_rules.specs.Logs.{log_of}
-use Rattle.device_rules.specs.Views.{extents_in, view_of}
-use Rattle.holding_laws.proofs.Homes.{supported_some}
-use Rattle.holding_laws.proofs.LegalSound.{legal_is_sound}
+use Rattle.plan_laws.specs.device_rules.specs.Answers.{broken, manager_outcome, manager_result, manager_rule, unless}
+use Rattle.plan_laws.specs.device_rules.specs.Hosts.{block_of}
+use Rattle.plan_laws.specs.device_rules.specs.Legal.{Legal}
+use Rattle.plan_laws.specs.device_rules.specs.Outcomes.{Outcome, log_full}
+use Rattle.plan_laws.specs.device_rules.specs.Logs.{log_of}
+use Rattle.plan_laws.specs.device_rules.specs.Views.{extents_in, view_of}
+use Rattle.plan_laws.specs.holding_laws.proofs.Homes.{supported_some}
+use Rattle.plan_laws.specs.holding_laws.proofs.LegalSound.{legal_is_sound}
 use Rattle.demand_codec.specs.declared.demands.Demand.{Demand}
 use Rattle.demand_codec.specs.declared.demands.Demands.{Demands}
 use Rattle.plan_laws.specs.Taking.{blocks_free_now, free_offer_of}
 use Rattle.plan_laws.proofs.RoomAlone.{only_room_is_wanting}
-use Rattle.plan_rules.specs.Holding.{Step, gain, stepped}
-use Rattle.plan_rules.specs.Listing.{by_manager, gained, gaining, offer_taken, planned, prepared, ready}
-use Rattle.plan_rules.specs.Planning.{IsOfRoom, broken_at, is_bad_dead, is_bad_demand, is_open, is_room_rule, lowest_below, named_fault, plan_fault, refused_in, short_fault}
-use Rattle.plan_rules.specs.declared.faults.PlanFault.{PlanFault}
+use Rattle.plan_laws.specs.plan_rules.specs.Holding.{Step, gain, stepped}
+use Rattle.plan_laws.specs.plan_rules.specs.Listing.{by_manager, gained, gaining, offer_taken, planned, prepared, ready}
+use Rattle.plan_laws.specs.plan_rules.specs.Planning.{IsOfRoom, broken_at, is_bad_dead, is_bad_demand, is_open, is_room_rule, lowest_below, named_fault, plan_fault, refused_in, short_fault}
+use Rattle.plan_laws.specs.plan_rules.specs.declared.faults.PlanFault.{PlanFault}
 use Rattle.plan_meets.specs.ActsLeft.{Unbroken, journal_behind, offering, providing}
 use Rattle.plan_meets.proofs.AllActs.{acts_leave}
 use Rattle.plan_meets.proofs.AllowedParts.{prepared_allowed}

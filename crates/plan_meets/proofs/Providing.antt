@@ -26,24 +26,24 @@ use Rattle.journal_core.specs.Holders.{holds}
 use Rattle.journal_core.specs.declared.outcome.Effect.{Effect}
 use Rattle.journal_core.specs.declared.outcome.HeldKind.{HeldKind}
 use Rattle.journal_core.specs.declared.entries.Entry.{Entry}
-use Rattle.device_rules.specs.Hosts.{accepted_of, block_of, held_of, offers_of}
-use Rattle.device_rules.specs.Legal.{Legal}
-use Rattle.device_rules.specs.Tags.{region_of_offer}
-use Rattle.holding_laws.proofs.Homes.{supported_some}
+use Rattle.plan_laws.specs.device_rules.specs.Hosts.{accepted_of, block_of, held_of, offers_of}
+use Rattle.plan_laws.specs.device_rules.specs.Legal.{Legal}
+use Rattle.plan_laws.specs.device_rules.specs.Tags.{region_of_offer}
+use Rattle.plan_laws.specs.holding_laws.proofs.Homes.{supported_some}
 use Rattle.region_config.specs.Granules.{region_spec}
-use Rattle.device_rules.proofs.ListSteps.{each-back, each-change, each-front}
-use Rattle.holding_laws.specs.Pictures.{picture_of}
-use Rattle.holding_laws.specs.Standing.{IsHome}
-use Rattle.holding_laws.proofs.LegalSound.{legal_is_sound}
+use Rattle.plan_laws.specs.device_rules.proofs.ListSteps.{each-back, each-change, each-front}
+use Rattle.plan_laws.specs.holding_laws.specs.Pictures.{picture_of}
+use Rattle.plan_laws.specs.holding_laws.specs.Standing.{IsHome}
+use Rattle.plan_laws.specs.holding_laws.proofs.LegalSound.{legal_is_sound}
 use Rattle.demand_codec.specs.declared.demands.Demand.{Demand}
 use Rattle.plan_laws.specs.Kept.{KeepsOthers, bytes_in}
-use Rattle.plan_rules.specs.Listing.{listed}
+use Rattle.plan_laws.specs.plan_rules.specs.Listing.{listed}
 use Rattle.plan_laws.specs.Taking.{IsOfferTaken, IsOfferedFree, blocks_free_now, free_offer_of}
 use Rattle.plan_laws.proofs.Filters.{fewer}
 use Rattle.plan_laws.proofs.FreeOffers.{offers_free_blocks}
 use Rattle.plan_laws.proofs.WholeOffers.{takes_whole_offers}
-use Rattle.plan_rules.specs.Holding.{extents_in_region, stepped}
-use Rattle.plan_rules.specs.Listing.{offer_taken}
+use Rattle.plan_laws.specs.plan_rules.specs.Holding.{extents_in_region, stepped}
+use Rattle.plan_laws.specs.plan_rules.specs.Listing.{offer_taken}
 use Rattle.plan_meets.specs.ActsLeft.{BytesCome, IsPlain, Unbroken, journal_behind, offering, providing}
 use Rattle.plan_meets.proofs.Acts.{behind_is}
 use Rattle.plan_meets.proofs.GivingBack.{ends_low}

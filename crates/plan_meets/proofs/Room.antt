@@ -16,12 +16,12 @@ use Rattle.region_config.proofs.PresentBlocks.{granules_in-with_blocks, region_s
 use Rattle.journal_core.specs.declared.outcome.Effect.{Effect}
 use Rattle.granule_map.specs.Blocks.{block_count}
 use Rattle.selection.specs.Selections.{is_free_block}
-use Rattle.device_rules.specs.Adding.{area_of, per_block, region_free_blocks}
-use Rattle.holding_laws.proofs.Homes.{size_same, supported_whole}
+use Rattle.plan_laws.specs.device_rules.specs.Adding.{area_of, per_block, region_free_blocks}
+use Rattle.plan_laws.specs.holding_laws.proofs.Homes.{size_same, supported_whole}
 use Rattle.demand_codec.specs.declared.demands.Demand.{Demand}
 use Rattle.demand_codec.specs.declared.demands.Demands.{Demands}
-use Rattle.plan_rules.specs.Holding.{gain}
-use Rattle.plan_rules.specs.Planning.{need_in, no_demand}
+use Rattle.plan_laws.specs.plan_rules.specs.Holding.{gain}
+use Rattle.plan_laws.specs.plan_rules.specs.Planning.{need_in, no_demand}
 use Rattle.plan_meets.proofs.WithoutFault.{by_index}
 
 few_pass : (test : ℕ → Bool) (n : ℕ) → length (filter test (range_with_len 0 n)) ≤ n

@@ -14,14 +14,14 @@ use Rattle.journal_core.specs.Holders.{holds}
 use Rattle.journal_core.specs.declared.outcome.Effect.{Effect}
 use Rattle.journal_core.specs.declared.outcome.HeldKind.{HeldKind}
 use Rattle.journal_core.specs.declared.entries.Entry.{Entry}
-use Rattle.device_rules.specs.Hosts.{accepted_of, block_of, held_of, offers_of}
-use Rattle.device_rules.specs.Legal.{Legal}
-use Rattle.holding_laws.specs.Pictures.{Picture, picture_of}
-use Rattle.holding_laws.specs.Standing.{IsHome, Sound}
-use Rattle.holding_laws.proofs.Homes.{made_of_region, made_region, supported_whole}
-use Rattle.holding_laws.proofs.LegalSound.{legal_is_sound}
+use Rattle.plan_laws.specs.device_rules.specs.Hosts.{accepted_of, block_of, held_of, offers_of}
+use Rattle.plan_laws.specs.device_rules.specs.Legal.{Legal}
+use Rattle.plan_laws.specs.holding_laws.specs.Pictures.{Picture, picture_of}
+use Rattle.plan_laws.specs.holding_laws.specs.Standing.{IsHome, Sound}
+use Rattle.plan_laws.specs.holding_laws.proofs.Homes.{made_of_region, made_region, supported_whole}
+use Rattle.plan_laws.specs.holding_laws.proofs.LegalSound.{legal_is_sound}
 use Rattle.plan_laws.specs.Kept.{KeepsHost, KeepsHosts, KeepsOthers}
-use Rattle.plan_rules.specs.Holding.{extents_in_region}
+use Rattle.plan_laws.specs.plan_rules.specs.Holding.{extents_in_region}
 use Rattle.plan_meets.specs.ActsLeft.{ChangesOnly}
 
 -- The host has the same extents and granules in the region, the same offers and the same held lists, and the block sizes are the same.

@@ -33,20 +33,20 @@ use Rattle.journal_core.specs.declared.entries.Entry.{Entry}
 use Rattle.journal_core.specs.declared.outcome.Effect.{Effect}
 use Rattle.journal_core.specs.declared.outcome.HeldKind.{HeldKind}
 use Rattle.journal_core.proofs.JournalSteps.{effects-push}
-use Rattle.device_rules.specs.Adding.{add_rule, chosen, is_free_now, offered, present}
-use Rattle.device_rules.specs.Answers.{dropped, effects_with, host_outcome, host_result, host_rule, manager_outcome, manager_result, manager_rule, scrubbed, unless}
-use Rattle.device_rules.specs.Hosts.{accepted_after, accepted_of, held_after, held_of, offers_after, offers_of, same_kind}
-use Rattle.device_rules.specs.Legal.{Legal, right_answer}
-use Rattle.device_rules.specs.Logs.{log_of}
-use Rattle.device_rules.specs.Outcomes.{Outcome, effects_of}
-use Rattle.device_rules.specs.ReleaseOutcomes.{is_cleaning, is_forced, leaves, removed}
-use Rattle.device_rules.specs.ResponseOutcomes.{answered, hold, respond_changes, unhold}
-use Rattle.device_rules.specs.Tags.{is_referenced, last_offer, tag_runs}
-use Rattle.device_rules.specs.Views.{View, view_of}
-use Rattle.device_rules.proofs.EffectKinds.{any_log, clear_passes, outcome_passes, reference_passes, removals_pass, tells_any, zeroes_pass}
-use Rattle.device_rules.proofs.Leaving.{both_pass, map_passes}
-use Rattle.device_rules.proofs.LegalSteps.{by_steps}
-use Rattle.holding_laws.proofs.Adding.{row_of}
+use Rattle.plan_laws.specs.device_rules.specs.Adding.{add_rule, chosen, is_free_now, offered, present}
+use Rattle.plan_laws.specs.device_rules.specs.Answers.{dropped, effects_with, host_outcome, host_result, host_rule, manager_outcome, manager_result, manager_rule, scrubbed, unless}
+use Rattle.plan_laws.specs.device_rules.specs.Hosts.{accepted_after, accepted_of, held_after, held_of, offers_after, offers_of, same_kind}
+use Rattle.plan_laws.specs.device_rules.specs.Legal.{Legal, right_answer}
+use Rattle.plan_laws.specs.device_rules.specs.Logs.{log_of}
+use Rattle.plan_laws.specs.device_rules.specs.Outcomes.{Outcome, effects_of}
+use Rattle.plan_laws.specs.device_rules.specs.ReleaseOutcomes.{is_cleaning, is_forced, leaves, removed}
+use Rattle.plan_laws.specs.device_rules.specs.ResponseOutcomes.{answered, hold, respond_changes, unhold}
+use Rattle.plan_laws.specs.device_rules.specs.Tags.{is_referenced, last_offer, tag_runs}
+use Rattle.plan_laws.specs.device_rules.specs.Views.{View, view_of}
+use Rattle.plan_laws.specs.device_rules.proofs.EffectKinds.{any_log, clear_passes, outcome_passes, reference_passes, removals_pass, tells_any, zeroes_pass}
+use Rattle.plan_laws.specs.device_rules.proofs.Leaving.{both_pass, map_passes}
+use Rattle.plan_laws.specs.device_rules.proofs.LegalSteps.{by_steps}
+use Rattle.plan_laws.specs.holding_laws.proofs.Adding.{row_of}
 
 -- whether the tag has sixteen numbers and the sequence two bytes
 abbrev pub is_tellable : Extent → Bool

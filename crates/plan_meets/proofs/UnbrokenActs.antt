@@ -9,11 +9,11 @@ use Rattle.region_config.specs.Configurations.{Configuration}
 use Rattle.journal_core.specs.declared.acts.Act.{Act}
 use Rattle.journal_core.specs.declared.entries.Entry.{Entry}
 use Rattle.journal_core.proofs.EachSteps.{Each-push}
-use Rattle.device_rules.specs.Legal.{Legal, Meets}
-use Rattle.plan_rules.specs.Holding.{Step, entry_of_step, stepped}
-use Rattle.plan_rules.specs.Listing.{by_host, by_manager}
-use Rattle.plan_rules.specs.Planning.{broken_at, refused_in}
-use Rattle.plan_rules.proofs.Succeeding.{none_broken}
+use Rattle.plan_laws.specs.device_rules.specs.Legal.{Legal, Meets}
+use Rattle.plan_laws.specs.plan_rules.specs.Holding.{Step, entry_of_step, stepped}
+use Rattle.plan_laws.specs.plan_rules.specs.Listing.{by_host, by_manager}
+use Rattle.plan_laws.specs.plan_rules.specs.Planning.{broken_at, refused_in}
+use Rattle.plan_laws.specs.plan_rules.proofs.Succeeding.{none_broken}
 use Rattle.plan_meets.specs.ActsLeft.{Unbroken, journal_behind}
 
 module _ (c : Configuration) where

@@ -7,8 +7,8 @@ use Rattle.region_config.specs.Configurations.{Configuration}
 use Rattle.journal_core.specs.Entries.{effects}
 use Rattle.journal_core.specs.declared.outcome.Effect.{Effect}
 use Rattle.journal_core.specs.declared.entries.Entry.{Entry}
-use Rattle.device_rules.specs.Legal.{Legal}
-use Rattle.plan_rules.specs.Holding.{Step, stepped}
+use Rattle.plan_laws.specs.device_rules.specs.Legal.{Legal}
+use Rattle.plan_laws.specs.plan_rules.specs.Holding.{Step, stepped}
 use Rattle.plan_meets.specs.ActsLeft.{Unbroken}
 use Rattle.plan_meets.proofs.Stillness.{Still, still_self, still_then}
 use Rattle.plan_meets.proofs.UnbrokenActs.{stepped-append, unbroken_parts}

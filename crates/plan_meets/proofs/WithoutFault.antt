@@ -13,11 +13,11 @@ use Rattle.journal_core.specs.Entries.{effects}
 use Rattle.journal_core.specs.declared.outcome.Effect.{Effect}
 use Rattle.journal_core.specs.declared.outcome.HeldKind.{HeldKind}
 use Rattle.journal_core.specs.declared.entries.Entry.{Entry}
-use Rattle.device_rules.specs.Hosts.{held_of, offers_of}
+use Rattle.plan_laws.specs.device_rules.specs.Hosts.{held_of, offers_of}
 use Rattle.demand_codec.specs.declared.demands.Demand.{Demand}
 use Rattle.demand_codec.specs.declared.demands.Demands.{Demands}
-use Rattle.plan_rules.specs.Planning.{has_held, has_number, have_in, is_bad_dead, is_bad_demand, is_demanded, is_open, lowest_below, named_fault, need_in, no_demand, same_place, short_fault}
-use Rattle.plan_rules.specs.declared.faults.PlanFault.{PlanFault}
+use Rattle.plan_laws.specs.plan_rules.specs.Planning.{has_held, has_number, have_in, is_bad_dead, is_bad_demand, is_demanded, is_open, lowest_below, named_fault, need_in, no_demand, same_place, short_fault}
+use Rattle.plan_laws.specs.plan_rules.specs.declared.faults.PlanFault.{PlanFault}
 use Rattle.plan_meets.specs.ActsLeft.{IsPlain}
 use Rattle.plan_meets.proofs.DeadHosts.{touches_host}
 use Rattle.plan_meets.proofs.Demanded.{touches_pair}

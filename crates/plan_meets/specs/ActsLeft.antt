@@ -12,14 +12,14 @@ use Rattle.journal_core.specs.declared.acts.Act.{Act}
 use Rattle.journal_core.specs.declared.outcome.Effect.{Effect}
 use Rattle.journal_core.specs.declared.outcome.HeldKind.{HeldKind}
 use Rattle.journal_core.specs.declared.entries.Entry.{Entry}
-use Rattle.device_rules.specs.Answers.{broken}
-use Rattle.device_rules.specs.Hosts.{accepted_of, block_of, held_of, offers_of}
-use Rattle.device_rules.specs.Legal.{Legal}
+use Rattle.plan_laws.specs.device_rules.specs.Answers.{broken}
+use Rattle.plan_laws.specs.device_rules.specs.Hosts.{accepted_of, block_of, held_of, offers_of}
+use Rattle.plan_laws.specs.device_rules.specs.Legal.{Legal}
 use Rattle.demand_codec.specs.declared.demands.Demand.{Demand}
 use Rattle.plan_laws.specs.Kept.{KeepsHosts, KeepsOthers, bytes_in}
-use Rattle.plan_rules.specs.Holding.{Step, blocks_held, entry_of_step, extents_in_region, stepped}
-use Rattle.plan_rules.specs.Listing.{by_host, by_manager, last_bytes, offer_taken}
-use Rattle.plan_rules.specs.Meeting.{HoldsStill}
+use Rattle.plan_laws.specs.plan_rules.specs.Holding.{Step, blocks_held, entry_of_step, extents_in_region, stepped}
+use Rattle.plan_laws.specs.plan_rules.specs.Listing.{by_host, by_manager, last_bytes, offer_taken}
+use Rattle.plan_laws.specs.plan_rules.specs.Meeting.{HoldsStill}
 
 -- the journal after one more act
 abbrev pub journal_behind : Configuration → List Entry → Step → List Entry

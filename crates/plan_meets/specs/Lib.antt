@@ -1,2 +1,3 @@
 pub mod ActsLeft
 pub mod WholePlans
+pub use Rattle.plan_laws.specs.holding_laws

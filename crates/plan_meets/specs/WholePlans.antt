@@ -4,11 +4,11 @@ use Rattle.region_config.specs.Configurations.{Configuration}
 use Rattle.journal_core.specs.Entries.{effects}
 use Rattle.journal_core.specs.declared.entries.Entry.{Entry}
 use Rattle.demand_codec.specs.declared.demands.Demands.{Demands}
-use Rattle.plan_rules.specs.Holding.{stepped}
-use Rattle.plan_rules.specs.Listing.{planned}
-use Rattle.plan_rules.specs.Meeting.{MeetsDemands}
-use Rattle.plan_rules.specs.Planning.{IsOfRoom, plan_fault}
-use Rattle.plan_rules.specs.declared.faults.PlanFault.{PlanFault}
+use Rattle.plan_laws.specs.plan_rules.specs.Holding.{stepped}
+use Rattle.plan_laws.specs.plan_rules.specs.Listing.{planned}
+use Rattle.plan_laws.specs.plan_rules.specs.Meeting.{MeetsDemands}
+use Rattle.plan_laws.specs.plan_rules.specs.Planning.{IsOfRoom, plan_fault}
+use Rattle.plan_laws.specs.plan_rules.specs.declared.faults.PlanFault.{PlanFault}
 
 -- Where there is no fault, the list leaves what was demanded.
 abbrev pub PlansMeetDemands : Configuration → List Entry → Type 0

@@ -1,6 +1,6 @@
 //! What a plan leaves, and which rules its acts may break.
 
-ghost use Rattle.device_rules.specs.Legal.{Legal};
+ghost use Rattle.plan_laws.specs.device_rules.specs.Legal.{Legal};
 ghost use Rattle.journal_core.specs.declared.entries.Entry.{Entry};
 ghost use Rattle.plan_meets.specs.ActsLeft.{ActsLeaveAll};
 ghost use Rattle.plan_meets.specs.WholePlans.{PlansMeetDemands, PlansWantRoomOnly};

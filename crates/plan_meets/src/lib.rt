@@ -5,3 +5,4 @@
 mod laws;
 
 pub use laws::{law_acts_leave, law_meets, law_of_room};
+pub use plan_laws::holding_laws;

@@ -8,5 +8,6 @@
 mod faults;
 mod laws;
 
+pub use device_rules;
 pub use faults::PlanFault;
 pub use laws::{law_plan_alike, law_same_plan, law_succeeds};

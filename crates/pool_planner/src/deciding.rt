@@ -3,7 +3,7 @@
 ghost use Rattle.pool_planner.specs.PlanEnds.{IsDemandsEnd, IsPlanEnd, IsPlanFrame, IsPlannedEnd, IsScriptEnd, frame_need, frame_rest, frame_script};
 ghost use Rattle.pool_planner.specs.PlanPrinting.{plan_text};
 ghost use Rattle.pool_planner.specs.declared.status.PlanStatus.{PlanStatus};
-ghost use Rattle.script_codec.specs.Scripts.{IsScript};
+ghost use Rattle.report.specs.script_codec.specs.Scripts.{IsScript};
 ghost use Rattle.std.specs.Prelude.{◌≡◌, ◌≤◌, IfOk, length};
 
 use crate::ending::Ending;
@@ -17,8 +17,8 @@ use device_plain::Device;
 use field_bytes::u32_at;
 use journal_core::Act;
 use plan_maker::plan;
-use plan_rules::PlanFault;
-use script_codec::{Script, ScriptFault, read};
+use plan_maker::plan_rules::PlanFault;
+use report::script_codec::{Script, ScriptFault, read};
 use std::alloc::Global;
 
 /// How many bytes an input has to have.

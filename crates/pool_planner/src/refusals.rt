@@ -3,15 +3,15 @@
 ghost use Rattle.dcd_base.specs.Streams.{HasRisen, Passes};
 ghost use Rattle.pool_planner.specs.PlanPrinting.{demand_fault_number, demands_refused, plan_fault_line, plan_refused, plan_short, planner_usage_line};
 ghost use Rattle.report.specs.Refusals.{refusal_line};
-ghost use Rattle.script_codec.specs.declared.faults.ScriptFault.{ScriptFault};
+ghost use Rattle.report.specs.script_codec.specs.declared.faults.ScriptFault.{ScriptFault};
 ghost use Rattle.std.specs.Prelude.{◌≡◌, ◌≢◌, [], IfOk, List, OnErr, OnOk, ℕ};
 
 use crate::printing::put_number;
 use dcd_base::{Bytes, Failed, MemSink, NoMemory, Sink, write_all};
 use demand_codec::DemandFault;
-use plan_rules::PlanFault;
+use plan_maker::plan_rules::PlanFault;
 use report::refusal;
-use script_codec::ScriptFault;
+use report::script_codec::ScriptFault;
 use std::alloc::Global;
 
 /// Writes the line that says that no words are taken.

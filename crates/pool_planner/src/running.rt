@@ -3,16 +3,16 @@
 ghost use Rattle.device_plain.specs.Devices.{Enters};
 ghost use Rattle.pool_planner.specs.PlanRuns.{AddsScriptLine, IsBehind, IsBehindList};
 ghost use Rattle.pool_planner.specs.PlanPrinting.{IsShortAct, IsSoundStep, plan_state};
-ghost use Rattle.script_codec.specs.Covering.{Runs};
-ghost use Rattle.script_codec.specs.Scripts.{is_sound_line};
+ghost use Rattle.report.specs.script_codec.specs.Covering.{Runs};
+ghost use Rattle.report.specs.script_codec.specs.Scripts.{is_sound_line};
 ghost use Rattle.std.specs.List.{All, list_all};
 ghost use Rattle.std.specs.Prelude.{◌≡◌, ◌≤◌, ◌++◌, [], IsTrue, OnOk, length};
 
 use dcd_base::{Actor, Bytes, Failed, MemSink, NoMemory};
 use device_plain::Device;
 use journal_core::{Act, fits};
+use report::script_codec::{Line, pass_of};
 use report::summary;
-use script_codec::{Line, pass_of};
 
 /// How many bytes the first line of a summary has.
 const FIRST_LINE: usize = 6;

@@ -4,8 +4,8 @@ ghost use Rattle.pool_planner.specs.PlanStatuses.{plan_status_number};
 ghost use Rattle.std.specs.Prelude.{◌≡◌};
 
 use demand_codec::DemandFault;
-use plan_rules::PlanFault;
-use script_codec::ScriptFault;
+use plan_maker::plan_rules::PlanFault;
+use report::script_codec::ScriptFault;
 
 /// How a run of the planner ends.
 #[derive(Clone, Copy, Debug, PartialEq, Eq)]

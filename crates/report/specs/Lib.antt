@@ -1,3 +1,9 @@
 pub mod Printing
 pub mod Refusals
 pub mod Texts
+pub use Rattle.control_core
+pub use Rattle.control_core.specs.device_rules
+pub use Rattle.control_core.specs.holding_laws
+pub use Rattle.control_core.specs.step_laws
+pub use Rattle.control_core.specs.device_state
+pub use Rattle.script_codec

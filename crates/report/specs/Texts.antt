@@ -22,7 +22,7 @@ use Rattle.journal_core.specs.Seen.{kind_of, seen_reply}
 use Rattle.journal_core.specs.declared.seen.ActKind.{ActKind}
 use Rattle.journal_core.specs.declared.seen.ResponseSeen.{ResponseSeen}
 use Rattle.journal_core.specs.declared.seen.StepSeen.{StepSeen}
-use Rattle.device_rules.specs.Counts.{dirty_count, extent_count, free_count, granules_held, missed_of, records_of}
+use Rattle.control_core.specs.device_rules.specs.Counts.{dirty_count, extent_count, free_count, granules_held, missed_of, records_of}
 
 -- a word that is not the first of its line
 abbrev pub next_word : List ℕ → List ℕ

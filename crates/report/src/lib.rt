@@ -16,5 +16,8 @@ mod state_lines;
 mod step_writing;
 mod words;
 
+pub use control_core;
+pub use control_core::{device_rules, device_state, holding_laws, step_laws};
 pub use refusals::refusal;
 pub use rendering::{render, summary};
+pub use script_codec;

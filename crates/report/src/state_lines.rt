@@ -1,7 +1,7 @@
 //! The lines of the records in the logs, and those of the state.
 
 ghost use Rattle.dcd_base.specs.declared.steps.LogId.{LogId};
-ghost use Rattle.device_state.specs.Updates.{IsOfLog};
+ghost use Rattle.control_core.specs.device_state.specs.Updates.{IsOfLog};
 ghost use Rattle.journal_core.specs.Entries.{effects};
 ghost use Rattle.report.specs.Printing.{Puts};
 ghost use Rattle.report.specs.Texts.{all_records, end_line, granules_line, host_line, host_lines, shown_host_records, manager_line, record_line, record_lines, state_lines};

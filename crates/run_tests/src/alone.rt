@@ -3,12 +3,12 @@
 use crate::seeing::{see, see_text};
 use crate::talk::Talk;
 use dcd_base::{Actor, HostId};
-use device_plain::Device;
-use isolation_laws::{SoloReply, own_items, solo_replies};
 use journal_core::{Act, Entry, Reply, copies};
 use region_config::{Config, RegionSpec};
-use script_codec::{Line, Script};
-use script_gen::generate;
+use script_runner::device_plain::Device;
+use script_runner::isolation_laws::{SoloReply, own_items, solo_replies};
+use script_runner::script_codec::{Line, Script};
+use script_runner::script_gen::generate;
 use std::alloc::Global;
 use std::process::Abort;
 use std::test::Fail;

@@ -2,8 +2,8 @@
 
 use cci_codec::{Payload, Request};
 use dcd_base::{Actor, Bytes, HostId};
-use device_plain::Device;
 use journal_core::{Act, fits};
+use script_runner::device_plain::Device;
 use std::alloc::Global;
 use std::test::Fail;
 

@@ -2,8 +2,8 @@
 
 use crate::seeing::see;
 use dcd_base::{Bytes, MemSink, MemSource, NoGate, NoMemory};
-use script_codec::write;
-use script_gen::generate;
+use script_runner::script_codec::write;
+use script_runner::script_gen::generate;
 use script_runner::{Status, run};
 use std::alloc::{AllocGlobal, Global};
 use std::sync::Wait;

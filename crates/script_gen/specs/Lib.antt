@@ -1,2 +1,3 @@
 pub mod Drawing
 pub mod Generated
+pub use Rattle.script_codec

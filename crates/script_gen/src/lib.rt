@@ -17,3 +17,4 @@ mod uses;
 
 pub use by_rounds::Rounds;
 pub use generating::generate;
+pub use script_codec;

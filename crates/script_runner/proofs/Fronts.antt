@@ -15,15 +15,15 @@ use Rattle.dcd_base.specs.declared.steps.Actor.{Actor}
 use Rattle.region_config.specs.Configurations.{Configuration}
 use Rattle.journal_core.specs.declared.acts.Act.{Act}
 use Rattle.journal_core.specs.declared.entries.Entry.{Entry}
-use Rattle.script_codec.specs.declared.script_line.Line.{Line}
-use Rattle.script_codec.specs.declared.scripts.Script.{Script}
-use Rattle.script_codec.specs.declared.heads.Head.{Head}
-use Rattle.script_codec.specs.declared.faults.ScriptFault.{ScriptFault}
-use Rattle.script_codec.specs.Covering.{Covers, IsOfLine, is_line, pass_of}
-use Rattle.script_codec.specs.LineByLine.{Begins, head_then, with_head}
-use Rattle.script_codec.specs.Reading.{fault_of, first_fault}
-use Rattle.script_codec.specs.Scripts.{ReadsScript}
-use Rattle.script_codec.specs.Unread.{Unread}
+use Rattle.script_source.specs.script_codec.specs.declared.script_line.Line.{Line}
+use Rattle.script_source.specs.script_codec.specs.declared.scripts.Script.{Script}
+use Rattle.script_source.specs.script_codec.specs.declared.heads.Head.{Head}
+use Rattle.script_source.specs.script_codec.specs.declared.faults.ScriptFault.{ScriptFault}
+use Rattle.script_source.specs.script_codec.specs.Covering.{Covers, IsOfLine, is_line, pass_of}
+use Rattle.script_source.specs.script_codec.specs.LineByLine.{Begins, head_then, with_head}
+use Rattle.script_source.specs.script_codec.specs.Reading.{fault_of, first_fault}
+use Rattle.script_source.specs.script_codec.specs.Scripts.{ReadsScript}
+use Rattle.script_source.specs.script_codec.specs.Unread.{Unread}
 use Rattle.script_runner.specs.Fronts.{AddsEntry, CoversFront, RanAll, RanLines, RanRest, RanScript, RunsLine, RunsLines}
 
 all_push : {X : Type 0} (P : X → Type 0) (xs : List X) (x : X) → AllByRecursion P xs → P x → AllByRecursion P (xs ++ x ∷ [])

@@ -8,9 +8,9 @@ use Rattle.edge_io.specs.ReadEnds.{TakesAtMost as TakesFew}
 use Rattle.edge_io.specs.declared.reading.ReadEnd.{ReadEnd}
 use Rattle.edge_io.proofs.Fronts.{all_is, front_is}
 use Rattle.report.specs.Refusals.{refusal_line}
-use Rattle.script_codec.specs.declared.faults.ScriptFault.{ScriptFault}
-use Rattle.script_codec.specs.Reading.{fault_of, first_fault, most_bytes}
-use Rattle.script_codec.proofs.Beginnings.{too_long}
+use Rattle.script_source.specs.script_codec.specs.declared.faults.ScriptFault.{ScriptFault}
+use Rattle.script_source.specs.script_codec.specs.Reading.{fault_of, first_fault, most_bytes}
+use Rattle.script_source.specs.script_codec.proofs.Beginnings.{too_long}
 use Rattle.script_runner.specs.declared.status.Status.{Status}
 use Rattle.script_runner.specs.declared.words.Mode.{Mode}
 use Rattle.script_runner.specs.Endings.{IsFaultPlan, IsPlannedFor, IsPlannedOf}

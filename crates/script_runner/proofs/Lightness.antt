@@ -1,9 +1,9 @@
 -- What phases weigh, line by line and round by round.
 use Rattle.std.proofs.Common.{◌≡◌, ℕ, ◌+◌, ◌-◌, ◌<◌, ◌≤◌, false, List, [], ◌∷◌, ◌++◌, Some, None, refl, ap, ◌∙◌, arith}
 use Rattle.std.proofs.lemmas.Bool.{le-leb, lt-leb}
-use Rattle.script_codec.specs.declared.script_line.Line.{Line}
+use Rattle.script_source.specs.script_codec.specs.declared.script_line.Line.{Line}
 use Rattle.script_runner.specs.Lightness.{WeighsOn}
-use Rattle.workers.specs.Weights.{are_light_behind, weight_behind, weight_of}
+use Rattle.script_threads.specs.workers.specs.Weights.{are_light_behind, weight_behind, weight_of}
 
 -- ---- one line
 

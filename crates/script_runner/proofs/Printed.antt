@@ -3,11 +3,11 @@ use Rattle.std.proofs.Common.{◌≡◌, ℕ, List, ap, subst}
 use Rattle.region_config.specs.Configurations.{Configuration}
 use Rattle.journal_core.specs.declared.entries.Entry.{Entry}
 use Rattle.journal_core.specs.Merging.{merged}
-use Rattle.device_rules.specs.Legal.{Exclusive, Legal}
-use Rattle.isolation_laws.specs.Solo.{Isolated}
+use Rattle.script_threads.specs.device_rules.specs.Legal.{Exclusive, Legal}
+use Rattle.script_threads.specs.isolation_laws.specs.Solo.{Isolated}
 use Rattle.report.specs.Texts.{summary, text}
-use Rattle.script_codec.specs.Covering.{Covers}
-use Rattle.script_codec.specs.declared.scripts.Script.{Script}
+use Rattle.script_source.specs.script_codec.specs.Covering.{Covers}
+use Rattle.script_source.specs.script_codec.specs.declared.scripts.Script.{Script}
 use Rattle.script_gen.specs.Generated.{generated}
 use Rattle.script_runner.specs.declared.status.Status.{Status}
 use Rattle.script_runner.specs.declared.words.Mode.{Mode}

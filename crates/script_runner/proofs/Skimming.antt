@@ -10,13 +10,13 @@ use Rattle.cci_codec.specs.declared.messages.Request.{Request}
 use Rattle.dcd_base.specs.declared.steps.Actor.{Actor}
 use Rattle.region_config.specs.declared.region_spec.RegionSpec.{RegionSpec}
 use Rattle.journal_core.specs.declared.acts.Act.{Act}
-use Rattle.script_codec.specs.declared.script_line.Line.{Line}
-use Rattle.script_codec.specs.declared.scripts.Script.{Script}
-use Rattle.script_codec.specs.Scripts.{ReadsScript, line_fields, region_fields, script_fields, script_head, start_fields}
-use Rattle.script_codec.proofs.Spans.{AllStand, Spans, Stands, parted, spans_from_reads}
+use Rattle.script_source.specs.script_codec.specs.declared.script_line.Line.{Line}
+use Rattle.script_source.specs.script_codec.specs.declared.scripts.Script.{Script}
+use Rattle.script_source.specs.script_codec.specs.Scripts.{ReadsScript, line_fields, region_fields, script_fields, script_head, start_fields}
+use Rattle.script_source.specs.script_codec.proofs.Spans.{AllStand, Spans, Stands, parted, spans_from_reads}
 use Rattle.script_runner.specs.declared.skim.Skimmed.{Skimmed}
 use Rattle.script_runner.specs.Skimming.{LinesFrom, SkimsOn, fields_to_end, is_mark, line_size, skimmed}
-use Rattle.workers.specs.Weights.{are_light, are_light_behind, weight_behind, weight_of}
+use Rattle.script_threads.specs.workers.specs.Weights.{are_light, are_light_behind, weight_behind, weight_of}
 
 -- ---- numbers that stand at a place
 

@@ -9,12 +9,12 @@ use Rattle.edge_io.proofs.Fronts.{all_is, front_is}
 use Rattle.journal_core.specs.declared.entries.Entry.{Entry}
 use Rattle.region_config.specs.Configurations.{Configuration}
 use Rattle.report.specs.Refusals.{refusal_line}
-use Rattle.script_codec.specs.declared.faults.ScriptFault.{ScriptFault}
-use Rattle.script_codec.specs.declared.heads.Head.{Head}
-use Rattle.script_codec.specs.declared.script_line.Line.{Line}
-use Rattle.script_codec.specs.LineByLine.{with_head}
-use Rattle.script_codec.specs.Reading.{most_bytes}
-use Rattle.script_codec.specs.declared.scripts.Script.{Script}
+use Rattle.script_source.specs.script_codec.specs.declared.faults.ScriptFault.{ScriptFault}
+use Rattle.script_source.specs.script_codec.specs.declared.heads.Head.{Head}
+use Rattle.script_source.specs.script_codec.specs.declared.script_line.Line.{Line}
+use Rattle.script_source.specs.script_codec.specs.LineByLine.{with_head}
+use Rattle.script_source.specs.script_codec.specs.Reading.{most_bytes}
+use Rattle.script_source.specs.script_codec.specs.declared.scripts.Script.{Script}
 use Rattle.script_source.specs.declared.script_end.ScriptEnd.{ScriptEnd}
 use Rattle.script_source.specs.Reading.{IsEnd, Stands, Unfed, WasFault, WasScript}
 use Rattle.script_runner.specs.declared.status.Status.{Status}

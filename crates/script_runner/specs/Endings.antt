@@ -2,8 +2,8 @@
 use Rattle.std.specs.Prelude.{◌≡◌, ℕ, List, Option, Some, None}
 use Rattle.dcd_base.specs.Streams.{HasRisen}
 use Rattle.report.specs.Refusals.{refusal_line}
-use Rattle.script_codec.specs.declared.faults.ScriptFault.{ScriptFault}
-use Rattle.script_codec.specs.Reading.{first_fault}
+use Rattle.script_source.specs.script_codec.specs.declared.faults.ScriptFault.{ScriptFault}
+use Rattle.script_source.specs.script_codec.specs.Reading.{first_fault}
 use Rattle.script_runner.specs.declared.status.Status.{Status}
 use Rattle.script_runner.specs.declared.words.Mode.{Mode}
 use Rattle.script_runner.specs.Planning.{IsAskedText, IsBegun, IsFaultLine, IsSummaryOf, IsTextOf, IsWritten}

@@ -11,3 +11,8 @@ pub mod Statuses
 pub mod Taking
 pub mod Threads
 pub mod Words
+pub use Rattle.script_source.specs.script_codec
+pub use Rattle.device_plain
+pub use Rattle.script_threads.specs.isolation_laws
+pub use Rattle.script_gen
+pub use Rattle.report

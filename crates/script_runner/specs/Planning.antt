@@ -2,10 +2,10 @@
 use Rattle.std.specs.Prelude.{◌≡◌, ℕ, List, [], Option, Some, None}
 use Rattle.dcd_base.specs.Streams.{Passes}
 use Rattle.journal_core.specs.declared.entries.Entry.{Entry}
-use Rattle.script_codec.specs.declared.faults.ScriptFault.{ScriptFault}
-use Rattle.script_codec.specs.declared.scripts.Script.{Script}
-use Rattle.script_codec.specs.Reading.{first_fault}
-use Rattle.script_codec.specs.Scripts.{ReadsScript}
+use Rattle.script_source.specs.script_codec.specs.declared.faults.ScriptFault.{ScriptFault}
+use Rattle.script_source.specs.script_codec.specs.declared.scripts.Script.{Script}
+use Rattle.script_source.specs.script_codec.specs.Reading.{first_fault}
+use Rattle.script_source.specs.script_codec.specs.Scripts.{ReadsScript}
 use Rattle.script_gen.specs.Generated.{generated}
 use Rattle.report.specs.Texts.{summary, text}
 use Rattle.report.specs.Refusals.{refusal_line}

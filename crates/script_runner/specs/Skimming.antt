@@ -3,12 +3,12 @@ use Rattle.std.specs.Prelude.{◌≡◌, ℕ, ◌+◌, Bool, true, false, List, 
 use Rattle.std.specs.Int.{w8}
 use Rattle.field_bytes.specs.Layouts.{Field, Number}
 use Rattle.journal_core.specs.declared.acts.Act.{Act}
-use Rattle.script_codec.specs.declared.script_line.Line.{Line}
-use Rattle.script_codec.specs.Scripts.{ReadsScript, line_fields}
-use Rattle.script_codec.specs.declared.scripts.Script.{Script}
-use Rattle.script_codec.proofs.Spans.{Spans}
+use Rattle.script_source.specs.script_codec.specs.declared.script_line.Line.{Line}
+use Rattle.script_source.specs.script_codec.specs.Scripts.{ReadsScript, line_fields}
+use Rattle.script_source.specs.script_codec.specs.declared.scripts.Script.{Script}
+use Rattle.script_source.specs.script_codec.proofs.Spans.{Spans}
 use Rattle.script_runner.specs.declared.skim.Skimmed.{Skimmed}
-use Rattle.workers.specs.Weights.{are_light, are_light_behind, weight_of}
+use Rattle.script_threads.specs.workers.specs.Weights.{are_light, are_light_behind, weight_of}
 
 -- the fields of these lines, and the end word
 abbrev pub fields_to_end : List Line → List Field

@@ -4,8 +4,8 @@ use Rattle.dcd_base.specs.Streams.{IsAtEnd, with_front}
 use Rattle.edge_io.specs.ReadEnds.{TakesAtMost}
 use Rattle.journal_core.specs.declared.entries.Entry.{Entry}
 use Rattle.region_config.specs.Configurations.{Configuration}
-use Rattle.script_codec.specs.declared.heads.Head.{Head}
-use Rattle.script_codec.specs.declared.script_line.Line.{Line}
+use Rattle.script_source.specs.script_codec.specs.declared.heads.Head.{Head}
+use Rattle.script_source.specs.script_codec.specs.declared.script_line.Line.{Line}
 use Rattle.script_source.specs.declared.script_end.ScriptEnd.{ScriptEnd}
 use Rattle.script_source.specs.Reading.{IsEnd, Stands, Unfed, WasScript}
 use Rattle.script_runner.specs.Fronts.{RanLines, RanScript}

@@ -4,8 +4,8 @@ use Rattle.journal_core.specs.declared.entries.Entry.{Entry}
 use Rattle.journal_core.specs.Lending.{AllRise}
 use Rattle.journal_core.specs.Merging.{merged}
 use Rattle.region_config.specs.Configurations.{Configuration}
-use Rattle.script_codec.specs.declared.scripts.Script.{Script}
-use Rattle.script_codec.specs.Scripts.{ReadsScript}
+use Rattle.script_source.specs.script_codec.specs.declared.scripts.Script.{Script}
+use Rattle.script_source.specs.script_codec.specs.Scripts.{ReadsScript}
 use Rattle.script_threads.specs.ThreadRuns.{IsTakenApart, IsThreadRun}
 
 -- All that is printed from: the entries of the control, and those of the shards, which make one journal.

@@ -1,16 +1,16 @@
 //! A script in threads: all of it is read or made first.
 
-ghost use Rattle.script_codec.specs.Reading.{first_fault};
-ghost use Rattle.script_codec.specs.Scripts.{IsScript, ReadsScript};
+ghost use Rattle.script_source.specs.script_codec.specs.Reading.{first_fault};
+ghost use Rattle.script_source.specs.script_codec.specs.Scripts.{IsScript, ReadsScript};
 ghost use Rattle.script_gen.specs.Generated.{generated};
 ghost use Rattle.script_runner.specs.Threads.{RanInThreads, RanInput};
 ghost use Rattle.std.specs.Prelude.{◌≡◌, ◌≢◌, IfErr, IfOk, Some};
 
-use control_core::Control;
 use dcd_base::{Bytes, Gate, NoMemory};
 use journal_core::Accesses;
-use script_codec::{Script, ScriptFault, read};
+use report::control_core::Control;
 use script_gen::generate;
+use script_source::script_codec::{Script, ScriptFault, read};
 use script_threads::{Sharing, run_in_threads};
 use std::alloc::{AllocGlobal, Global};
 use std::sync::Wait;

@@ -23,6 +23,11 @@ mod usage;
 mod whole;
 mod words;
 
+pub use device_plain;
+pub use report;
+pub use script_gen;
+pub use script_source::script_codec;
+pub use script_threads::isolation_laws;
 pub use status::Status;
 pub use top::{run, run_and_leave};
 pub use words::{Choice, Mode, chosen};

@@ -3,13 +3,13 @@
 ghost use Rattle.script_gen.specs.Generated.{generated};
 ghost use Rattle.script_runner.specs.Lightness.{WeighsOn};
 ghost use Rattle.std.specs.Prelude.{◌≡◌, ◌≤◌, IfOk, IfSome};
-ghost use Rattle.workers.specs.Weights.{are_light};
+ghost use Rattle.script_threads.specs.workers.specs.Weights.{are_light};
 
 use dcd_base::NoMemory;
-use script_codec::Line;
 use script_gen::Rounds;
+use script_source::script_codec::Line;
+use script_threads::workers::weight_of;
 use std::alloc::Global;
-use workers::weight_of;
 
 /// What the phase at hand weighs behind these lines, before which it weighed so much; or none where one of their phases weighs
 /// more than it may.

@@ -1,6 +1,6 @@
 //! The lines of a script, one after another on the device of one thread.
 
-ghost use Rattle.script_codec.specs.Scripts.{is_sound_line};
+ghost use Rattle.script_source.specs.script_codec.specs.Scripts.{is_sound_line};
 ghost use Rattle.script_runner.specs.Fronts.{RunsLine, RunsLines};
 ghost use Rattle.script_runner.specs.Running.{IsLawful};
 ghost use Rattle.std.specs.List.{list_all};
@@ -8,8 +8,8 @@ ghost use Rattle.std.specs.Prelude.{◌≡◌, ◌+◌, ◌≤◌, IfOk, IsTrue,
 
 use dcd_base::NoMemory;
 use device_plain::Device;
-use isolation_laws::law_isolated;
-use script_codec::{Line, Lines, pass_of};
+use script_source::script_codec::{Line, Lines, pass_of};
+use script_threads::isolation_laws::law_isolated;
 use std::mem::ManuallyDrop;
 
 /// Does a line: a step of its actor, or nothing for a mark, since there is one thread. The journal has what its act says.

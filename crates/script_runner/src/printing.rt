@@ -7,12 +7,12 @@ ghost use Rattle.script_runner.specs.Planning.{PassesInPart};
 ghost use Rattle.script_runner.specs.Threads.{CanBeLent};
 ghost use Rattle.std.specs.Prelude.{[], OnErr, OnOk};
 
-use control_core::Control;
 use dcd_base::{Failed, Sink};
 use device_plain::Device;
 use journal_core::Accesses;
+use report::control_core::Control;
 use report::{render, summary};
-use shared_device::lend_journal;
+use script_threads::shared_device::lend_journal;
 
 /// Writes the text of the journal of a device.
 pub(crate) fn print_text<K: Sink>(device: &Device, sink: &mut K) -> Result<(), Failed>

@@ -1,6 +1,6 @@
 //! The script of an input: each line is done as soon as it is read.
 
-ghost use Rattle.script_codec.specs.Reading.{first_fault};
+ghost use Rattle.script_source.specs.script_codec.specs.Reading.{first_fault};
 ghost use Rattle.script_runner.specs.Fronts.{RanRest, RanScript};
 ghost use Rattle.script_runner.specs.Running.{IsLawful};
 ghost use Rattle.std.specs.Prelude.{◌≡◌, ◌≢◌, ◌≤◌, [], Err, IfErr, IfOk, OnOk, Some};
@@ -8,7 +8,7 @@ ghost use Rattle.std.specs.Prelude.{◌≡◌, ◌≢◌, ◌≤◌, [], Err, If
 use crate::lines::{is_lawful, run_line};
 use dcd_base::Bytes;
 use device_plain::Device;
-use script_codec::{Line, OwnReader, ScriptFault};
+use script_source::script_codec::{Line, OwnReader, ScriptFault};
 use std::alloc::Global;
 
 /// Does the lines that are still to come, in their order, on the fresh device. All are read into one place.

@@ -1,16 +1,16 @@
 //! Whether each phase of a script is light, told from the kinds and the lengths of its lines.
 
 ghost use Rattle.field_bytes.specs.Layouts.{number_at};
-ghost use Rattle.script_codec.specs.Scripts.{ReadsScript};
-ghost use Rattle.script_codec.specs.declared.scripts.Script.{Script};
-ghost use Rattle.script_codec.specs.declared.script_line.Line.{Line};
+ghost use Rattle.script_source.specs.script_codec.specs.Scripts.{ReadsScript};
+ghost use Rattle.script_source.specs.script_codec.specs.declared.scripts.Script.{Script};
+ghost use Rattle.script_source.specs.script_codec.specs.declared.script_line.Line.{Line};
 ghost use Rattle.script_runner.specs.Skimming.{LinesFrom, skimmed};
 ghost use Rattle.std.specs.Int.{w16};
 ghost use Rattle.std.specs.Prelude.{◌≡◌, ◌+◌, ◌<◌, ◌≤◌, IfSome, List, length};
-ghost use Rattle.workers.specs.Weights.{are_light};
+ghost use Rattle.script_threads.specs.workers.specs.Weights.{are_light};
 
 use field_bytes::u16_at;
-use workers::COMMAND_WEIGHT;
+use script_threads::workers::COMMAND_WEIGHT;
 
 /// What is looked at of a line.
 #[derive(Clone, Copy)]

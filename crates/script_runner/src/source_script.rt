@@ -10,7 +10,7 @@ ghost use Rattle.std.specs.Prelude.{◌≡◌, ◌≤◌, [], IfErr, IfOk, OnOk}
 use crate::lines::{is_lawful, run_line};
 use dcd_base::Source;
 use device_plain::Device;
-use script_codec::Line;
+use script_source::script_codec::Line;
 use script_source::{ScriptEnd, SourceReader};
 use std::alloc::Global;
 

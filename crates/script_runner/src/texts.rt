@@ -15,7 +15,7 @@ use crate::status::Status;
 use dcd_base::{Bytes, Failed, Gate, Sink};
 use device_plain::Device;
 use report::refusal;
-use script_codec::ScriptFault;
+use script_source::script_codec::ScriptFault;
 use std::alloc::{AllocGlobal, Global};
 use std::sync::Wait;
 use std::thread::Threads;

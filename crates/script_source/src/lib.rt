@@ -9,5 +9,6 @@ mod hand;
 mod script_end;
 mod source_reader;
 
+pub use script_codec;
 pub use script_end::ScriptEnd;
 pub use source_reader::SourceReader;

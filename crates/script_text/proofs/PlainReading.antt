@@ -1,13 +1,13 @@
 -- A line that is read at once is the next one of a text, as it is read word by word.
 use Rattle.std.proofs.Common.{◌≡◌, ℕ, ◌+◌, ◌<◌, List, [], ◌∷◌, ◌++◌, length, sym, ap, ◌∙◌, refl, arith, length-append}
 use Rattle.std.specs.List.{flat_map}
-use Rattle.script_codec.specs.declared.script_line.Line.{Line}
+use Rattle.text_printing.specs.script_codec.specs.declared.script_line.Line.{Line}
 use Rattle.text_words.specs.Unread.{Ahead, ahead_from, ahead_with, first_words}
 use Rattle.text_words.specs.Words.{line_text, spaced}
 use Rattle.text_words.proofs.TextLaws.{line_ahead_of}
-use Rattle.text_lines.specs.PlainLines.{CutsLine}
-use Rattle.text_lines.specs.declared.actors.Frame.{Frame}
-use Rattle.text_lines.proofs.LineLaws.{line_goes}
+use Rattle.text_printing.specs.text_lines.specs.PlainLines.{CutsLine}
+use Rattle.text_printing.specs.text_lines.specs.declared.actors.Frame.{Frame}
+use Rattle.text_printing.specs.text_lines.proofs.LineLaws.{line_goes}
 use Rattle.script_text.specs.Texts.{IsReadFirst}
 
 first_here : (n : ℕ) (words : List (List ℕ)) (a : Ahead) → 0 < length words → (ahead_with (first_words n words) a).lines ≡ first_words n words ∷ a.lines

@@ -7,13 +7,13 @@ use Rattle.std.proofs.lemmas.Grind.{flat_map-append}
 use Rattle.std.proofs.Math.Nat.{mul_assoc}
 use Rattle.field_bytes.specs.Layouts.{Field, Number, spell, spelling}
 use Rattle.region_config.specs.declared.region_spec.RegionSpec.{RegionSpec}
-use Rattle.script_codec.specs.Scripts.{lanes_fields, line_fields, region_fields, script_head, start_fields}
-use Rattle.script_codec.specs.Reading.{most_bytes}
-use Rattle.script_codec.specs.Writing.{script_bytes}
-use Rattle.script_codec.specs.declared.script_line.Line.{Line}
-use Rattle.script_codec.specs.declared.scripts.Script.{Script}
-use Rattle.text_lines.specs.declared.faults.Cause.{Cause}
-use Rattle.text_lines.specs.declared.faults.TextFault.{TextFault}
+use Rattle.text_printing.specs.script_codec.specs.Scripts.{lanes_fields, line_fields, region_fields, script_head, start_fields}
+use Rattle.text_printing.specs.script_codec.specs.Reading.{most_bytes}
+use Rattle.text_printing.specs.script_codec.specs.Writing.{script_bytes}
+use Rattle.text_printing.specs.script_codec.specs.declared.script_line.Line.{Line}
+use Rattle.text_printing.specs.script_codec.specs.declared.scripts.Script.{Script}
+use Rattle.text_printing.specs.text_lines.specs.declared.faults.Cause.{Cause}
+use Rattle.text_printing.specs.text_lines.specs.declared.faults.TextFault.{TextFault}
 use Rattle.script_text.specs.Texts.{short_script}
 
 joined_size : (fs gs : List Field) → length (spelling (fs ++ gs)) ≡ length (spelling fs) + length (spelling gs)

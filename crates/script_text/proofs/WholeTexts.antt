@@ -10,30 +10,30 @@ use Rattle.region_config.specs.Configurations.{Configuration}
 use Rattle.region_config.specs.Setups.{config_fault}
 use Rattle.region_config.specs.declared.faults.ConfigFault.{ConfigFault}
 use Rattle.region_config.specs.declared.region_spec.RegionSpec.{RegionSpec}
-use Rattle.script_codec.specs.Reading.{most_bytes, most_lines}
-use Rattle.script_codec.specs.Scripts.{are_lanes, is_sound_line}
-use Rattle.script_codec.specs.Writing.{IsWritable, has_short_message, script_bytes}
-use Rattle.script_codec.specs.declared.heads.Head.{Head}
-use Rattle.script_codec.specs.declared.script_line.Line.{Line}
-use Rattle.script_codec.specs.declared.scripts.Script.{Script}
-use Rattle.script_codec.proofs.Writable.{counted}
+use Rattle.text_printing.specs.script_codec.specs.Reading.{most_bytes, most_lines}
+use Rattle.text_printing.specs.script_codec.specs.Scripts.{are_lanes, is_sound_line}
+use Rattle.text_printing.specs.script_codec.specs.Writing.{IsWritable, has_short_message, script_bytes}
+use Rattle.text_printing.specs.script_codec.specs.declared.heads.Head.{Head}
+use Rattle.text_printing.specs.script_codec.specs.declared.script_line.Line.{Line}
+use Rattle.text_printing.specs.script_codec.specs.declared.scripts.Script.{Script}
+use Rattle.text_printing.specs.script_codec.proofs.Writable.{counted}
 use Rattle.text_words.specs.Unread.{Ahead, UnreadWords, all_of, leading_word}
-use Rattle.text_lines.specs.Chains.{◌>>!◌ as ◌>>=◌}
-use Rattle.text_lines.specs.Fields.{GivesLast, begins}
-use Rattle.text_lines.specs.Keywords.{keyword_text}
-use Rattle.text_lines.specs.Layouts.{SaysLine}
-use Rattle.text_lines.specs.Lines.{opening_ahead, opening_of_word, rest_ahead}
-use Rattle.text_lines.specs.Parts.{Part, ReadsParts}
-use Rattle.text_lines.specs.declared.actors.Frame.{Frame}
-use Rattle.text_lines.specs.declared.faults.Cause.{Cause}
-use Rattle.text_lines.specs.declared.faults.TextFault.{TextFault}
-use Rattle.text_lines.specs.declared.faults.Wanted.{Wanted}
-use Rattle.text_lines.specs.declared.keywords.Keyword.{Keyword}
-use Rattle.text_lines.specs.declared.openings.Opening.{Opening}
-use Rattle.text_lines.proofs.FieldLaws.{begins_with, begins_words, bound, ok_is, one_sound}
-use Rattle.text_lines.proofs.LineLaws.{line_goes, line_sound, word_first}
-use Rattle.text_lines.proofs.OpeningLaws.{host_never_opens}
-use Rattle.text_lines.proofs.SoundLaws.{short_message, sound_line}
+use Rattle.text_printing.specs.text_lines.specs.Chains.{◌>>!◌ as ◌>>=◌}
+use Rattle.text_printing.specs.text_lines.specs.Fields.{GivesLast, begins}
+use Rattle.text_printing.specs.text_lines.specs.Keywords.{keyword_text}
+use Rattle.text_printing.specs.text_lines.specs.Layouts.{SaysLine}
+use Rattle.text_printing.specs.text_lines.specs.Lines.{opening_ahead, opening_of_word, rest_ahead}
+use Rattle.text_printing.specs.text_lines.specs.Parts.{Part, ReadsParts}
+use Rattle.text_printing.specs.text_lines.specs.declared.actors.Frame.{Frame}
+use Rattle.text_printing.specs.text_lines.specs.declared.faults.Cause.{Cause}
+use Rattle.text_printing.specs.text_lines.specs.declared.faults.TextFault.{TextFault}
+use Rattle.text_printing.specs.text_lines.specs.declared.faults.Wanted.{Wanted}
+use Rattle.text_printing.specs.text_lines.specs.declared.keywords.Keyword.{Keyword}
+use Rattle.text_printing.specs.text_lines.specs.declared.openings.Opening.{Opening}
+use Rattle.text_printing.specs.text_lines.proofs.FieldLaws.{begins_with, begins_words, bound, ok_is, one_sound}
+use Rattle.text_printing.specs.text_lines.proofs.LineLaws.{line_goes, line_sound, word_first}
+use Rattle.text_printing.specs.text_lines.proofs.OpeningLaws.{host_never_opens}
+use Rattle.text_printing.specs.text_lines.proofs.SoundLaws.{short_message, sound_line}
 use Rattle.script_text.specs.Heads.{host_line_ahead, host_lines_at, hosts_behind, region_ahead, regions_at, regions_behind, start_ahead}
 use Rattle.script_text.specs.Layouts.{ReadsLines, Says, SaysLines, frame_of_script, head_parts, host_parts, hosts_parts, regions_parts, start_parts}
 use Rattle.script_text.specs.Texts.{IsParsed, IsParsedAs, config_ahead, config_or_fault, config_checked, first_begins, frame_of, frame_of_head, head_ahead, lines_at, lines_behind, made_config, opening_read, refused_before, room_for_line, script_of_lines, script_said, script_with, short_script, some_hosts_ahead, some_read, some_regions_ahead, started}

@@ -1,13 +1,13 @@
 -- The one text of a script, and what printing appends.
 use Rattle.std.specs.Prelude.{◌≡◌, ℕ, List, ◌++◌, map}
 use Rattle.std.specs.List.{AllByRecursion, flat_map}
-use Rattle.script_codec.specs.declared.script_line.Line.{Line}
-use Rattle.script_codec.specs.declared.scripts.Script.{Script}
+use Rattle.text_printing.specs.script_codec.specs.declared.script_line.Line.{Line}
+use Rattle.text_printing.specs.script_codec.specs.declared.scripts.Script.{Script}
 use Rattle.text_words.specs.Texts.{IsWordLine}
 use Rattle.text_words.specs.Words.{line_text}
-use Rattle.text_lines.specs.Layouts.{line_parts}
-use Rattle.text_lines.specs.Parts.{Part, parts_words}
-use Rattle.text_lines.specs.declared.actors.Frame.{Frame}
+use Rattle.text_printing.specs.text_lines.specs.Layouts.{line_parts}
+use Rattle.text_printing.specs.text_lines.specs.Parts.{Part, parts_words}
+use Rattle.text_printing.specs.text_lines.specs.declared.actors.Frame.{Frame}
 use Rattle.text_printing.specs.Printing.{printed_words}
 use Rattle.script_text.specs.Layouts.{ReadsLines, SaysLines, frame_of_script, head_parts}
 

@@ -14,4 +14,5 @@ mod sizes;
 pub use laws::law_says;
 pub use parsing::parse;
 pub use printing::print;
-pub use text_lines::{Cause, Keyword, TextFault, Wanted};
+pub use text_printing::text_lines::{Cause, Keyword, TextFault, Wanted};
+pub use text_printing::{script_codec, text_lines};

@@ -1,22 +1,24 @@
 //! The script that a text says.
 
-ghost use Rattle.script_codec.specs.Writing.{IsWritable};
-ghost use Rattle.script_codec.specs.declared.scripts.Script.{Script};
+ghost use Rattle.text_printing.specs.script_codec.specs.Writing.{IsWritable};
+ghost use Rattle.text_printing.specs.script_codec.specs.declared.scripts.Script.{Script};
 ghost use Rattle.script_text.specs.Layouts.{Says};
 ghost use Rattle.script_text.specs.Texts.{IsParsed, IsParsedAs, TakesPlainLine, frame_of_head, lines_at, lines_behind, script_of_lines, script_said, short_script};
 ghost use Rattle.field_bytes.specs.Layouts.{spelling};
-ghost use Rattle.script_codec.specs.Scripts.{line_fields};
+ghost use Rattle.text_printing.specs.script_codec.specs.Scripts.{line_fields};
 ghost use Rattle.std.specs.List.{flat_map};
 ghost use Rattle.std.specs.Prelude.{◌≡◌, ◌*◌, ◌≤◌, [], IfOk, length, min};
-ghost use Rattle.text_lines.specs.Fields.{GivesLast};
+ghost use Rattle.text_printing.specs.text_lines.specs.Fields.{GivesLast};
 
 use crate::configs::head;
 use crate::sizes::{is_short, size_with};
 use dcd_base::NoMemory;
 use journal_core::Act;
-use script_codec::{Head, Line, Script};
 use std::alloc::Global;
-use text_lines::{Cause, Frame, PayloadRoom, TextFault, opening, plain_access, plain_line, rest};
+use text_printing::script_codec::{Head, Line, Script};
+use text_printing::text_lines::{
+    Cause, Frame, PayloadRoom, TextFault, opening, plain_access, plain_line, rest,
+};
 use text_words::TextLines;
 
 /// The most lines of a script.
@@ -72,7 +74,7 @@ fn fill_accesses(
     frame: Frame,
     before: Filling,
     lines: &mut TextLines<'_>,
-    out: &mut script_codec::Lines,
+    out: &mut text_printing::script_codec::Lines,
 ) -> Result<Filling, NoMemory>
     requires { before.size ≡ min (length (spelling (flat_map line_fields out.old))) 18446744073709551615 }
     ensures value { IfOk result (λ after. lines_behind out.new (lines_at after.left frame lines.new.lines)
@@ -113,7 +115,7 @@ fn fill_plain(
     before: Filling,
     lines: &mut TextLines<'_>,
     room: &mut PayloadRoom,
-    out: &mut script_codec::Lines,
+    out: &mut text_printing::script_codec::Lines,
 ) -> Result<Filling, NoMemory>
     requires { before.size ≡ min (length (spelling (flat_map line_fields out.old))) 18446744073709551615 }
     ensures value { IfOk result (λ after. lines_behind out.new (lines_at after.left frame lines.new.lines)
@@ -144,7 +146,7 @@ fn fill_lines(
     most: u32,
     frame: Frame,
     lines: &mut TextLines<'_>,
-    out: &mut script_codec::Lines,
+    out: &mut text_printing::script_codec::Lines,
 ) -> Result<u64, TextFault>
     requires { out.old ≡ [] }
     ensures value { GivesLast (λ _. out.new) result (lines_at most frame lines.old.lines) }
@@ -205,7 +207,7 @@ fn script_of(alloc: Global, lines: &mut TextLines<'_>) -> Result<Script, TextFau
 {
     let head = head(alloc, lines)?;
     let frame = frame_of(&head);
-    let mut body = script_codec::Lines::new(alloc);
+    let mut body = text_printing::script_codec::Lines::new(alloc);
     let size = fill_lines(alloc, MOST_LINES, frame, lines, &mut body)?;
     let script = Script {
         version: head.version,

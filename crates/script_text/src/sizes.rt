@@ -1,14 +1,14 @@
 //! How many bytes a script has.
 
 ghost use Rattle.field_bytes.specs.Layouts.{spelling};
-ghost use Rattle.script_codec.specs.Scripts.{script_head, line_fields};
-ghost use Rattle.script_codec.specs.Writing.{script_bytes};
+ghost use Rattle.text_printing.specs.script_codec.specs.Scripts.{script_head, line_fields};
+ghost use Rattle.text_printing.specs.script_codec.specs.Writing.{script_bytes};
 ghost use Rattle.std.specs.List.{flat_map};
 ghost use Rattle.std.specs.Prelude.{◌≡◌, ◌+◌, ◌*◌, ◌<◌, ◌^◌, length, min, nat_le};
 
 use journal_core::Act;
 use region_config::Config;
-use script_codec::{Line, Script};
+use text_printing::script_codec::{Line, Script};
 
 /// The most bytes of a script.
 const MOST_BYTES: u64 = 16_777_216;

@@ -3,7 +3,7 @@ use Rattle.std.proofs.Common.{◌≡◌, ℕ, ◌<◌, List, map, sym, ap, ◌�
 use mathlib.Core.Option.{some, some-injective}
 use lib.ListN.{get_elem?}
 use Rattle.dcd_base.specs.declared.steps.Actor.{Actor}
-use Rattle.device_rules.specs.Legal.{Exclusive, Legal}
+use Rattle.shared_device.specs.device_rules.specs.Legal.{Exclusive, Legal}
 use Rattle.isolation_laws.specs.Solo.{Isolated}
 use Rattle.journal_core.specs.declared.acts.Act.{Act}
 use Rattle.journal_core.specs.declared.entries.Entry.{Entry}
@@ -11,12 +11,12 @@ use Rattle.journal_core.specs.Merging.{calls_of, merged}
 use Rattle.journal_core.proofs.Splits.{all_from_places}
 use Rattle.region_config.specs.Configurations.{Configuration}
 use Rattle.region_config.specs.Soundness.{IsSound}
-use Rattle.ruled_cells.specs.Calls.{seats_of}
-use Rattle.ruled_cells.proofs.Places.{at_there}
-use Rattle.script_codec.specs.declared.script_line.Line.{Line}
-use Rattle.script_codec.specs.declared.scripts.Script.{Script}
-use Rattle.script_codec.specs.Covering.{Covers, pass_of}
-use Rattle.script_codec.specs.Scripts.{IsScript, is_sound_line}
+use Rattle.shared_device.specs.ruled_cells.specs.Calls.{seats_of}
+use Rattle.shared_device.specs.ruled_cells.proofs.Places.{at_there}
+use Rattle.workers.specs.script_codec.specs.declared.script_line.Line.{Line}
+use Rattle.workers.specs.script_codec.specs.declared.scripts.Script.{Script}
+use Rattle.workers.specs.script_codec.specs.Covering.{Covers, pass_of}
+use Rattle.workers.specs.script_codec.specs.Scripts.{IsScript, is_sound_line}
 use Rattle.script_threads.specs.ThreadRuns.{HasDone, IsTakenApart, IsThreadRun}
 use Rattle.shared_device.specs.Closing.{AreAllPasses, IsClosed}
 use Rattle.shared_device.specs.Commanding.{actors_of}

@@ -15,10 +15,10 @@ use Rattle.journal_core.specs.declared.acts.Act.{Act}
 use Rattle.journal_core.specs.Entries.{fits}
 use Rattle.region_config.specs.Configurations.{Configuration}
 use Rattle.region_config.specs.Granules.{hosts_of}
-use Rattle.ruled_cells.proofs.Places.{replicate_at}
-use Rattle.script_codec.specs.declared.script_line.Line.{Line}
-use Rattle.script_codec.specs.Covering.{pass_of}
-use Rattle.script_codec.specs.Scripts.{is_sound_line}
+use Rattle.shared_device.specs.ruled_cells.proofs.Places.{replicate_at}
+use Rattle.workers.specs.script_codec.specs.declared.script_line.Line.{Line}
+use Rattle.workers.specs.script_codec.specs.Covering.{pass_of}
+use Rattle.workers.specs.script_codec.specs.Scripts.{is_sound_line}
 use Rattle.shared_device.specs.Commanding.{actors_of}
 
 -- the lanes of each of these hosts

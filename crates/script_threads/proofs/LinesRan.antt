@@ -4,7 +4,7 @@ use Rattle.std.proofs.Math.Seq.{take-append_seam}
 use Rattle.std.proofs.lemmas.List.{append-nil}
 use mathlib.Core.Option.{some, some-injective, some-ne-none}
 use lib.ListN.{get_elem?}
-use Rattle.script_codec.specs.declared.script_line.Line.{Line}
+use Rattle.workers.specs.script_codec.specs.declared.script_line.Line.{Line}
 use Rattle.script_threads.specs.ScriptPasses.{AreNewPasses, HasRun, HaveRun}
 use Rattle.script_threads.specs.SharedPasses.{shared_reads}
 use Rattle.shared_device.specs.Commanding.{actors_of}

@@ -2,8 +2,8 @@
 use Rattle.std.proofs.Common.{◌≡◌, ℕ, suc, ◌+◌, ◌≤◌, ◌==◌, Bool, true, false, List, [], ◌∷◌, length, if◌then◌else◌, sym, ap, ◌∙◌, subst, refl, arith}
 use mathlib.Core.Option.{some, some-injective}
 use lib.ListN.{get_elem?}
-use Rattle.script_codec.specs.declared.script_line.Line.{Line}
-use Rattle.script_codec.specs.Covering.{pass_of}
+use Rattle.workers.specs.script_codec.specs.declared.script_line.Line.{Line}
+use Rattle.workers.specs.script_codec.specs.Covering.{pass_of}
 use Rattle.script_threads.specs.ScriptPasses.{AreNewPasses}
 use Rattle.script_threads.specs.SharedPasses.{shared_reads}
 use Rattle.shared_device.specs.Commanding.{actors_of}

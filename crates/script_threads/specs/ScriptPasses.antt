@@ -2,7 +2,7 @@
 use Rattle.std.specs.Prelude.{◌≡◌, ℕ, List, map}
 use mathlib.Core.Option.{some}
 use lib.ListN.{get_elem?}
-use Rattle.script_codec.specs.declared.script_line.Line.{Line}
+use Rattle.workers.specs.script_codec.specs.declared.script_line.Line.{Line}
 use Rattle.shared_device.specs.Commanding.{actors_of}
 use Rattle.shared_device.specs.declared.pass.Pass.{Pass}
 use Rattle.shared_device.specs.declared.shared.Shared.{Shared}

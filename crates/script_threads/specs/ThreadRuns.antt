@@ -1,13 +1,13 @@
 -- What a run of a script in threads leaves.
 use Rattle.std.specs.Prelude.{◌≡◌, ℕ, ◌+◌, ◌*◌, List, length}
-use Rattle.device_rules.specs.Legal.{Exclusive, Legal}
+use Rattle.shared_device.specs.device_rules.specs.Legal.{Exclusive, Legal}
 use Rattle.isolation_laws.specs.Solo.{Isolated}
 use Rattle.journal_core.specs.declared.entries.Entry.{Entry}
 use Rattle.journal_core.specs.Merging.{Numbered}
 use Rattle.region_config.specs.Configurations.{Configuration}
-use Rattle.script_codec.specs.declared.scripts.Script.{Script}
-use Rattle.script_codec.specs.Covering.{Covers}
-use Rattle.ruled_cells.specs.Calls.{seats_of}
+use Rattle.workers.specs.script_codec.specs.declared.scripts.Script.{Script}
+use Rattle.workers.specs.script_codec.specs.Covering.{Covers}
+use Rattle.shared_device.specs.ruled_cells.specs.Calls.{seats_of}
 use Rattle.script_threads.specs.ScriptPasses.{HaveRun}
 use Rattle.shared_device.specs.Closing.{IsClosed}
 use Rattle.shared_device.specs.declared.pass.Pass.{Pass}

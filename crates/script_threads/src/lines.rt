@@ -1,7 +1,7 @@
 //! A fresh device, and the lines of a script on it.
 
-ghost use Rattle.ruled_cells.specs.Calls.{seats_of};
-ghost use Rattle.script_codec.specs.Scripts.{is_sound_line};
+ghost use Rattle.shared_device.specs.ruled_cells.specs.Calls.{seats_of};
+ghost use Rattle.workers.specs.script_codec.specs.Scripts.{is_sound_line};
 ghost use Rattle.script_threads.specs.ScriptPasses.{AreNewPasses, HaveRun};
 ghost use Rattle.std.specs.List.{list_all};
 ghost use Rattle.std.specs.Prelude.{◌≡◌, ◌<◌, ◌≤◌, ◌+◌, ◌*◌, IfOk, IsTrue, OnOk, length};
@@ -9,11 +9,11 @@ ghost use Rattle.std.specs.Prelude.{◌≡◌, ◌<◌, ◌≤◌, ◌+◌, ◌*
 use crate::gated::Gated;
 use dcd_base::{Gate, NoMemory};
 use region_config::Config;
-use script_codec::Lines;
 use shared_device::{Pass, Shared};
 use std::alloc::{AllocGlobal, Global};
 use std::sync::Wait;
 use std::thread::Threads;
+use workers::script_codec::Lines;
 use workers::{Sharing, run_script_lines};
 
 /// A fresh device of an equal configuration, and its passes.

@@ -2,9 +2,9 @@
 
 ghost use Rattle.journal_core.specs.Lending.{AllRise};
 ghost use Rattle.journal_core.specs.Merging.{merged};
-ghost use Rattle.ruled_cells.specs.Calls.{seats_of};
-ghost use Rattle.script_codec.specs.Scripts.{IsScript, is_sound_line};
-ghost use Rattle.script_codec.specs.declared.scripts.Script.{Script};
+ghost use Rattle.shared_device.specs.ruled_cells.specs.Calls.{seats_of};
+ghost use Rattle.workers.specs.script_codec.specs.Scripts.{IsScript, is_sound_line};
+ghost use Rattle.workers.specs.script_codec.specs.declared.scripts.Script.{Script};
 ghost use Rattle.shared_device.specs.Closing.{AreAllPasses};
 ghost use Rattle.script_threads.specs.ScriptPasses.{HaveRun};
 ghost use Rattle.script_threads.specs.ThreadRuns.{HasDone, IsTakenApart, IsThreadRun};
@@ -12,16 +12,16 @@ ghost use Rattle.std.specs.List.{list_all};
 ghost use Rattle.std.specs.Prelude.{◌≡◌, ◌<◌, ◌≤◌, ◌+◌, ◌*◌, IfOk, IsTrue, length};
 
 use crate::lines::{fresh_device, run_lines};
-use control_core::Control;
 use dcd_base::{Gate, NoMemory};
 use isolation_laws::law_isolated;
 use journal_core::Accesses;
 use region_config::Config;
-use script_codec::{Lines, Script};
+use shared_device::control_core::Control;
 use shared_device::{Pass, Shared};
 use std::alloc::AllocGlobal;
 use std::sync::Wait;
 use std::thread::Threads;
+use workers::script_codec::{Lines, Script};
 use workers::{Sharing, law_served_cover};
 
 /// Does the lines on a fresh device, and answers it with its passes.

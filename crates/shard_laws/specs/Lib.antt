@@ -6,3 +6,5 @@ pub mod Lawful
 pub mod Owed
 pub mod Right
 pub mod Stripes
+pub use Rattle.ruled_cells
+pub use Rattle.device_rules

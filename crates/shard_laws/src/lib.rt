@@ -6,4 +6,6 @@
 
 mod laws;
 
+pub use device_rules;
 pub use laws::{law_at_rest, law_changed, law_merged};
+pub use ruled_cells;

@@ -4,13 +4,13 @@ use Rattle.std.specs.List.{All}
 use Rattle.std.proofs.lemmas.List.{length-map}
 use mathlib.Core.Option.{some}
 use lib.ListN.{get_elem?}
-use Rattle.control_core.specs.Steps.{MayStep}
+use Rattle.shared_device.specs.control_core.specs.Steps.{MayStep}
 use Rattle.dcd_base.specs.declared.steps.Actor.{Actor}
 use Rattle.journal_core.proofs.Splits.{all_from_places}
 use Rattle.journal_core.specs.declared.acts.Act.{Act}
 use Rattle.journal_core.specs.Entries.{fits, is_control}
 use Rattle.journal_core.specs.Merging.{call_of}
-use Rattle.ruled_cells.specs.Seats.{seat_view}
+use Rattle.shared_device.specs.ruled_cells.specs.Seats.{seat_view}
 use Rattle.shared_device.specs.declared.pass.Pass.{Pass}
 use Rattle.shared_device.specs.declared.shared.Shared.{Shared}
 use Rattle.shared_device.specs.Passing.{IsNewPass, IsOneOf, pass_calls}

@@ -7,8 +7,8 @@ use mathlib.Core.Option.{some, some-injective, some-ne-none}
 use native.Mathlib.Decide.{dec_lt}
 use lib.ListN.{get_elem?, length-map}
 use Rattle.dcd_base.specs.declared.steps.Stamp.{Stamp}
-use Rattle.device_rules.specs.Legal.{Legal}
-use Rattle.holding_laws.proofs.ExclusiveHolding.{legal_exclusive}
+use Rattle.block_shard.specs.device_rules.specs.Legal.{Legal}
+use Rattle.control_core.specs.holding_laws.proofs.ExclusiveHolding.{legal_exclusive}
 use Rattle.journal_core.specs.declared.entries.Entry.{Entry}
 use Rattle.journal_core.specs.Lending.{AllRise}
 use Rattle.journal_core.specs.Merging.{Numbered, Rising, call_of, calls_of, is_later, merged}
@@ -16,26 +16,26 @@ use Rattle.journal_core.proofs.Filters.{all_flat}
 use Rattle.journal_core.proofs.MergedFilters.{merged-all}
 use Rattle.journal_core.proofs.Splits.{all_at, all_from_places}
 use Rattle.region_config.specs.Soundness.{IsSound}
-use Rattle.ruled_cells.specs.declared.about.About.{About}
-use Rattle.ruled_cells.specs.declared.cell_value.CellValue.TheVariants.{Rest}
-use Rattle.ruled_cells.specs.declared.seat.Seat.{Seat}
-use Rattle.ruled_cells.specs.Booking.{Fits, own, weigh, weigh_all, weight_one}
-use Rattle.ruled_cells.specs.Calls.{AccountFor, AreAll, IsOf, NoOthers, opened_with, seats_of}
-use Rattle.ruled_cells.specs.Reads.{about_of}
-use Rattle.ruled_cells.specs.Resting.{Accounts, IsAtRest}
-use Rattle.ruled_cells.specs.Ruling.{Names, names}
-use Rattle.ruled_cells.specs.Seats.{NoTurns, seat_view}
-use Rattle.ruled_cells.specs.Stamps.{Below, Rise}
-use Rattle.ruled_cells.specs.Telling.{values}
-use Rattle.ruled_cells.proofs.Places.{map_at}
-use Rattle.ruled_cells.proofs.Weights.{own-same}
-use Rattle.shard_laws.specs.Lawful.{AreShardLogs, IsShardLog}
-use Rattle.shard_laws.specs.Right.{stripe_reads}
-use Rattle.shard_laws.specs.Stripes.{Stripe}
-use Rattle.shard_laws.proofs.AtRest.{rests_lawful}
-use Rattle.shard_laws.proofs.ControlLogs.{control_of_merged}
-use Rattle.shard_laws.proofs.LawfulMerge.{merges_legally}
-use Rattle.shard_laws.proofs.ShardParts.{all_accesses}
+use Rattle.block_shard.specs.ruled_cells.specs.declared.about.About.{About}
+use Rattle.block_shard.specs.ruled_cells.specs.declared.cell_value.CellValue.TheVariants.{Rest}
+use Rattle.block_shard.specs.ruled_cells.specs.declared.seat.Seat.{Seat}
+use Rattle.block_shard.specs.ruled_cells.specs.Booking.{Fits, own, weigh, weigh_all, weight_one}
+use Rattle.block_shard.specs.ruled_cells.specs.Calls.{AccountFor, AreAll, IsOf, NoOthers, opened_with, seats_of}
+use Rattle.block_shard.specs.ruled_cells.specs.Reads.{about_of}
+use Rattle.block_shard.specs.ruled_cells.specs.Resting.{Accounts, IsAtRest}
+use Rattle.block_shard.specs.ruled_cells.specs.Ruling.{Names, names}
+use Rattle.block_shard.specs.ruled_cells.specs.Seats.{NoTurns, seat_view}
+use Rattle.block_shard.specs.ruled_cells.specs.Stamps.{Below, Rise}
+use Rattle.block_shard.specs.ruled_cells.specs.Telling.{values}
+use Rattle.block_shard.specs.ruled_cells.proofs.Places.{map_at}
+use Rattle.block_shard.specs.ruled_cells.proofs.Weights.{own-same}
+use Rattle.block_shard.specs.shard_laws.specs.Lawful.{AreShardLogs, IsShardLog}
+use Rattle.block_shard.specs.shard_laws.specs.Right.{stripe_reads}
+use Rattle.block_shard.specs.shard_laws.specs.Stripes.{Stripe}
+use Rattle.block_shard.specs.shard_laws.proofs.AtRest.{rests_lawful}
+use Rattle.block_shard.specs.shard_laws.proofs.ControlLogs.{control_of_merged}
+use Rattle.block_shard.specs.shard_laws.proofs.LawfulMerge.{merges_legally}
+use Rattle.block_shard.specs.shard_laws.proofs.ShardParts.{all_accesses}
 use Rattle.shared_device.specs.declared.pass.Pass.{Pass}
 use Rattle.shared_device.specs.declared.shared.Shared.{Shared}
 use Rattle.shared_device.specs.Closing.{AreAllPasses, HasCalls, IsClosed}

@@ -7,29 +7,29 @@ use native.Mathlib.Decide.{dec_lt}
 use lib.ListN.{get_elem?}
 use Rattle.atomic_table.proofs.Lists.{set_else}
 use Rattle.control_core.specs.declared.plan.Plan.{Plan}
-use Rattle.device_rules.specs.ChangedRuns.{AreChanges}
-use Rattle.device_rules.specs.Legal.{Legal}
+use Rattle.block_shard.specs.device_rules.specs.ChangedRuns.{AreChanges}
+use Rattle.block_shard.specs.device_rules.specs.Legal.{Legal}
 use Rattle.journal_core.specs.declared.entries.Entry.{Entry}
 use Rattle.journal_core.specs.Entries.{effects}
 use Rattle.region_config.specs.Configurations.{Configuration}
-use Rattle.ruled_cells.specs.declared.about.SeatView.{SeatView}
-use Rattle.ruled_cells.specs.declared.cell_value.CellValue.{CellValue}
-use Rattle.ruled_cells.specs.declared.cell_value.CellValue.TheVariants.{Rest}
-use Rattle.ruled_cells.specs.declared.cells.Cells.{Cells}
-use Rattle.ruled_cells.specs.declared.seat.Seat.{Seat}
-use Rattle.ruled_cells.specs.Calls.{GaveIn, IsOf, MayGiveFirstIn, MayGiveIn, MayNoteIn, row_of}
-use Rattle.ruled_cells.specs.Reads.{about_of}
-use Rattle.ruled_cells.specs.Ruling.{Names, names}
-use Rattle.ruled_cells.specs.Seats.{HasCell, HasFirst, IsSameSeat, NoCell, NoTurns, seat_number, seat_view, turns_of}
-use Rattle.ruled_cells.specs.Stamps.{Below, has_index, pending, stamp, stamps_after}
-use Rattle.ruled_cells.specs.Telling.{GaveCell, MayNote, changed_view, entered_view, last_of, noted_view}
-use Rattle.ruled_cells.specs.Turning.{HasTurn}
-use Rattle.ruled_cells.proofs.Order.{never, two}
-use Rattle.shard_laws.specs.Belonging.{touches_shard}
-use Rattle.shard_laws.specs.Changing.{ChangedBy, MakesChanges}
-use Rattle.shard_laws.specs.Owed.{FollowsEffects}
-use Rattle.shard_laws.specs.Right.{stripe_reads}
-use Rattle.shard_laws.specs.Stripes.{Stripe}
+use Rattle.block_shard.specs.ruled_cells.specs.declared.about.SeatView.{SeatView}
+use Rattle.block_shard.specs.ruled_cells.specs.declared.cell_value.CellValue.{CellValue}
+use Rattle.block_shard.specs.ruled_cells.specs.declared.cell_value.CellValue.TheVariants.{Rest}
+use Rattle.block_shard.specs.ruled_cells.specs.declared.cells.Cells.{Cells}
+use Rattle.block_shard.specs.ruled_cells.specs.declared.seat.Seat.{Seat}
+use Rattle.block_shard.specs.ruled_cells.specs.Calls.{GaveIn, IsOf, MayGiveFirstIn, MayGiveIn, MayNoteIn, row_of}
+use Rattle.block_shard.specs.ruled_cells.specs.Reads.{about_of}
+use Rattle.block_shard.specs.ruled_cells.specs.Ruling.{Names, names}
+use Rattle.block_shard.specs.ruled_cells.specs.Seats.{HasCell, HasFirst, IsSameSeat, NoCell, NoTurns, seat_number, seat_view, turns_of}
+use Rattle.block_shard.specs.ruled_cells.specs.Stamps.{Below, has_index, pending, stamp, stamps_after}
+use Rattle.block_shard.specs.ruled_cells.specs.Telling.{GaveCell, MayNote, changed_view, entered_view, last_of, noted_view}
+use Rattle.block_shard.specs.ruled_cells.specs.Turning.{HasTurn}
+use Rattle.block_shard.specs.ruled_cells.proofs.Order.{never, two}
+use Rattle.block_shard.specs.shard_laws.specs.Belonging.{touches_shard}
+use Rattle.block_shard.specs.shard_laws.specs.Changing.{ChangedBy, MakesChanges}
+use Rattle.block_shard.specs.shard_laws.specs.Owed.{FollowsEffects}
+use Rattle.block_shard.specs.shard_laws.specs.Right.{stripe_reads}
+use Rattle.block_shard.specs.shard_laws.specs.Stripes.{Stripe}
 use Rattle.shared_device.specs.Commanding.{Commanding, commanding_reads}
 use Rattle.shared_device.specs.Entering.{AreApart, HasNoted, HasOneMore, HasOnlyFirst, HasTouched, MayEnterStep}
 use Rattle.shared_device.proofs.Turns.{same_cell, still_there}

@@ -2,15 +2,15 @@
 use Rattle.std.proofs.Common.{◌≡◌, ℕ, suc, ◌+◌, List, [], ◌∷◌, ◌++◌, length, sym, ap, ◌∙◌, subst, ⊎_elim, arith}
 use mathlib.Core.Option.{some}
 use lib.ListN.{get_elem?}
-use Rattle.device_rules.specs.Legal.{Legal}
+use Rattle.block_shard.specs.device_rules.specs.Legal.{Legal}
 use Rattle.region_config.specs.Configurations.{Configuration}
-use Rattle.ruled_cells.specs.Ruling.{names}
-use Rattle.ruled_cells.specs.Telling.{MayOpen}
-use Rattle.ruled_cells.proofs.MakingSteps.{each_front}
-use Rattle.ruled_cells.proofs.Places.{at_push}
-use Rattle.shard_laws.specs.Changing.{IsFreshStripe}
-use Rattle.shard_laws.specs.Right.{IsRight, stripe_reads}
-use Rattle.shard_laws.specs.Stripes.{Stripe}
+use Rattle.block_shard.specs.ruled_cells.specs.Ruling.{names}
+use Rattle.block_shard.specs.ruled_cells.specs.Telling.{MayOpen}
+use Rattle.block_shard.specs.ruled_cells.proofs.MakingSteps.{each_front}
+use Rattle.block_shard.specs.ruled_cells.proofs.Places.{at_push}
+use Rattle.block_shard.specs.shard_laws.specs.Changing.{IsFreshStripe}
+use Rattle.block_shard.specs.shard_laws.specs.Right.{IsRight, stripe_reads}
+use Rattle.block_shard.specs.shard_laws.specs.Stripes.{Stripe}
 use Rattle.shared_device.specs.Commanding.{Commanding, commanding_reads}
 
 -- what holds of each item and its place, once there is one more

@@ -13,7 +13,7 @@ use Rattle.dcd_base.specs.declared.failures.AccessFault.{AccessFault}
 use Rattle.dcd_base.specs.declared.ids.HostId.{HostId}
 use Rattle.dcd_base.specs.declared.media.Place.{Place}
 use Rattle.dcd_base.specs.declared.steps.Actor.{Actor}
-use Rattle.device_rules.specs.Legal.{Legal, Meets, access_at, granted_reply, right_answer}
+use Rattle.block_shard.specs.device_rules.specs.Legal.{Legal, Meets, access_at, granted_reply, right_answer}
 use Rattle.journal_core.specs.declared.acts.Act.{Act}
 use Rattle.journal_core.specs.declared.acts.Reply.{Reply}
 use Rattle.journal_core.specs.declared.entries.Entry.{Entry}
@@ -25,7 +25,7 @@ use Rattle.journal_core.proofs.Filters.{filter_dropped, filter_kept}
 use Rattle.journal_core.proofs.Splits.{all_both}
 use Rattle.media_map.specs.Places.{locate}
 use Rattle.region_config.specs.Configurations.{Configuration}
-use Rattle.shard_laws.proofs.LeftOut.{effects_kept, no_effects, not_both}
+use Rattle.block_shard.specs.shard_laws.proofs.LeftOut.{effects_kept, no_effects, not_both}
 
 -- what all that a filter keeps are, all that pass it are
 of_kept : {X : Type 0} (p : X → Bool) (P : X → Type 0) (xs : List X) → All P (filter p xs) → All (λ x. p x ≡ true → P x) xs

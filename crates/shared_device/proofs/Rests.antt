@@ -7,10 +7,10 @@ use Rattle.dcd_base.specs.declared.steps.Actor.{Actor}
 use Rattle.dcd_base.specs.declared.steps.Stamp.{Stamp}
 use Rattle.journal_core.specs.declared.acts.Act.{Act}
 use Rattle.journal_core.specs.declared.acts.Reply.{Reply}
-use Rattle.ruled_cells.specs.declared.about.SeatView.{SeatView}
-use Rattle.ruled_cells.specs.declared.seat.Seat.{Seat}
-use Rattle.ruled_cells.specs.Seats.{IsSameSeat, NoTurns, seat_number, seat_view}
-use Rattle.shard_laws.specs.Stripes.{Stripe}
+use Rattle.block_shard.specs.ruled_cells.specs.declared.about.SeatView.{SeatView}
+use Rattle.block_shard.specs.ruled_cells.specs.declared.seat.Seat.{Seat}
+use Rattle.block_shard.specs.ruled_cells.specs.Seats.{IsSameSeat, NoTurns, seat_number, seat_view}
+use Rattle.block_shard.specs.shard_laws.specs.Stripes.{Stripe}
 use Rattle.shared_device.specs.Commanding.{Commanding}
 use Rattle.shared_device.specs.Visiting.{HasVisited}
 use Rattle.shared_device.proofs.Visits.{call_counted}

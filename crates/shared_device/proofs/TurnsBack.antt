@@ -2,7 +2,7 @@
 use Rattle.std.proofs.Common.{◌≡◌, ◌≢◌, ℕ, zero, suc, List, [], ◌∷◌, set, refl, ap, ⊎_elim, Option, Some, None}
 use lib.ListN.{get_elem?}
 use Rattle.atomic_table.proofs.Lists.{at_set}
-use Rattle.ruled_cells.specs.Turning.{NoTurn}
+use Rattle.block_shard.specs.ruled_cells.specs.Turning.{NoTurn}
 
 module _ {A : Type 0} where
   -- a turn that was not had is taken and given back

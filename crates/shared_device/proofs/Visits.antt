@@ -16,19 +16,19 @@ use Rattle.journal_core.specs.declared.acts.Reply.{Reply}
 use Rattle.journal_core.specs.declared.entries.Entry.{Entry}
 use Rattle.journal_core.specs.Merging.{call_of}
 use Rattle.region_config.specs.Configurations.{Configuration}
-use Rattle.ruled_cells.specs.declared.about.SeatView.{SeatView}
-use Rattle.ruled_cells.specs.declared.cell_value.CellValue.{CellValue}
-use Rattle.ruled_cells.specs.declared.seat.Seat.{Seat}
-use Rattle.ruled_cells.specs.Ruling.{Names, access_cell, names}
-use Rattle.ruled_cells.specs.Seats.{IsSameSeat, seat_number, seat_view}
-use Rattle.ruled_cells.specs.Stamps.{Below, pending}
-use Rattle.ruled_cells.specs.Telling.{Alike, GaveCell, MayGive, changed_view, entered_view}
-use Rattle.ruled_cells.proofs.Order.{never}
-use Rattle.shard_laws.specs.Accessing.{AddsAccess, IsAccess}
-use Rattle.shard_laws.specs.Changing.{ChangedBy}
-use Rattle.shard_laws.specs.Clocks.{IsNextStamp}
-use Rattle.shard_laws.specs.Right.{stripe_reads}
-use Rattle.shard_laws.specs.Stripes.{Stripe}
+use Rattle.block_shard.specs.ruled_cells.specs.declared.about.SeatView.{SeatView}
+use Rattle.block_shard.specs.ruled_cells.specs.declared.cell_value.CellValue.{CellValue}
+use Rattle.block_shard.specs.ruled_cells.specs.declared.seat.Seat.{Seat}
+use Rattle.block_shard.specs.ruled_cells.specs.Ruling.{Names, access_cell, names}
+use Rattle.block_shard.specs.ruled_cells.specs.Seats.{IsSameSeat, seat_number, seat_view}
+use Rattle.block_shard.specs.ruled_cells.specs.Stamps.{Below, pending}
+use Rattle.block_shard.specs.ruled_cells.specs.Telling.{Alike, GaveCell, MayGive, changed_view, entered_view}
+use Rattle.block_shard.specs.ruled_cells.proofs.Order.{never}
+use Rattle.block_shard.specs.shard_laws.specs.Accessing.{AddsAccess, IsAccess}
+use Rattle.block_shard.specs.shard_laws.specs.Changing.{ChangedBy}
+use Rattle.block_shard.specs.shard_laws.specs.Clocks.{IsNextStamp}
+use Rattle.block_shard.specs.shard_laws.specs.Right.{stripe_reads}
+use Rattle.block_shard.specs.shard_laws.specs.Stripes.{Stripe}
 use Rattle.shared_device.specs.Commanding.{Commanding, commanding_reads}
 use Rattle.shared_device.specs.declared.target.Target.{Target}
 use Rattle.shared_device.specs.Visiting.{HasVisited, MayVisit}

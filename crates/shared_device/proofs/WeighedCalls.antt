@@ -13,7 +13,7 @@ use Rattle.journal_core.specs.declared.entries.Entry.{Entry}
 use Rattle.journal_core.specs.Merging.{Rising, call_of, calls_of, insert_entry, is_later, merged}
 use Rattle.journal_core.proofs.Merges.{merged-rising}
 use Rattle.journal_core.proofs.Splits.{pairs_head, pairs_tail}
-use Rattle.ruled_cells.specs.Booking.{own, weigh, weight_one}
+use Rattle.block_shard.specs.ruled_cells.specs.Booking.{own, weigh, weight_one}
 use Rattle.shared_device.proofs.ToldCalls.{same_call}
 
 pub weigh_append : (h : Entry → ℕ) (a b : List Entry) → weigh h (a ++ b) ≡ weigh h a + weigh h b

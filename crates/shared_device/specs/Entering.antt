@@ -7,22 +7,22 @@ use Rattle.control_core.specs.Deciding.{IsShort}
 use Rattle.control_core.specs.Steps.{IsNextEntry}
 use Rattle.dcd_base.specs.declared.steps.Actor.{Actor}
 use Rattle.dcd_base.specs.declared.steps.Stamp.{Stamp}
-use Rattle.device_rules.specs.ChangedRuns.{AreChanges, LiesIn}
-use Rattle.device_rules.specs.Legal.{Legal}
-use Rattle.device_state.specs.Updates.{IsUpdate}
+use Rattle.block_shard.specs.device_rules.specs.ChangedRuns.{AreChanges, LiesIn}
+use Rattle.block_shard.specs.device_rules.specs.Legal.{Legal}
+use Rattle.control_core.specs.device_state.specs.Updates.{IsUpdate}
 use Rattle.journal_core.specs.declared.acts.Act.{Act}
 use Rattle.journal_core.specs.declared.acts.Reply.{Reply}
 use Rattle.journal_core.specs.declared.entries.Entry.{Entry}
 use Rattle.journal_core.specs.Entries.{effects}
 use Rattle.region_config.specs.Granules.{granule_total}
-use Rattle.ruled_cells.specs.declared.about.SeatView.{SeatView}
-use Rattle.ruled_cells.specs.declared.seat.Seat.{Seat}
-use Rattle.ruled_cells.specs.Reads.{about_of}
-use Rattle.ruled_cells.specs.Seats.{HasCell, HasFirst, NoCell, seat_number, seat_view}
-use Rattle.ruled_cells.specs.Stamps.{Below, has_index}
-use Rattle.ruled_cells.specs.Telling.{begun, noted_view}
-use Rattle.shard_laws.specs.Belonging.{touches_shard}
-use Rattle.shard_laws.specs.Stripes.{Stripe}
+use Rattle.block_shard.specs.ruled_cells.specs.declared.about.SeatView.{SeatView}
+use Rattle.block_shard.specs.ruled_cells.specs.declared.seat.Seat.{Seat}
+use Rattle.block_shard.specs.ruled_cells.specs.Reads.{about_of}
+use Rattle.block_shard.specs.ruled_cells.specs.Seats.{HasCell, HasFirst, NoCell, seat_number, seat_view}
+use Rattle.block_shard.specs.ruled_cells.specs.Stamps.{Below, has_index}
+use Rattle.block_shard.specs.ruled_cells.specs.Telling.{begun, noted_view}
+use Rattle.block_shard.specs.shard_laws.specs.Belonging.{touches_shard}
+use Rattle.block_shard.specs.shard_laws.specs.Stripes.{Stripe}
 use Rattle.shared_device.specs.Commanding.{Commanding, commanding_reads}
 
 -- ---- plans

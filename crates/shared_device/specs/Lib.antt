@@ -4,3 +4,6 @@ pub mod Entering
 pub mod Passing
 pub mod Trying
 pub mod Visiting
+pub use Rattle.block_shard.specs.ruled_cells
+pub use Rattle.block_shard.specs.device_rules
+pub use Rattle.control_core

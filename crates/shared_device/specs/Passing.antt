@@ -7,10 +7,10 @@ use Rattle.dcd_base.specs.declared.steps.Stamp.{Stamp}
 use Rattle.journal_core.specs.declared.acts.Act.{Act}
 use Rattle.journal_core.specs.declared.acts.Reply.{Reply}
 use Rattle.journal_core.specs.Merging.{Call, call_of}
-use Rattle.ruled_cells.specs.Calls.{IsOf, opened_with}
-use Rattle.ruled_cells.specs.Reads.{about_of}
-use Rattle.ruled_cells.specs.Seats.{saw_of, seat_view, tries_of}
-use Rattle.ruled_cells.specs.Stamps.{Below, stamp}
+use Rattle.block_shard.specs.ruled_cells.specs.Calls.{IsOf, opened_with}
+use Rattle.block_shard.specs.ruled_cells.specs.Reads.{about_of}
+use Rattle.block_shard.specs.ruled_cells.specs.Seats.{saw_of, seat_view, tries_of}
+use Rattle.block_shard.specs.ruled_cells.specs.Stamps.{Below, stamp}
 use Rattle.shared_device.specs.Commanding.{commanding_reads}
 use Rattle.shared_device.specs.declared.pass.Pass.{Pass}
 use Rattle.shared_device.specs.declared.shared.Shared.{Shared}

@@ -4,9 +4,9 @@ use Rattle.std.specs.declared.result.Result.{Result}
 use Rattle.std.specs.declared.result.Result.TheVariants.{Ok, Err}
 use Rattle.journal_core.specs.declared.acts.Act.{Act}
 use Rattle.journal_core.specs.declared.acts.Reply.{Reply}
-use Rattle.ruled_cells.specs.Calls.{seats_of}
-use Rattle.ruled_cells.specs.Seats.{tried_at}
-use Rattle.shard_laws.specs.Belonging.{shard_by}
+use Rattle.block_shard.specs.ruled_cells.specs.Calls.{seats_of}
+use Rattle.block_shard.specs.ruled_cells.specs.Seats.{tried_at}
+use Rattle.block_shard.specs.shard_laws.specs.Belonging.{shard_by}
 use Rattle.shared_device.specs.declared.faults.TryFault.{TryFault}
 use Rattle.shared_device.specs.declared.pass.Pass.{Pass}
 use Rattle.shared_device.specs.declared.shared.Shared.{Shared}

@@ -11,12 +11,12 @@ use Rattle.journal_core.specs.declared.acts.Reply.{Reply}
 use Rattle.journal_core.specs.Entries.{is_control}
 use Rattle.media_map.specs.Places.{locate}
 use Rattle.region_config.specs.Configurations.{Configuration}
-use Rattle.ruled_cells.specs.declared.seat.Seat.{Seat}
-use Rattle.ruled_cells.specs.Seats.{seat_number, seat_view}
-use Rattle.ruled_cells.specs.Stamps.{Below}
-use Rattle.ruled_cells.specs.Telling.{entered_view}
-use Rattle.shard_laws.specs.Belonging.{asked_at, shard_at}
-use Rattle.shard_laws.specs.Stripes.{Stripe}
+use Rattle.block_shard.specs.ruled_cells.specs.declared.seat.Seat.{Seat}
+use Rattle.block_shard.specs.ruled_cells.specs.Seats.{seat_number, seat_view}
+use Rattle.block_shard.specs.ruled_cells.specs.Stamps.{Below}
+use Rattle.block_shard.specs.ruled_cells.specs.Telling.{entered_view}
+use Rattle.block_shard.specs.shard_laws.specs.Belonging.{asked_at, shard_at}
+use Rattle.block_shard.specs.shard_laws.specs.Stripes.{Stripe}
 use Rattle.shared_device.specs.Commanding.{Commanding}
 use Rattle.shared_device.specs.declared.target.Target.{Target}
 

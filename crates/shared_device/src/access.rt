@@ -1,11 +1,11 @@
 //! Loads and stores that wait for their shard.
 
 ghost use Rattle.journal_core.specs.Entries.{fits, is_control};
-ghost use Rattle.ruled_cells.specs.Calls.{IsOf};
-ghost use Rattle.ruled_cells.specs.Ruling.{names};
-ghost use Rattle.ruled_cells.specs.Seats.{HasCell, IsNoTry, IsSameSeat, seat_view, turns_of};
-ghost use Rattle.ruled_cells.specs.Telling.{ToldCell};
-ghost use Rattle.shard_laws.specs.Right.{stripe_reads};
+ghost use Rattle.block_shard.specs.ruled_cells.specs.Calls.{IsOf};
+ghost use Rattle.block_shard.specs.ruled_cells.specs.Ruling.{names};
+ghost use Rattle.block_shard.specs.ruled_cells.specs.Seats.{HasCell, IsNoTry, IsSameSeat, seat_view, turns_of};
+ghost use Rattle.block_shard.specs.ruled_cells.specs.Telling.{ToldCell};
+ghost use Rattle.block_shard.specs.shard_laws.specs.Right.{stripe_reads};
 ghost use Rattle.shared_device.specs.Commanding.{commanding_reads};
 ghost use Rattle.shared_device.specs.Passing.{Called, IsOneOf, IsSamePass, Uncalled, pass_actor, pass_calls};
 ghost use Rattle.shared_device.specs.Visiting.{HasVisited, MayVisit};
@@ -16,9 +16,9 @@ use crate::moment::Moment;
 use crate::pass::Pass;
 use crate::shared::Shared;
 use crate::target::{Target, target_of};
+use block_shard::ruled_cells::Seat;
 use dcd_base::{NoMemory, Stamp};
 use journal_core::{Act, Reply};
-use ruled_cells::Seat;
 use std::sync::Wait;
 
 impl Shared {

@@ -4,16 +4,16 @@ ghost use Rattle.dcd_base.specs.declared.steps.Actor.TheVariants.{Host};
 ghost use Rattle.journal_core.specs.Accesses.{access_entry};
 ghost use Rattle.journal_core.specs.Entries.{is_control};
 ghost use Rattle.media_map.specs.Places.{locate};
-ghost use Rattle.shard_laws.specs.Accessing.{AddsAccess, IsAccess};
-ghost use Rattle.shard_laws.specs.Belonging.{asked_at, shard_at};
-ghost use Rattle.shard_laws.specs.Clocks.{IsNextStamp};
+ghost use Rattle.block_shard.specs.shard_laws.specs.Accessing.{AddsAccess, IsAccess};
+ghost use Rattle.block_shard.specs.shard_laws.specs.Belonging.{asked_at, shard_at};
+ghost use Rattle.block_shard.specs.shard_laws.specs.Clocks.{IsNextStamp};
 ghost use Rattle.std.specs.Prelude.{◌≡◌, ◌+◌, ◌<◌, ◌^◌, IfOk, OnErr, OnOk, false};
 
 use block_shard::Shard;
+use block_shard::ruled_cells::{Chief, Member};
 use control_core::Control;
 use dcd_base::{AccessFault, Actor, HostId, NoMemory, Place, Seq, Stamp};
 use journal_core::{Act, Reply};
-use ruled_cells::{Chief, Member};
 use std::marker::Model;
 
 /// The control, and the actor of each pass.
@@ -59,7 +59,7 @@ pub struct ShardCell {
 }
 
 impl Model for ShardCell {
-    ghost use Rattle.shard_laws.specs.Stripes.{Stripe};
+    ghost use Rattle.block_shard.specs.shard_laws.specs.Stripes.{Stripe};
 
     ghost Value = { Stripe };
 
@@ -93,10 +93,10 @@ impl ShardCell {
 }
 
 impl Member for ShardCell {
-    ghost use Rattle.shard_laws.specs.Right.{stripe_reads};
-    ghost use Rattle.shard_laws.proofs.AccessSteps.{stripe_keeps};
-    ghost use Rattle.shard_laws.proofs.CommandSteps.{stripe_makes, stripe_stays};
-    ghost use Rattle.shard_laws.proofs.Members.{stripe_changes, stripe_enters};
+    ghost use Rattle.block_shard.specs.shard_laws.specs.Right.{stripe_reads};
+    ghost use Rattle.block_shard.specs.shard_laws.proofs.AccessSteps.{stripe_keeps};
+    ghost use Rattle.block_shard.specs.shard_laws.proofs.CommandSteps.{stripe_makes, stripe_stays};
+    ghost use Rattle.block_shard.specs.shard_laws.proofs.Members.{stripe_changes, stripe_enters};
 
     ghost reads = { stripe_reads };
 

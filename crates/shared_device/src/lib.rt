@@ -16,6 +16,8 @@ mod start;
 mod target;
 mod tries;
 
+pub use block_shard::{device_rules, ruled_cells};
+pub use control_core;
 pub use faults::TryFault;
 pub use lending::lend_journal;
 pub use moment::Moment;

@@ -2,18 +2,18 @@
 
 ghost use lib.ListN.{get_elem?};
 ghost use mathlib.Core.Option.{some};
-ghost use Rattle.ruled_cells.specs.Calls.{AreNew, opened_with, row_of, seats_of};
-ghost use Rattle.shard_laws.specs.Changing.{IsFreshStripe};
-ghost use Rattle.shard_laws.specs.Right.{IsRight};
-ghost use Rattle.shard_laws.specs.Stripes.{Stripe};
+ghost use Rattle.block_shard.specs.ruled_cells.specs.Calls.{AreNew, opened_with, row_of, seats_of};
+ghost use Rattle.block_shard.specs.shard_laws.specs.Changing.{IsFreshStripe};
+ghost use Rattle.block_shard.specs.shard_laws.specs.Right.{IsRight};
+ghost use Rattle.block_shard.specs.shard_laws.specs.Stripes.{Stripe};
 ghost use Rattle.std.specs.Prelude.{◌≡◌, ◌^◌, ◌<◌, [], IfOk, length};
 
 use crate::cells::{Commands, ControlCell, ShardCell};
 use block_shard::Shard;
+use block_shard::ruled_cells::{Cells, Seat};
 use control_core::Control;
 use dcd_base::{Actor, NoMemory, Seq};
 use region_config::Config;
-use ruled_cells::{Cells, Seat};
 use std::alloc::Global;
 
 /// How many shards a device has.

@@ -2,12 +2,12 @@
 
 ghost use lib.ListN.{get_elem?};
 ghost use mathlib.Core.Option.{some};
-ghost use Rattle.ruled_cells.specs.Seats.{NoTurns, seat_view};
+ghost use Rattle.block_shard.specs.ruled_cells.specs.Seats.{NoTurns, seat_view};
 ghost use Rattle.std.specs.Prelude.{◌≡◌, None, length};
 
 use crate::cells::{ControlCell, ShardCell};
+use block_shard::ruled_cells::Seat;
 use dcd_base::{Actor, Stamp};
-use ruled_cells::Seat;
 
 /// One activity of an actor at a shared device. Between two calls it has no turn.
 #[derive(Drop)]

@@ -1,11 +1,11 @@
 //! The shared device.
 
-ghost use Rattle.ruled_cells.specs.Calls.{opened_with, row_of};
+ghost use Rattle.block_shard.specs.ruled_cells.specs.Calls.{opened_with, row_of};
 ghost use Rattle.std.specs.Prelude.{◌≡◌};
 
 use crate::cells::{ControlCell, ShardCell};
+use block_shard::ruled_cells::Cells;
 use region_config::Config;
-use ruled_cells::Cells;
 use std::alloc::Global;
 
 /// A device that several threads use at once. Each load and store takes the turn of one shard, and each command or scrub

@@ -2,7 +2,7 @@
 
 ghost use lib.ListN.{get_elem?};
 ghost use mathlib.Core.Option.{some};
-ghost use Rattle.ruled_cells.specs.Calls.{AreNew, IsNew, opened_with, seats_of};
+ghost use Rattle.block_shard.specs.ruled_cells.specs.Calls.{AreNew, IsNew, opened_with, seats_of};
 ghost use Rattle.shared_device.specs.Commanding.{actors_of as all_actors};
 ghost use Rattle.shared_device.specs.declared.pass.Pass.{Pass};
 ghost use Rattle.shared_device.specs.Passing.{IsNewPass};
@@ -13,9 +13,9 @@ use crate::cells::{ControlCell, ShardCell};
 use crate::making::fresh_cells;
 use crate::pass::Pass;
 use crate::shared::Shared;
+use block_shard::ruled_cells::Seat;
 use dcd_base::{Actor, NoMemory, Stamp};
 use region_config::Config;
-use ruled_cells::Seat;
 use std::alloc::Global;
 
 impl Shared {

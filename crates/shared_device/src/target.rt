@@ -2,7 +2,7 @@
 
 ghost use Rattle.dcd_base.specs.declared.steps.Actor.TheVariants.{Host};
 ghost use Rattle.journal_core.specs.Entries.{fits, is_control};
-ghost use Rattle.shard_laws.specs.Belonging.{asked_at, shard_at as shard_of_place};
+ghost use Rattle.block_shard.specs.shard_laws.specs.Belonging.{asked_at, shard_at as shard_of_place};
 ghost use Rattle.shared_device.specs.Visiting.{IsTarget};
 ghost use Rattle.std.specs.Prelude.{◌≡◌, ◌<◌, IsTrue, false};
 

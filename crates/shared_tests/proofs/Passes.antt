@@ -5,15 +5,15 @@ use mathlib.Core.Logic.{dite}
 use native.Mathlib.Decide.{ℕ_discrete}
 use mathlib.Core.Option.{some, some-injective, some-ne-none}
 use lib.ListN.{get_elem?}
-use Rattle.control_core.specs.Steps.{MayStep}
+use Rattle.shared_device.specs.control_core.specs.Steps.{MayStep}
 use Rattle.dcd_base.specs.declared.ids.HostId.{HostId}
 use Rattle.dcd_base.specs.declared.steps.Actor.{Actor}
 use Rattle.journal_core.specs.declared.acts.Act.{Act}
 use Rattle.journal_core.specs.Entries.{fits, is_control}
 use Rattle.journal_core.specs.Merging.{call_of}
 use Rattle.journal_core.proofs.Splits.{at_some}
-use Rattle.ruled_cells.specs.Calls.{seats_of}
-use Rattle.ruled_cells.specs.Seats.{seat_view}
+use Rattle.shared_device.specs.ruled_cells.specs.Calls.{seats_of}
+use Rattle.shared_device.specs.ruled_cells.specs.Seats.{seat_view}
 use Rattle.shared_device.specs.Closing.{AreAllPasses}
 use Rattle.shared_device.specs.declared.pass.Pass.{Pass}
 use Rattle.shared_device.specs.declared.shared.Shared.{Shared}

@@ -5,7 +5,7 @@ use Rattle.dcd_base.specs.declared.steps.Actor.{Actor}
 use Rattle.journal_core.specs.declared.entries.Entry.{Entry}
 use Rattle.journal_core.specs.Lending.{AllRise}
 use Rattle.region_config.specs.Configurations.{Configuration}
-use Rattle.ruled_cells.specs.Calls.{seats_of}
+use Rattle.shared_device.specs.ruled_cells.specs.Calls.{seats_of}
 use Rattle.shared_device.specs.Closing.{IsClosed}
 use Rattle.shared_device.specs.declared.pass.Pass.{Pass}
 use Rattle.shared_device.specs.declared.shared.Shared.{Shared}

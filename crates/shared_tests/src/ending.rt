@@ -4,9 +4,9 @@ ghost use Rattle.shared_tests.specs.Hosting.{AreRemains};
 
 use crate::told::{Told, told_by};
 use crate::two_hosts::TwoHosts;
-use control_core::Control;
 use dcd_base::{HostId, LogId, NoMemory};
 use journal_core::{Accesses, Entry, Lender, Lent};
+use shared_device::control_core::Control;
 use shared_device::lend_journal;
 use std::process::Abort;
 

@@ -20,13 +20,13 @@ use Rattle.region_config.specs.Soundness.{IsSound}
 use Rattle.tag_refs.specs.Tables.{opened, passes}
 use Rattle.tag_refs.specs.Tables.{has_entry, entry_referenced}
 use Rattle.tag_refs.specs.declared.entries.TagEntry.{TagEntry}
-use Rattle.device_rules.specs.Adding.{is_open_in, offered}
-use Rattle.device_rules.specs.Answers.{manager_outcome, manager_rule}
-use Rattle.device_rules.specs.Hosts.{accepted_of, offers_of}
-use Rattle.device_rules.specs.Legal.{Legal}
-use Rattle.device_rules.specs.Outcomes.{Outcome, ended}
-use Rattle.device_rules.specs.Tags.{is_live, is_referenced, last_offer, open_tags, region_of_offer, tag_region}
-use Rattle.device_rules.specs.Views.{view_of}
+use Rattle.holding_laws.specs.device_rules.specs.Adding.{is_open_in, offered}
+use Rattle.holding_laws.specs.device_rules.specs.Answers.{manager_outcome, manager_rule}
+use Rattle.holding_laws.specs.device_rules.specs.Hosts.{accepted_of, offers_of}
+use Rattle.holding_laws.specs.device_rules.specs.Legal.{Legal}
+use Rattle.holding_laws.specs.device_rules.specs.Outcomes.{Outcome, ended}
+use Rattle.holding_laws.specs.device_rules.specs.Tags.{is_live, is_referenced, last_offer, open_tags, region_of_offer, tag_region}
+use Rattle.holding_laws.specs.device_rules.specs.Views.{view_of}
 use Rattle.holding_laws.specs.Pictures.{picture_of}
 use Rattle.holding_laws.specs.Standing.{Sound}
 use Rattle.holding_laws.proofs.Adding.{IsAdded, IsRow, added, row_of}

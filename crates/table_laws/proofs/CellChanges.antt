@@ -15,10 +15,10 @@ use Rattle.media_map.specs.Places.{run_of}
 use Rattle.region_config.specs.Configurations.{Configuration}
 use Rattle.region_config.specs.Granules.{region_of, region_spec}
 use Rattle.region_config.specs.declared.region_spec.RegionSpec.{RegionSpec}
-use Rattle.device_rules.specs.ReleaseOutcomes.{removals}
-use Rattle.device_rules.proofs.ListSteps.{any-map, each-all, each-change}
-use Rattle.device_rules.proofs.Leaving.{is_quiet, over-leaving}
-use Rattle.device_rules.proofs.RunEffects.{in_extents, run_from, takes, zeros}
+use Rattle.holding_laws.specs.device_rules.specs.ReleaseOutcomes.{removals}
+use Rattle.holding_laws.specs.device_rules.proofs.ListSteps.{any-map, each-all, each-change}
+use Rattle.holding_laws.specs.device_rules.proofs.Leaving.{is_quiet, over-leaving}
+use Rattle.holding_laws.specs.device_rules.proofs.RunEffects.{in_extents, run_from, takes, zeros}
 use Rattle.step_laws.proofs.StatusTags.{ends}
 use Rattle.table_laws.specs.GranuleCells.{cell_after, cell_over, ended_run, offered_extent, offered_run, unoffered_extent, unoffered_run}
 use Rattle.table_laws.proofs.WholeRuns.{IsOneRun}

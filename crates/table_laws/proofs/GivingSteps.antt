@@ -12,12 +12,12 @@ use Rattle.journal_core.specs.declared.outcome.Effect.{Effect}
 use Rattle.region_config.specs.Configurations.{Configuration}
 use Rattle.region_config.specs.Soundness.{IsSound}
 use Rattle.tag_refs.specs.declared.entries.TagEntry.{TagEntry}
-use Rattle.device_rules.specs.Answers.{host_outcome, host_rule, manager_outcome, manager_rule}
-use Rattle.device_rules.specs.Legal.{Legal}
-use Rattle.device_rules.specs.Outcomes.{Outcome}
-use Rattle.device_rules.specs.ReleaseOutcomes.{give_back_outcome, is_cleaning, is_forced, policy_in, remove_outcome}
-use Rattle.device_rules.specs.ResponseOutcomes.{respond_outcome}
-use Rattle.device_rules.specs.Views.{View, view_of}
+use Rattle.holding_laws.specs.device_rules.specs.Answers.{host_outcome, host_rule, manager_outcome, manager_rule}
+use Rattle.holding_laws.specs.device_rules.specs.Legal.{Legal}
+use Rattle.holding_laws.specs.device_rules.specs.Outcomes.{Outcome}
+use Rattle.holding_laws.specs.device_rules.specs.ReleaseOutcomes.{give_back_outcome, is_cleaning, is_forced, policy_in, remove_outcome}
+use Rattle.holding_laws.specs.device_rules.specs.ResponseOutcomes.{respond_outcome}
+use Rattle.holding_laws.specs.device_rules.specs.Views.{View, view_of}
 use Rattle.holding_laws.specs.Pictures.{Picture, picture_after, picture_of}
 use Rattle.holding_laws.specs.Standing.{Sound}
 use Rattle.holding_laws.proofs.LegalSound.{legal_is_sound}

@@ -18,13 +18,13 @@ use Rattle.region_config.specs.Configurations.{Configuration}
 use Rattle.region_config.specs.Granules.{region_of, region_spec}
 use Rattle.region_config.specs.Soundness.{IsSound}
 use Rattle.region_config.specs.declared.region_spec.RegionSpec.{RegionSpec}
-use Rattle.device_rules.specs.Hosts.{offers_of}
-use Rattle.device_rules.specs.Invariants.{Holdings}
-use Rattle.device_rules.specs.Tags.{is_tagged, status}
+use Rattle.holding_laws.specs.device_rules.specs.Hosts.{offers_of}
+use Rattle.holding_laws.specs.device_rules.specs.Invariants.{Holdings}
+use Rattle.holding_laws.specs.device_rules.specs.Tags.{is_tagged, status}
 use Rattle.holding_laws.specs.Pictures.{picture_of}
 use Rattle.holding_laws.specs.Standing.{Stands}
-use Rattle.device_rules.proofs.Leaving.{after_front, is_quiet}
-use Rattle.device_rules.proofs.RunEffects.{in_extents, takes}
+use Rattle.holding_laws.specs.device_rules.proofs.Leaving.{after_front, is_quiet}
+use Rattle.holding_laws.specs.device_rules.proofs.RunEffects.{in_extents, takes}
 use Rattle.step_laws.proofs.StatusParts.{tagged_still}
 use Rattle.step_laws.proofs.StatusAnswers.{answering, soiled-answer, status-answer_shared, status-taken, status-unanswered, taken-answer}
 use Rattle.step_laws.proofs.StatusKept.{status-declined_kept}

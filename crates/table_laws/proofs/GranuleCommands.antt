@@ -29,20 +29,20 @@ use Rattle.region_config.specs.Granules.{granule_size, region_of, region_spec, w
 use Rattle.region_config.specs.Soundness.{IsSound}
 use Rattle.release_core.specs.Leaving.{count_after}
 use Rattle.release_core.specs.Removals.{by_tag_rule, prescribed_removal_rule, extents_of_tag}
-use Rattle.device_rules.specs.Adding.{add_outcome, add_rule, offered}
-use Rattle.device_rules.specs.Answers.{host_outcome, host_rule, manager_outcome, manager_rule}
-use Rattle.device_rules.specs.EventCommands.{clear_outcome}
-use Rattle.device_rules.specs.Hosts.{offers_of}
-use Rattle.device_rules.specs.Invariants.{Holdings}
-use Rattle.device_rules.specs.Legal.{Legal, Meets}
-use Rattle.device_rules.specs.Logs.{log_of}
-use Rattle.device_rules.specs.Outcomes.{Outcome, effects_of, log_full}
-use Rattle.device_rules.specs.ReleaseOutcomes.{give_back_outcome, is_cleaning, is_forced, policy_in, removals, remove_outcome, remove_rule, removed}
-use Rattle.device_rules.specs.ResponseOutcomes.{respond_changes, respond_outcome, unhold}
-use Rattle.device_rules.specs.Settings.{set_outcome}
-use Rattle.device_rules.specs.TagCommands.{add_reference_outcome, remove_reference_outcome}
-use Rattle.device_rules.specs.Tags.{is_referenced, is_tagged}
-use Rattle.device_rules.specs.Views.{View, view_of}
+use Rattle.holding_laws.specs.device_rules.specs.Adding.{add_outcome, add_rule, offered}
+use Rattle.holding_laws.specs.device_rules.specs.Answers.{host_outcome, host_rule, manager_outcome, manager_rule}
+use Rattle.holding_laws.specs.device_rules.specs.EventCommands.{clear_outcome}
+use Rattle.holding_laws.specs.device_rules.specs.Hosts.{offers_of}
+use Rattle.holding_laws.specs.device_rules.specs.Invariants.{Holdings}
+use Rattle.holding_laws.specs.device_rules.specs.Legal.{Legal, Meets}
+use Rattle.holding_laws.specs.device_rules.specs.Logs.{log_of}
+use Rattle.holding_laws.specs.device_rules.specs.Outcomes.{Outcome, effects_of, log_full}
+use Rattle.holding_laws.specs.device_rules.specs.ReleaseOutcomes.{give_back_outcome, is_cleaning, is_forced, policy_in, removals, remove_outcome, remove_rule, removed}
+use Rattle.holding_laws.specs.device_rules.specs.ResponseOutcomes.{respond_changes, respond_outcome, unhold}
+use Rattle.holding_laws.specs.device_rules.specs.Settings.{set_outcome}
+use Rattle.holding_laws.specs.device_rules.specs.TagCommands.{add_reference_outcome, remove_reference_outcome}
+use Rattle.holding_laws.specs.device_rules.specs.Tags.{is_referenced, is_tagged}
+use Rattle.holding_laws.specs.device_rules.specs.Views.{View, view_of}
 use Rattle.holding_laws.specs.Pictures.{Picture, extents_at, picture_of}
 use Rattle.holding_laws.specs.Standing.{IsHome, IsMade, Sound, Stands}
 use Rattle.holding_laws.proofs.Adding.{IsAdded, added, row_of}
@@ -52,16 +52,16 @@ use Rattle.holding_laws.proofs.Going.{IsGoing, some_going}
 use Rattle.holding_laws.proofs.Holding.{home_made, present_whole}
 use Rattle.holding_laws.proofs.LeftStanding.{going_of, going_rule}
 use Rattle.holding_laws.proofs.LegalSound.{legal_is_sound}
-use Rattle.device_rules.proofs.ListSteps.{any-map, each-back, each-change, each-front, each-map}
+use Rattle.holding_laws.specs.device_rules.proofs.ListSteps.{any-map, each-back, each-change, each-front, each-map}
 use Rattle.holding_laws.proofs.OneAnswer.{IsAnswer}
 use Rattle.holding_laws.proofs.OneLeave.{accepted_made, loose}
 use Rattle.holding_laws.proofs.OneOffer.{reaches}
 use Rattle.holding_laws.proofs.Overlaps.{neither, not_broken}
 use Rattle.holding_laws.proofs.Responding.{answer_of}
-use Rattle.device_rules.proofs.EffectKinds.{PassClearing, PassHeld, PassLists, clear_passes, give_back_passes, hold_passes, reference_passes, removals_pass, respond_passes}
-use Rattle.device_rules.proofs.Leaving.{both_pass, is_quiet, leaves_tags}
-use Rattle.device_rules.proofs.LegalSteps.{step_case}
-use Rattle.device_rules.proofs.RunEffects.{in_extents, removals-leaves}
+use Rattle.holding_laws.specs.device_rules.proofs.EffectKinds.{PassClearing, PassHeld, PassLists, clear_passes, give_back_passes, hold_passes, reference_passes, removals_pass, respond_passes}
+use Rattle.holding_laws.specs.device_rules.proofs.Leaving.{both_pass, is_quiet, leaves_tags}
+use Rattle.holding_laws.specs.device_rules.proofs.LegalSteps.{step_case}
+use Rattle.holding_laws.specs.device_rules.proofs.RunEffects.{in_extents, removals-leaves}
 use Rattle.step_laws.proofs.StatusOutcomes.{unhold-quiet}
 use Rattle.table_laws.specs.GranuleCells.{IsCell, cell_over}
 use Rattle.table_laws.specs.GranuleTable.{AreKnown, StaysRight}

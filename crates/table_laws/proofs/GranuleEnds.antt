@@ -17,21 +17,21 @@ use Rattle.media_map.specs.Places.{run_of}
 use Rattle.region_config.specs.Configurations.{Configuration}
 use Rattle.region_config.specs.Granules.{region_of, region_spec}
 use Rattle.region_config.specs.Soundness.{IsSound}
-use Rattle.device_rules.specs.Invariants.{tags_on}
-use Rattle.device_rules.specs.Outcomes.{Outcome, effects_of, ended}
-use Rattle.device_rules.specs.Tags.{is_live, is_tagged, last_offer, open_tags, tag_runs}
+use Rattle.holding_laws.specs.device_rules.specs.Invariants.{tags_on}
+use Rattle.holding_laws.specs.device_rules.specs.Outcomes.{Outcome, effects_of, ended}
+use Rattle.holding_laws.specs.device_rules.specs.Tags.{is_live, is_tagged, last_offer, open_tags, tag_runs}
 use Rattle.holding_laws.specs.Pictures.{Picture, picture_of}
 use Rattle.holding_laws.specs.Standing.{IsMade, Stands}
 use Rattle.holding_laws.proofs.Holding.{present_whole}
 use Rattle.holding_laws.proofs.Homes.{made_of_region}
-use Rattle.device_rules.proofs.ListSteps.{any-map, each-at}
-use Rattle.device_rules.proofs.TagSteps.{has_tag-filter}
+use Rattle.holding_laws.specs.device_rules.proofs.ListSteps.{any-map, each-at}
+use Rattle.holding_laws.specs.device_rules.proofs.TagSteps.{has_tag-filter}
 use Rattle.step_laws.specs.GranuleStates.{stands_for}
-use Rattle.device_rules.proofs.HostSearches.{any_none}
-use Rattle.device_rules.proofs.Leaving.{leaves_soil, leaves_tags, leaves_taking, map_passes}
+use Rattle.holding_laws.specs.device_rules.proofs.HostSearches.{any_none}
+use Rattle.holding_laws.specs.device_rules.proofs.Leaving.{leaves_soil, leaves_tags, leaves_taking, map_passes}
 use Rattle.step_laws.proofs.StatusParts.{last_offer-stays, open_tags-stay, soiled-left, taken-left}
 use Rattle.step_laws.proofs.StatusTags.{ends, status-ended, status-not_ended}
-use Rattle.device_rules.proofs.TagSearches.{any_agree, any_of_tag, same_tag-self}
+use Rattle.holding_laws.specs.device_rules.proofs.TagSearches.{any_agree, any_of_tag, same_tag-self}
 use Rattle.table_laws.specs.GranuleCells.{IsCell, is_unclean}
 use Rattle.table_laws.specs.GranuleTable.{AreKnown}
 use Rattle.table_laws.proofs.CellChanges.{cell_ends, where_here}

@@ -19,20 +19,20 @@ use Rattle.region_config.specs.Configurations.{Configuration}
 use Rattle.region_config.specs.Granules.{region_of, region_spec}
 use Rattle.region_config.specs.Soundness.{IsSound}
 use Rattle.region_config.specs.declared.region_spec.RegionSpec.{RegionSpec}
-use Rattle.device_rules.specs.Invariants.{Holdings}
-use Rattle.device_rules.specs.ReleaseOutcomes.{removals}
-use Rattle.device_rules.specs.Tags.{is_tagged, open_tags, status}
+use Rattle.holding_laws.specs.device_rules.specs.Invariants.{Holdings}
+use Rattle.holding_laws.specs.device_rules.specs.ReleaseOutcomes.{removals}
+use Rattle.holding_laws.specs.device_rules.specs.Tags.{is_tagged, open_tags, status}
 use Rattle.holding_laws.specs.Pictures.{extents_at, picture_of}
 use Rattle.holding_laws.specs.Standing.{Stands}
 use Rattle.holding_laws.proofs.FreeGranules.{shared_claim}
 use Rattle.step_laws.specs.GranuleStates.{stands_for}
-use Rattle.device_rules.proofs.HostSearches.{or_assoc, or_false, or_true}
-use Rattle.device_rules.proofs.Leaving.{after_front, is_quiet}
-use Rattle.device_rules.proofs.RunEffects.{in_extents}
+use Rattle.holding_laws.specs.device_rules.proofs.HostSearches.{or_assoc, or_false, or_true}
+use Rattle.holding_laws.specs.device_rules.proofs.Leaving.{after_front, is_quiet}
+use Rattle.holding_laws.specs.device_rules.proofs.RunEffects.{in_extents}
 use Rattle.step_laws.proofs.StatusParts.{tagged_still}
 use Rattle.step_laws.proofs.StatusKept.{status-removed_kept}
 use Rattle.step_laws.proofs.StatusLeaves.{removing, soiled-remove, status-not_removed, status-remove_shared, taken-remove}
-use Rattle.device_rules.proofs.TagSearches.{any_of_tag}
+use Rattle.holding_laws.specs.device_rules.proofs.TagSearches.{any_of_tag}
 use Rattle.table_laws.specs.GranuleCells.{IsCell, cell_after, is_unclean, status_of}
 use Rattle.table_laws.proofs.CellChanges.{cell_quiet, cell_removals, removed_as, where_here}
 use Rattle.table_laws.proofs.GranuleEnds.{private_untagged}

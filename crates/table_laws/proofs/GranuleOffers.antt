@@ -18,18 +18,18 @@ use Rattle.media_map.specs.Places.{region_at, run_of}
 use Rattle.region_config.specs.Configurations.{Configuration}
 use Rattle.region_config.specs.Granules.{hosts_of, region_of, region_spec}
 use Rattle.region_config.specs.Soundness.{IsSound}
-use Rattle.device_rules.specs.Tags.{is_held, open_tags, status}
+use Rattle.holding_laws.specs.device_rules.specs.Tags.{is_held, open_tags, status}
 use Rattle.holding_laws.specs.Pictures.{Picture, extents_at, picture_of}
 use Rattle.holding_laws.specs.Standing.{IsMade, Stands}
 use Rattle.holding_laws.proofs.Adding.{IsAdded}
 use Rattle.holding_laws.proofs.Holding.{present_whole}
 use Rattle.holding_laws.proofs.Homes.{made_of_region, made_region}
-use Rattle.device_rules.proofs.ListSteps.{any-map, each-at, each-change, many-any}
+use Rattle.holding_laws.specs.device_rules.proofs.ListSteps.{any-map, each-at, each-change, many-any}
 use Rattle.holding_laws.proofs.OneOffer.{IsFresh, IsShared, reaches}
-use Rattle.device_rules.proofs.TagSteps.{same_tag-is}
+use Rattle.holding_laws.specs.device_rules.proofs.TagSteps.{same_tag-is}
 use Rattle.step_laws.specs.GranuleStates.{stands_for}
-use Rattle.device_rules.proofs.HostSearches.{any_none}
-use Rattle.device_rules.proofs.RunEffects.{in_extents}
+use Rattle.holding_laws.specs.device_rules.proofs.HostSearches.{any_none}
+use Rattle.holding_laws.specs.device_rules.proofs.RunEffects.{in_extents}
 use Rattle.step_laws.proofs.StatusOffers.{status-not_offered, status-offered, status-offered_shared}
 use Rattle.step_laws.proofs.StatusParts.{soiled-left, taken-left}
 use Rattle.table_laws.specs.GranuleCells.{IsCell, is_unclean, status_of}

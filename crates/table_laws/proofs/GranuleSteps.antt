@@ -13,10 +13,10 @@ use Rattle.journal_core.specs.Holders.{is_soiled, is_taken}
 use Rattle.journal_core.specs.declared.outcome.Effect.{Effect}
 use Rattle.region_config.specs.Configurations.{Configuration}
 use Rattle.region_config.specs.Granules.{region_of, region_spec}
-use Rattle.device_rules.specs.Logs.{log_of}
-use Rattle.device_rules.specs.Outcomes.{Outcome, effects_of, ended, entered_all}
-use Rattle.device_rules.specs.Tags.{Dirty, Free}
-use Rattle.device_rules.proofs.Leaving.{is_quiet, quiet_soil, quiet_taking}
+use Rattle.holding_laws.specs.device_rules.specs.Logs.{log_of}
+use Rattle.holding_laws.specs.device_rules.specs.Outcomes.{Outcome, effects_of, ended, entered_all}
+use Rattle.holding_laws.specs.device_rules.specs.Tags.{Dirty, Free}
+use Rattle.holding_laws.specs.device_rules.proofs.Leaving.{is_quiet, quiet_soil, quiet_taking}
 use Rattle.step_laws.proofs.StatusOutcomes.{told-quiet}
 use Rattle.step_laws.proofs.StatusParts.{soiled-left, status-quiet, taken-left}
 use Rattle.step_laws.proofs.StatusTags.{ends}

@@ -13,10 +13,10 @@ use Rattle.journal_core.specs.Holders.{is_soiled, is_taken}
 use Rattle.journal_core.specs.declared.outcome.Effect.{Effect}
 use Rattle.region_config.specs.Configurations.{Configuration}
 use Rattle.region_config.specs.Granules.{region_of, region_spec, same_region}
-use Rattle.device_rules.specs.Answers.{scrubbed, zeroes}
-use Rattle.device_rules.specs.Tags.{Free, status}
+use Rattle.holding_laws.specs.device_rules.specs.Answers.{scrubbed, zeroes}
+use Rattle.holding_laws.specs.device_rules.specs.Tags.{Free, status}
 use Rattle.step_laws.proofs.JoinedRuns.{joined_has}
-use Rattle.device_rules.proofs.RunEffects.{run_from, zeros}
+use Rattle.holding_laws.specs.device_rules.proofs.RunEffects.{run_from, zeros}
 use Rattle.step_laws.proofs.StatusZeros.{soiled-zeros, status-scrub, taken-zeros}
 use Rattle.table_laws.specs.GranuleCells.{IsCell, is_unclean}
 use Rattle.table_laws.proofs.CellChanges.{cell_zeros, where_here}

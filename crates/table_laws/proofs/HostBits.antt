@@ -13,7 +13,7 @@ use Rattle.region_config.specs.Granules.{hosts_of}
 use Rattle.dcd_base.specs.Hosts.{has_host, with_host, without_host}
 use Rattle.tag_refs.specs.Tables.{set_by}
 use Rattle.tag_refs.specs.declared.entries.TagEntry.{TagEntry}
-use Rattle.device_rules.specs.TagCommands.{host_bits}
+use Rattle.holding_laws.specs.device_rules.specs.TagCommands.{host_bits}
 
 -- ---- the bits of some hosts in a row
 

@@ -13,11 +13,11 @@ use Rattle.region_config.specs.Granules.{hosts_of}
 use Rattle.dcd_base.specs.Hosts.{with_host, without_host}
 use Rattle.tag_refs.specs.Tables.{entries_changed, is_entry_of, is_used, passes, set_by, still_used}
 use Rattle.tag_refs.specs.declared.entries.TagEntry.{TagEntry}
-use Rattle.device_rules.specs.Outcomes.{Outcome, effects_of, ended}
-use Rattle.device_rules.specs.Tags.{is_accepted_by, is_live, is_offered_to, open_tags, tag_region, tag_runs}
+use Rattle.holding_laws.specs.device_rules.specs.Outcomes.{Outcome, effects_of, ended}
+use Rattle.holding_laws.specs.device_rules.specs.Tags.{is_accepted_by, is_live, is_offered_to, open_tags, tag_region, tag_runs}
 use Rattle.holding_laws.specs.Pictures.{Picture, picture_of}
 use Rattle.holding_laws.specs.Standing.{Sound}
-use Rattle.device_rules.proofs.TagSteps.{same_tag-back, same_tag-is, same_tag-self}
+use Rattle.holding_laws.specs.device_rules.proofs.TagSteps.{same_tag-back, same_tag-is, same_tag-self}
 use Rattle.table_laws.specs.TagTable.{IsEntry, IsTable, ending, host_of_tags_set}
 use Rattle.table_laws.proofs.HostBits.{Agree, agree_all, host_bits-change, set_by-twice}
 use Rattle.table_laws.proofs.TagEntries.{entry-moved, open_uses, table_passes, table_used, used_is, uses}

@@ -20,11 +20,11 @@ use Rattle.region_config.specs.Soundness.{IsSound}
 use Rattle.release_core.specs.Leaving.{count_after}
 use Rattle.release_core.specs.Releases.{give_back_rule}
 use Rattle.release_core.specs.Removals.{by_tag_rule, prescribed_removal_rule, extents_of_tag}
-use Rattle.device_rules.specs.Outcomes.{log_full}
-use Rattle.device_rules.specs.ReleaseOutcomes.{give_back_changes, is_cleaning, is_forced, leaves, policy_in, removals, remove_rule, removed, soils}
-use Rattle.device_rules.specs.ResponseOutcomes.{unhold}
-use Rattle.device_rules.specs.Tags.{last_offer_after, tag_region, tag_runs}
-use Rattle.device_rules.specs.Views.{View}
+use Rattle.holding_laws.specs.device_rules.specs.Outcomes.{log_full}
+use Rattle.holding_laws.specs.device_rules.specs.ReleaseOutcomes.{give_back_changes, is_cleaning, is_forced, leaves, policy_in, removals, remove_rule, removed, soils}
+use Rattle.holding_laws.specs.device_rules.specs.ResponseOutcomes.{unhold}
+use Rattle.holding_laws.specs.device_rules.specs.Tags.{last_offer_after, tag_region, tag_runs}
+use Rattle.holding_laws.specs.device_rules.specs.Views.{View}
 use Rattle.holding_laws.specs.Pictures.{Picture, picture_after}
 use Rattle.holding_laws.specs.Standing.{Sound}
 use Rattle.holding_laws.proofs.AllLeave.{IsLeft, all_leave}
@@ -35,8 +35,8 @@ use Rattle.holding_laws.proofs.OneLeave.{loose}
 use Rattle.holding_laws.proofs.OpenLive.{has_cut}
 use Rattle.holding_laws.proofs.Overlaps.{neither, not_broken}
 use Rattle.holding_laws.proofs.Quiet.{quiet_front, unhold_quiet}
-use Rattle.device_rules.proofs.EffectKinds.{removals_pass}
-use Rattle.device_rules.proofs.Leaving.{last_offer-over, leaves_tags}
+use Rattle.holding_laws.specs.device_rules.proofs.EffectKinds.{removals_pass}
+use Rattle.holding_laws.specs.device_rules.proofs.Leaving.{last_offer-over, leaves_tags}
 use Rattle.table_laws.proofs.ResponseSteps.{told_same}
 use Rattle.table_laws.proofs.HostOfTagsSet.{Told}
 

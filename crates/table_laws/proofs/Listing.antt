@@ -6,8 +6,8 @@ use Rattle.journal_core.specs.declared.outcome.Effect.{Effect}
 use Rattle.region_config.specs.Configurations.{Configuration}
 use Rattle.tag_refs.specs.Tables.{tag_view}
 use Rattle.tag_refs.specs.declared.entries.TagEntry.{TagEntry}
-use Rattle.device_rules.specs.TagCommands.{tag_seen}
-use Rattle.device_rules.specs.Tags.{open_tags}
+use Rattle.holding_laws.specs.device_rules.specs.TagCommands.{tag_seen}
+use Rattle.holding_laws.specs.device_rules.specs.Tags.{open_tags}
 use Rattle.table_laws.specs.TagTable.{IsEntry, IsTable}
 use Rattle.table_laws.proofs.TagEntries.{tags_in}
 

@@ -18,18 +18,18 @@ use Rattle.region_config.specs.Soundness.{IsSound}
 use Rattle.dcd_base.specs.Hosts.{with_host, without_host}
 use Rattle.tag_refs.specs.Tables.{opened}
 use Rattle.tag_refs.specs.declared.entries.TagEntry.{TagEntry}
-use Rattle.device_rules.specs.Hosts.{accepted_of}
-use Rattle.device_rules.specs.TagCommands.{host_bits}
-use Rattle.device_rules.specs.Tags.{is_accepted_by, is_offered_to, is_referenced, last_offer, open_tags, tag_region, tag_runs}
+use Rattle.holding_laws.specs.device_rules.specs.Hosts.{accepted_of}
+use Rattle.holding_laws.specs.device_rules.specs.TagCommands.{host_bits}
+use Rattle.holding_laws.specs.device_rules.specs.Tags.{is_accepted_by, is_offered_to, is_referenced, last_offer, open_tags, tag_region, tag_runs}
 use Rattle.holding_laws.specs.Pictures.{Picture, lives, picture_after, picture_of}
 use Rattle.holding_laws.specs.Standing.{Sound}
 use Rattle.holding_laws.proofs.Adding.{IsAdded}
 use Rattle.holding_laws.proofs.Holding.{present_whole}
 use Rattle.holding_laws.proofs.Homes.{made_region}
-use Rattle.device_rules.proofs.ListSteps.{each-append}
+use Rattle.holding_laws.specs.device_rules.proofs.ListSteps.{each-append}
 use Rattle.holding_laws.proofs.OneOffer.{IsShared, offer_lives}
 use Rattle.holding_laws.proofs.Pictures.{picture-append}
-use Rattle.device_rules.proofs.TagSteps.{same_tag-back, same_tag-is, same_tag-self}
+use Rattle.holding_laws.specs.device_rules.proofs.TagSteps.{same_tag-back, same_tag-is, same_tag-self}
 use Rattle.table_laws.specs.TagTable.{IsEntry, IsTable, among}
 use Rattle.table_laws.proofs.HostBits.{host_bits-change, host_bits-none, host_bits-same}
 use Rattle.table_laws.proofs.TagEntries.{each_open, uses}

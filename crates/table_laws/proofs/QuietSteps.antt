@@ -14,15 +14,15 @@ use Rattle.journal_core.specs.declared.outcome.Effect.{Effect}
 use Rattle.journal_core.specs.declared.outcome.HeldKind.{HeldKind}
 use Rattle.region_config.specs.Configurations.{Configuration}
 use Rattle.tag_refs.specs.declared.entries.TagEntry.{TagEntry}
-use Rattle.device_rules.specs.Answers.{dropped, host_outcome, manager_outcome, zeroes}
-use Rattle.device_rules.specs.Hosts.{accepted_after, accepted_of, offers_after, offers_of}
-use Rattle.device_rules.specs.Logs.{log_of}
-use Rattle.device_rules.specs.Outcomes.{Outcome, effects_of}
-use Rattle.device_rules.specs.Tags.{is_referenced, last_offer, last_offer_after, open_tags, reference_after, tag_region, tag_runs, tags_after}
-use Rattle.device_rules.specs.Views.{View}
-use Rattle.device_rules.proofs.ListSteps.{each-change}
-use Rattle.device_rules.proofs.EffectKinds.{PassClearing, PassHeld, clear_passes, dropped_passes, hold_passes, zeroes_pass}
-use Rattle.device_rules.proofs.Leaving.{over-leaving}
+use Rattle.holding_laws.specs.device_rules.specs.Answers.{dropped, host_outcome, manager_outcome, zeroes}
+use Rattle.holding_laws.specs.device_rules.specs.Hosts.{accepted_after, accepted_of, offers_after, offers_of}
+use Rattle.holding_laws.specs.device_rules.specs.Logs.{log_of}
+use Rattle.holding_laws.specs.device_rules.specs.Outcomes.{Outcome, effects_of}
+use Rattle.holding_laws.specs.device_rules.specs.Tags.{is_referenced, last_offer, last_offer_after, open_tags, reference_after, tag_region, tag_runs, tags_after}
+use Rattle.holding_laws.specs.device_rules.specs.Views.{View}
+use Rattle.holding_laws.specs.device_rules.proofs.ListSteps.{each-change}
+use Rattle.holding_laws.specs.device_rules.proofs.EffectKinds.{PassClearing, PassHeld, clear_passes, dropped_passes, hold_passes, zeroes_pass}
+use Rattle.holding_laws.specs.device_rules.proofs.Leaving.{over-leaving}
 use Rattle.table_laws.specs.QuietRequests.{is_quiet_host, is_quiet_manager, leaves_table}
 use Rattle.table_laws.specs.TagTable.{IsEntry, IsTable}
 use Rattle.table_laws.proofs.TagEntries.{entry-moved}

@@ -13,13 +13,13 @@ use Rattle.region_config.specs.Granules.{hosts_of}
 use Rattle.tag_refs.specs.Tables.{entries_changed, is_entry_of, is_used, passes, still_used, with_reference}
 use Rattle.tag_refs.specs.Tables.{entry_referenced}
 use Rattle.tag_refs.specs.declared.entries.TagEntry.{TagEntry}
-use Rattle.device_rules.specs.Outcomes.{effects_of, ended}
-use Rattle.device_rules.specs.TagCommands.{add_reference_outcome, remove_reference_outcome}
-use Rattle.device_rules.specs.Tags.{is_accepted_by, is_live, is_offered_to, is_referenced, last_offer, open_tags, tag_region, tag_runs}
+use Rattle.holding_laws.specs.device_rules.specs.Outcomes.{effects_of, ended}
+use Rattle.holding_laws.specs.device_rules.specs.TagCommands.{add_reference_outcome, remove_reference_outcome}
+use Rattle.holding_laws.specs.device_rules.specs.Tags.{is_accepted_by, is_live, is_offered_to, is_referenced, last_offer, open_tags, tag_region, tag_runs}
 use Rattle.holding_laws.specs.Pictures.{picture_of}
 use Rattle.holding_laws.specs.Standing.{Sound}
 use Rattle.holding_laws.proofs.Pictures.{picture-append}
-use Rattle.device_rules.proofs.TagSteps.{same_tag-back, same_tag-is, same_tag-self}
+use Rattle.holding_laws.specs.device_rules.proofs.TagSteps.{same_tag-back, same_tag-is, same_tag-self}
 use Rattle.table_laws.specs.TagTable.{IsEntry, IsTable}
 use Rattle.table_laws.proofs.HostBits.{host_bits-same}
 use Rattle.table_laws.proofs.TagEntries.{entry-moved, open_uses, table_passes, used_is, uses}

@@ -20,23 +20,23 @@ use Rattle.media_map.specs.Places.{region_at}
 use Rattle.region_config.specs.Configurations.{Configuration}
 use Rattle.region_config.specs.Granules.{hosts_of, region_spec}
 use Rattle.region_config.specs.Soundness.{IsSound}
-use Rattle.device_rules.specs.Answers.{host_outcome, manager_outcome, manager_rule, scrubbed, zeroes}
-use Rattle.device_rules.specs.Legal.{Legal}
-use Rattle.device_rules.specs.Logs.{log_of}
-use Rattle.device_rules.specs.Outcomes.{Outcome, effects_of, ended}
-use Rattle.device_rules.specs.ReleaseOutcomes.{is_cleaning, is_forced, removed}
-use Rattle.device_rules.specs.ResponseOutcomes.{unhold}
-use Rattle.device_rules.specs.TagCommands.{add_reference_outcome, remove_reference_outcome}
-use Rattle.device_rules.specs.Tags.{is_accepted_by, is_live, is_offered_to, is_referenced, open_tags, reference_after, tags_after}
-use Rattle.device_rules.specs.Views.{View, view_of}
+use Rattle.holding_laws.specs.device_rules.specs.Answers.{host_outcome, manager_outcome, manager_rule, scrubbed, zeroes}
+use Rattle.holding_laws.specs.device_rules.specs.Legal.{Legal}
+use Rattle.holding_laws.specs.device_rules.specs.Logs.{log_of}
+use Rattle.holding_laws.specs.device_rules.specs.Outcomes.{Outcome, effects_of, ended}
+use Rattle.holding_laws.specs.device_rules.specs.ReleaseOutcomes.{is_cleaning, is_forced, removed}
+use Rattle.holding_laws.specs.device_rules.specs.ResponseOutcomes.{unhold}
+use Rattle.holding_laws.specs.device_rules.specs.TagCommands.{add_reference_outcome, remove_reference_outcome}
+use Rattle.holding_laws.specs.device_rules.specs.Tags.{is_accepted_by, is_live, is_offered_to, is_referenced, open_tags, reference_after, tags_after}
+use Rattle.holding_laws.specs.device_rules.specs.Views.{View, view_of}
 use Rattle.holding_laws.specs.Pictures.{picture_of}
 use Rattle.holding_laws.specs.Standing.{Sound}
 use Rattle.holding_laws.proofs.LegalSound.{legal_is_sound}
 use Rattle.holding_laws.proofs.Overlaps.{not_broken}
-use Rattle.device_rules.proofs.TagSteps.{same_tag-is}
-use Rattle.device_rules.proofs.EffectKinds.{PassClearing, PassHeld, PassLists, clear_passes, give_back_passes, removals_pass, respond_passes, unhold_passes, zeroes_pass}
-use Rattle.device_rules.proofs.Leaving.{over-leaving}
-use Rattle.device_rules.proofs.LegalSteps.{Cases, by_steps, step_case}
+use Rattle.holding_laws.specs.device_rules.proofs.TagSteps.{same_tag-is}
+use Rattle.holding_laws.specs.device_rules.proofs.EffectKinds.{PassClearing, PassHeld, PassLists, clear_passes, give_back_passes, removals_pass, respond_passes, unhold_passes, zeroes_pass}
+use Rattle.holding_laws.specs.device_rules.proofs.Leaving.{over-leaving}
+use Rattle.holding_laws.specs.device_rules.proofs.LegalSteps.{Cases, by_steps, step_case}
 use Rattle.table_laws.proofs.TagEntries.{open_uses, uses}
 use Rattle.table_laws.specs.ShownTags.{ReferencedAreOpen}
 use Rattle.table_laws.proofs.ReferenceSteps.{IsReferred, added, referred}

@@ -18,8 +18,8 @@ use Rattle.offer_core.specs.Responses.{response_list_rule, respond_rule}
 use Rattle.region_config.specs.Configurations.{Configuration}
 use Rattle.region_config.specs.Granules.{with_blocks}
 use Rattle.region_config.specs.Soundness.{IsSound}
-use Rattle.device_rules.specs.ResponseOutcomes.{respond_changes, unhold}
-use Rattle.device_rules.specs.Tags.{tags_after}
+use Rattle.holding_laws.specs.device_rules.specs.ResponseOutcomes.{respond_changes, unhold}
+use Rattle.holding_laws.specs.device_rules.specs.Tags.{tags_after}
 use Rattle.holding_laws.specs.Pictures.{Picture, picture_after}
 use Rattle.holding_laws.specs.Standing.{Sound}
 use Rattle.holding_laws.proofs.OneAnswer.{IsAnswer, answer_picture, q, tags_of-has}

@@ -11,16 +11,16 @@ use Rattle.journal_core.specs.declared.outcome.Effect.{Effect}
 use Rattle.region_config.specs.Configurations.{Configuration}
 use Rattle.tag_refs.specs.Tables.{is_used, still_used}
 use Rattle.tag_refs.specs.declared.entries.TagEntry.{TagEntry}
-use Rattle.device_rules.specs.Hosts.{accepted_after, accepted_of, offers_after, offers_of}
-use Rattle.device_rules.specs.Outcomes.{Outcome, effects_of, ended}
-use Rattle.device_rules.specs.Tags.{is_live, is_referenced, last_offer, last_offer_after, open_tags, reference_after, tag_region, tag_runs, tags_after}
+use Rattle.holding_laws.specs.device_rules.specs.Hosts.{accepted_after, accepted_of, offers_after, offers_of}
+use Rattle.holding_laws.specs.device_rules.specs.Outcomes.{Outcome, effects_of, ended}
+use Rattle.holding_laws.specs.device_rules.specs.Tags.{is_live, is_referenced, last_offer, last_offer_after, open_tags, reference_after, tag_region, tag_runs, tags_after}
 use Rattle.holding_laws.specs.Pictures.{picture_of}
 use Rattle.holding_laws.specs.Standing.{Sound}
-use Rattle.device_rules.proofs.ListSteps.{each-change}
-use Rattle.device_rules.proofs.OutcomeSteps.{after-outcome}
+use Rattle.holding_laws.specs.device_rules.proofs.ListSteps.{each-change}
+use Rattle.holding_laws.specs.device_rules.proofs.OutcomeSteps.{after-outcome}
 use Rattle.holding_laws.proofs.Pictures.{picture-outcome}
-use Rattle.device_rules.proofs.TagSteps.{same_tag-is, without_tag, without_tags}
-use Rattle.device_rules.proofs.TagSearches.{filter_nothing, filter_twice}
+use Rattle.holding_laws.specs.device_rules.proofs.TagSteps.{same_tag-is, without_tag, without_tags}
+use Rattle.holding_laws.specs.device_rules.proofs.TagSearches.{filter_nothing, filter_twice}
 use Rattle.table_laws.specs.TagTable.{IsEntry, IsTable}
 use Rattle.table_laws.proofs.TagEntries.{each_open, entry-moved, open_uses, tags_in, used_is, uses}
 

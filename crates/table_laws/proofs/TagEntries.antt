@@ -10,12 +10,12 @@ use Rattle.region_config.specs.Configurations.{Configuration}
 use Rattle.region_config.specs.Granules.{hosts_of}
 use Rattle.tag_refs.specs.Tables.{has_entry, is_used, passes}
 use Rattle.tag_refs.specs.declared.entries.TagEntry.{TagEntry}
-use Rattle.device_rules.specs.Tags.{is_accepted_by, is_offered_to, is_referenced, last_offer, open_tags, tag_region, tag_runs}
-use Rattle.device_rules.specs.Tags.{is_live as tag_lives}
+use Rattle.holding_laws.specs.device_rules.specs.Tags.{is_accepted_by, is_offered_to, is_referenced, last_offer, open_tags, tag_region, tag_runs}
+use Rattle.holding_laws.specs.device_rules.specs.Tags.{is_live as tag_lives}
 use Rattle.holding_laws.specs.Pictures.{picture_of}
 use Rattle.holding_laws.specs.Standing.{Sound}
-use Rattle.device_rules.proofs.TagSteps.{same_tag-is, same_tag-self}
-use Rattle.device_rules.proofs.HostSearches.{any_or}
+use Rattle.holding_laws.specs.device_rules.proofs.TagSteps.{same_tag-is, same_tag-self}
+use Rattle.holding_laws.specs.device_rules.proofs.HostSearches.{any_or}
 use Rattle.table_laws.specs.TagTable.{IsEntry, IsTable}
 use Rattle.table_laws.proofs.HostBits.{host_bits-same, host_bits-some}
 

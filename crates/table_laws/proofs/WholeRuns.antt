@@ -12,7 +12,7 @@ use Rattle.region_config.specs.Soundness.{IsSound}
 use Rattle.holding_laws.specs.Standing.{IsMade}
 use Rattle.holding_laws.proofs.Holding.{in_run}
 use Rattle.holding_laws.proofs.Homes.{made_granular, made_is_run, made_of_region, made_region, made_run}
-use Rattle.device_rules.proofs.ListSteps.{each-change}
+use Rattle.holding_laws.specs.device_rules.proofs.ListSteps.{each-change}
 
 -- The range of the extent has a run, whose granules are of the region of its first one.
 pub record IsOneRun (c : Configuration) (h : HostId) (x : Extent) : Type 0 where

@@ -12,7 +12,7 @@ use Rattle.granule_map.specs.declared.states.GranuleState.{GranuleState}
 use Rattle.granule_table.specs.Tables.{Cell, given, settled, soiled, zeroed}
 use Rattle.journal_core.specs.Holders.{is_soiled, is_taken}
 use Rattle.journal_core.specs.declared.outcome.Effect.{Effect}
-use Rattle.device_rules.specs.Tags.{Dirty, Free, Held, Offered, Status, Tagged, status}
+use Rattle.holding_laws.specs.device_rules.specs.Tags.{Dirty, Free, Held, Offered, Status, Tagged, status}
 
 -- the status that a state stands for, whoever it names
 abbrev pub status_of : GranuleState → Status

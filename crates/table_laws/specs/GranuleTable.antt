@@ -11,8 +11,8 @@ use Rattle.offer_core.specs.Offerings.{oldest_of}
 use Rattle.granule_table.specs.Tables.{Cell}
 use Rattle.journal_core.specs.Entries.{effects}
 use Rattle.journal_core.specs.declared.entries.Entry.{Entry}
-use Rattle.device_rules.specs.Hosts.{offers_of}
-use Rattle.device_rules.specs.Tags.{last_offer, open_tags, tag_runs}
+use Rattle.holding_laws.specs.device_rules.specs.Hosts.{offers_of}
+use Rattle.holding_laws.specs.device_rules.specs.Tags.{last_offer, open_tags, tag_runs}
 use Rattle.table_laws.specs.GranuleCells.{IsCell, cell_over}
 
 -- These are the oldest offers, and the runs of the open tags.

@@ -5,3 +5,6 @@ pub mod ShownTags
 pub mod Tabled
 pub mod TagTable
 pub mod TagTableSteps
+pub use Rattle.holding_laws.specs.device_rules
+pub use Rattle.holding_laws
+pub use Rattle.step_laws

@@ -6,9 +6,9 @@ use Rattle.host_payloads.specs.declared.requests.HostRequest.{HostRequest}
 use Rattle.journal_core.specs.declared.outcome.Effect.{Effect}
 use Rattle.region_config.specs.Configurations.{Configuration}
 use Rattle.tag_refs.specs.declared.entries.TagEntry.{TagEntry}
-use Rattle.device_rules.specs.Answers.{host_outcome, manager_outcome}
-use Rattle.device_rules.specs.Outcomes.{effects_of}
-use Rattle.device_rules.specs.Views.{View}
+use Rattle.holding_laws.specs.device_rules.specs.Answers.{host_outcome, manager_outcome}
+use Rattle.holding_laws.specs.device_rules.specs.Outcomes.{effects_of}
+use Rattle.holding_laws.specs.device_rules.specs.Views.{View}
 use Rattle.table_laws.specs.TagTable.{IsTable}
 
 -- neither an offer nor an answer, and no extent leaves, no reference changes and no tag ends

@@ -10,10 +10,10 @@ use Rattle.region_config.specs.Granules.{hosts_of}
 use Rattle.tag_refs.specs.Tables.{is_used, passes}
 use Rattle.tag_refs.specs.Tables.{has_entry, entry_referenced, tag_view as entry_view}
 use Rattle.tag_refs.specs.declared.entries.TagEntry.{TagEntry}
-use Rattle.device_rules.specs.Adding.{is_open_in}
-use Rattle.device_rules.specs.Hosts.{accepted_of, offers_of}
-use Rattle.device_rules.specs.TagCommands.{tag_seen}
-use Rattle.device_rules.specs.Tags.{is_live, is_referenced, open_tags}
+use Rattle.holding_laws.specs.device_rules.specs.Adding.{is_open_in}
+use Rattle.holding_laws.specs.device_rules.specs.Hosts.{accepted_of, offers_of}
+use Rattle.holding_laws.specs.device_rules.specs.TagCommands.{tag_seen}
+use Rattle.holding_laws.specs.device_rules.specs.Tags.{is_live, is_referenced, open_tags}
 use Rattle.table_laws.specs.Tabled.{Tabled, past_of}
 
 -- The entries are what the manager is to see of the open tags, in order (5608h). A tag has an entry just where it is

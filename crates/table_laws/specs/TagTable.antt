@@ -9,8 +9,8 @@ use Rattle.extent_list.specs.ExtentLists.{has_extent_of}
 use Rattle.journal_core.specs.declared.outcome.Effect.{Effect}
 use Rattle.tag_refs.specs.declared.entries.TagEntry.{TagEntry}
 use Rattle.tag_refs.specs.Tables.{entries_changed, is_used, passes, set_by, still_used}
-use Rattle.device_rules.specs.TagCommands.{host_bits}
-use Rattle.device_rules.specs.Tags.{is_accepted_by, is_offered_to, is_referenced, last_offer, open_tags, tag_region, tag_runs}
+use Rattle.holding_laws.specs.device_rules.specs.TagCommands.{host_bits}
+use Rattle.holding_laws.specs.device_rules.specs.Tags.{is_accepted_by, is_offered_to, is_referenced, last_offer, open_tags, tag_region, tag_runs}
 
 -- The entry is what the effects so far say of its tag.
 pub record IsEntry (c : Configuration) (past : List Effect) (e : TagEntry) : Type 0 where

@@ -9,10 +9,10 @@ use Rattle.region_config.specs.Configurations.{Configuration}
 use Rattle.region_config.specs.Granules.{region_spec}
 use Rattle.tag_refs.specs.Tables.{entries_changed, has_entry, is_used, opened, passes, still_used, with_reference}
 use Rattle.tag_refs.specs.declared.entries.TagEntry.{TagEntry}
-use Rattle.device_rules.specs.Adding.{offered}
-use Rattle.device_rules.specs.Hosts.{accepted_of, offers_of}
-use Rattle.device_rules.specs.Outcomes.{Outcome, effects_of, ended}
-use Rattle.device_rules.specs.TagCommands.{add_reference_outcome, remove_reference_outcome}
+use Rattle.holding_laws.specs.device_rules.specs.Adding.{offered}
+use Rattle.holding_laws.specs.device_rules.specs.Hosts.{accepted_of, offers_of}
+use Rattle.holding_laws.specs.device_rules.specs.Outcomes.{Outcome, effects_of, ended}
+use Rattle.holding_laws.specs.device_rules.specs.TagCommands.{add_reference_outcome, remove_reference_outcome}
 use Rattle.table_laws.specs.TagTable.{IsTable, among, among_offers, ending, host_of_tags_set}
 use Rattle.table_laws.specs.Tabled.{OfferDoes, Tabled, past_of}
 

@@ -1,6 +1,6 @@
 //! That the kept states of granules stay right.
 
-ghost use Rattle.device_rules.specs.Legal.{Legal, Meets};
+ghost use Rattle.holding_laws.specs.device_rules.specs.Legal.{Legal, Meets};
 ghost use Rattle.table_laws.specs.GranuleTable.{StaysRight};
 ghost use Rattle.journal_core.specs.declared.entries.Entry.{Entry};
 ghost use Rattle.region_config.specs.Configurations.{Configuration};

@@ -2,11 +2,11 @@
 
 ghost use Rattle.dcd_base.specs.declared.capacity.Tag.{Tag};
 ghost use Rattle.dcd_base.specs.declared.ids.HostId.{HostId};
-ghost use Rattle.device_rules.specs.Answers.{dropped, zeroes};
-ghost use Rattle.device_rules.specs.Legal.{Legal};
-ghost use Rattle.device_rules.specs.Outcomes.{Outcome};
-ghost use Rattle.device_rules.specs.Tags.{is_live, is_referenced};
-ghost use Rattle.device_rules.specs.Views.{View};
+ghost use Rattle.holding_laws.specs.device_rules.specs.Answers.{dropped, zeroes};
+ghost use Rattle.holding_laws.specs.device_rules.specs.Legal.{Legal};
+ghost use Rattle.holding_laws.specs.device_rules.specs.Outcomes.{Outcome};
+ghost use Rattle.holding_laws.specs.device_rules.specs.Tags.{is_live, is_referenced};
+ghost use Rattle.holding_laws.specs.device_rules.specs.Views.{View};
 ghost use Rattle.host_payloads.specs.declared.requests.HostRequest.{HostRequest};
 ghost use Rattle.journal_core.specs.Entries.{effects};
 ghost use Rattle.journal_core.specs.declared.entries.Entry.{Entry};

@@ -5,8 +5,8 @@
 
 use dcd_base::Bytes;
 use edge_io::{StdSource, read_all, words};
-use script_codec::{read, write};
 use script_text::parse;
+use script_text::script_codec::{read, write};
 use std::alloc::Global;
 use std::process::ExitCode;
 

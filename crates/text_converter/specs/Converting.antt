@@ -1,17 +1,17 @@
 -- What a text, a script or a frame is turned into.
 use Rattle.std.specs.Prelude.{◌≡◌, ◌≢◌, ℕ, ◌<◌, ◌≤◌, List, length, Some, Result, Ok, Err}
 use Rattle.explainer.specs.Explaining.{IsExplained}
-use Rattle.journal_check.specs.Frames.{needed, script_part, text_part}
-use Rattle.script_codec.specs.Reading.{first_fault}
-use Rattle.script_codec.specs.Scripts.{ReadsScript}
-use Rattle.script_codec.specs.Writing.{script_bytes}
-use Rattle.script_codec.specs.declared.faults.ScriptFault.{ScriptFault}
-use Rattle.script_codec.specs.declared.scripts.Script.{Script}
+use Rattle.explainer.specs.journal_check.specs.Frames.{needed, script_part, text_part}
+use Rattle.script_text.specs.script_codec.specs.Reading.{first_fault}
+use Rattle.script_text.specs.script_codec.specs.Scripts.{ReadsScript}
+use Rattle.script_text.specs.script_codec.specs.Writing.{script_bytes}
+use Rattle.script_text.specs.script_codec.specs.declared.faults.ScriptFault.{ScriptFault}
+use Rattle.script_text.specs.script_codec.specs.declared.scripts.Script.{Script}
 use Rattle.script_text.specs.Layouts.{Says}
 use Rattle.script_text.specs.Printing.{script_text}
 use Rattle.script_text.specs.Texts.{script_said}
-use Rattle.text_lines.specs.declared.faults.Cause.{Cause}
-use Rattle.text_lines.specs.declared.faults.TextFault.{TextFault}
+use Rattle.script_text.specs.text_lines.specs.declared.faults.Cause.{Cause}
+use Rattle.script_text.specs.text_lines.specs.declared.faults.TextFault.{TextFault}
 use Rattle.text_converter.specs.Columns.{column_of}
 use Rattle.text_converter.specs.declared.columns.Place.{Place}
 use Rattle.text_converter.specs.declared.converting.Refusal.{Refusal}

@@ -1,6 +1,6 @@
 //! Texts into scripts, scripts into texts, and what a run printed into words.
 
-ghost use Rattle.journal_check.specs.Frames.{needed, script_part, text_part};
+ghost use Rattle.explainer.specs.journal_check.specs.Frames.{needed, script_part, text_part};
 ghost use Rattle.std.specs.Prelude.{◌≡◌, ◌≤◌, length};
 ghost use Rattle.text_converter.specs.Converting.{Converts};
 ghost use Rattle.text_converter.specs.declared.converting.Task.{Task};
@@ -9,7 +9,7 @@ use crate::columns::{Place, place_in};
 use dcd_base::{Bytes, NoMemory};
 use explainer::explain;
 use field_bytes::u32_at;
-use script_codec::{ScriptFault, read, write};
+use script_text::script_codec::{ScriptFault, read, write};
 use script_text::{Cause, TextFault, parse, print};
 use std::alloc::Global;
 

@@ -2,8 +2,8 @@
 
 ghost use Rattle.cci_codec.specs.declared.faults.MessageFault.{MessageFault};
 ghost use Rattle.std.specs.Prelude.{◌≡◌, ◌++◌, OnOk, decimal};
-ghost use Rattle.text_lines.specs.declared.faults.Cause.{Cause};
-ghost use Rattle.text_lines.specs.declared.faults.Wanted.{Wanted};
+ghost use Rattle.script_text.specs.text_lines.specs.declared.faults.Cause.{Cause};
+ghost use Rattle.script_text.specs.text_lines.specs.declared.faults.Wanted.{Wanted};
 ghost use Rattle.text_converter.specs.Faults.{cause_text, config_text, cut_line, fault_line, message_text, of_region, of_seat, stopped_line, wanted_text};
 
 use crate::columns::Place;

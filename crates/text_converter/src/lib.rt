@@ -14,5 +14,6 @@ mod status;
 
 pub use columns::Place;
 pub use converting::{Refusal, Task, convert};
+pub use explainer::journal_check;
 pub use running::run;
 pub use status::Status;

@@ -11,3 +11,4 @@ pub mod Parts
 pub mod PlainLines
 pub mod PlainParts
 pub mod Policies
+pub use Rattle.script_codec

@@ -33,3 +33,4 @@ pub use lines::{opening, rest};
 pub use openings::Opening;
 pub use plain_lines::{plain_access, plain_line};
 pub use plain_messages::PayloadRoom;
+pub use script_codec;

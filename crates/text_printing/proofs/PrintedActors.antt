@@ -5,7 +5,7 @@ use Rattle.std.specs.Prelude.{codes}
 use Rattle.std.specs.List.{list_all}
 use Rattle.std.proofs.lemmas.Bool.{and_from, and_parts, cases_Bool, cond-false, cond-true, eqb-true, lt-ltb, ltb-true}
 use Rattle.dcd_base.specs.declared.steps.Actor.{Actor}
-use Rattle.script_codec.specs.Scripts.{are_lanes, bad_lanes}
+use Rattle.text_lines.specs.script_codec.specs.Scripts.{are_lanes, bad_lanes}
 use Rattle.text_words.specs.Characters.{IsNumberWord, IsTextWord, passed_from, is_high, is_other}
 use Rattle.text_words.specs.Extents.{after, before}
 use Rattle.text_words.specs.Numbers.{digits_said, under}

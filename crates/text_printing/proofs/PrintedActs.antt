@@ -11,8 +11,8 @@ use Rattle.host_payloads.specs.HostPayloads.{host_request}
 use Rattle.host_payloads.specs.declared.requests.HostRequest.{HostRequest}
 use Rattle.journal_core.specs.Entries.{fits}
 use Rattle.journal_core.specs.declared.acts.Act.{Act}
-use Rattle.script_codec.specs.Scripts.{is_lane, is_sound_line}
-use Rattle.script_codec.specs.declared.script_line.Line.{Line}
+use Rattle.text_lines.specs.script_codec.specs.Scripts.{is_lane, is_sound_line}
+use Rattle.text_lines.specs.script_codec.specs.declared.script_line.Line.{Line}
 use Rattle.text_words.specs.Texts.{IsWordLine}
 use Rattle.text_words.specs.Words.{line_text}
 use Rattle.text_lines.specs.Commands.{host_command_text, manager_command_text}

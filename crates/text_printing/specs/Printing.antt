@@ -4,7 +4,7 @@ use Rattle.std.specs.List.{AllByRecursion, flat_map}
 use Rattle.dcd_base.specs.declared.steps.Actor.{Actor}
 use Rattle.cci_codec.specs.declared.messages.Request.{Request}
 use Rattle.journal_core.specs.declared.acts.Act.{Act}
-use Rattle.script_codec.specs.declared.script_line.Line.{Line}
+use Rattle.text_lines.specs.script_codec.specs.declared.script_line.Line.{Line}
 use Rattle.text_words.specs.Characters.{IsTextWord}
 use Rattle.text_words.specs.Texts.{IsWordLine}
 use Rattle.text_words.specs.Words.{line_text, spaced}

@@ -1,6 +1,6 @@
 //! Actors, printed.
 
-ghost use Rattle.script_codec.specs.Scripts.{are_lanes};
+ghost use Rattle.text_lines.specs.script_codec.specs.Scripts.{are_lanes};
 ghost use Rattle.std.specs.Prelude.{◌≡◌, ◌++◌, [], ◌∷◌, IsTrue, OnOk};
 ghost use Rattle.text_lines.specs.Actors.{actor_text, seat_text};
 ghost use Rattle.text_lines.specs.Parts.{Part};

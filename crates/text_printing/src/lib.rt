@@ -14,3 +14,5 @@ mod policies;
 pub mod words;
 
 pub use lines::put_line;
+pub use text_lines;
+pub use text_lines::script_codec;

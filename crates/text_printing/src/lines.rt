@@ -2,9 +2,9 @@
 
 ghost use Rattle.cci_codec.specs.Messages.{ReadsRequest, request_bytes};
 ghost use Rattle.journal_core.specs.declared.acts.Act.{Act};
-ghost use Rattle.script_codec.specs.declared.script_line.Line.{Line};
-ghost use Rattle.script_codec.specs.Scripts.{are_lanes, is_sound_line};
-ghost use Rattle.script_codec.specs.Writing.{has_short_message};
+ghost use Rattle.text_lines.specs.script_codec.specs.declared.script_line.Line.{Line};
+ghost use Rattle.text_lines.specs.script_codec.specs.Scripts.{are_lanes, is_sound_line};
+ghost use Rattle.text_lines.specs.script_codec.specs.Writing.{has_short_message};
 ghost use Rattle.std.specs.Prelude.{◌++◌, ◌∷◌, ◌≤◌, [], IsTrue, OnOk, codes, length};
 ghost use Rattle.text_lines.specs.Layouts.{command_line, host_fits_line, host_request_parts, load_parts, manager_fits_line, manager_request_parts, store_parts, tag_part};
 ghost use Rattle.text_lines.specs.Parts.{Form, Part};
@@ -21,8 +21,8 @@ use dcd_base::{Actor, Bytes, NoMemory};
 use fm_payloads::FmRequest;
 use host_payloads::HostRequest;
 use journal_core::Act;
-use script_codec::Line;
 use std::alloc::Global;
+use text_lines::script_codec::Line;
 use text_lines::{Frame, Keyword};
 
 /// Appends a mark.

@@ -20,7 +20,7 @@ use Rattle.journal_core.specs.declared.acts.Reply.{Reply}
 use Rattle.journal_core.specs.declared.entries.Entry.{Entry}
 use Rattle.region_config.specs.Configurations.{Configuration}
 use Rattle.device_plain.specs.Devices.{Enters, Plain}
-use Rattle.script_codec.specs.Covering.{pass_of}
+use Rattle.fabric_codec.specs.script_codec.specs.Covering.{pass_of}
 use Rattle.fabric_codec.specs.FabricLayout.{fits_there}
 use Rattle.fabric_codec.specs.declared.fabric_lines.FabricLine.{FabricLine}
 use Rattle.fabric_codec.specs.declared.fabric_scripts.FabricScript.{FabricScript}

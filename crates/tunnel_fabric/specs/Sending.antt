@@ -9,11 +9,11 @@ use Rattle.journal_core.specs.declared.acts.Reply.{Reply}
 use Rattle.journal_core.specs.declared.entries.Entry.{Entry}
 use Rattle.journal_core.specs.Entries.{Each}
 use Rattle.journal_core.specs.Merging.{Numbered}
-use Rattle.device_rules.specs.Legal.{Exclusive, Legal}
-use Rattle.isolation_laws.specs.Solo.{Isolated}
+use Rattle.report.specs.device_rules.specs.Legal.{Exclusive, Legal}
+use Rattle.device_plain.specs.isolation_laws.specs.Solo.{Isolated}
 use Rattle.device_plain.specs.Devices.{Plain}
 use Rattle.device_plain.specs.Numbering.{IsCounted}
-use Rattle.script_codec.specs.Covering.{pass_of}
+use Rattle.fabric_codec.specs.script_codec.specs.Covering.{pass_of}
 use Rattle.region_config.specs.Configurations.{Configuration}
 use Rattle.fabric_codec.specs.declared.fabric_lines.FabricLine.{FabricLine}
 use Rattle.fabric_codec.specs.declared.fabric_scripts.FabricScript.{FabricScript}

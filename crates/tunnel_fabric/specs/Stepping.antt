@@ -9,12 +9,12 @@ use Rattle.journal_core.specs.declared.acts.Reply.{Reply}
 use Rattle.journal_core.specs.declared.entries.Entry.{Entry}
 use Rattle.journal_core.specs.Entries.{Each, fits}
 use Rattle.journal_core.specs.Merging.{Numbered}
-use Rattle.device_rules.specs.Legal.{Exclusive, Legal}
-use Rattle.isolation_laws.specs.Solo.{Isolated}
+use Rattle.report.specs.device_rules.specs.Legal.{Exclusive, Legal}
+use Rattle.device_plain.specs.isolation_laws.specs.Solo.{Isolated}
 use Rattle.device_plain.specs.Numbering.{IsCounted}
 use Rattle.region_config.specs.Configurations.{Configuration}
 use Rattle.device_plain.specs.Devices.{Enters, Plain}
-use Rattle.script_codec.specs.Covering.{pass_of}
+use Rattle.fabric_codec.specs.script_codec.specs.Covering.{pass_of}
 use Rattle.fabric_codec.specs.declared.fabric_lines.FabricLine.{FabricLine}
 use Rattle.fabric_codec.specs.declared.fabric_scripts.FabricScript.{FabricScript}
 use Rattle.tunnel_fabric.specs.Sending.{AreReplies, HasOnePass, IsShortReply, RanFabric, Sent, sent_by, sent_of, tunnel_of}

@@ -12,9 +12,9 @@ use Rattle.std.specs.declared.result.Result.TheVariants.{Ok, Err}
 use Rattle.dcd_base.specs.declared.steps.Actor.{Actor}
 use Rattle.journal_core.specs.Entries.{fits}
 use Rattle.journal_core.specs.declared.acts.Act.{Act}
-use Rattle.script_codec.specs.declared.script_line.Line.{Line}
-use Rattle.script_codec.specs.Covering.{pass_of}
-use Rattle.script_codec.specs.Scripts.{is_sound_line}
+use Rattle.workers.specs.script_codec.specs.declared.script_line.Line.{Line}
+use Rattle.workers.specs.script_codec.specs.Covering.{pass_of}
+use Rattle.workers.specs.script_codec.specs.Scripts.{is_sound_line}
 use Rattle.workers.specs.Phases.{task_of, tasks, phase}
 use Rattle.workers.specs.Serving.{EachReady, EachServed, IsReady}
 use Rattle.workers_tests.specs.Desks.{AreDesks, DeskState, IsDesk, actor_at, desk_reads}

@@ -1,15 +1,15 @@
 //! Scripts with marks: with one after every line, and as they come.
 ghost use Rattle.std.specs.List.{list_all};
 ghost use Rattle.std.specs.Prelude.{◌≡◌, ◌<◌, ◌≤◌, ◌+◌, ◌^◌, IsTrue, OnOk, length};
-ghost use Rattle.script_codec.specs.Scripts.{is_sound_line};
+ghost use Rattle.workers.specs.script_codec.specs.Scripts.{is_sound_line};
 ghost use Rattle.workers_tests.specs.Desks.{AreDesks};
 
 use crate::keeper::{Desk, Keeper};
 use dcd_base::{Gate, NoMemory};
-use script_codec::{Line, Lines};
 use std::alloc::AllocGlobal;
 use std::sync::Wait;
 use std::thread::Threads;
+use workers::script_codec::{Line, Lines};
 use workers::{Sharing, run_phase, run_script_lines};
 
 /// Runs the lines in one phase.

@@ -4,13 +4,13 @@ use crate::keeper::Keeper;
 use crate::marked::run_script;
 use crate::threads::{Watch, threads_now};
 use dcd_base::{Actor, Gate, NoMemory};
-use script_codec::Lines;
 use std::alloc::AllocGlobal;
 use std::sync::Wait;
 use std::sync::atomic::{AtomicU64, Ordering};
 use std::test::*;
 use std::thread::Threads;
 use workers::Sharing;
+use workers::script_codec::Lines;
 
 /// How many lines there are, in phases of ten.
 const LINES: u16 = 200;

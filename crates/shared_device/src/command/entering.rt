@@ -1,11 +1,11 @@
 //! A command or a scrub at the cells.
 
 ghost use Rattle.control_core.specs.Steps.{MayStep};
-ghost use Rattle.ruled_cells.specs.Calls.{IsOf, row_of};
-ghost use Rattle.ruled_cells.specs.Seats.{IsSameSeat, NoTurns, seat_number, seat_view, turns_of};
-ghost use Rattle.ruled_cells.specs.Stamps.{Below};
-ghost use Rattle.ruled_cells.specs.Telling.{begun, noted_view};
-ghost use Rattle.shard_laws.specs.Belonging.{touches_shard};
+ghost use Rattle.block_shard.specs.ruled_cells.specs.Calls.{IsOf, row_of};
+ghost use Rattle.block_shard.specs.ruled_cells.specs.Seats.{IsSameSeat, NoTurns, seat_number, seat_view, turns_of};
+ghost use Rattle.block_shard.specs.ruled_cells.specs.Stamps.{Below};
+ghost use Rattle.block_shard.specs.ruled_cells.specs.Telling.{begun, noted_view};
+ghost use Rattle.block_shard.specs.shard_laws.specs.Belonging.{touches_shard};
 ghost use Rattle.shared_device.specs.Entering.{AreApart, HasCommanded, HasNoted, HasOneMore, HasOnlyFirst, HasTouched, MayEnterStep};
 ghost use Rattle.std.specs.Prelude.{◌≡◌, ◌^◌, ◌<◌, ◌≤◌, IfOk, None, OnErr, length, true};
 ghost use mathlib.Core.Option.{some};
@@ -13,11 +13,11 @@ ghost use lib.ListN.{get_elem?};
 
 use crate::cells::{ControlCell, ShardCell};
 use crate::command::planning::{change, entered, prepared};
+use block_shard::ruled_cells::{Cells, Seat};
 use block_shard::touches;
 use control_core::Plan;
 use dcd_base::{Actor, NoMemory, Stamp};
 use journal_core::{Act, Reply};
-use ruled_cells::{Cells, Seat};
 use std::sync::Wait;
 
 /// Enters the step of the plan and notes its entry. It takes no memory.

@@ -1,5 +1,5 @@
 use Rattle.cells_tests.proofs.TallySteps.{last_at}
-use Rattle.ruled_cells.proofs.ClosingSteps.{in_front}
+use Rattle.block_shard.specs.ruled_cells.proofs.ClosingSteps.{in_front}
 use Rattle.cells_tests.proofs.runs.made.Goals as goal
 
 pub returns-clause-two : goal.returns-clause-two

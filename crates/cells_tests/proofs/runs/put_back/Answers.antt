@@ -1,6 +1,6 @@
 use Rattle.std.proofs.Common.{List, [], suc}
 use Rattle.journal_core.specs.declared.entries.Entry.{Entry}
-use Rattle.ruled_cells.specs.Seats.{turns_of}
+use Rattle.block_shard.specs.ruled_cells.specs.Seats.{turns_of}
 use Rattle.cells_tests.specs.Tally.{ledger_reads, no_config}
 use Rattle.cells_tests.proofs.TallySteps.{may_put_back, same_view, same_cell}
 use Rattle.cells_tests.proofs.runs.put_back.Goals as goal

@@ -1,7 +1,7 @@
 use Rattle.std.proofs.Common.{List, [], sym, subst}
 use Rattle.journal_core.specs.declared.entries.Entry.{Entry}
 use Rattle.cells_tests.specs.Tally.{IsIdle, MayHaveAdded, ledger_reads, no_config}
-use Rattle.ruled_cells.specs.Seats.{seat_number, seat_view, turns_of}
+use Rattle.block_shard.specs.ruled_cells.specs.Seats.{seat_number, seat_view, turns_of}
 use Rattle.cells_tests.proofs.TallySteps.{idle_again, given_again, same_cell}
 use Rattle.cells_tests.proofs.runs.step.Goals as goal
 

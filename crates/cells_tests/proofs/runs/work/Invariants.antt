@@ -1,5 +1,5 @@
 use Rattle.std.proofs.Common.{◌≤◌, length}
-use Rattle.ruled_cells.specs.Seats.{IsSameSeat, NoTurns, seat_number, seat_view}
+use Rattle.block_shard.specs.ruled_cells.specs.Seats.{IsSameSeat, NoTurns, seat_number, seat_view}
 use Rattle.cells_tests.specs.Tally.{IsIdle}
 use Rattle.cells_tests.proofs.runs.work.Given as goal
 

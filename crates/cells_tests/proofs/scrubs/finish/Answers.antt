@@ -3,10 +3,10 @@ use Rattle.std.proofs.lemmas.List.{length_push}
 use lib.ListN.{get_elem?}
 use Rattle.atomic_table.proofs.Lists.{set_else}
 use Rattle.journal_core.specs.declared.entries.Entry.{Entry}
-use Rattle.ruled_cells.specs.Stamps.{stamp}
-use Rattle.ruled_cells.specs.Telling.{last_of}
+use Rattle.block_shard.specs.ruled_cells.specs.Stamps.{stamp}
+use Rattle.block_shard.specs.ruled_cells.specs.Telling.{last_of}
 use Rattle.cells_tests.specs.Tally.{ledger_reads, no_config}
-use Rattle.ruled_cells.specs.Seats.{turns_of, seat_view, seat_number}
+use Rattle.block_shard.specs.ruled_cells.specs.Seats.{turns_of, seat_view, seat_number}
 use Rattle.cells_tests.proofs.TallySteps.{last_is, may_note, may_count, may_end, counted_view, same_cell}
 use Rattle.cells_tests.proofs.scrubs.finish.Goals as goal
 

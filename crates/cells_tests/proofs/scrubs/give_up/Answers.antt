@@ -1,5 +1,5 @@
 use Rattle.std.proofs.Common.{ap, ◌∙◌, arith, None}
-use Rattle.ruled_cells.specs.Seats.{turns_of, seat_view}
+use Rattle.block_shard.specs.ruled_cells.specs.Seats.{turns_of, seat_view}
 use Rattle.cells_tests.proofs.TallySteps.{may_return, still_there}
 use Rattle.cells_tests.proofs.scrubs.give_up.Goals as goal
 

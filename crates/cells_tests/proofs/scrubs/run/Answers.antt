@@ -1,6 +1,6 @@
 use Rattle.std.proofs.Common.{◌≡◌, ◌++◌, ◌∷◌, [], ap, sym, ◌∙◌, arith, rules}
 use Rattle.atomic_table.proofs.Lists.{set_else}
-use Rattle.ruled_cells.specs.Seats.{turns_of}
+use Rattle.block_shard.specs.ruled_cells.specs.Seats.{turns_of}
 use lib.ListN.{get_elem?}
 use Rattle.cells_tests.proofs.TallySteps.{both_again, still_there}
 use Rattle.cells_tests.proofs.scrubs.run.Goals as goal

@@ -3,9 +3,9 @@ use Rattle.std.specs.declared.result.Result.{Result}
 use Rattle.std.proofs.lemmas.Result.{IfOk-weaker}
 use Rattle.dcd_codes.specs.declared.refusals.Refusal.{Refusal}
 use Rattle.device_commands.specs.declared.draft.DraftParts.{DraftParts}
-use Rattle.device_rules.specs.Answers.{host_outcome}
-use Rattle.device_rules.specs.Views.{view_of}
-use Rattle.device_state.specs.StateAfter.{part_of}
+use Rattle.device_commands.specs.device_rules.specs.Answers.{host_outcome}
+use Rattle.device_commands.specs.device_rules.specs.Views.{view_of}
+use Rattle.device_commands.specs.device_state.specs.StateAfter.{part_of}
 use Rattle.control_core.specs.Doing.{Does, Drafted}
 use Rattle.control_core.specs.declared.decided.Decided.{Decided}
 use Rattle.control_core.specs.Fitting.{PartFits}

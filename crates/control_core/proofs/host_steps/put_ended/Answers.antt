@@ -4,10 +4,10 @@ use Rattle.std.proofs.lemmas.Bool.{eqb-true}
 use Rattle.std.proofs.lemmas.Result.{on_ok_weaker}
 use Rattle.dcd_base.specs.declared.capacity.Tag.{Tag}
 use Rattle.dcd_base.specs.declared.ids.HostId.{HostId}
-use Rattle.device_state.specs.StateAfter.{part_of}
+use Rattle.device_commands.specs.device_state.specs.StateAfter.{part_of}
 use Rattle.extent_list.specs.ExtentLists.{has_extent_of}
 use Rattle.journal_core.specs.declared.outcome.Effect.{Effect}
-use Rattle.table_laws.specs.TagTable.{ending}
+use Rattle.device_commands.specs.table_laws.specs.TagTable.{ending}
 use Rattle.tag_refs.specs.declared.entries.TagEntry.{TagEntry}
 use Rattle.control_core.specs.Recording.{lists_or_had}
 use Rattle.control_core.proofs.host_steps.put_ended.Goals as goal

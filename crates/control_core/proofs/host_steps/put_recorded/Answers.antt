@@ -1,12 +1,12 @@
 use Rattle.std.proofs.Common.{◌≡◌, ◌∙◌, ap, refl, subst, sym}
 use Rattle.dcd_codes.specs.declared.codes.Code.{Code}
 use Rattle.device_commands.specs.DraftContents.{draft_in}
-use Rattle.device_state.specs.ListsUpdates.{lists_alone, lists_for}
+use Rattle.device_commands.specs.device_state.specs.ListsUpdates.{lists_alone, lists_for}
 use Rattle.device_commands.specs.declared.draft.DraftedStep.{DraftedStep}
-use Rattle.device_rules.specs.Answers.{response}
+use Rattle.device_commands.specs.device_rules.specs.Answers.{response}
 use Rattle.control_core.specs.Recording.{told_now}
-use Rattle.device_state.specs.StateAfter.{part_of}
-use Rattle.device_state.specs.declared.updates.Update.{Update}
+use Rattle.device_commands.specs.device_state.specs.StateAfter.{part_of}
+use Rattle.device_commands.specs.device_state.specs.declared.updates.Update.{Update}
 use Rattle.control_core.specs.Doing.{IsDone}
 use Rattle.control_core.proofs.Doing.{done_either}
 use Rattle.control_core.proofs.host_steps.put_recorded.Goals as goal

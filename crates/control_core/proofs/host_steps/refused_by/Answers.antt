@@ -1,10 +1,10 @@
 use Rattle.std.proofs.Common.{◌∙◌, ap, subst, sym}
 use Rattle.dcd_base.specs.declared.steps.Actor.{Actor}
-use Rattle.host_lists.specs.Lists.{Lists}
+use Rattle.device_commands.specs.host_lists.specs.Lists.{Lists}
 use Rattle.journal_core.specs.declared.acts.Act.{Act}
 use Rattle.control_core.specs.Deciding.{IsDecidedBy}
 use Rattle.device_commands.specs.HeldLists.{unheld_by}
-use Rattle.device_state.specs.declared.parts.HostPart.{HostPart}
+use Rattle.device_commands.specs.device_state.specs.declared.parts.HostPart.{HostPart}
 use Rattle.control_core.specs.declared.decided.Decided.{Decided}
 use Rattle.control_core.proofs.Decisions.{refused_host}
 use Rattle.control_core.proofs.host_steps.refused_by.Goals as goal

@@ -4,9 +4,9 @@ use Rattle.journal_core.specs.Entries.{effects}
 use Rattle.device_commands.specs.DraftContents.{draft_in}
 use Rattle.device_commands.specs.Drafts.{Drafts}
 use Rattle.device_commands.specs.TagChanges.{OffersGranular}
-use Rattle.device_rules.specs.Adding.{offered}
-use Rattle.device_rules.specs.Answers.{manager_outcome}
-use Rattle.device_rules.specs.Views.{view_of}
+use Rattle.device_commands.specs.device_rules.specs.Adding.{offered}
+use Rattle.device_commands.specs.device_rules.specs.Answers.{manager_outcome}
+use Rattle.device_commands.specs.device_rules.specs.Views.{view_of}
 use Rattle.control_core.proofs.Managed.{decided_manager, manages_err}
 use Rattle.control_core.proofs.Offers.{add_granular, add_known, add_of}
 use Rattle.control_core.proofs.manager_steps.decide_add.Goals as goal

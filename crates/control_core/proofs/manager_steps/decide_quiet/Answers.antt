@@ -1,7 +1,7 @@
 use Rattle.device_commands.specs.Drafts.{IsOutcome}
 use Rattle.journal_core.specs.Entries.{effects}
-use Rattle.device_rules.specs.Answers.{manager_outcome}
-use Rattle.device_rules.specs.Views.{view_of}
+use Rattle.device_commands.specs.device_rules.specs.Answers.{manager_outcome}
+use Rattle.device_commands.specs.device_rules.specs.Views.{view_of}
 use Rattle.control_core.proofs.Managed.{decided_manager, manages_err, quiet_drafts, quiet_log_records, quiet_of}
 use Rattle.control_core.proofs.Shortness.{short_manager}
 use Rattle.control_core.proofs.manager_steps.decide_quiet.Goals as goal

@@ -1,8 +1,8 @@
 use Rattle.std.proofs.Common.{arith}
 use Rattle.fm_payloads.specs.declared.requests.FmRequest.{FmRequest}
 use Rattle.journal_core.specs.Entries.{effects}
-use Rattle.device_rules.specs.Answers.{manager_outcome}
-use Rattle.device_rules.specs.Views.{view_of}
+use Rattle.device_commands.specs.device_rules.specs.Answers.{manager_outcome}
+use Rattle.device_commands.specs.device_rules.specs.Views.{view_of}
 use Rattle.control_core.proofs.Managed.{decided_manager}
 use Rattle.control_core.proofs.ManagerOutcomes.{remove_known, remove_of}
 use Rattle.control_core.proofs.manager_steps.decide_remove.Goals as goal

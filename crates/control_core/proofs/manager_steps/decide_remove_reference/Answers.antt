@@ -3,8 +3,8 @@ use Rattle.fm_payloads.specs.declared.requests.FmRequest.{FmRequest}
 use Rattle.device_commands.specs.DraftContents.{draft_in}
 use Rattle.device_commands.specs.Drafts.{IsOutcome}
 use Rattle.journal_core.specs.Entries.{effects}
-use Rattle.device_rules.specs.Answers.{manager_outcome}
-use Rattle.device_rules.specs.Views.{view_of}
+use Rattle.device_commands.specs.device_rules.specs.Answers.{manager_outcome}
+use Rattle.device_commands.specs.device_rules.specs.Views.{view_of}
 use Rattle.control_core.proofs.Managed.{decided_manager, manages_err, no_log_records, unrefer_of}
 use Rattle.control_core.proofs.manager_steps.decide_remove_reference.Goals as goal
 

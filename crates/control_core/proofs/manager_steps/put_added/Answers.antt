@@ -1,8 +1,8 @@
 use Rattle.std.proofs.Common.{◌∙◌, Option, refl, subst, sym}
 use Rattle.dcd_codes.specs.declared.codes.Code.{Code}
 use Rattle.device_commands.specs.DraftContents.{draft_in}
-use Rattle.device_rules.specs.Answers.{response}
-use Rattle.device_state.specs.declared.updates.NewLists.{NewLists}
+use Rattle.device_commands.specs.device_rules.specs.Answers.{response}
+use Rattle.device_commands.specs.device_state.specs.declared.updates.NewLists.{NewLists}
 use Rattle.control_core.specs.Doing.{IsDone}
 use Rattle.control_core.proofs.Offers.{offer_done}
 use Rattle.control_core.proofs.manager_steps.put_added.Goals as goal

@@ -2,8 +2,8 @@ use Rattle.std.proofs.Common.{◌++◌, ◌∙◌, Option, ap, refl, subst, sym}
 use Rattle.control_core.specs.Doing.{IsDone}
 use Rattle.dcd_codes.specs.declared.codes.Code.{Code}
 use Rattle.device_commands.specs.DraftContents.{draft_in}
-use Rattle.device_rules.specs.Answers.{response}
-use Rattle.device_state.specs.declared.updates.NewLists.{NewLists}
+use Rattle.device_commands.specs.device_rules.specs.Answers.{response}
+use Rattle.device_commands.specs.device_state.specs.declared.updates.NewLists.{NewLists}
 use Rattle.journal_core.specs.Entries.{effects}
 use Rattle.control_core.specs.Recording.{records_entered}
 use Rattle.control_core.proofs.Managed.{entered_done}

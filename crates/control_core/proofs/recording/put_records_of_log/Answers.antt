@@ -1,8 +1,8 @@
 use Rattle.std.proofs.Common.{◌++◌, ◌-◌, ◌∙◌, ap, length, subst, sym}
 use Rattle.std.proofs.lemmas.Result.{on_ok_weaker}
-use Rattle.device_state.specs.StateAfter.{IsLogOf}
+use Rattle.device_commands.specs.device_state.specs.StateAfter.{IsLogOf}
 use Rattle.journal_core.specs.Entries.{effects}
-use Rattle.device_rules.specs.Logs.{log_of}
+use Rattle.device_commands.specs.device_rules.specs.Logs.{log_of}
 use Rattle.control_core.specs.Recording.{records_by}
 use Rattle.control_core.proofs.Recorded.{entered_by, kept_log}
 use Rattle.control_core.proofs.recording.put_records_of_log.Goals as goal

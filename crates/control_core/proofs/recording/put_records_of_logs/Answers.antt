@@ -1,8 +1,8 @@
 use Rattle.std.proofs.Common.{◌++◌, ◌<◌, ◌∙◌, ap, append_assoc, arith, get_or, length, sym, take}
 use Rattle.std.proofs.lemmas.List.{take_all}
 use Rattle.journal_core.specs.Entries.{effects}
-use Rattle.device_rules.specs.Logs.{log_of}
-use Rattle.device_rules.specs.Outcomes.{entered_all}
+use Rattle.device_commands.specs.device_rules.specs.Logs.{log_of}
+use Rattle.device_commands.specs.device_rules.specs.Outcomes.{entered_all}
 use Rattle.control_core.specs.Recording.{records_entered}
 use Rattle.control_core.proofs.Recorded.{told_more}
 use Rattle.control_core.proofs.recording.put_records_of_logs.Goals as goal

@@ -2,12 +2,12 @@ use Rattle.std.proofs.Common.{◌≤◌, ◌∙◌, ◌++◌, IfSome, Option, ap
 use Rattle.std.proofs.lemmas.Result.{on_ok_weaker}
 use Rattle.device_state.specs.ListsUpdates.{left_by, lists_alone}
 use Rattle.device_state.specs.declared.updates.NewLists.{NewLists}
-use Rattle.host_lists.specs.Answers.{HostResponds}
-use Rattle.host_lists.specs.Changes.{changed_by}
-use Rattle.host_lists.specs.Lists.{extent_total}
-use Rattle.host_lists.specs.declared.responded.Responded.{Responded}
+use Rattle.device_state.specs.host_lists.specs.Answers.{HostResponds}
+use Rattle.device_state.specs.host_lists.specs.Changes.{changed_by}
+use Rattle.device_state.specs.host_lists.specs.Lists.{extent_total}
+use Rattle.device_state.specs.host_lists.specs.declared.responded.Responded.{Responded}
 use Rattle.offer_core.proofs.NoOffer.{nothing_offered}
-use Rattle.device_rules.specs.ResponseOutcomes.{hold}
+use Rattle.device_state.specs.device_rules.specs.ResponseOutcomes.{hold}
 use Rattle.journal_core.specs.declared.outcome.HeldKind.{HeldKind}
 use Rattle.device_commands.specs.declared.draft.DraftParts.{DraftParts}
 use Rattle.device_commands.proofs.AddDynamicCapacityResponse.{accepted_few, accepted_granular, answered_drafts, held_response}

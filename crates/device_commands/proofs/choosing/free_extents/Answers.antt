@@ -5,7 +5,7 @@ use Rattle.dcd_base.specs.declared.capacity.Extent.{Extent}
 use Rattle.dcd_base.specs.declared.media.Run.{Run}
 use Rattle.dcd_codes.specs.Rules.{ByRow}
 use Rattle.dcd_codes.specs.declared.refusals.Refusal.{Refusal}
-use Rattle.device_rules.specs.Adding.{area_of}
+use Rattle.device_state.specs.device_rules.specs.Adding.{area_of}
 use Rattle.granule_map.specs.Blocks.{free_block_count, longest_free_run}
 use Rattle.granule_map.specs.StateLists.{is_free_at}
 use Rattle.media_map.specs.Places.{IsRun}

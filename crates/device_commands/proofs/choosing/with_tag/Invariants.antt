@@ -1,5 +1,5 @@
 use Rattle.std.proofs.Common.{◌≡◌, ◌+◌, ◌≤◌, length, take, vec_capacity, vec_len}
-use Rattle.device_rules.specs.Adding.{with_tag}
+use Rattle.device_state.specs.device_rules.specs.Adding.{with_tag}
 use Rattle.device_commands.proofs.choosing.with_tag.Given as goal
 
 -- The extents so far are tagged, and there is room for the others.

@@ -3,9 +3,9 @@ use Rattle.std.proofs.Math.Facts.{Fits-of_lt}
 use Rattle.fm_payloads.specs.ManagerPayloads.{tags_payload}
 use Rattle.journal_core.specs.Entries.{effects}
 use Rattle.tag_refs.specs.Tables.{tag_view}
-use Rattle.device_rules.specs.Settings.{page}
-use Rattle.device_rules.specs.TagCommands.{tag_seen}
-use Rattle.device_rules.specs.Tags.{open_tags}
+use Rattle.device_state.specs.device_rules.specs.Settings.{page}
+use Rattle.device_state.specs.device_rules.specs.TagCommands.{tag_seen}
+use Rattle.device_state.specs.device_rules.specs.Tags.{open_tags}
 use Rattle.device_commands.proofs.Drafting.{payload_alone}
 use Rattle.device_commands.proofs.TagReadings.{tags_length, tags_seen}
 use Rattle.device_commands.proofs.ListPages.{page_map}

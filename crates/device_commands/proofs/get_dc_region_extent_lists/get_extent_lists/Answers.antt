@@ -1,7 +1,7 @@
 use Rattle.std.proofs.Common.{◌≡◌, ◌<◌, arith, ap, length, ◌∙◌}
 use Rattle.std.proofs.Math.Facts.{Fits-of_lt}
-use Rattle.host_lists.specs.Lists.{Lists}
-use Rattle.device_rules.specs.Views.{view_of}
+use Rattle.device_state.specs.host_lists.specs.Lists.{Lists}
+use Rattle.device_state.specs.device_rules.specs.Views.{view_of}
 use Rattle.device_state.specs.declared.parts.HostPart.{HostPart}
 use Rattle.device_commands.proofs.Drafting.{payload_alone}
 use Rattle.device_commands.proofs.Reached.{few_extents, hosts_known}

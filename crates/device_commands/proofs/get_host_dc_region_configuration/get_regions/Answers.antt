@@ -1,6 +1,6 @@
 use Rattle.std.proofs.Common.{◌≡◌, ◌<◌, arith, length, sym, ◌∙◌}
 use Rattle.std.proofs.lemmas.Bool.{le-leb}
-use Rattle.device_rules.specs.Views.{view_of}
+use Rattle.device_state.specs.device_rules.specs.Views.{view_of}
 use Rattle.device_commands.proofs.Drafting.{payload_alone}
 use Rattle.device_commands.proofs.Reached.{few_extents, host_count, hosts_known, regions_known}
 use Rattle.device_commands.proofs.Rows.{both_kept, broken_rule, first_kept, kept_rule, not_up_to}

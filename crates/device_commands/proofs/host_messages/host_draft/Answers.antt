@@ -3,7 +3,7 @@ use Rattle.std.specs.declared.result.Result.TheVariants.{Ok}
 use Rattle.dcd_base.specs.declared.steps.LogId.{LogId}
 use Rattle.host_payloads.specs.HostPayloads.{host_request}
 use Rattle.host_payloads.specs.declared.requests.HostRequest.{HostRequest}
-use Rattle.device_rules.specs.EventCommands.{events_reply, log_named}
+use Rattle.device_state.specs.device_rules.specs.EventCommands.{events_reply, log_named}
 use Rattle.device_commands.proofs.HostDrafts.{message_drafted, only_drafts}
 use Rattle.device_commands.proofs.host_messages.host_draft.Goals as goal
 

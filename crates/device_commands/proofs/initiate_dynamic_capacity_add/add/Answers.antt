@@ -1,7 +1,7 @@
 use Rattle.std.proofs.Common.{◌≡◌, ◌<◌, sym, ◌∙◌}
 use Rattle.device_commands.proofs.InitiateDynamicCapacityAdd.{drafts_offered, named_parts, row_choice, row_names, row_room, row_tag, runs_are_few, runs_are_runs}
-use Rattle.device_rules.specs.Adding.{add_outcome, add_rule}
-use Rattle.device_rules.specs.Views.{view_of}
+use Rattle.device_state.specs.device_rules.specs.Adding.{add_outcome, add_rule}
+use Rattle.device_state.specs.device_rules.specs.Views.{view_of}
 use Rattle.device_commands.specs.Drafts.{Drafts}
 use Rattle.journal_core.specs.Entries.{effects}
 use Rattle.device_commands.specs.InitiateDynamicCapacityAdd.{DraftOffers, chosen_rule, offered_now, room_rule}

@@ -3,7 +3,7 @@ use Rattle.std.proofs.lemmas.Result.{on_ok_weaker}
 use Rattle.device_state.specs.ListsUpdates.{left_by}
 use Rattle.device_state.specs.StateAfter.{part_of}
 use Rattle.device_state.specs.declared.parts.HostPart.{HostPart}
-use Rattle.host_lists.specs.Lists.{Lists}
+use Rattle.device_state.specs.host_lists.specs.Lists.{Lists}
 use Rattle.journal_core.specs.declared.outcome.Effect.{Effect}
 use Rattle.device_commands.specs.InitiateDynamicCapacityAdd.{offered_lists}
 use Rattle.device_commands.specs.declared.draft.DraftParts.{DraftParts}

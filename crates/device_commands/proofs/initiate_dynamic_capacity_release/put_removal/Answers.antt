@@ -1,10 +1,10 @@
 use Rattle.std.proofs.Common.{◌≡◌, ◌∙◌, ◌++◌, ap, subst}
 use Rattle.extent_list.specs.ExtentLists.{tags_of}
-use Rattle.device_rules.specs.ReleaseOutcomes.{removals}
+use Rattle.device_state.specs.device_rules.specs.ReleaseOutcomes.{removals}
 use Rattle.device_state.specs.ListsUpdates.{left_by}
 use Rattle.device_state.specs.StateAfter.{part_of}
 use Rattle.device_state.specs.declared.parts.HostPart.{HostPart}
-use Rattle.host_lists.specs.Lists.{Lists}
+use Rattle.device_state.specs.host_lists.specs.Lists.{Lists}
 use Rattle.device_commands.specs.InitiateDynamicCapacityRelease.{removed_lists}
 use Rattle.device_commands.specs.declared.draft.DraftParts.{DraftParts}
 use Rattle.device_commands.proofs.ListsAfter.{leads_by}

@@ -1,8 +1,8 @@
 use Rattle.std.proofs.lemmas.Bool.{ne_eqb}
 use Rattle.std.proofs.Common.{◌≡◌, ◌<◌, bit_and, not, arith, ap, true, sym, ◌∙◌}
-use Rattle.device_rules.specs.Outcomes.{log_full}
-use Rattle.device_rules.specs.ReleaseOutcomes.{is_forced}
-use Rattle.device_rules.specs.Views.{view_of}
+use Rattle.device_state.specs.device_rules.specs.Outcomes.{log_full}
+use Rattle.device_state.specs.device_rules.specs.ReleaseOutcomes.{is_forced}
+use Rattle.device_state.specs.device_rules.specs.Views.{view_of}
 use Rattle.device_commands.proofs.InitiateDynamicCapacityRelease.{drafts_taken}
 use Rattle.device_commands.proofs.Reached.{few_extents, hosts_known}
 use Rattle.device_state.specs.StateAfter.{part_of}

@@ -3,8 +3,8 @@ use Rattle.dcd_base.specs.declared.capacity.Extent.{Extent}
 use Rattle.dcd_codes.specs.Rules.{ByRow}
 use Rattle.dcd_codes.specs.declared.rules.Rule.{Rule}
 use Rattle.device_commands.specs.Drafts.{Drafts}
-use Rattle.device_rules.specs.ReleaseOutcomes.{remove_rule}
-use Rattle.device_rules.specs.Views.{view_of}
+use Rattle.device_state.specs.device_rules.specs.ReleaseOutcomes.{remove_rule}
+use Rattle.device_state.specs.device_rules.specs.Views.{view_of}
 use Rattle.device_commands.proofs.InitiateDynamicCapacityRelease.{chosen_host, meant_departs, removal_row}
 use Rattle.device_commands.proofs.Reached.{few_extents, hosts_known}
 use Rattle.device_commands.specs.InitiateDynamicCapacityRelease.{removal_outcome}

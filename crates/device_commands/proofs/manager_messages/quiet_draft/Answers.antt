@@ -3,7 +3,7 @@ use Rattle.dcd_base.specs.declared.steps.LogId.{LogId}
 use Rattle.dcd_codes.specs.Rules.{ByRow}
 use Rattle.fm_payloads.specs.declared.requests.FmRequest.{FmRequest}
 use Rattle.journal_core.specs.Entries.{effects}
-use Rattle.device_rules.specs.Logs.{log_of}
+use Rattle.device_state.specs.device_rules.specs.Logs.{log_of}
 use Rattle.device_commands.specs.ManagerMessages.{DraftsFor, outcome_after, rule_after}
 use Rattle.device_commands.proofs.manager_messages.quiet_draft.Goals as goal
 

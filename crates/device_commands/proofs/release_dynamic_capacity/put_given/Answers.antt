@@ -1,9 +1,9 @@
 use Rattle.std.proofs.Common.{◌<◌, ◌∙◌, ◌++◌, ap, subst}
 use Rattle.std.proofs.lemmas.Result.{on_ok_weaker}
-use Rattle.device_rules.specs.ResponseOutcomes.{hold}
+use Rattle.device_state.specs.device_rules.specs.ResponseOutcomes.{hold}
 use Rattle.device_state.specs.ListsUpdates.{left_by, lists_alone}
-use Rattle.host_lists.proofs.Departures.{gives-back}
-use Rattle.host_lists.specs.Answers.{GivesUp}
+use Rattle.device_state.specs.host_lists.proofs.Departures.{gives-back}
+use Rattle.device_state.specs.host_lists.specs.Answers.{GivesUp}
 use Rattle.extent_list.specs.ExtentLists.{count_in}
 use Rattle.journal_core.specs.declared.outcome.HeldKind.{HeldKind}
 use Rattle.region_config.specs.Configurations.{Configuration}

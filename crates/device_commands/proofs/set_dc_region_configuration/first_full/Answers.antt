@@ -4,7 +4,7 @@ use Rattle.std.proofs.lemmas.List.FromFn.{get_or-range_with_len, length-range_wi
 use Rattle.dcd_base.specs.declared.ids.HostId.{HostId}
 use Rattle.dcd_codes.proofs.RuleSteps.{each_in_found}
 use Rattle.dcd_codes.specs.Rules.{each_in}
-use Rattle.device_rules.specs.Outcomes.{log_full}
+use Rattle.device_state.specs.device_rules.specs.Outcomes.{log_full}
 use Rattle.device_commands.proofs.ListPages.{from_zero, take_range}
 use Rattle.device_commands.proofs.Rows.{each_in-push}
 use Rattle.device_commands.proofs.set_dc_region_configuration.first_full.Goals as goal

@@ -2,8 +2,8 @@ use Rattle.std.proofs.Common.{◌≡◌, None}
 use Rattle.std.specs.List.{range_with_len}
 use Rattle.dcd_base.specs.declared.ids.HostId.{HostId}
 use Rattle.dcd_codes.specs.Rules.{each_in}
-use Rattle.device_rules.specs.Outcomes.{log_full}
-use Rattle.device_rules.specs.Views.{View}
+use Rattle.device_state.specs.device_rules.specs.Outcomes.{log_full}
+use Rattle.device_state.specs.device_rules.specs.Views.{View}
 use Rattle.device_commands.specs.SetDcRegionConfiguration.{LogsAreOf}
 use Rattle.device_commands.proofs.set_dc_region_configuration.first_full.Given as goal
 

@@ -1,7 +1,7 @@
 use Rattle.std.proofs.Common.{◌≡◌, map}
 use Rattle.std.specs.List.{range_with_len}
 use Rattle.dcd_base.specs.declared.ids.HostId.{HostId}
-use Rattle.device_rules.specs.Views.{View}
+use Rattle.device_state.specs.device_rules.specs.Views.{View}
 use Rattle.device_commands.specs.Drafts.{as_records}
 use Rattle.device_commands.specs.SetDcRegionConfiguration.{ListsAreOf, region_record}
 use Rattle.device_commands.proofs.set_dc_region_configuration.records_for_all.Given as goal

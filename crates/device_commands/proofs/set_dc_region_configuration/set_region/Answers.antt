@@ -1,5 +1,5 @@
 use Rattle.std.proofs.Common.{◌<◌, Some, None, length, arith, sym, ◌∙◌}
-use Rattle.device_rules.specs.Views.{view_of}
+use Rattle.device_state.specs.device_rules.specs.Views.{view_of}
 use Rattle.device_commands.proofs.Reached.{few_extents, hosts_known, lists_kept, logs_kept, regions_kept, states_count}
 use Rattle.device_commands.proofs.SetDcRegionConfiguration.{set_rule-logs, set_rule-size, told_all, unknown_region}
 use Rattle.device_commands.proofs.set_dc_region_configuration.set_region.Goals as goal

@@ -1,7 +1,7 @@
 use Rattle.std.proofs.Common.{◌+◌, take}
 use Rattle.journal_core.specs.Entries.{effects}
-use Rattle.device_rules.specs.Counts.{records_of}
-use Rattle.report.proofs.Parts.{take_got}
+use Rattle.journal_check.specs.device_rules.specs.Counts.{records_of}
+use Rattle.journal_check.specs.report.proofs.Parts.{take_got}
 use Rattle.explainer.specs.Explanations.{left_record}
 use Rattle.explainer.proofs.Lists.{member_more}
 use Rattle.explainer.proofs.logs.put_left_in.Goals as goal

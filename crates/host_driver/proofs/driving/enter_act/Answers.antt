@@ -1,7 +1,7 @@
 use Rattle.std.proofs.Common.{subst, ap, ◌∙◌}
 use Rattle.region_config.specs.Configurations.{Configuration}
 use Rattle.device_plain.specs.Devices.{Appends}
-use Rattle.script_codec.specs.Covering.{pass_of}
+use Rattle.report.specs.script_codec.specs.Covering.{pass_of}
 use Rattle.host_driver.proofs.driving.enter_act.Goals as goal
 
 pub returns-clause-entered : goal.returns-clause-entered

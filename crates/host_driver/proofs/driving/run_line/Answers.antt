@@ -1,5 +1,5 @@
 use Rattle.std.proofs.Common.{subst, sym}
-use Rattle.script_codec.specs.declared.script_line.Line.{Line}
+use Rattle.report.specs.script_codec.specs.declared.script_line.Line.{Line}
 use Rattle.host_driver.specs.Running.{HasLine}
 use Rattle.host_driver.proofs.driving.run_line.Goals as goal
 

@@ -1,6 +1,6 @@
 use Rattle.std.proofs.Common.{rules, ap, subst, sym, ◌∙◌}
-use Rattle.script_codec.specs.Reading.{first_fault}
-use Rattle.script_codec.specs.Scripts.{ReadsScript}
+use Rattle.report.specs.script_codec.specs.Reading.{first_fault}
+use Rattle.report.specs.script_codec.specs.Scripts.{ReadsScript}
 use Rattle.host_driver.proofs.Endings.{on_script, refused_ends}
 use Rattle.host_driver.proofs.program.drive_input.Goals as goal
 

@@ -5,7 +5,7 @@ use Rattle.dcd_base.specs.declared.steps.Actor.{Actor}
 use Rattle.device_plain.specs.Devices.{Enters}
 use Rattle.journal_core.specs.Entries.{fits}
 use Rattle.journal_core.specs.declared.acts.Act.{Act}
-use Rattle.script_codec.specs.Covering.{pass_of}
+use Rattle.report.specs.script_codec.specs.Covering.{pass_of}
 use Rattle.host_driver.specs.Standing.{Standing, next_fault, taking, took_fault}
 use Rattle.host_driver.proofs.InTurns.{answers, asks, takes_it}
 use Rattle.host_driver.proofs.settling.ask.Goals as goal

@@ -1,7 +1,7 @@
 use Rattle.std.proofs.Common.{◌≡◌, ◌≢◌, ◌+◌, ◌-◌, ◌++◌, length, count_by, take, drop, ap, refl, sym, subst, ◌∙◌, arith}
 use Rattle.std.proofs.lemmas.List.{length_push}
 use Rattle.journal_core.specs.declared.entries.Entry.{Entry}
-use Rattle.script_codec.specs.Covering.{is_line}
+use Rattle.report.specs.script_codec.specs.Covering.{is_line}
 use Rattle.journal_check.specs.Claims.{behind_line}
 use Rattle.journal_check.specs.Following.{IsNextInPass, without_line}
 use Rattle.journal_check.specs.Fronts.{IsDue, undone_of}

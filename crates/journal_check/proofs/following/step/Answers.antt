@@ -1,7 +1,7 @@
 use Rattle.std.proofs.Common.{◌≡◌, ◌-◌, ◌<◌, length, Some, ap, arith}
 use Rattle.std.specs.Prelude.{slice_get}
 use Rattle.std.proofs.lemmas.Option.{slice_get_within}
-use Rattle.script_codec.specs.declared.script_line.Line.{Line}
+use Rattle.report.specs.script_codec.specs.declared.script_line.Line.{Line}
 use Rattle.journal_check.proofs.Due.{line_read, mark_read}
 use Rattle.journal_check.proofs.Passing.{line_fits}
 use Rattle.journal_check.proofs.Stepping.{mark_no_act, stepped}

@@ -1,6 +1,6 @@
 use Rattle.std.proofs.Common.{◌≡◌, ℕ, ◌-◌, ◌<◌, ◌≤◌, false, length, Some}
 use Rattle.std.specs.Prelude.{slice_get}
-use Rattle.script_codec.specs.declared.script_line.Line.{Line}
+use Rattle.report.specs.script_codec.specs.declared.script_line.Line.{Line}
 use Rattle.journal_check.specs.Following.{has_pass}
 use Rattle.journal_check.proofs.fronts.front_from.Given as goal
 

@@ -1,6 +1,6 @@
 use Rattle.std.proofs.Common.{rules, ap, subst, sym, ◌∙◌}
-use Rattle.script_codec.specs.Reading.{first_fault}
-use Rattle.script_codec.specs.Scripts.{ReadsScript}
+use Rattle.report.specs.script_codec.specs.Reading.{first_fault}
+use Rattle.report.specs.script_codec.specs.Scripts.{ReadsScript}
 use Rattle.journal_check.specs.CheckPlanning.{CheckEndsOn}
 use Rattle.journal_check.proofs.CheckEndings.{answered_ends, refused_ends}
 use Rattle.journal_check.proofs.program.check_frame.Goals as goal

@@ -1,7 +1,7 @@
 use Rattle.std.proofs.Common.{◌∙◌}
 use Rattle.journal_core.specs.Entries.{effects}
-use Rattle.plan_rules.specs.Listing.{gaining}
-use Rattle.plan_rules.specs.Planning.{no_demand}
+use Rattle.plan_acts.specs.plan_rules.specs.Listing.{gaining}
+use Rattle.plan_acts.specs.plan_rules.specs.Planning.{no_demand}
 use Rattle.plan_maker.proofs.GainedInTurn.{goes_more}
 use Rattle.plan_maker.proofs.gaining.gain_all.Goals as goal
 

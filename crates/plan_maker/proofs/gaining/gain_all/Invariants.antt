@@ -1,6 +1,6 @@
 use Rattle.std.proofs.Common.{◌≡◌, drop}
 use Rattle.journal_core.specs.Entries.{effects}
-use Rattle.plan_rules.specs.Listing.{gaining}
+use Rattle.plan_acts.specs.plan_rules.specs.Listing.{gaining}
 use Rattle.plan_maker.specs.Trials.{GoesOnTo}
 use Rattle.plan_maker.proofs.gaining.gain_all.Given as goal
 

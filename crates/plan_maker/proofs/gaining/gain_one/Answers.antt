@@ -4,10 +4,10 @@ use Rattle.std.proofs.lemmas.Bool.{ne_eqb}
 use Rattle.journal_core.specs.Entries.{effects}
 use Rattle.journal_core.specs.declared.entries.Entry.{Entry}
 use Rattle.region_config.specs.Configurations.{Configuration}
-use Rattle.plan_rules.specs.Holding.{Step, gain, stepped}
-use Rattle.plan_rules.specs.Listing.{add_step, added, gained, offer_taken}
+use Rattle.plan_acts.specs.plan_rules.specs.Holding.{Step, gain, stepped}
+use Rattle.plan_acts.specs.plan_rules.specs.Listing.{add_step, added, gained, offer_taken}
 use Rattle.plan_maker.specs.Trials.{TriesMore}
-use Rattle.device_rules.specs.Hosts.{block_of}
+use Rattle.plan_acts.specs.device_rules.specs.Hosts.{block_of}
 use Rattle.plan_maker.proofs.SixtyFourBits.{add_wraps}
 use Rattle.plan_maker.proofs.Taking.{takes_then_ok}
 use Rattle.plan_maker.proofs.gaining.gain_one.Goals as goal

@@ -1,6 +1,6 @@
 use Rattle.std.proofs.Common.{◌∷◌, [], List, ap, subst}
 use Rattle.std.specs.Prelude.{OnOk}
-use Rattle.plan_rules.specs.Holding.{Step}
+use Rattle.plan_acts.specs.plan_rules.specs.Holding.{Step}
 use Rattle.plan_maker.specs.Trials.{TriesMore}
 use Rattle.plan_maker.proofs.gaining.take_offer.Goals as goal
 

@@ -1,7 +1,7 @@
 use Rattle.std.proofs.Common.{arith, subst}
 use Rattle.region_config.specs.Soundness.{IsSound}
 use Rattle.journal_core.specs.Entries.{effects}
-use Rattle.device_rules.specs.Hosts.{offers_of}
+use Rattle.plan_acts.specs.device_rules.specs.Hosts.{offers_of}
 use Rattle.plan_maker.proofs.GainedInTurn.{offer_short}
 use Rattle.plan_maker.proofs.HeldBounds.{offers_few}
 use Rattle.plan_maker.proofs.gaining.taking_step.Goals as goal

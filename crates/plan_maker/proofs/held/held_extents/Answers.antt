@@ -5,9 +5,9 @@ use Rattle.std.proofs.lemmas.List.Elements.{All-filter}
 use Rattle.dcd_base.specs.declared.capacity.Extent.{Extent}
 use Rattle.region_config.specs.Soundness.{IsSound}
 use Rattle.journal_core.specs.Entries.{effects}
-use Rattle.device_rules.specs.Hosts.{accepted_of}
+use Rattle.plan_acts.specs.device_rules.specs.Hosts.{accepted_of}
 use Rattle.media_map.specs.Places.{region_at}
-use Rattle.plan_rules.specs.Holding.{extents_in_region}
+use Rattle.plan_acts.specs.plan_rules.specs.Holding.{extents_in_region}
 use Rattle.plan_maker.proofs.HeldBounds.{accepted_ends, accepted_few}
 use Rattle.plan_maker.proofs.held.held_extents.Goals as goal
 

@@ -4,9 +4,9 @@ use Rattle.dcd_base.specs.declared.steps.LogId.{LogId}
 use Rattle.event_log.specs.LogStates.{LogState}
 use Rattle.event_records.specs.declared.events.Event.{Event}
 use Rattle.journal_core.specs.Entries.{effects}
-use Rattle.device_rules.specs.Counts.{records_of}
-use Rattle.plan_rules.specs.Holding.{Step}
-use Rattle.plan_rules.specs.Listing.{clear_step, clearing, for_some}
+use Rattle.plan_acts.specs.device_rules.specs.Counts.{records_of}
+use Rattle.plan_acts.specs.plan_rules.specs.Holding.{Step}
+use Rattle.plan_acts.specs.plan_rules.specs.Listing.{clear_step, clearing, for_some}
 use Rattle.plan_maker.specs.Trials.{TriesMore}
 use Rattle.plan_maker.proofs.HeldBounds.{records_are}
 use Rattle.plan_maker.proofs.Taking.{for_none, for_one, takes_none}

@@ -2,8 +2,8 @@ use Rattle.std.proofs.Common.{◌≡◌, ◌∷◌, [], List, ap, subst, sym, �
 use Rattle.std.specs.Prelude.{OnOk}
 use Rattle.dcd_base.specs.declared.capacity.Extent.{Extent}
 use Rattle.journal_core.specs.Entries.{effects}
-use Rattle.plan_rules.specs.Holding.{Step}
-use Rattle.plan_rules.specs.Listing.{for_some, removal, removal_step}
+use Rattle.plan_acts.specs.plan_rules.specs.Holding.{Step}
+use Rattle.plan_acts.specs.plan_rules.specs.Listing.{for_some, removal, removal_step}
 use Rattle.plan_maker.specs.Trials.{TriesMore}
 use Rattle.plan_maker.proofs.Taking.{for_one}
 use Rattle.plan_maker.proofs.letting_go.empty_region.Goals as goal

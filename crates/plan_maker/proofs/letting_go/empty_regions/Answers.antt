@@ -1,5 +1,5 @@
 use Rattle.journal_core.specs.Entries.{effects}
-use Rattle.plan_rules.specs.Listing.{removal}
+use Rattle.plan_acts.specs.plan_rules.specs.Listing.{removal}
 use Rattle.plan_maker.proofs.Taking.{takes_next}
 use Rattle.plan_maker.proofs.letting_go.empty_regions.Goals as goal
 

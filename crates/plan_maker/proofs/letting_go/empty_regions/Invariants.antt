@@ -1,7 +1,7 @@
 use Rattle.std.specs.Prelude.{flat_map}
 use Rattle.std.specs.List.{range_with_len}
 use Rattle.journal_core.specs.Entries.{effects}
-use Rattle.plan_rules.specs.Listing.{removal}
+use Rattle.plan_acts.specs.plan_rules.specs.Listing.{removal}
 use Rattle.plan_maker.specs.Trials.{TriesMore}
 use Rattle.plan_maker.proofs.letting_go.empty_regions.Given as goal
 

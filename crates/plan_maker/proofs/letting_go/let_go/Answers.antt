@@ -2,7 +2,7 @@ use Rattle.std.specs.Prelude.{flat_map}
 use Rattle.std.proofs.Common.{◌++◌}
 use Rattle.region_config.specs.Granules.{regions_of}
 use Rattle.journal_core.specs.Entries.{effects}
-use Rattle.plan_rules.specs.Listing.{clearing, refusals, removal}
+use Rattle.plan_acts.specs.plan_rules.specs.Listing.{clearing, refusals, removal}
 use Rattle.plan_maker.proofs.Taking.{takes_then, takes_then_ok}
 use Rattle.plan_maker.proofs.letting_go.let_go.Goals as goal
 

@@ -1,7 +1,7 @@
 use Rattle.std.proofs.Common.{◌∷◌, ◌++◌, [], ap, replicate, subst, ◌∙◌}
 use Rattle.std.proofs.lemmas.List.{replicate_more}
-use Rattle.plan_rules.specs.Holding.{Step}
-use Rattle.plan_rules.specs.Listing.{refusal_step}
+use Rattle.plan_acts.specs.plan_rules.specs.Holding.{Step}
+use Rattle.plan_acts.specs.plan_rules.specs.Listing.{refusal_step}
 use Rattle.plan_maker.specs.Trials.{TriesMore}
 use Rattle.plan_maker.proofs.Taking.{takes_then}
 use Rattle.plan_maker.proofs.letting_go.refuse_offers.Goals as goal

@@ -1,5 +1,5 @@
 use Rattle.std.proofs.Common.{replicate}
-use Rattle.plan_rules.specs.Listing.{refusal_step}
+use Rattle.plan_acts.specs.plan_rules.specs.Listing.{refusal_step}
 use Rattle.plan_maker.specs.Trials.{TriesMore}
 use Rattle.plan_maker.proofs.letting_go.refuse_offers.Given as goal
 

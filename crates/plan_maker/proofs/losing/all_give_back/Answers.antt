@@ -1,6 +1,6 @@
 use Rattle.journal_core.specs.Entries.{effects}
-use Rattle.plan_rules.specs.Listing.{give_back_surplus}
-use Rattle.plan_rules.specs.Planning.{no_demand}
+use Rattle.plan_acts.specs.plan_rules.specs.Listing.{give_back_surplus}
+use Rattle.plan_acts.specs.plan_rules.specs.Planning.{no_demand}
 use Rattle.plan_maker.proofs.Taking.{takes_more}
 use Rattle.plan_maker.proofs.losing.all_give_back.Goals as goal
 

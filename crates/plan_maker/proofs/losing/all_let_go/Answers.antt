@@ -1,5 +1,5 @@
 use Rattle.journal_core.specs.Entries.{effects}
-use Rattle.plan_rules.specs.Listing.{let_go}
+use Rattle.plan_acts.specs.plan_rules.specs.Listing.{let_go}
 use Rattle.plan_maker.proofs.Taking.{takes_more}
 use Rattle.plan_maker.proofs.losing.all_let_go.Goals as goal
 

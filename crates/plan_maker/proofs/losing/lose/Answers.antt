@@ -1,6 +1,6 @@
 use Rattle.std.specs.Prelude.{flat_map}
 use Rattle.journal_core.specs.Entries.{effects}
-use Rattle.plan_rules.specs.Listing.{give_back_surplus, let_go}
+use Rattle.plan_acts.specs.plan_rules.specs.Listing.{give_back_surplus, let_go}
 use Rattle.plan_maker.proofs.Taking.{takes_then_ok}
 use Rattle.plan_maker.proofs.losing.lose.Goals as goal
 

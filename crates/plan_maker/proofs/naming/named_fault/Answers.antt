@@ -1,6 +1,6 @@
 use Rattle.std.proofs.Common.{sym, arith, length}
 use Rattle.media_map.proofs.PlaceLemmas.{none_found}
-use Rattle.plan_rules.specs.Planning.{is_bad_dead, is_bad_demand}
+use Rattle.plan_acts.specs.plan_rules.specs.Planning.{is_bad_dead, is_bad_demand}
 use Rattle.plan_maker.proofs.Placing.{are_placed}
 use Rattle.plan_maker.proofs.naming.named_fault.Goals as goal
 

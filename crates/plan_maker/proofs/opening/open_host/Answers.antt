@@ -2,7 +2,7 @@ use Rattle.std.proofs.Common.{◌∙◌, sym, arith}
 use Rattle.journal_core.specs.Entries.{effects}
 use Rattle.media_map.proofs.PlaceLemmas.{find_none}
 use Rattle.region_config.proofs.GranuleLemmas.{find_range}
-use Rattle.plan_rules.specs.Planning.{is_open}
+use Rattle.plan_acts.specs.plan_rules.specs.Planning.{is_open}
 use Rattle.plan_maker.proofs.opening.open_host.Goals as goal
 
 pub returns-then-is_open : goal.returns-then-is_open

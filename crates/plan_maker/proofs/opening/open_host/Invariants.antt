@@ -1,6 +1,6 @@
 use Rattle.std.proofs.Common.{◌≡◌, ℕ, ◌<◌, false}
 use Rattle.journal_core.specs.Entries.{effects}
-use Rattle.plan_rules.specs.Planning.{is_open}
+use Rattle.plan_acts.specs.plan_rules.specs.Planning.{is_open}
 use Rattle.plan_maker.proofs.opening.open_host.Given as goal
 
 abbrev pub invariant-loop-host : goal.invariant-loop-host

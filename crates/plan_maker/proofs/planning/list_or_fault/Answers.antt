@@ -8,10 +8,10 @@ use Rattle.journal_core.specs.Entries.{effects}
 use Rattle.journal_core.specs.declared.entries.Entry.{Entry}
 use Rattle.demand_codec.specs.declared.demands.Demand.{Demand}
 use Rattle.demand_codec.specs.declared.demands.Demands.{Demands}
-use Rattle.plan_rules.specs.Holding.{Step}
-use Rattle.plan_rules.specs.Listing.{gaining}
-use Rattle.plan_rules.specs.Planning.{IsPlan, is_open, lowest_below, named_fault}
-use Rattle.plan_rules.specs.declared.faults.PlanFault.{PlanFault}
+use Rattle.plan_acts.specs.plan_rules.specs.Holding.{Step}
+use Rattle.plan_acts.specs.plan_rules.specs.Listing.{gaining}
+use Rattle.plan_acts.specs.plan_rules.specs.Planning.{IsPlan, is_open, lowest_below, named_fault}
+use Rattle.plan_acts.specs.plan_rules.specs.declared.faults.PlanFault.{PlanFault}
 use Rattle.plan_maker.specs.Trials.{TriesMore, short_between}
 use Rattle.plan_maker.proofs.PlanEnds.{fault_short, plan_ends, plan_err}
 use Rattle.plan_maker.proofs.planning.list_or_fault.Goals as goal

@@ -1,6 +1,6 @@
 use Rattle.std.proofs.Common.{subst}
 use Rattle.region_config.specs.Configurations.{Configuration}
-use Rattle.device_rules.specs.Legal.{Legal}
+use Rattle.plan_acts.specs.device_rules.specs.Legal.{Legal}
 use Rattle.plan_maker.proofs.PlanEnds.{plan_leaves, plan_of_room, plan_succeeds}
 use Rattle.plan_maker.proofs.planning.plan.Goals as goal
 

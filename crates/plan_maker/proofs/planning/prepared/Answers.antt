@@ -2,10 +2,10 @@ use Rattle.std.proofs.Common.{[], List, subst}
 use Rattle.region_config.specs.Configurations.{Configuration}
 use Rattle.journal_core.specs.Entries.{effects}
 use Rattle.journal_core.specs.declared.entries.Entry.{Entry}
-use Rattle.device_rules.specs.Legal.{Legal}
-use Rattle.plan_rules.specs.Listing.{losing}
-use Rattle.plan_rules.specs.PlanAlike.{replayed}
-use Rattle.plan_rules.proofs.AlikeSteps.{alike_replayed}
+use Rattle.plan_acts.specs.device_rules.specs.Legal.{Legal}
+use Rattle.plan_acts.specs.plan_rules.specs.Listing.{losing}
+use Rattle.plan_acts.specs.plan_rules.specs.PlanAlike.{replayed}
+use Rattle.plan_acts.specs.plan_rules.proofs.AlikeSteps.{alike_replayed}
 use Rattle.plan_maker.specs.Trials.{IsTried, TriesMore}
 use Rattle.plan_maker.proofs.PlanEnds.{is_prepared}
 use Rattle.plan_maker.proofs.planning.prepared.Goals as goal

@@ -6,7 +6,7 @@ use Rattle.journal_core.specs.Entries.{fits}
 use Rattle.journal_core.specs.Lending.{lent, lent_entry}
 use Rattle.journal_core.specs.declared.entries.Entry.{Entry}
 use Rattle.journal_core.proofs.Lists.{next_has, one_more_done}
-use Rattle.plan_rules.specs.PlanAlike.{with_act_of}
+use Rattle.plan_acts.specs.plan_rules.specs.PlanAlike.{with_act_of}
 use Rattle.plan_maker.proofs.TakenAgain.{all_fit}
 use Rattle.plan_maker.proofs.replaying.take_all.Goals as goal
 

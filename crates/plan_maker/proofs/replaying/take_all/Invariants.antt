@@ -1,6 +1,6 @@
 use Rattle.std.proofs.Common.{◌≡◌, ◌++◌, List, length}
 use Rattle.journal_core.specs.declared.entries.Entry.{Entry}
-use Rattle.plan_rules.specs.PlanAlike.{replayed}
+use Rattle.plan_acts.specs.plan_rules.specs.PlanAlike.{replayed}
 use Rattle.plan_maker.proofs.replaying.take_all.Given as goal
 
 -- The entries so far are taken again; they stand before those that are left.

@@ -2,7 +2,7 @@ use Rattle.std.proofs.Common.{◌≡◌, ◌==◌, ◌*◌, ◌≤◌, sum_by, t
 use Rattle.std.specs.Prelude.{if◌then◌else◌}
 use Rattle.demand_codec.specs.declared.demands.Demand.{Demand}
 use Rattle.journal_core.specs.Entries.{effects}
-use Rattle.plan_rules.specs.Holding.{gain}
+use Rattle.plan_acts.specs.plan_rules.specs.Holding.{gain}
 use Rattle.plan_maker.proofs.shortness.need_in.Given as goal
 
 abbrev pub invariant-loop-i : goal.invariant-loop-i

@@ -7,9 +7,9 @@ use Rattle.media_map.proofs.PlaceLemmas.{find_none}
 use Rattle.region_config.specs.Configurations.{Configuration}
 use Rattle.region_config.proofs.GranuleLemmas.{find_range}
 use Rattle.demand_codec.specs.declared.demands.Demand.{Demand}
-use Rattle.plan_rules.specs.Holding.{gain}
-use Rattle.plan_rules.specs.Planning.{free_in, need_in}
-use Rattle.plan_rules.specs.declared.faults.PlanFault.{PlanFault}
+use Rattle.plan_acts.specs.plan_rules.specs.Holding.{gain}
+use Rattle.plan_acts.specs.plan_rules.specs.Planning.{free_in, need_in}
+use Rattle.plan_acts.specs.plan_rules.specs.declared.faults.PlanFault.{PlanFault}
 use Rattle.plan_maker.proofs.shortness.short_region.Goals as goal
 
 pub returns-then-have-need : goal.returns-then-have-need

@@ -1,6 +1,6 @@
 use Rattle.std.proofs.Common.{◌≡◌, ℕ, ◌<◌, false, nat_lt}
 use Rattle.journal_core.specs.Entries.{effects}
-use Rattle.plan_rules.specs.Planning.{free_in, need_in}
+use Rattle.plan_acts.specs.plan_rules.specs.Planning.{free_in, need_in}
 use Rattle.plan_maker.proofs.shortness.short_region.Given as goal
 
 abbrev pub invariant-loop-region : goal.invariant-loop-region

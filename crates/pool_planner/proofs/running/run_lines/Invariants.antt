@@ -1,5 +1,5 @@
 use Rattle.std.proofs.Common.{◌≡◌, take}
-use Rattle.script_codec.specs.Covering.{Runs}
+use Rattle.report.specs.script_codec.specs.Covering.{Runs}
 use Rattle.pool_planner.proofs.running.run_lines.Given as goal
 
 -- The first lines are done.

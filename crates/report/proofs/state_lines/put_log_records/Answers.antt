@@ -1,6 +1,6 @@
 use Rattle.std.proofs.Common.{take}
 use Rattle.journal_core.specs.Entries.{effects}
-use Rattle.device_rules.specs.Counts.{records_of}
+use Rattle.control_core.specs.device_rules.specs.Counts.{records_of}
 use Rattle.report.specs.Texts.{record_line}
 use Rattle.report.proofs.Parts.{prints_each, take_got}
 use Rattle.report.proofs.state_lines.put_log_records.Goals as goal

@@ -1,8 +1,8 @@
 use Rattle.std.proofs.Common.{List, None, ap, subst, sym, ◌∙◌}
-use Rattle.script_codec.specs.declared.script_line.Line.{Line}
+use Rattle.script_source.specs.script_codec.specs.declared.script_line.Line.{Line}
 use Rattle.script_gen.specs.Drawing.{IsNextRound, IsRound}
 use Rattle.script_gen.specs.Generated.{generated}
-use Rattle.workers.specs.Weights.{are_light_behind}
+use Rattle.script_threads.specs.workers.specs.Weights.{are_light_behind}
 use Rattle.script_runner.specs.Lightness.{WeighsOn}
 use Rattle.script_runner.proofs.light_rounds.has_light_rounds.Goals as goal
 

@@ -1,6 +1,6 @@
 use Rattle.std.proofs.Common.{◌≡◌, ◌≤◌}
 use Rattle.script_gen.specs.Generated.{generated_lines}
-use Rattle.workers.specs.Weights.{are_light, are_light_behind}
+use Rattle.script_threads.specs.workers.specs.Weights.{are_light, are_light_behind}
 use Rattle.script_runner.proofs.light_rounds.has_light_rounds.Given as goal
 
 -- Whether all phases are light is whether those of the rounds that are still to come are.

@@ -3,7 +3,7 @@ use Rattle.std.proofs.lemmas.List.{length_push}
 use Rattle.std.proofs.lemmas.Result.{err_from_is_err_and}
 use Rattle.dcd_base.specs.Streams.{HasRisen}
 use Rattle.region_config.specs.Configurations.{Configuration}
-use Rattle.script_codec.specs.declared.script_line.Line.{Line}
+use Rattle.script_source.specs.script_codec.specs.declared.script_line.Line.{Line}
 use Rattle.script_source.specs.Reading.{HasRead}
 use Rattle.script_source.proofs.Standing.{end_before, stands_takes}
 use Rattle.script_runner.specs.Fronts.{RunsLine}

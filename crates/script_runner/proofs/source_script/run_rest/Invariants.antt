@@ -1,6 +1,6 @@
 use Rattle.std.proofs.Common.{◌≡◌, ◌+◌, ◌≤◌, [], length, List, Option, ℕ}
-use Rattle.script_codec.specs.declared.heads.Head.{Head}
-use Rattle.script_codec.specs.declared.script_line.Line.{Line}
+use Rattle.script_source.specs.script_codec.specs.declared.heads.Head.{Head}
+use Rattle.script_source.specs.script_codec.specs.declared.script_line.Line.{Line}
 use Rattle.script_source.specs.Reading.{Stands}
 use Rattle.script_runner.specs.Fronts.{RanLines}
 use Rattle.script_runner.proofs.source_script.run_rest.Given as goal

@@ -1,5 +1,5 @@
 use Rattle.dcd_base.specs.Streams.{HasRisen}
-use Rattle.script_codec.specs.declared.faults.ScriptFault.{ScriptFault}
+use Rattle.script_source.specs.script_codec.specs.declared.faults.ScriptFault.{ScriptFault}
 use Rattle.script_runner.specs.declared.words.Mode.{Mode}
 use Rattle.script_runner.specs.Endings.{IsFaultPlan, IsPlannedFor, IsPlannedOf}
 use Rattle.script_runner.proofs.Endings.{ends_so}

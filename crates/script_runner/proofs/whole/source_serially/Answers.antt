@@ -1,6 +1,6 @@
 use Rattle.std.proofs.Common.{◌≢◌, rules, subst}
 use Rattle.dcd_base.specs.Streams.{HasRisen, IsAtEnd}
-use Rattle.script_codec.specs.declared.faults.ScriptFault.{ScriptFault}
+use Rattle.script_source.specs.script_codec.specs.declared.faults.ScriptFault.{ScriptFault}
 use Rattle.script_runner.specs.declared.words.Mode.{Mode}
 use Rattle.script_runner.specs.Endings.{IsFaultPlan, IsPlannedFor, IsPlannedOf}
 use Rattle.script_runner.specs.Sources.{RanSource}

@@ -1,7 +1,7 @@
 use Rattle.std.proofs.Common.{◌≡◌, length, min}
 use Rattle.std.specs.Prelude.{flat_map}
 use Rattle.field_bytes.specs.Layouts.{spelling}
-use Rattle.script_codec.specs.Scripts.{line_fields}
+use Rattle.text_printing.specs.script_codec.specs.Scripts.{line_fields}
 use Rattle.script_text.specs.Texts.{lines_at, lines_behind}
 use Rattle.script_text.proofs.parsing.fill_lines.Given as goal
 

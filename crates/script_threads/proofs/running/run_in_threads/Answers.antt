@@ -1,7 +1,7 @@
 use Rattle.std.proofs.lemmas.Result.{IfOk-weaker}
 use Rattle.journal_core.specs.Merging.{merged}
-use Rattle.script_codec.specs.declared.scripts.Script.{Script}
-use Rattle.script_codec.specs.Scripts.{IsScript}
+use Rattle.workers.specs.script_codec.specs.declared.scripts.Script.{Script}
+use Rattle.workers.specs.script_codec.specs.Scripts.{IsScript}
 use Rattle.script_threads.specs.ThreadRuns.{HasDone, IsThreadRun}
 use Rattle.script_threads.proofs.AllRan.{are_all_passes}
 use Rattle.script_threads.proofs.running.run_in_threads.Goals as goal

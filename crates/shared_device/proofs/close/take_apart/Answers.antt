@@ -1,8 +1,8 @@
 use Rattle.std.proofs.Common.{List, sym, subst}
 use Rattle.journal_core.specs.declared.entries.Entry.{Entry}
 use Rattle.journal_core.specs.Lending.{AllRise}
-use Rattle.ruled_cells.specs.Calls.{AccountFor, AreAll, seats_of}
-use Rattle.shard_laws.specs.Right.{stripe_reads}
+use Rattle.block_shard.specs.ruled_cells.specs.Calls.{AccountFor, AreAll, seats_of}
+use Rattle.block_shard.specs.shard_laws.specs.Right.{stripe_reads}
 use Rattle.shared_device.specs.Closing.{IsClosed}
 use Rattle.shared_device.specs.Commanding.{commanding_reads}
 use Rattle.shared_device.proofs.ClosedJournal.{about_device, are_all_seats, is_closed, lists_rise}

@@ -1,6 +1,6 @@
 use Rattle.std.proofs.Common.{◌≡◌, ◌+◌, ◌*◌, ◌≤◌, length, IsTrue}
 use Rattle.std.specs.List.{list_all}
-use Rattle.script_codec.specs.Scripts.{is_sound_line}
+use Rattle.workers.specs.script_codec.specs.Scripts.{is_sound_line}
 use Rattle.workers_tests.specs.Desks.{AreDesks}
 use Rattle.workers_tests.proofs.marked.run_apart.Given as goal
 

@@ -2,7 +2,7 @@ use Rattle.std.proofs.Common.{◌≡◌, ◌<◌, List, length, Some, sym, subst
 use Rattle.std.specs.Prelude.{slice_get}
 use Rattle.dcd_base.specs.declared.capacity.Extent.{Extent}
 use Rattle.journal_core.specs.Entries.{effects}
-use Rattle.device_rules.specs.Hosts.{offers_of}
+use Rattle.device_commands.specs.device_rules.specs.Hosts.{offers_of}
 use Rattle.control_core.specs.Steps.{Controlled}
 use Rattle.control_core.proofs.Entering.{past_held}
 use Rattle.control_core.proofs.Reading.{offers_told}

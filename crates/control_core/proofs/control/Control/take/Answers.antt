@@ -2,8 +2,8 @@ use Rattle.std.proofs.Common.{◌≡◌, List, ap, sym, subst, ◌∙◌}
 use Rattle.journal_core.specs.Keeping.{next_stamp}
 use Rattle.journal_core.specs.declared.entries.Entry.{Entry}
 use Rattle.journal_core.specs.declared.outcome.Effect.{Effect}
-use Rattle.device_rules.specs.Legal.{Meets}
-use Rattle.device_state.specs.Updates.{IsUpdate}
+use Rattle.device_commands.specs.device_rules.specs.Legal.{Meets}
+use Rattle.device_commands.specs.device_state.specs.Updates.{IsUpdate}
 use Rattle.control_core.specs.Deciding.{Holds, IsShort}
 use Rattle.control_core.specs.Steps.{Controlled}
 use Rattle.control_core.proofs.Entering.{holds_next, past_held}

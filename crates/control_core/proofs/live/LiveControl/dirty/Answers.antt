@@ -1,6 +1,6 @@
 use Rattle.std.proofs.Common.{◌≡◌, subst, ◌∙◌}
 use Rattle.journal_core.specs.Entries.{effects}
-use Rattle.device_rules.specs.Counts.{dirty_count}
+use Rattle.device_commands.specs.device_rules.specs.Counts.{dirty_count}
 use Rattle.control_core.specs.Pasts.{ByEveryPast, LiveControlled}
 use Rattle.control_core.proofs.Reading.{dirty_told}
 use Rattle.control_core.proofs.live.LiveControl.dirty.Goals as goal

@@ -3,10 +3,10 @@ use Rattle.std.specs.Prelude.{sum_by}
 use Rattle.dcd_base.specs.declared.capacity.Extent.{Extent}
 use Rattle.journal_core.specs.Entries.{effects}
 use Rattle.media_map.specs.Places.{run_of}
-use Rattle.device_rules.specs.Counts.{granules_held}
+use Rattle.device_commands.specs.device_rules.specs.Counts.{granules_held}
 use Rattle.control_core.specs.HeldExtents.{AreHeld}
 use Rattle.control_core.specs.Pasts.{ByEveryPast, LiveControlled}
-use Rattle.device_state.specs.declared.parts.HostPart.{HostPart}
+use Rattle.device_commands.specs.device_state.specs.declared.parts.HostPart.{HostPart}
 use Rattle.control_core.proofs.Reading.{accepted_told, granules_told, held_in_kept}
 use Rattle.control_core.proofs.live.LiveControl.granules_held.Goals as goal
 

@@ -2,10 +2,10 @@ use Rattle.std.proofs.Common.{◌≡◌, ◌<◌, List, length, Some, ap, sym, s
 use Rattle.std.specs.Prelude.{slice_get}
 use Rattle.dcd_base.specs.declared.capacity.Extent.{Extent}
 use Rattle.journal_core.specs.Entries.{effects}
-use Rattle.device_rules.specs.Hosts.{offers_of}
+use Rattle.device_commands.specs.device_rules.specs.Hosts.{offers_of}
 use Rattle.control_core.specs.Pasts.{ByEveryPast, LiveControlled}
-use Rattle.device_state.specs.StateAfter.{part_of}
-use Rattle.device_state.specs.declared.parts.HostPart.{HostPart}
+use Rattle.device_commands.specs.device_state.specs.StateAfter.{part_of}
+use Rattle.device_commands.specs.device_state.specs.declared.parts.HostPart.{HostPart}
 use Rattle.control_core.proofs.Reading.{offers_told}
 use Rattle.control_core.proofs.live.LiveControl.offer.Goals as goal
 

@@ -1,6 +1,6 @@
 use Rattle.std.proofs.Common.{◌≡◌, subst}
 use Rattle.journal_core.specs.Entries.{effects}
-use Rattle.device_rules.specs.Adding.{present}
+use Rattle.device_commands.specs.device_rules.specs.Adding.{present}
 use Rattle.control_core.specs.Pasts.{ByEveryPast, LiveControlled}
 use Rattle.control_core.proofs.live.LiveControl.present.Goals as goal
 

@@ -1,8 +1,8 @@
 use Rattle.std.proofs.Common.{◌≡◌, ◌+◌, ◌≤◌, List, length, inl, refl, ap, ◌∙◌, arith}
 use Rattle.dcd_base.specs.declared.capacity.Extent.{Extent}
-use Rattle.device_rules.specs.Outcomes.{records_of_extents}
+use Rattle.device_commands.specs.device_rules.specs.Outcomes.{records_of_extents}
 use Rattle.event_records.specs.declared.events.EventKind.{EventKind}
-use Rattle.host_lists.specs.Lists.{extent_total}
+use Rattle.device_commands.specs.host_lists.specs.Lists.{extent_total}
 use Rattle.isolation_laws.specs.declared.items.Item.{Item}
 use Rattle.isolation_laws.proofs.BroughtLists.{keeps_offer, offered_to, offered_total, too_many_offered, with_offer}
 use Rattle.isolation_laws.proofs.ToldAlone.{takes_told}

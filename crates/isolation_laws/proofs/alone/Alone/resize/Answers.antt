@@ -1,5 +1,5 @@
 use Rattle.std.proofs.Common.{◌<◌, ◌≤◌, length, refl, sym, ap, subst, arith}
-use Rattle.device_rules.specs.Views.{View}
+use Rattle.device_commands.specs.device_rules.specs.Views.{View}
 use Rattle.region_config.specs.Configurations.{Configuration}
 use Rattle.region_config.specs.declared.region_spec.RegionSpec.{RegionSpec}
 use Rattle.isolation_laws.specs.Alone.{IsAlone}

@@ -2,9 +2,9 @@ use Rattle.std.proofs.Common.{◌≡◌, ◌+◌, ◌<◌, ◌≤◌, List, leng
 use Rattle.std.specs.Prelude.{◌^◌, All, IsTrue}
 use Rattle.std.proofs.lemmas.Bool.{false≢true}
 use Rattle.dcd_base.specs.declared.capacity.Extent.{Extent}
-use Rattle.device_rules.specs.Outcomes.{records_of_extents}
+use Rattle.device_commands.specs.device_rules.specs.Outcomes.{records_of_extents}
 use Rattle.event_records.specs.declared.events.EventKind.{EventKind}
-use Rattle.host_lists.specs.Lists.{Lists, extent_total}
+use Rattle.device_commands.specs.host_lists.specs.Lists.{Lists, extent_total}
 use Rattle.isolation_laws.specs.declared.items.Item.{Item}
 use Rattle.isolation_laws.proofs.BroughtLists.{keeps_taken, taken_from, too_many_left, without_taken}
 use Rattle.isolation_laws.proofs.ToldAlone.{takes_told}

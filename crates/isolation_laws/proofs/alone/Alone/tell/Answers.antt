@@ -1,5 +1,5 @@
 use Rattle.std.proofs.Common.{◌∙◌, ap}
-use Rattle.device_rules.specs.Outcomes.{records_of_extents}
+use Rattle.device_commands.specs.device_rules.specs.Outcomes.{records_of_extents}
 use Rattle.isolation_laws.proofs.ToldAlone.{logs_put}
 use Rattle.isolation_laws.proofs.alone.Alone.tell.Goals as goal
 

@@ -1,5 +1,5 @@
 use Rattle.std.proofs.Common.{ℕ, [], ◌∷◌, false, ◌∙◌, ap}
-use Rattle.device_rules.specs.Outcomes.{record_for, no_extent}
+use Rattle.device_commands.specs.device_rules.specs.Outcomes.{record_for, no_extent}
 use Rattle.event_records.specs.declared.events.Event.{Event}
 use Rattle.event_records.specs.declared.events.EventKind.{EventKind}
 use Rattle.isolation_laws.specs.Telling.{resized}

@@ -1,7 +1,7 @@
 use Rattle.std.proofs.Common.{length, ◌∙◌}
 use Rattle.std.specs.Prelude.{option_map}
 use Rattle.dcd_base.specs.Words.{◌or◌}
-use Rattle.plan_rules.specs.declared.faults.PlanFault.{PlanFault}
+use Rattle.plan_acts.specs.plan_rules.specs.declared.faults.PlanFault.{PlanFault}
 use Rattle.plan_maker.proofs.Taking.{takes_one}
 use Rattle.plan_maker.proofs.trial.Trial.take.Goals as goal
 

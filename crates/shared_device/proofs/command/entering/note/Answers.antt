@@ -1,4 +1,4 @@
-use Rattle.ruled_cells.specs.Seats.{seat_view}
+use Rattle.block_shard.specs.ruled_cells.specs.Seats.{seat_view}
 use Rattle.shared_device.proofs.EnteringSteps.{longer_by, may_note, noted_first}
 use Rattle.shared_device.proofs.command.entering.note.Goals as goal
 

@@ -1,7 +1,7 @@
 use Rattle.std.proofs.Common.{◌≡◌, ◌+◌, length, ap, ◌∙◌, subst, arith}
 use Rattle.std.proofs.lemmas.List.{length_push}
-use Rattle.ruled_cells.proofs.ClosingSteps.{at_end, in_front}
-use Rattle.ruled_cells.specs.Calls.{IsNew}
+use Rattle.block_shard.specs.ruled_cells.proofs.ClosingSteps.{at_end, in_front}
+use Rattle.block_shard.specs.ruled_cells.specs.Calls.{IsNew}
 use Rattle.shared_device.specs.Passing.{IsNewPass}
 use Rattle.shared_device.proofs.Fresh.{each_led}
 use Rattle.shared_device.proofs.shared.Shared.passes.Goals as goal

@@ -1,7 +1,7 @@
 use Rattle.std.proofs.Common.{◌≡◌, ℕ, ◌+◌, ◌≤◌, length, vec_capacity}
 use mathlib.Core.Option.{some}
 use lib.ListN.{get_elem?}
-use Rattle.ruled_cells.specs.Calls.{AreNew}
+use Rattle.block_shard.specs.ruled_cells.specs.Calls.{AreNew}
 use Rattle.shared_device.specs.declared.pass.Pass.{Pass}
 use Rattle.shared_device.specs.Passing.{IsNewPass}
 use Rattle.shared_device.proofs.shared.Shared.passes.Given as goal

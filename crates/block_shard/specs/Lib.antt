@@ -1,0 +1,3 @@
+pub use Rattle.shard_laws.specs.ruled_cells
+pub use Rattle.shard_laws.specs.device_rules
+pub use Rattle.shard_laws
