@@ -13,16 +13,10 @@ TOP = os.path.dirname(os.path.dirname(os.path.abspath(__file__)))
 
 
 def program(name):
-    """The path of a program, which is proved and built where that is needed."""
-    crate = os.path.join(TOP, "crates", name)
-    path = os.path.join(crate, "out", name)
+    """The path of a program that ./prove built: what is not proved is not timed."""
+    path = os.path.join(TOP, "crates", name, "out", name)
     if not os.path.exists(path):
-        print(f"proving and building {name}", file=sys.stderr)
-        words = []
-        if os.path.exists(os.path.join(crate, "args")):
-            with open(os.path.join(crate, "args")) as lines:
-                words = ["--", *lines.read().split()]
-        subprocess.run(["rt", "run", *words], cwd=crate, stdin=subprocess.DEVNULL, stdout=subprocess.DEVNULL, check=True)
+        sys.exit(f"there is no {path}: ./prove {name} makes it")
     return path
 
 
