@@ -1,9 +1,9 @@
-"""Plays a script on the device of the library, as play.c does: play.py LIBRARY < SCRIPT."""
+"""Plays a script on the device of the library and maps as it says, as play.c does: play.py LIBRARY < SCRIPT."""
 import ctypes
 import sys
 from ctypes import POINTER, Structure, byref, c_bool, c_char_p, c_size_t, c_uint8, c_uint16, c_uint32, c_uint64, c_void_p
 
-MANAGER, OK, BAD_HEAD, MISALIGNED, ROOM = 0xFE, 0, 4, 10, 2060
+MANAGER, OK, BAD_HEAD, MISALIGNED, NOT_GRANTED, ROOM, PAGE = 0xFE, 0, 4, 10, 12, 2060, 50
 
 
 class Device(Structure):
@@ -44,6 +44,42 @@ def done(what, status):
         sys.exit(f"play: {what}: status {status}")
 
 
+def number(data, start, count):
+    return int.from_bytes(data[start:start + count], "little")
+
+
+def changed(actor, message, response):
+    """Of which host the map may have changed by this message and its response, as docs/embed.md says, if of any."""
+    opcode = number(message, 3, 2)
+    if number(response, 8, 2) != 0:
+        return None  # a refusal gives and takes nothing
+    if opcode in (0x4802, 0x4803):
+        return None if message[16] & 1 else actor  # nor does a part with More
+    return message[12] if opcode == 0x5605 and message[14] & 0x10 else None  # only by force something is taken
+
+
+def accepted(dcd, device, host):
+    """What the host has accepted, which its 4801h tells page by page: that is mapped to it, and nothing else."""
+    room, out, extents, total = ctypes.create_string_buffer(ROOM), c_uint64(), [], 1
+    while len(extents) < total:
+        message = bytes([0, 0, 0, 0x01, 0x48, 8, 0, 0, 0, 0, 0, 0, PAGE, 0, 0, 0, len(extents), 0, 0, 0])
+        done("list of extents", dcd.dcd_send(byref(device), host, message, len(message), room, ROOM, byref(out)))
+        done("list of extents", number(room.raw, 8, 2))
+        total = number(room.raw, 16, 4)
+        extents += [(number(room.raw, at, 8), number(room.raw, at + 8, 8)) for at in range(28, out.value, 40)]
+    print(f"h{host}", *(f"{start:x}+{length:x}" for start, length in extents), file=sys.stderr)
+    return extents
+
+
+def see_mapped(extents, dpa, status):
+    """Stops where the word at the address is granted and not mapped, or mapped and not granted."""
+    is_mapped = any(start <= dpa < start + length for start, length in extents)
+    if status == OK and not is_mapped:
+        sys.exit("play: granted and not mapped")
+    if status == NOT_GRANTED and is_mapped:
+        sys.exit("play: mapped and not granted")
+
+
 def play(dcd, script):
     device, fault, out = Device(), HeadFault(), c_uint64()
     status = dcd.dcd_open(byref(device), script, len(script), byref(fault))
@@ -51,22 +87,22 @@ def play(dcd, script):
         return print(f"script refused: {fault.number} at {fault.place}") or 3
     done("open", status)
     print("dcd 1")
-    at, line, entry = 16 + 40 * script[9] + 8 * script[8] * script[9], 0, 0
-
-    def number(start, count):
-        return int.from_bytes(script[start:start + count], "little")
-
+    at, line, entry, maps = 16 + 40 * script[9] + 8 * script[8] * script[9], 0, 0, {}
     while script[at] != 0:
         kind, actor, line, entry = script[at], script[at + 1] if script[at] != 5 else 0, line + 1, entry + (script[at] != 5)
         who = "fm" if actor == MANAGER else f"h{actor % 16}"
         if kind == 1:
-            message, room = script[at + 4:at + 4 + number(at + 2, 2)], ctypes.create_string_buffer(ROOM)
+            message, room = script[at + 4:at + 4 + number(script, at + 2, 2)], ctypes.create_string_buffer(ROOM)
             done("command", dcd.dcd_send(byref(device), actor if who == "fm" else actor % 16, message, len(message), room, ROOM, byref(out)))
             print(entry, line, who, "cmd", room.raw[:out.value].hex())
+            host = changed(actor % 16, message, room.raw)
+            if host is not None:
+                maps[host] = accepted(dcd, device, host)
             at += 4 + len(message)
         elif kind in (2, 3):
-            name, rest = ("ld", [byref(out)]) if kind == 2 else ("st", [number(at + 10, 8)])
-            status = (dcd.dcd_load if kind == 2 else dcd.dcd_store)(byref(device), actor % 16, number(at + 2, 8), *rest)
+            name, rest = ("ld", [byref(out)]) if kind == 2 else ("st", [number(script, at + 10, 8)])
+            status = (dcd.dcd_load if kind == 2 else dcd.dcd_store)(byref(device), actor % 16, number(script, at + 2, 8), *rest)
+            see_mapped(maps.get(actor % 16, []), number(script, at + 2, 8), status)
             if status >= MISALIGNED:
                 print(entry, line, who, name, "refused", status - MISALIGNED + 1)
             else:
@@ -74,7 +110,7 @@ def play(dcd, script):
                 print(entry, line, who, name, f"{out.value:016x}" if kind == 2 else "ok")
             at += 10 if kind == 2 else 18
         elif kind == 4:
-            done("scrub", dcd.dcd_scrub(byref(device), number(at + 1, 2), byref(out)))
+            done("scrub", dcd.dcd_scrub(byref(device), number(script, at + 1, 2), byref(out)))
             print(entry, line, "sz", "sc", out.value)
             at += 3
         else:

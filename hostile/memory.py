@@ -9,13 +9,13 @@ from collections import Counter
 import checking
 import releasing
 import runs
-import talk
 import using
+import workers
 
 DONE, NO_MEMORY, WRITE_FAULT = 0, 4, 6
 COUNT_FILE = 9
 
-# A host gets a block and uses it; a region is used whole, given back and zeroed; blocks are taken by force; two hosts share a block.
+# In serial mode: a host gets a block and uses it; a region is used whole, given back and zeroed; blocks are taken by force; two hosts share a block.
 CONVERSATIONS = {
     "one-block": checking.ONE_BLOCK.script,
     "scrubbing": releasing.CASES["scrubbing"].script,
@@ -24,18 +24,14 @@ CONVERSATIONS = {
 }
 
 
-def marked(script):
-    """The script with a mark behind every line."""
-    return script[:talk.head_length(script)] + b"".join(line + b"\5" for line, _ in talk.lines_of(script)) + b"\0"
-
-
 def trials():
-    """Of each trial its name, its words and its script."""
+    """Of each trial its name, its words, its script, and whether it runs in threads."""
     for name, script in CONVERSATIONS.items():
-        yield f"{name}, serial", ("--mode", "serial"), script
-        yield f"{name}, threads, marked", ("--mode", "threads"), marked(script)
-    for mode in ("serial", "threads"):
-        yield f"--gen 5, {mode}", ("--mode", mode, "--gen", "5"), b""
+        yield f"{name}, serial", ("--mode", "serial"), script, False
+    for name, script in workers.SCRIPTS.items():
+        yield f"{name}, threads", ("--mode", "threads"), script, True
+    yield "--gen 5, serial", ("--mode", "serial", "--gen", "5"), b"", False
+    yield "--gen 5, threads", ("--mode", "threads", "--gen", "5"), b"", True
 
 
 def build(folder):
@@ -47,39 +43,41 @@ def build(folder):
 
 
 def refused(dcdsim, library, words, script, number):
-    """A run of which the request of this number is refused, and how many it made, or None where it did not come to its end."""
+    """A run of which the request of this number is refused, how many it made, or None where it did not come to its end, and how many threads."""
     environment = {**os.environ, "LD_PRELOAD": library, "HOSTILE_REFUSE": str(number), "HOSTILE_COUNT": str(COUNT_FILE)}
     counted = runs.memory_file()
     ended = runs.run(dcdsim, words, script, environment=environment, more=[(counted, COUNT_FILE)])
-    count = runs.whole(counted)
+    counts = runs.whole(counted)
     os.close(counted)
-    return ended, int.from_bytes(count, sys.byteorder) if count else None
+    made, threads = (int.from_bytes(it, sys.byteorder) for it in (counts[:8], counts[8:]))
+    return ended, made if counts else None, threads
 
 
-def kind_of(ended, text):
-    """What a run with a refused request came to; one that is none of these is wrong."""
+def kind_of(ended, text, in_threads):
+    """What a run with a refused request came to; one that is none of these is wrong. All memory is taken before the first write."""
     if ended.status == NO_MEMORY and not ended.written:
         return "status 4 and nothing written"
-    if ended.status == DONE and ended.written == text:
+    if ended.status == DONE and (ended.written == text or in_threads and workers.in_any_order(ended.written) == workers.in_any_order(text)):
         return "as with ample memory"
-    if ended.status == WRITE_FAULT and text.startswith(ended.written):
+    if ended.status == WRITE_FAULT and not in_threads and text.startswith(ended.written):
         return "status 6 and a front written"
     return None
 
 
 def refuse_some(task):
-    """Tries every so many requests of a run, from one on, to the most that it was seen to make. It counts what they came to, and tells what is wrong."""
-    dcdsim, library, words, script, text, count, first, step = task
-    kinds, wrong, number = Counter(), [], first
+    """Tries every so many requests of a run, from one on, to the most that it was seen to make. It counts what they came to and the runs that had threads, and tells what is wrong."""
+    dcdsim, library, words, script, in_threads, text, count, first, step = task
+    kinds, wrong, threaded, number = Counter(), [], 0, first
     while number <= count:
-        ended, made = refused(dcdsim, library, words, script, number)
-        kind = kind_of(ended, text)
+        ended, made, threads = refused(dcdsim, library, words, script, number)
+        kind = kind_of(ended, text, in_threads)
+        threaded += threads > 0
         kinds[kind] += 1
         if kind is None:
             wrong.append((number, str(ended)))
         count = max(count, made or 0)
         number += step
-    return kinds, wrong
+    return kinds, wrong, threaded
 
 
 def refuse_all(dcdsim, kept, jobs, only):
@@ -87,25 +85,26 @@ def refuse_all(dcdsim, kept, jobs, only):
     found, tried = 0, 0
     with tempfile.TemporaryDirectory() as folder, multiprocessing.Pool(jobs) as pool:
         library = build(folder)
-        for name, words, script in trials():
+        for name, words, script, in_threads in trials():
             if only is not None and not name.startswith(only):
                 continue
-            ample, count = refused(dcdsim, library, words, script, 0)
-            if ample.status != DONE or not count:
-                print(f"FOUND: {name}: with ample memory {ample}, {count} requests", flush=True)
+            ample, count, threads = refused(dcdsim, library, words, script, 0)
+            if ample.status != DONE or not count or in_threads != (threads > 0):
+                print(f"FOUND: {name}: with ample memory {ample}, {count} requests, {threads} threads", flush=True)
                 found += 1
                 continue
-            kinds, wrong = Counter(), []
+            kinds, wrong, threaded = Counter(), [], 0
             step = jobs * (1 if count < 1000 else 16)
-            tasks = [(dcdsim, library, words, script, ample.written, count, first, step) for first in range(1, step + 1)]
-            for some, bad in pool.imap_unordered(refuse_some, tasks):
+            tasks = [(dcdsim, library, words, script, in_threads, ample.written, count, first, step) for first in range(1, step + 1)]
+            for some, bad, had in pool.imap_unordered(refuse_some, tasks):
                 kinds += some
                 wrong += bad
+                threaded += had
             for number, ended in sorted(wrong):
                 print(f"FOUND: {name}: request {number} refused: {ended}", flush=True)
             tried += kinds.total()
             found += len(wrong)
             told = ", ".join(f"{number:,} {kind or 'wrong'}" for kind, number in kinds.items())
-            print(f"{name}: {count:,} requests with ample memory; {kinds.total():,} runs: {told}", flush=True)
+            print(f"{name}: {count:,} requests with ample memory; {kinds.total():,} runs, {threaded:,} of them with threads: {told}", flush=True)
     print(f"{tried:,} runs with a refused request; found: {found}", flush=True)
     return bool(found)

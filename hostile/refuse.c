@@ -1,5 +1,6 @@
 /* Refuses one request for memory of a program: LD_PRELOAD of hostile/try. The request of the number HOSTILE_REFUSE, from 1, gets none; 0 refuses none.
-   A new thread is a request too. The number of requests stands in the file HOSTILE_COUNT, which the program has in its memory: it ends without the calls that C makes at an end. */
+   A new thread is a request too. The number of requests, and behind it that of the threads that were made, stand in the file HOSTILE_COUNT, which the program has in its memory: it ends without the calls that C makes
+   at an end. */
 #define _GNU_SOURCE
 #include <dlfcn.h>
 #include <errno.h>
@@ -11,21 +12,23 @@
 
 extern void *__libc_malloc(size_t), *__libc_calloc(size_t, size_t), *__libc_realloc(void *, size_t), *__libc_memalign(size_t, size_t);
 
-static atomic_long own_count, *requests = &own_count;
+struct counts { atomic_long requests, threads; };
+
+static struct counts own_counts, *counts = &own_counts;
 static long refused;
 static int is_counting;
 
 /* Whether this request is the one that is refused. What is asked for before the program's own start is not counted. */
 static int is_refused(void) {
-    return is_counting && atomic_fetch_add(requests, 1) + 1 == refused;
+    return is_counting && atomic_fetch_add(&counts->requests, 1) + 1 == refused;
 }
 
 __attribute__((constructor)) static void begin(void) {
     const char *number = getenv("HOSTILE_REFUSE"), *file = getenv("HOSTILE_COUNT");
     refused = number ? atol(number) : 0;
-    if (file && !ftruncate(atoi(file), sizeof *requests)) {
-        void *shared = mmap(NULL, sizeof *requests, PROT_READ | PROT_WRITE, MAP_SHARED, atoi(file), 0);
-        if (shared != MAP_FAILED) requests = shared;
+    if (file && !ftruncate(atoi(file), sizeof *counts)) {
+        void *shared = mmap(NULL, sizeof *counts, PROT_READ | PROT_WRITE, MAP_SHARED, atoi(file), 0);
+        if (shared != MAP_FAILED) counts = shared;
     }
     is_counting = 1;
 }
@@ -51,5 +54,7 @@ int pthread_create(pthread_t *thread, const pthread_attr_t *attributes, void *(*
     static int (*real)(pthread_t *, const pthread_attr_t *, void *(*)(void *), void *);
     if (is_refused()) return EAGAIN;
     if (!real) real = dlsym(RTLD_NEXT, "pthread_create");
-    return real(thread, attributes, start, argument);
+    int failed = real(thread, attributes, start, argument);
+    if (!failed) atomic_fetch_add(&counts->threads, 1);
+    return failed;
 }

@@ -74,7 +74,8 @@ struct dcd_memory_state {
 uint32_t dcd_open(struct dcd_device *device, const uint8_t *script, size_t script_length, struct dcd_head_fault *fault);
 
 /* Sends a request (CXL 3.1, 7.6.3: a header of 12 bytes and a payload) as a host, or as DCD_MANAGER, and puts the response of
-   the same form into the room, and its length at length. No response has more than 2,060 bytes. */
+   the same form into the room, and its length at length. No response has more than 2,060 bytes. What memory is a host's is told
+   by the response to its 4801h, and by no list that a host sends: docs/embed.md says when to ask for it. */
 uint32_t dcd_send(struct dcd_device *device, uint8_t actor, const uint8_t *message, size_t message_length, uint8_t *room,
                   size_t room_length, uint64_t *length);
 

@@ -7,6 +7,7 @@ mod numbers;
 mod shard;
 mod touching;
 
+pub use journal_core;
 pub use shard::Shard;
 pub use shard_laws;
 pub use shard_laws::{device_rules, ruled_cells};

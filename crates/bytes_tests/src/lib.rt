@@ -2,13 +2,21 @@
 #![tactic(auto)]
 
 #[cfg(test)]
+mod addresses;
+#[cfg(test)]
 mod codes;
+#[cfg(test)]
+mod configuration;
 #[cfg(test)]
 mod edges;
 #[cfg(test)]
 mod ends;
 #[cfg(test)]
+mod extents;
+#[cfg(test)]
 mod generated;
+#[cfg(test)]
+mod granules;
 #[cfg(test)]
 mod host_replies;
 #[cfg(test)]
@@ -17,6 +25,8 @@ mod host_requests;
 mod kept;
 #[cfg(test)]
 mod lists;
+#[cfg(test)]
+mod log_records;
 #[cfg(test)]
 mod manager_replies;
 #[cfg(test)]
@@ -39,3 +49,11 @@ mod records;
 mod scripts;
 #[cfg(test)]
 mod seeing;
+#[cfg(test)]
+mod seeing_stores;
+#[cfg(test)]
+mod table;
+#[cfg(test)]
+mod tags;
+#[cfg(test)]
+mod words;

@@ -1,6 +1,8 @@
 //! The form of a message between a host or the Fabric Manager and the device: a header of 12 bytes and a payload.
 #![tactic(auto)]
 
+pub use field_bytes;
+
 mod counted;
 mod faults;
 mod headers;

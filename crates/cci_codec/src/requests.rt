@@ -8,7 +8,7 @@ use crate::faults::MessageFault;
 use crate::headers::put_head;
 use crate::messages::Request;
 use crate::payloads::Payload;
-use dcd_base::{Bytes, NoMemory};
+use field_bytes::dcd_base::{Bytes, NoMemory};
 use field_bytes::{put_bytes, u16_at, zeros};
 use std::alloc::Global;
 

@@ -6,14 +6,14 @@ use Rattle.std.specs.declared.result.Result.TheVariants.{Ok, Err}
 use Rattle.std.proofs.lemmas.Bool.{cases_eq}
 use Rattle.std.proofs.lemmas.List.Elements.{All-from_recursion}
 use Rattle.cci_codec.specs.declared.messages.Request.{Request}
-use Rattle.dcd_base.specs.declared.capacity.Extent.{Extent}
-use Rattle.dcd_base.specs.declared.ids.HostId.{HostId}
-use Rattle.dcd_base.specs.declared.steps.Actor.{Actor}
-use Rattle.dcd_base.specs.declared.steps.LogId.{LogId}
-use Rattle.dcd_codes.specs.Rules.{code_of}
-use Rattle.dcd_codes.specs.declared.rules.Rule.{Rule}
+use Rattle.cci_codec.specs.field_bytes.specs.dcd_base.specs.declared.capacity.Extent.{Extent}
+use Rattle.cci_codec.specs.field_bytes.specs.dcd_base.specs.declared.ids.HostId.{HostId}
+use Rattle.cci_codec.specs.field_bytes.specs.dcd_base.specs.declared.steps.Actor.{Actor}
+use Rattle.cci_codec.specs.field_bytes.specs.dcd_base.specs.declared.steps.LogId.{LogId}
+use Rattle.list_rules.specs.dcd_codes.specs.Rules.{code_of}
+use Rattle.list_rules.specs.dcd_codes.specs.declared.rules.Rule.{Rule}
 use Rattle.event_records.specs.declared.events.Event.{Event}
-use Rattle.region_config.specs.Configurations.{Configuration}
+use Rattle.list_rules.specs.media_map.specs.region_config.specs.Configurations.{Configuration}
 use Rattle.host_payloads.specs.HostPayloads.{host_request}
 use Rattle.host_payloads.specs.declared.requests.HostRequest.{HostRequest}
 use Rattle.journal_core.specs.Entries.{effects}
@@ -29,8 +29,8 @@ use Rattle.device_commands.specs.device_rules.specs.Answers.{dropped, effects_wi
 use Rattle.device_commands.specs.device_rules.specs.Outcomes.{Outcome}
 use Rattle.device_commands.specs.device_rules.specs.ResponseOutcomes.{response_records, respond_changes, unhold}
 use Rattle.device_commands.specs.device_rules.specs.Views.{View, view_after, view_of}
-use Rattle.device_commands.specs.step_laws.proofs.ViewOthers.{dropped-leaves}
-use Rattle.device_commands.specs.table_laws.proofs.QuietSteps.{table-refused}
+use Rattle.device_commands.specs.device_laws.proofs.ViewOthers.{dropped-leaves}
+use Rattle.device_commands.specs.device_laws.proofs.QuietSteps.{table-refused}
 use Rattle.control_core.specs.Deciding.{IsDecidedBy, IsShort}
 use Rattle.control_core.specs.Doing.{IsDone}
 use Rattle.device_commands.specs.device_state.specs.Entered.{lists_by, unheld}

@@ -6,12 +6,12 @@ use Rattle.std.proofs.lemmas.Bool.{and_parts, cases_eq, eq-eqb, false≢true, ne
 use Rattle.std.proofs.lemmas.List.Folds.{list_any-append}
 use Rattle.std.proofs.lemmas.List.Sums.{fold-append}
 use Rattle.cci_codec.specs.declared.messages.Request.{Request}
-use Rattle.dcd_base.specs.declared.capacity.Extent.{Extent}
-use Rattle.dcd_base.specs.declared.capacity.Tag.{Tag}
-use Rattle.dcd_base.specs.declared.ids.HostId.{HostId}
-use Rattle.dcd_codes.specs.declared.codes.Code.{Code}
-use Rattle.extent_list.specs.ExtentLists.{has_extent_of}
-use Rattle.region_config.specs.Configurations.{Configuration}
+use Rattle.cci_codec.specs.field_bytes.specs.dcd_base.specs.declared.capacity.Extent.{Extent}
+use Rattle.cci_codec.specs.field_bytes.specs.dcd_base.specs.declared.capacity.Tag.{Tag}
+use Rattle.cci_codec.specs.field_bytes.specs.dcd_base.specs.declared.ids.HostId.{HostId}
+use Rattle.list_rules.specs.dcd_codes.specs.declared.codes.Code.{Code}
+use Rattle.list_rules.specs.extent_list.specs.ExtentLists.{has_extent_of}
+use Rattle.list_rules.specs.media_map.specs.region_config.specs.Configurations.{Configuration}
 use Rattle.device_commands.specs.host_lists.specs.Changes.{changed_by}
 use Rattle.device_commands.specs.host_lists.specs.Lists.{Lists}
 use Rattle.device_commands.specs.host_lists.specs.declared.lists_change.ListsChange.{ListsChange}
@@ -32,8 +32,8 @@ use Rattle.device_commands.specs.device_rules.specs.Views.{View, view_after, vie
 use Rattle.device_commands.specs.device_rules.proofs.EffectKinds.{any_log, tells_any, told_passes}
 use Rattle.device_commands.specs.device_rules.proofs.Leaving.{both_pass, map_passes, over-leaving}
 use Rattle.device_commands.specs.device_rules.proofs.OutcomeSteps.{over-outcome}
-use Rattle.device_commands.specs.step_laws.proofs.ViewsLeft.{leaves_view, view_after-left}
-use Rattle.device_commands.specs.table_laws.specs.TagTable.{IsTable, among, among_offers, ending, host_of_tags_set}
+use Rattle.device_commands.specs.device_laws.proofs.ViewsLeft.{leaves_view, view_after-left}
+use Rattle.device_commands.specs.device_laws.specs.TagTable.{IsTable, among, among_offers, ending, host_of_tags_set}
 use Rattle.tag_refs.specs.declared.entries.TagEntry.{TagEntry}
 use Rattle.control_core.specs.Doing.{IsDone, IsOfHost}
 use Rattle.device_commands.specs.TagChanges.{told_change}

@@ -3,18 +3,18 @@ use Rattle.std.proofs.Common.{◌≡◌, ◌<◌, Bool, true, false, ◌&&◌, L
 use Rattle.std.specs.Prelude.{◌==◌, if◌then◌else◌}
 use Rattle.std.specs.List.{list_all}
 use Rattle.std.proofs.lemmas.Bool.{and_parts, false≢true}
-use Rattle.dcd_base.specs.declared.capacity.Extent.{Extent}
-use Rattle.dcd_base.specs.declared.ids.HostId.{HostId}
-use Rattle.dcd_base.specs.declared.steps.LogId.{LogId}
-use Rattle.region_config.specs.Configurations.{Configuration}
-use Rattle.region_config.specs.Soundness.{IsSound}
+use Rattle.cci_codec.specs.field_bytes.specs.dcd_base.specs.declared.capacity.Extent.{Extent}
+use Rattle.cci_codec.specs.field_bytes.specs.dcd_base.specs.declared.ids.HostId.{HostId}
+use Rattle.cci_codec.specs.field_bytes.specs.dcd_base.specs.declared.steps.LogId.{LogId}
+use Rattle.list_rules.specs.media_map.specs.region_config.specs.Configurations.{Configuration}
+use Rattle.list_rules.specs.media_map.specs.region_config.specs.Soundness.{IsSound}
 use Rattle.device_commands.specs.host_lists.specs.Lists.{Lists}
 use Rattle.host_payloads.specs.declared.requests.HostRequest.{HostRequest}
 use Rattle.journal_core.specs.Entries.{effects}
 use Rattle.journal_core.specs.declared.entries.Entry.{Entry}
 use Rattle.journal_core.specs.declared.outcome.Effect.{Effect}
 use Rattle.journal_core.specs.declared.outcome.HeldKind.{HeldKind}
-use Rattle.media_map.specs.Places.{run_of}
+use Rattle.list_rules.specs.media_map.specs.Places.{run_of}
 use Rattle.device_commands.specs.device_state.specs.StateAfter.{lists_in}
 use Rattle.device_commands.specs.device_rules.specs.Answers.{host_outcome, host_rule}
 use Rattle.device_commands.specs.device_rules.specs.Hosts.{accepted_of, held_after, offers_of}
@@ -25,11 +25,11 @@ use Rattle.device_commands.specs.device_rules.specs.ResponseOutcomes.{answered, 
 use Rattle.device_commands.specs.device_rules.specs.Views.{View, view_after, view_of}
 use Rattle.device_commands.specs.device_rules.proofs.EffectKinds.{PassClearing, clear_passes}
 use Rattle.device_commands.specs.device_rules.proofs.Leaving.{both_pass, map_passes, over-leaving}
-use Rattle.device_commands.specs.step_laws.proofs.ViewOthers.{host-leaves}
-use Rattle.device_commands.specs.table_laws.specs.TagTableSteps.{IsHostOfTagsSet}
-use Rattle.device_commands.specs.table_laws.specs.TagTable.{IsTable, among, among_offers, ending, host_of_tags_set}
-use Rattle.device_commands.specs.table_laws.proofs.GivingSteps.{table-release, table-response}
-use Rattle.device_commands.specs.table_laws.proofs.QuietSteps.{table-host}
+use Rattle.device_commands.specs.device_laws.proofs.ViewOthers.{host-leaves}
+use Rattle.device_commands.specs.device_laws.specs.TagTableSteps.{IsHostOfTagsSet}
+use Rattle.device_commands.specs.device_laws.specs.TagTable.{IsTable, among, among_offers, ending, host_of_tags_set}
+use Rattle.device_commands.specs.device_laws.proofs.GivingSteps.{table-release, table-response}
+use Rattle.device_commands.specs.device_laws.proofs.QuietSteps.{table-host}
 use Rattle.tag_refs.specs.declared.entries.TagEntry.{TagEntry}
 use Rattle.control_core.specs.Doing.{IsOfHost}
 use Rattle.device_commands.specs.device_state.specs.Entered.{lists_by, unheld}

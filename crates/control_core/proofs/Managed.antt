@@ -5,20 +5,20 @@ use Rattle.std.specs.List.{AllByRecursion, list_all, list_any, range_with_len}
 use Rattle.std.specs.declared.result.Result.TheVariants.{Ok, Err}
 use Rattle.std.proofs.lemmas.Bool.{and_parts, false≢true}
 use Rattle.cci_codec.specs.declared.messages.Request.{Request}
-use Rattle.dcd_base.specs.declared.capacity.Extent.{Extent}
-use Rattle.dcd_base.specs.declared.capacity.Tag.{Tag}
-use Rattle.dcd_base.specs.declared.ids.HostId.{HostId}
-use Rattle.dcd_base.specs.declared.steps.Actor.{Actor}
-use Rattle.dcd_base.specs.declared.steps.LogId.{LogId}
-use Rattle.dcd_codes.specs.Rules.{ByRow, code_of}
-use Rattle.dcd_codes.specs.declared.codes.Code.{Code}
-use Rattle.dcd_codes.specs.declared.refusals.Refusal.{Refusal}
-use Rattle.dcd_codes.specs.declared.rules.Rule.{Rule}
+use Rattle.cci_codec.specs.field_bytes.specs.dcd_base.specs.declared.capacity.Extent.{Extent}
+use Rattle.cci_codec.specs.field_bytes.specs.dcd_base.specs.declared.capacity.Tag.{Tag}
+use Rattle.cci_codec.specs.field_bytes.specs.dcd_base.specs.declared.ids.HostId.{HostId}
+use Rattle.cci_codec.specs.field_bytes.specs.dcd_base.specs.declared.steps.Actor.{Actor}
+use Rattle.cci_codec.specs.field_bytes.specs.dcd_base.specs.declared.steps.LogId.{LogId}
+use Rattle.list_rules.specs.dcd_codes.specs.Rules.{ByRow, code_of}
+use Rattle.list_rules.specs.dcd_codes.specs.declared.codes.Code.{Code}
+use Rattle.list_rules.specs.dcd_codes.specs.declared.refusals.Refusal.{Refusal}
+use Rattle.list_rules.specs.dcd_codes.specs.declared.rules.Rule.{Rule}
 use Rattle.event_records.specs.declared.events.Event.{Event}
 use Rattle.fm_payloads.specs.ManagerPayloads.{manager_request}
 use Rattle.fm_payloads.specs.declared.requests.FmRequest.{FmRequest}
-use Rattle.region_config.specs.Configurations.{Configuration}
-use Rattle.region_config.specs.Soundness.{IsSound}
+use Rattle.list_rules.specs.media_map.specs.region_config.specs.Configurations.{Configuration}
+use Rattle.list_rules.specs.media_map.specs.region_config.specs.Soundness.{IsSound}
 use Rattle.device_commands.specs.host_lists.specs.Lists.{Lists}
 use Rattle.journal_core.specs.Entries.{effects}
 use Rattle.journal_core.specs.declared.acts.Act.{Act}
@@ -38,11 +38,11 @@ use Rattle.device_commands.specs.device_rules.specs.Outcomes.{Outcome, effects_o
 use Rattle.device_commands.specs.device_rules.specs.Views.{View, view_after, view_of}
 use Rattle.device_commands.specs.device_rules.proofs.EffectKinds.{PassClearing, clear_passes, reference_passes}
 use Rattle.device_commands.specs.device_rules.proofs.Leaving.{over-leaving}
-use Rattle.device_commands.specs.table_laws.specs.QuietRequests.{is_quiet_manager}
-use Rattle.device_commands.specs.table_laws.specs.TagTable.{IsTable}
-use Rattle.device_commands.specs.table_laws.proofs.QuietSteps.{table-manager}
-use Rattle.device_commands.specs.table_laws.proofs.ReferenceSteps.{ended-reference, table-add_reference, table-remove_reference}
-use Rattle.device_commands.specs.holding_laws.proofs.LegalSound.{legal_is_sound}
+use Rattle.device_commands.specs.device_laws.specs.QuietRequests.{is_quiet_manager}
+use Rattle.device_commands.specs.device_laws.specs.TagTable.{IsTable}
+use Rattle.device_commands.specs.device_laws.proofs.QuietSteps.{table-manager}
+use Rattle.device_commands.specs.device_laws.proofs.ReferenceSteps.{ended-reference, table-add_reference, table-remove_reference}
+use Rattle.device_commands.specs.device_laws.proofs.LegalSound.{legal_is_sound}
 use Rattle.device_commands.specs.device_rules.specs.Tags.{is_referenced}
 use Rattle.tag_refs.specs.Tables.{is_used, passes, with_reference}
 use Rattle.control_core.specs.Deciding.{IsDecidedBy, IsShort}

@@ -1,11 +1,11 @@
 -- What a 5605h that breaks no rule makes of lists and tags.
 use Rattle.std.proofs.Common.{◌≡◌, ℕ, ◌<◌, List, None, length, map, refl, subst, sym}
 use Rattle.std.specs.Prelude.{All}
-use Rattle.dcd_base.specs.declared.capacity.Extent.{Extent}
-use Rattle.dcd_base.specs.declared.capacity.Tag.{Tag}
+use Rattle.cci_codec.specs.field_bytes.specs.dcd_base.specs.declared.capacity.Extent.{Extent}
+use Rattle.cci_codec.specs.field_bytes.specs.dcd_base.specs.declared.capacity.Tag.{Tag}
 use Rattle.fm_payloads.specs.declared.requests.FmRequest.{FmRequest}
-use Rattle.region_config.specs.Configurations.{Configuration}
-use Rattle.region_config.specs.Soundness.{IsSound}
+use Rattle.list_rules.specs.media_map.specs.region_config.specs.Configurations.{Configuration}
+use Rattle.list_rules.specs.media_map.specs.region_config.specs.Soundness.{IsSound}
 use Rattle.device_commands.specs.Drafts.{as_records}
 use Rattle.device_commands.specs.declared.draft.DraftParts.{DraftParts}
 use Rattle.device_commands.specs.declared.log_records.LogRecords.{LogRecords}
@@ -17,9 +17,9 @@ use Rattle.device_commands.specs.device_rules.specs.Legal.{Legal}
 use Rattle.device_commands.specs.device_rules.specs.ReleaseOutcomes.{is_cleaning, is_forced, removed}
 use Rattle.device_commands.specs.device_rules.specs.Views.{View, view_of}
 use Rattle.device_commands.specs.device_rules.proofs.EffectKinds.{removals_pass}
-use Rattle.device_commands.specs.step_laws.proofs.ViewOthers.{remove-leaves}
-use Rattle.device_commands.specs.table_laws.proofs.GivingSteps.{table-removal}
-use Rattle.device_commands.specs.table_laws.proofs.LeavingSteps.{removal_row}
+use Rattle.device_commands.specs.device_laws.proofs.ViewOthers.{remove-leaves}
+use Rattle.device_commands.specs.device_laws.proofs.GivingSteps.{table-removal}
+use Rattle.device_commands.specs.device_laws.proofs.LeavingSteps.{removal_row}
 use Rattle.control_core.specs.Doing.{IsOfHost}
 use Rattle.device_commands.specs.device_state.specs.StateAfter.{IsStateAfter}
 use Rattle.device_commands.specs.device_state.specs.Updates.{IsOfLog}

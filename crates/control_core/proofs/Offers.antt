@@ -6,12 +6,12 @@ use Rattle.std.proofs.lemmas.Bool.{cases_eq, eq-eqb, ne_eqb}
 use Rattle.std.proofs.lemmas.List.Elements.{All-from_recursion}
 use Rattle.std.proofs.lemmas.List.Folds.{list_any-append}
 use Rattle.cci_codec.specs.declared.messages.Request.{Request}
-use Rattle.dcd_base.specs.Words.{same_tag}
-use Rattle.dcd_base.specs.declared.capacity.Extent.{Extent}
-use Rattle.dcd_base.specs.declared.capacity.Tag.{Tag}
-use Rattle.dcd_base.specs.declared.ids.HostId.{HostId}
-use Rattle.dcd_codes.specs.declared.codes.Code.{Code}
-use Rattle.extent_list.specs.ExtentLists.{has_extent_of}
+use Rattle.cci_codec.specs.field_bytes.specs.dcd_base.specs.Words.{same_tag}
+use Rattle.cci_codec.specs.field_bytes.specs.dcd_base.specs.declared.capacity.Extent.{Extent}
+use Rattle.cci_codec.specs.field_bytes.specs.dcd_base.specs.declared.capacity.Tag.{Tag}
+use Rattle.cci_codec.specs.field_bytes.specs.dcd_base.specs.declared.ids.HostId.{HostId}
+use Rattle.list_rules.specs.dcd_codes.specs.declared.codes.Code.{Code}
+use Rattle.list_rules.specs.extent_list.specs.ExtentLists.{has_extent_of}
 use Rattle.fm_payloads.specs.declared.requests.FmRequest.{FmRequest}
 use Rattle.device_commands.specs.host_lists.specs.Changes.{changed_by}
 use Rattle.device_commands.specs.host_lists.specs.Lists.{Lists}
@@ -20,20 +20,20 @@ use Rattle.device_commands.specs.Drafts.{AreAfter, Drafts, as_records}
 use Rattle.device_commands.specs.device_state.specs.StateAfter.{lists_in, IsStateAfter}
 use Rattle.device_commands.specs.declared.draft.DraftParts.{DraftParts}
 use Rattle.device_commands.specs.declared.log_records.LogRecords.{LogRecords}
-use Rattle.region_config.specs.Configurations.{Configuration}
-use Rattle.region_config.specs.Granules.{region_spec}
-use Rattle.region_config.specs.Soundness.{IsSound}
-use Rattle.media_map.specs.Places.{is_granular, run_of}
+use Rattle.list_rules.specs.media_map.specs.region_config.specs.Configurations.{Configuration}
+use Rattle.list_rules.specs.media_map.specs.region_config.specs.Granules.{region_spec}
+use Rattle.list_rules.specs.media_map.specs.region_config.specs.Soundness.{IsSound}
+use Rattle.list_rules.specs.media_map.specs.Places.{is_granular, run_of}
 use Rattle.journal_core.specs.Entries.{effects}
 use Rattle.journal_core.specs.declared.acts.Reply.{Reply}
 use Rattle.journal_core.specs.declared.entries.Entry.{Entry}
 use Rattle.journal_core.specs.declared.outcome.Effect.{Effect}
-use Rattle.device_commands.specs.holding_laws.specs.Pictures.{Picture, picture_of}
-use Rattle.device_commands.specs.holding_laws.specs.Standing.{IsMade}
-use Rattle.device_commands.specs.holding_laws.proofs.Adding.{IsAdded, IsRow, added, row_of}
-use Rattle.device_commands.specs.holding_laws.proofs.Holding.{present_whole}
-use Rattle.device_commands.specs.holding_laws.proofs.Homes.{made_granular, made_region}
-use Rattle.device_commands.specs.holding_laws.proofs.LegalSound.{legal_is_sound}
+use Rattle.device_commands.specs.device_laws.specs.Pictures.{Picture, picture_of}
+use Rattle.device_commands.specs.device_laws.specs.Standing.{IsMade}
+use Rattle.device_commands.specs.device_laws.proofs.Adding.{IsAdded, IsRow, added, row_of}
+use Rattle.device_commands.specs.device_laws.proofs.Holding.{present_whole}
+use Rattle.device_commands.specs.device_laws.proofs.Homes.{made_granular, made_region}
+use Rattle.device_commands.specs.device_laws.proofs.LegalSound.{legal_is_sound}
 use Rattle.device_commands.specs.device_rules.specs.Adding.{offered}
 use Rattle.device_commands.specs.device_rules.specs.Answers.{manager_outcome, manager_rule, response}
 use Rattle.device_commands.specs.device_rules.specs.Hosts.{accepted_of}
@@ -41,10 +41,10 @@ use Rattle.device_commands.specs.device_rules.specs.Legal.{Legal}
 use Rattle.device_commands.specs.device_rules.specs.Logs.{log_of}
 use Rattle.device_commands.specs.device_rules.specs.Outcomes.{Outcome, effects_of, ended, entered_all}
 use Rattle.device_commands.specs.device_rules.specs.Views.{view_after, view_of}
-use Rattle.device_commands.specs.step_laws.proofs.ViewOthers.{add-leaves}
-use Rattle.device_commands.specs.table_laws.specs.TagTable.{IsTable}
-use Rattle.device_commands.specs.table_laws.proofs.AddSteps.{table-add}
-use Rattle.device_commands.specs.table_laws.proofs.TagEntries.{table_live}
+use Rattle.device_commands.specs.device_laws.proofs.ViewOthers.{add-leaves}
+use Rattle.device_commands.specs.device_laws.specs.TagTable.{IsTable}
+use Rattle.device_commands.specs.device_laws.proofs.AddSteps.{table-add}
+use Rattle.device_commands.specs.device_laws.proofs.TagEntries.{table_live}
 use Rattle.tag_refs.specs.Tables.{entries_changed, has_entry, set_by, still_used}
 use Rattle.tag_refs.specs.declared.entries.TagEntry.{TagEntry}
 use Rattle.control_core.specs.Doing.{IsDone}
@@ -59,7 +59,7 @@ use Rattle.device_commands.specs.device_state.specs.declared.updates.TagChange.{
 use Rattle.control_core.proofs.Decisions.{records_known}
 use Rattle.control_core.proofs.Doing.{lists_over, others_stay, unheld_over}
 use Rattle.control_core.proofs.Recorded.{told_is}
-use Rattle.media_map.proofs.RunLemmas.{granular_from}
+use Rattle.list_rules.specs.media_map.proofs.RunLemmas.{granular_from}
 use Rattle.device_commands.specs.device_rules.proofs.TagSteps.{same_tag-self}
 
 module _ (c : Configuration) (before : List Entry) (s : State) (kept : IsStateAfter c before s) (h : HostId) (r : ℕ) (tag : Tag) (new : List Extent) (o : Outcome) (of : IsOfOffer c before h r tag new o) where

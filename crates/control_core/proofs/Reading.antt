@@ -4,38 +4,38 @@ use Rattle.std.specs.Prelude.{count_by, flat_map, map, sum_by}
 use Rattle.std.specs.List.{AllByRecursion, range_with_len}
 use Rattle.std.proofs.lemmas.List.{length-append}
 use Rattle.std.proofs.lemmas.List.Sums.{length-filter, sum_by-cons}
-use Rattle.dcd_base.specs.declared.capacity.Extent.{Extent}
-use Rattle.dcd_base.specs.declared.ids.HostId.{HostId}
-use Rattle.dcd_base.specs.declared.steps.LogId.{LogId}
+use Rattle.cci_codec.specs.field_bytes.specs.dcd_base.specs.declared.capacity.Extent.{Extent}
+use Rattle.cci_codec.specs.field_bytes.specs.dcd_base.specs.declared.ids.HostId.{HostId}
+use Rattle.cci_codec.specs.field_bytes.specs.dcd_base.specs.declared.steps.LogId.{LogId}
 use Rattle.event_log.specs.LogStates.{LogState}
 use Rattle.event_log.specs.Logs.{places_in, state_of}
-use Rattle.device_commands.specs.table_laws.specs.GranuleCells.{status_of}
-use Rattle.granule_map.specs.StateLists.{count_of, same_state}
-use Rattle.granule_map.specs.declared.states.GranuleState.{GranuleState}
-use Rattle.granule_table.specs.Tables.{cell_at}
+use Rattle.device_commands.specs.device_laws.specs.GranuleCells.{status_of}
+use Rattle.selection.specs.granule_map.specs.StateLists.{count_of, same_state}
+use Rattle.selection.specs.granule_map.specs.declared.states.GranuleState.{GranuleState}
+use Rattle.selection.specs.granule_map.specs.Tables.{cell_at}
 use Rattle.device_commands.specs.device_state.specs.StateAfter.{IsLogOf, IsReached, IsStateAfter, part_of}
 use Rattle.device_commands.specs.host_lists.specs.Lists.{Lists}
 use Rattle.journal_core.specs.Entries.{effects}
 use Rattle.journal_core.specs.declared.entries.Entry.{Entry}
 use Rattle.journal_core.specs.declared.outcome.Effect.{Effect}
 use Rattle.journal_core.specs.declared.outcome.HeldKind.{HeldKind}
-use Rattle.media_map.specs.Places.{run_of}
-use Rattle.media_map.proofs.RunLemmas.{granular_from}
-use Rattle.region_config.specs.Configurations.{Configuration}
-use Rattle.region_config.specs.Granules.{granule_total}
-use Rattle.region_config.specs.Soundness.{IsSound}
+use Rattle.list_rules.specs.media_map.specs.Places.{run_of}
+use Rattle.list_rules.specs.media_map.proofs.RunLemmas.{granular_from}
+use Rattle.list_rules.specs.media_map.specs.region_config.specs.Configurations.{Configuration}
+use Rattle.list_rules.specs.media_map.specs.region_config.specs.Granules.{granule_total}
+use Rattle.list_rules.specs.media_map.specs.region_config.specs.Soundness.{IsSound}
 use Rattle.selection.proofs.Placed.{run_below}
-use Rattle.device_commands.specs.holding_laws.proofs.Holding.{present_whole}
-use Rattle.device_commands.specs.holding_laws.proofs.Homes.{made_granular, made_is_run, made_region}
-use Rattle.device_commands.specs.holding_laws.proofs.LegalSound.{legal_is_sound}
-use Rattle.device_commands.specs.holding_laws.specs.Pictures.{picture_of}
-use Rattle.device_commands.specs.holding_laws.specs.Standing.{IsHome, Stands}
+use Rattle.device_commands.specs.device_laws.proofs.Holding.{present_whole}
+use Rattle.device_commands.specs.device_laws.proofs.Homes.{made_granular, made_is_run, made_region}
+use Rattle.device_commands.specs.device_laws.proofs.LegalSound.{legal_is_sound}
+use Rattle.device_commands.specs.device_laws.specs.Pictures.{picture_of}
+use Rattle.device_commands.specs.device_laws.specs.Standing.{IsHome, Stands}
 use Rattle.device_commands.proofs.FreeGranules.{free_at}
 use Rattle.device_commands.proofs.Reached.{total_kept}
 use Rattle.device_commands.specs.device_rules.specs.Adding.{area_of, is_free_now, per_block, present, region_free_blocks}
-use Rattle.granule_map.specs.Blocks.{free_block_count}
-use Rattle.granule_map.specs.StateLists.{is_free_at}
-use Rattle.region_config.proofs.Faultless.{granules_within}
+use Rattle.selection.specs.granule_map.specs.Blocks.{free_block_count}
+use Rattle.selection.specs.granule_map.specs.StateLists.{is_free_at}
+use Rattle.list_rules.specs.media_map.specs.region_config.proofs.Faultless.{granules_within}
 use Rattle.selection.proofs.Agreeing.{free_blocks_agree}
 use Rattle.device_commands.specs.device_rules.specs.Counts.{dirty_count, extent_count, free_count, granules_held, missed_of, records_of}
 use Rattle.device_commands.specs.device_rules.specs.Hosts.{accepted_of, held_of, offers_of}

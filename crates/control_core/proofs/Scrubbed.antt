@@ -1,12 +1,12 @@
 -- A turn of the sanitizer is the answer to a scrub.
 use Rattle.std.proofs.Common.{◌≡◌, ℕ, List, [], ◌∷◌, map, refl, sym, ap, subst, ◌∙◌, None}
 use Rattle.std.specs.Prelude.{fold}
-use Rattle.dcd_base.specs.declared.ids.HostId.{HostId}
-use Rattle.dcd_base.specs.declared.media.Run.{Run}
-use Rattle.dcd_base.specs.declared.steps.Actor.{Actor}
-use Rattle.region_config.specs.Configurations.{Configuration}
-use Rattle.region_config.specs.Granules.{same_region}
-use Rattle.granule_map.specs.Choices.{joined}
+use Rattle.cci_codec.specs.field_bytes.specs.dcd_base.specs.declared.ids.HostId.{HostId}
+use Rattle.cci_codec.specs.field_bytes.specs.dcd_base.specs.declared.media.Run.{Run}
+use Rattle.cci_codec.specs.field_bytes.specs.dcd_base.specs.declared.steps.Actor.{Actor}
+use Rattle.list_rules.specs.media_map.specs.region_config.specs.Configurations.{Configuration}
+use Rattle.list_rules.specs.media_map.specs.region_config.specs.Granules.{same_region}
+use Rattle.selection.specs.granule_map.specs.Choices.{joined}
 use Rattle.device_commands.specs.device_state.specs.StateAfter.{lists_in}
 use Rattle.device_commands.specs.host_lists.specs.Lists.{Lists}
 use Rattle.journal_core.specs.Entries.{effects}
@@ -17,9 +17,9 @@ use Rattle.journal_core.specs.declared.outcome.Effect.{Effect}
 use Rattle.device_commands.specs.device_rules.specs.Answers.{scrubbed as rules_scrubbed, zeroes}
 use Rattle.device_commands.specs.device_rules.specs.Views.{view_of}
 use Rattle.device_commands.specs.device_rules.proofs.EffectKinds.{zeroes_pass}
-use Rattle.device_commands.specs.step_laws.proofs.ViewsLeft.{leaves_view, view_after-left}
+use Rattle.device_commands.specs.device_laws.proofs.ViewsLeft.{leaves_view, view_after-left}
 use Rattle.sanitizer.specs.Turns.{run_of_pair}
-use Rattle.device_commands.specs.table_laws.proofs.QuietSteps.{table-scrubbed}
+use Rattle.device_commands.specs.device_laws.proofs.QuietSteps.{table-scrubbed}
 use Rattle.control_core.specs.Deciding.{IsDecided}
 use Rattle.device_commands.specs.device_state.specs.Entered.{lists_by}
 use Rattle.device_commands.specs.device_state.specs.Updates.{IsUpdate}

@@ -4,14 +4,14 @@ use Rattle.std.specs.List.{list_all}
 use Rattle.std.specs.declared.result.Result.{Result}
 use Rattle.std.specs.declared.result.Result.TheVariants.{Err}
 use Rattle.cci_codec.specs.declared.messages.Request.{Request}
-use Rattle.dcd_base.specs.declared.ids.HostId.{HostId}
-use Rattle.dcd_codes.specs.declared.codes.Code.{Code}
-use Rattle.dcd_base.specs.declared.steps.Actor.{Actor}
-use Rattle.dcd_codes.specs.declared.refusals.Refusal.{Refusal}
-use Rattle.dcd_codes.specs.declared.rules.Rule.{Rule}
+use Rattle.cci_codec.specs.field_bytes.specs.dcd_base.specs.declared.ids.HostId.{HostId}
+use Rattle.list_rules.specs.dcd_codes.specs.declared.codes.Code.{Code}
+use Rattle.cci_codec.specs.field_bytes.specs.dcd_base.specs.declared.steps.Actor.{Actor}
+use Rattle.list_rules.specs.dcd_codes.specs.declared.refusals.Refusal.{Refusal}
+use Rattle.list_rules.specs.dcd_codes.specs.declared.rules.Rule.{Rule}
 use Rattle.journal_core.specs.declared.acts.Act.{Act}
 use Rattle.control_core.specs.Deciding.{IsDecidedBy}
-use Rattle.region_config.specs.Configurations.{Configuration}
+use Rattle.list_rules.specs.media_map.specs.region_config.specs.Configurations.{Configuration}
 use Rattle.journal_core.specs.Entries.{effects}
 use Rattle.journal_core.specs.declared.entries.Entry.{Entry}
 use Rattle.device_commands.specs.HostMessages.{IsDrafted}
@@ -22,9 +22,9 @@ use Rattle.device_commands.specs.device_rules.specs.Answers.{host_result_in, res
 use Rattle.device_commands.specs.device_rules.specs.Legal.{Legal}
 use Rattle.device_commands.specs.device_rules.specs.Outcomes.{Outcome, effects_of}
 use Rattle.device_commands.specs.device_rules.specs.Views.{view_after, view_of}
-use Rattle.device_commands.specs.step_laws.proofs.ViewsLeft.{leaves_view}
-use Rattle.device_commands.specs.table_laws.specs.TagTableSteps.{IsHostOfTagsSet}
-use Rattle.device_commands.specs.table_laws.specs.TagTable.{IsTable}
+use Rattle.device_commands.specs.device_laws.proofs.ViewsLeft.{leaves_view}
+use Rattle.device_commands.specs.device_laws.specs.TagTableSteps.{IsHostOfTagsSet}
+use Rattle.device_commands.specs.device_laws.specs.TagTable.{IsTable}
 use Rattle.tag_refs.specs.declared.entries.TagEntry.{TagEntry}
 use Rattle.device_commands.specs.device_state.specs.Entered.{lists_by}
 use Rattle.device_commands.specs.device_state.specs.Updates.{IsUpdate}

@@ -2,11 +2,11 @@
 use Rattle.std.specs.Prelude.{◌≡◌, ◌≢◌, ℕ, ◌<◌, true, List, [], ◌∷◌}
 use Rattle.std.specs.List.{list_all}
 use Rattle.cci_codec.specs.declared.messages.Request.{Request}
-use Rattle.dcd_base.specs.declared.capacity.Extent.{Extent}
-use Rattle.dcd_base.specs.declared.capacity.Tag.{Tag}
-use Rattle.dcd_base.specs.declared.ids.HostId.{HostId}
-use Rattle.extent_list.specs.ExtentLists.{has_extent_of}
-use Rattle.region_config.specs.Configurations.{Configuration}
+use Rattle.cci_codec.specs.field_bytes.specs.dcd_base.specs.declared.capacity.Extent.{Extent}
+use Rattle.cci_codec.specs.field_bytes.specs.dcd_base.specs.declared.capacity.Tag.{Tag}
+use Rattle.cci_codec.specs.field_bytes.specs.dcd_base.specs.declared.ids.HostId.{HostId}
+use Rattle.list_rules.specs.extent_list.specs.ExtentLists.{has_extent_of}
+use Rattle.list_rules.specs.media_map.specs.region_config.specs.Configurations.{Configuration}
 use Rattle.journal_core.specs.Entries.{effects}
 use Rattle.journal_core.specs.declared.entries.Entry.{Entry}
 use Rattle.journal_core.specs.declared.outcome.Effect.{Effect}
@@ -14,9 +14,9 @@ use Rattle.device_commands.specs.Drafts.{Drafts}
 use Rattle.device_commands.specs.declared.draft.DraftParts.{DraftParts}
 use Rattle.device_commands.specs.device_rules.specs.Outcomes.{Outcome, effects_of}
 use Rattle.device_commands.specs.device_rules.specs.Views.{view_of}
-use Rattle.device_commands.specs.step_laws.proofs.ViewsLeft.{leaves_view}
-use Rattle.device_commands.specs.table_laws.specs.TagTableSteps.{IsOffered}
-use Rattle.device_commands.specs.table_laws.specs.TagTable.{IsTable}
+use Rattle.device_commands.specs.device_laws.proofs.ViewsLeft.{leaves_view}
+use Rattle.device_commands.specs.device_laws.specs.TagTableSteps.{IsOffered}
+use Rattle.device_commands.specs.device_laws.specs.TagTable.{IsTable}
 use Rattle.tag_refs.specs.declared.entries.TagEntry.{TagEntry}
 use Rattle.control_core.specs.Doing.{IsDone}
 use Rattle.device_commands.specs.device_state.specs.StateAfter.{IsStateAfter}

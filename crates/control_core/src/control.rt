@@ -9,7 +9,7 @@ ghost use Rattle.device_commands.specs.device_rules.specs.Legal.{Legal};
 ghost use Rattle.device_commands.specs.device_state.specs.Updates.{IsUpdate};
 ghost use Rattle.journal_core.specs.Entries.{effects};
 ghost use Rattle.journal_core.specs.Merging.{Rising};
-ghost use Rattle.region_config.specs.Granules.{granule_total};
+ghost use Rattle.list_rules.specs.media_map.specs.region_config.specs.Granules.{granule_total};
 ghost use Rattle.std.specs.Prelude.{◌≡◌, ◌+◌, ◌++◌, ◌∷◌, ◌<◌, ◌≤◌, [], All, IfOk, OnErr, OnOk};
 
 use crate::decided::{Decided, Decision};
@@ -17,11 +17,11 @@ use crate::live::LiveControl;
 use crate::plan::Plan;
 use crate::planned::PlannedEntry;
 use crate::step_effects::{StepEffects, TakenStep};
-use dcd_base::{Actor, Boxed, Changes, NoMemory, Stamp};
+use cci_codec::field_bytes::dcd_base::{Actor, Boxed, Changes, NoMemory, Stamp};
 use device_commands::device_state::Update;
 use device_commands::{DraftedStep, Room};
 use journal_core::{Act, Effects, Entry, EntryEffects, KeptEntries, Reply};
-use region_config::Config;
+use list_rules::media_map::region_config::Config;
 use std::alloc::Global;
 use std::marker::Model;
 

@@ -1,17 +1,17 @@
 //! What a step comes to.
 
 ghost use Rattle.control_core.specs.Decisions.{decided_by, decided_where, only_replied};
-ghost use Rattle.dcd_codes.specs.declared.codes.Code.{Code};
+ghost use Rattle.list_rules.specs.dcd_codes.specs.declared.codes.Code.{Code};
 ghost use Rattle.device_commands.specs.device_rules.specs.Answers.{response};
 ghost use Rattle.device_commands.specs.device_state.specs.declared.updates.TagChange.{TagChange};
 ghost use Rattle.std.specs.Prelude.{◌≡◌, [], IfOk, None};
 
 use cci_codec::Request;
-use dcd_base::{Bytes, NoMemory, Seq};
-use dcd_codes::Code;
+use cci_codec::field_bytes::dcd_base::{Bytes, NoMemory, Seq};
 use device_commands::device_state::Update;
 use device_commands::{DraftedStep, Room, ShortList, answer};
 use journal_core::{Effects, Reply};
+use list_rules::dcd_codes::Code;
 use std::alloc::Global;
 use std::marker::Model;
 use std::mem::replace;

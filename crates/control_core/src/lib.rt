@@ -2,7 +2,7 @@
 //!
 //! `LiveControl` decides and enters steps and keeps nothing of the past. `Control` has its entries beside it:
 //! `Control::prepare` takes all the memory that a step needs and decides it, `Control::apply` enters it and cannot
-//! fail. What the device keeps is `device_state::State`, and each command has a room in `device_commands`.
+//! fail. What the device keeps is `device_commands::device_state::State`, and each command has a room in `device_commands`.
 #![tactic(auto)]
 
 mod broken;
@@ -25,7 +25,7 @@ mod step_effects;
 pub use control::Control;
 pub use decided::{Decided, Decision};
 pub use device_commands;
-pub use device_commands::{device_rules, device_state, holding_laws, step_laws};
+pub use device_commands::{device_laws, device_rules, device_state};
 pub use live::LiveControl;
 pub use plan::Plan;
 pub use step_effects::StepEffects;

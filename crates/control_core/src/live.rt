@@ -5,7 +5,7 @@ ghost use Rattle.control_core.specs.Pasts.{ByEveryPast, CanEnter, EntersStep, Is
 ghost use Rattle.control_core.specs.Steps.{MayStep};
 ghost use Rattle.device_commands.specs.device_rules.specs.ChangedRuns.{AreChanges, LiesIn};
 ghost use Rattle.journal_core.specs.Entries.{effects};
-ghost use Rattle.region_config.specs.Granules.{granule_total};
+ghost use Rattle.list_rules.specs.media_map.specs.region_config.specs.Granules.{granule_total};
 ghost use Rattle.std.specs.Prelude.{◌≡◌, ◌+◌, ◌<◌, ◌≤◌, [], All, IfOk, OnOk};
 
 use crate::changing::changes_of;
@@ -13,11 +13,11 @@ use crate::decided::Decision;
 use crate::host_steps::host_step;
 use crate::manager_steps::manager_step;
 use crate::scrub_steps::scrub_step;
-use dcd_base::{Actor, Changes, NoMemory};
+use cci_codec::field_bytes::dcd_base::{Actor, Changes, NoMemory};
 use device_commands::Room;
 use device_commands::device_state::{State, Update};
 use journal_core::{Act, Effect, Effects};
-use region_config::Config;
+use list_rules::media_map::region_config::Config;
 use std::alloc::Global;
 use std::marker::Model;
 

@@ -3,7 +3,7 @@
 ghost use Rattle.std.specs.Prelude.{◌≡◌};
 
 use crate::planned::PlannedEntry;
-use dcd_base::Changes;
+use cci_codec::field_bytes::dcd_base::Changes;
 use device_commands::device_state::Update;
 use journal_core::{Effects, Entry};
 

@@ -2,7 +2,7 @@
 
 ghost use Rattle.std.specs.Prelude.{◌≡◌};
 
-use dcd_base::Boxed;
+use cci_codec::field_bytes::dcd_base::Boxed;
 use journal_core::{Effects, Entry};
 use std::marker::Model;
 

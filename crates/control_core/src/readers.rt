@@ -8,18 +8,18 @@ ghost use Rattle.device_commands.specs.device_rules.specs.Logs.{log_of};
 ghost use Rattle.device_commands.specs.device_rules.specs.Tags.{all_granules, status};
 ghost use Rattle.device_commands.specs.device_state.specs.Updates.{IsOfLog};
 ghost use Rattle.event_log.specs.Logs.{places_in, state_of};
-ghost use Rattle.device_commands.specs.table_laws.specs.GranuleCells.{status_of};
+ghost use Rattle.device_commands.specs.device_laws.specs.GranuleCells.{status_of};
 ghost use Rattle.journal_core.specs.Entries.{effects};
 ghost use Rattle.journal_core.specs.declared.outcome.HeldKind.{HeldKind};
 ghost use Rattle.std.specs.Prelude.{◌≡◌, ◌<◌, Some, length, map, slice_get};
 
 use crate::control::Control;
 use crate::live::LiveControl;
-use dcd_base::{Extent, HostId, LogId, RegionId};
+use cci_codec::field_bytes::dcd_base::{Extent, HostId, LogId, RegionId};
 use event_log::EventLog;
 use event_records::Event;
-use granule_map::GranuleMap;
-use region_config::Config;
+use list_rules::media_map::region_config::Config;
+use selection::granule_map::GranuleMap;
 
 impl Control {
     /// What the device keeps, without the entries that led to it.

@@ -14,7 +14,7 @@ use denote.Struct.Struct.{within}
 use denote.Struct.Owning.{shape}
 use Rattle.dcd_c.specs.Places.{has_device, place_owns}
 use Rattle.dcd_c.specs.contracts.places.Place as place
-use Rattle.live_device.specs.Lives.{Living}
+use Rattle.device_plain.specs.Lives.{Living}
 
 abbrev pub Place : RattleType
 Place = place.the_row

@@ -5,9 +5,9 @@ use Rattle.dcd_base.specs.declared.steps.LogId.{LogId}
 use Rattle.region_config.specs.Granules.{granule_total}
 use Rattle.journal_core.specs.Entries.{effects}
 use Rattle.journal_core.specs.declared.entries.Entry.{Entry}
-use Rattle.live_device.specs.device_rules.specs.Counts.{dirty_count, extent_count, free_count, granules_held, missed_of, records_of}
-use Rattle.live_device.specs.device_rules.specs.Hosts.{accepted_of, offers_of}
-use Rattle.live_device.specs.Lives.{ByEveryLife, Living}
+use Rattle.device_plain.specs.device_rules.specs.Counts.{dirty_count, extent_count, free_count, granules_held, missed_of, records_of}
+use Rattle.device_plain.specs.device_rules.specs.Hosts.{accepted_of, offers_of}
+use Rattle.device_plain.specs.Lives.{ByEveryLife, Living}
 use Rattle.dcd_c.specs.Statuses.{status_of_call}
 use Rattle.dcd_c.specs.declared.faults.Fault.{Fault}
 use Rattle.dcd_c.specs.declared.asking.HostState.{HostState}

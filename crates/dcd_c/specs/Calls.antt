@@ -7,13 +7,12 @@ use Rattle.cci_codec.specs.declared.messages.Request.{Request}
 use Rattle.cci_codec.specs.declared.messages.Response.{Response}
 use Rattle.journal_core.specs.declared.acts.Act.{Act}
 use Rattle.journal_core.specs.declared.acts.Reply.{Reply}
-use Rattle.script_codec.specs.LineByLine.{Begins}
-use Rattle.script_codec.specs.Reading.{script_in}
+use Rattle.script_codec.specs.LineByLine.{Begins, FailsInHead}
 use Rattle.script_codec.specs.Unread.{Unread}
 use Rattle.script_codec.specs.declared.faults.ScriptFault.{ScriptFault}
 use Rattle.script_codec.specs.declared.heads.Head.{Head}
-use Rattle.live_device.specs.device_rules.specs.Legal.{right_answer}
-use Rattle.live_device.specs.Lives.{ByEveryLife, IsLife, Living, TakesStep, payload_length}
+use Rattle.device_plain.specs.device_rules.specs.Legal.{right_answer}
+use Rattle.device_plain.specs.Lives.{ByEveryLife, IsLife, Living, TakesStep, payload_length}
 use Rattle.dcd_c.specs.declared.faults.Fault.{Fault}
 
 -- the actor of a number: a host, or FEh for the Fabric Manager
@@ -41,16 +40,19 @@ pub record RespondsWith (old new : Living) (number : ℕ) (message room filled :
   pub reads : ReadsRequest message request
   pub steps : Steps old new actor (Act.Command request) (Reply.Answer response)
   pub count : n ≡ length (response_bytes response)
+  pub most : n ≤ 2060
   pub bytes : filled ≡ response_bytes response ++ drop n room
 
--- The response needs n bytes, which is more than the room has; where n is 12, it is the header that has no room.
+-- The response needs n bytes, which is more than the room has: 12 where its header has no room, and else as many as it has.
 pub record NeedsRoom (old : Living) (number : ℕ) (message : List ℕ) (room n : ℕ) : Type 0 where
   pub actor : Actor
   pub request : Request
   pub named : actor_numbered old.config.hosts number ≡ Some actor
   pub reads : ReadsRequest message request
   pub longer : room < n
-  pub right : 12 < n → ByEveryLife old (λ life. 12 + payload_length (right_answer old.config life actor (Act.Command request)).0 ≡ n)
+  pub most : n ≤ 2060
+  pub header : room < 12 → n ≡ 12
+  pub right : 12 ≤ room → ByEveryLife old (λ life. 12 + payload_length (right_answer old.config life actor (Act.Command request)).0 ≡ n)
 
 -- The first fault: the actor is looked for, then the message is read, then the room is asked.
 abbrev pub RefusesMessage : Living → ℕ → List ℕ → ℕ → Fault → Type 0
@@ -103,11 +105,11 @@ pub record OpensAs (bytes : List ℕ) (d : Living) : Type 0 where
   pub config_is : d.config ≡ head.config
   pub fresh : IsLife [] d
 
--- What making a device of such bytes answers: it, or their first fault, which comes before the lines.
+-- What making a device of such bytes answers: it, or the first fault of the head.
 abbrev pub MakesDevice : List ℕ → Result Living Fault → Type 0
 MakesDevice bytes (Ok d) = OpensAs bytes d
 MakesDevice bytes (Err Fault.NoMemory) = Unit {0}
-MakesDevice bytes (Err (Fault.Head fault)) = (fault ≢ ScriptFault.NoMemory) × (script_in bytes ≡ Err fault)
+MakesDevice bytes (Err (Fault.Head fault)) = (fault ≢ ScriptFault.NoMemory) × FailsInHead bytes fault
 MakesDevice bytes (Err fault) = ⊥
 
 -- What opening a place does: one that has a device keeps it.

@@ -1,8 +1,7 @@
 -- The parts of opening a device.
 use Rattle.std.specs.Prelude.{◌≡◌, ◌≢◌, ℕ, List, Result, Ok, Err}
 use Rattle.region_config.specs.Configurations.{Configuration}
-use Rattle.script_codec.specs.LineByLine.{Begins}
-use Rattle.script_codec.specs.Reading.{script_in}
+use Rattle.script_codec.specs.LineByLine.{Begins, FailsInHead}
 use Rattle.script_codec.specs.Unread.{Unread}
 use Rattle.script_codec.specs.declared.faults.ScriptFault.{ScriptFault}
 use Rattle.script_codec.specs.declared.heads.Head.{Head}
@@ -15,9 +14,9 @@ pub record HasConfig (bytes : List ℕ) (config : Configuration) : Type 0 where
   pub begins : Begins bytes head unread
   pub config_is : config ≡ head.config
 
--- What reading a head answers: its configuration, or the first fault of the bytes, which comes before the lines.
+-- What reading a head answers: its configuration, or its first fault.
 abbrev pub IsHeadRead : List ℕ → Result Configuration Fault → Type 0
 IsHeadRead bytes (Ok config) = HasConfig bytes config
 IsHeadRead bytes (Err Fault.NoMemory) = Unit {0}
-IsHeadRead bytes (Err (Fault.Head fault)) = (fault ≢ ScriptFault.NoMemory) × (script_in bytes ≡ Err fault)
+IsHeadRead bytes (Err (Fault.Head fault)) = (fault ≢ ScriptFault.NoMemory) × FailsInHead bytes fault
 IsHeadRead bytes (Err fault) = ⊥

@@ -5,8 +5,8 @@ use denote.RawPtr.{Ptr}
 use Rattle.std.specs.Box.Ownership.{box_owns}
 use Rattle.std.specs.contracts.impls.GlobalAllocator.TheImpl.{ghosts}
 use Rattle.std.specs.declared.alloc.Global.{Global}
-use Rattle.live_device.specs.Lives.{Living}
-use Rattle.live_device.specs.contracts.device.LiveDevice.{the_row}
+use Rattle.device_plain.specs.Lives.{Living}
+use Rattle.device_plain.specs.contracts.live.LiveDevice.{the_row}
 
 -- the C library's heap, of which there is one
 abbrev pub the_heap : Global

@@ -7,8 +7,8 @@ use Rattle.cci_codec.specs.declared.messages.Response.{Response}
 use Rattle.dcd_base.specs.declared.steps.Actor.{Actor}
 use Rattle.journal_core.specs.declared.acts.Act.{Act}
 use Rattle.journal_core.specs.declared.acts.Reply.{Reply}
-use Rattle.live_device.specs.device_rules.specs.Legal.{right_answer}
-use Rattle.live_device.specs.Lives.{ByEveryLife, Living, payload_length}
+use Rattle.device_plain.specs.device_rules.specs.Legal.{right_answer}
+use Rattle.device_plain.specs.Lives.{ByEveryLife, Living, payload_length}
 use Rattle.dcd_c.specs.Calls.{Steps}
 use Rattle.dcd_c.specs.declared.faults.Fault.{Fault}
 
@@ -25,10 +25,12 @@ pub record CommandAnswered (actor : Actor) (request : Request) (room : ℕ) (old
   pub short : length response.payload ≤ 2048
   pub within : 12 + length response.payload ≤ room
 
--- The response would have more bytes than there is room for.
+-- The response would have n bytes, more than there is room for; or its header has no room.
 pub record LacksRoom (actor : Actor) (request : Request) (room : ℕ) (old : Living) (n : ℕ) : Type 0 where
   pub longer : room < n
-  pub right : 12 < n → ByEveryLife old (λ life. 12 + payload_length (right_answer old.config life actor (Act.Command request)).0 ≡ n)
+  pub most : n ≤ 2060
+  pub header : room < 12 → n ≡ 12
+  pub right : 12 ≤ room → ByEveryLife old (λ life. 12 + payload_length (right_answer old.config life actor (Act.Command request)).0 ≡ n)
 
 abbrev pub Commands : Actor → Request → ℕ → Living → Living → Result Response Fault → Type 0
 Commands actor request room old new (Ok response) = CommandAnswered actor request room old new response

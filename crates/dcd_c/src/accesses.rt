@@ -5,8 +5,8 @@ ghost use Rattle.dcd_c.specs.Calls.{AnswersLoad, AnswersStore, AnswersTurn, Call
 use crate::faults::Fault;
 use crate::handles::{Handle, put_in, take_out};
 use dcd_base::{Actor, HostId, NoMemory};
+use device_plain::LiveDevice;
 use journal_core::{Act, Reply};
-use live_device::LiveDevice;
 use std::alloc::Global;
 
 /// Lets the host load the word at the address.

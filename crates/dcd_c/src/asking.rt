@@ -1,13 +1,13 @@
 //! What is held, free and waiting.
 
 ghost use Rattle.dcd_c.specs.Asking.{AsksHost, AsksMemory, AsksPlace, TellsHostState, TellsMemoryState, bytes_of_extents};
-ghost use Rattle.live_device.specs.Lives.{ByEveryLife};
+ghost use Rattle.device_plain.specs.Lives.{ByEveryLife};
 ghost use Rattle.std.specs.Prelude.{◌≡◌, ◌<◌};
 
 use crate::faults::Fault;
 use crate::handles::{Handle, put_in, take_out};
 use dcd_base::{Extent, HostId, LogId};
-use live_device::LiveDevice;
+use device_plain::LiveDevice;
 use std::alloc::Global;
 
 /// What a host has.

@@ -1,11 +1,11 @@
 //! What a caller keeps of its device.
 
 ghost use Rattle.dcd_c.specs.Places.{has_device};
-ghost use Rattle.std.specs.Prelude.{◌≡◌, IsTrue, None, Some};
+ghost use Rattle.std.specs.Prelude.{◌≡◌, IsTrue, None, Some, false};
 
 use crate::loose::Loose;
-use crate::places::{Place, empty_place, kept_in, taken_out};
-use live_device::LiveDevice;
+use crate::places::{Place, empty_place, kept_in};
+use device_plain::LiveDevice;
 use std::alloc::Global;
 use std::mem::replace;
 
@@ -34,11 +34,12 @@ pub(crate) fn take_out(handle: &mut Handle, alloc: Global) -> Box<LiveDevice>
 {
     handle.is_open = false;
     let place = replace(&mut handle.place, empty_place());
-    taken_out(place, alloc).into_box()
+    place.taken_out(alloc).into_box()
 }
 
-/// Puts the device into the handle.
+/// Puts the device into the handle, which has none.
 pub(crate) fn put_in(handle: &mut Handle, device: Box<LiveDevice>)
+    requires { has_device handle.old.place.device ≡ false }
     ensures { handle.new.place.device ≡ Some device.value }
 {
     handle.is_open = true;

@@ -7,7 +7,7 @@ ghost use Rattle.std.specs.Prelude.{Err, IfErr, IfOk};
 use crate::faults::Fault;
 use crate::handles::{Handle, put_in, take_out};
 use dcd_base::NoMemory;
-use live_device::LiveDevice;
+use device_plain::LiveDevice;
 use region_config::Config;
 use script_codec::{Reader, ScriptFault};
 use std::alloc::Global;

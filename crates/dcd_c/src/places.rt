@@ -1,11 +1,11 @@
 //! A place for a device on the heap.
 
 ghost use Rattle.dcd_c.specs.Places.{has_device, place_owns};
-ghost use Rattle.live_device.specs.Lives.{Living};
-ghost use Rattle.std.specs.Prelude.{◌≡◌, IsTrue, None, Option, Some};
+ghost use Rattle.device_plain.specs.Lives.{Living};
+ghost use Rattle.std.specs.Prelude.{◌≡◌, IsTrue, None, Option, Some, false};
 
 use crate::loose::Loose;
-use live_device::LiveDevice;
+use device_plain::LiveDevice;
 use std::alloc::Global;
 use std::marker::Model;
 use std::ptr::null_mut;
@@ -13,9 +13,8 @@ use std::ptr::null_mut;
 /// A place for a device on the heap: its address, or null where there is none.
 ///
 /// C sees the address of bytes, since the device is none of its structs. The place owns the device that its ghost value
-/// names.
+/// names, and is let go only where it names none.
 #[repr(C)]
-#[derive(Drop)]
 pub struct Place {
     at: *mut u8,
     pub ghost device: { Option Living },
@@ -25,8 +24,30 @@ impl Model for Place {
     ghost also_owns = { λ p. place_owns p.at p.device };
 }
 
+impl Drop for Place {
+    fn drop(self)
+        requires { has_device self.device ≡ false }
+    {
+        let Place { at: _ } = self;
+    }
+}
+
 // What it owns says the same to every thread.
 unsafe impl Send for Place {}
+
+impl Place {
+    /// The device of a place that has one.
+    pub(crate) fn taken_out(self, alloc: Global) -> Loose<LiveDevice, Global>
+        requires { IsTrue (has_device self.device) }
+        ensures { self.device ≡ Some result.value }
+    {
+        let Place { at } = self;
+        Loose {
+            at: at as *mut LiveDevice,
+            alloc,
+        }
+    }
+}
 
 /// A place that has the device.
 pub(crate) fn kept_in(device: Loose<LiveDevice, Global>) -> Place
@@ -34,18 +55,6 @@ pub(crate) fn kept_in(device: Loose<LiveDevice, Global>) -> Place
 {
     let Loose { at, alloc: _alloc } = device;
     Place { at: at as *mut u8 }
-}
-
-/// The device of a place that has one.
-pub(crate) fn taken_out(place: Place, alloc: Global) -> Loose<LiveDevice, Global>
-    requires { IsTrue (has_device place.device) }
-    ensures { place.device ≡ Some result.value }
-{
-    let Place { at } = place;
-    Loose {
-        at: at as *mut LiveDevice,
-        alloc,
-    }
 }
 
 /// A place without a device.

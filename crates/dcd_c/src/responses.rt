@@ -11,6 +11,7 @@ pub(crate) fn put_response(response: &Response, room: &mut [u8]) -> u64
     requires short { length response.now.payload ≤ 2048 }
     requires within { 12 + length response.now.payload ≤ length room.old }
     ensures count { result ≡ length (response_bytes response.now) }
+    ensures most { result ≤ 2060 }
     ensures bytes { room.new ≡ response_bytes response.now ++ drop result room.old }
 {
     let payload = response.payload.as_slice();

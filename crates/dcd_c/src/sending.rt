@@ -12,8 +12,8 @@ use crate::handles::{Handle, put_in, take_out};
 use crate::responses::put_response;
 use cci_codec::{MessageFault, Request, Response, decode};
 use dcd_base::Actor;
+use device_plain::{LiveDevice, StepFault};
 use journal_core::{Act, Reply};
-use live_device::{LiveDevice, StepFault};
 use std::alloc::Global;
 
 /// How many bytes the header of a message has.

@@ -1,2 +1,3 @@
 pub mod Names
 pub mod Rules
+pub use Rattle.dcd_base

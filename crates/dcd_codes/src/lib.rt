@@ -1,6 +1,8 @@
 //! The return codes of a command, and the rules that a command may break.
 #![tactic(auto)]
 
+pub use dcd_base;
+
 mod codes;
 mod refusals;
 mod rules;

@@ -11,7 +11,7 @@ use crate::watched::Watched;
 use dcd_base::NoGate;
 use edge_io::{StdSink, StdSource, words};
 use script_runner::script_codec::ScriptFault;
-use script_runner::{Status, chosen, run_and_leave};
+use script_runner::{Status, chosen, run};
 use std::alloc::AllocGlobal;
 use std::fmt::Display;
 use std::io::{IsTerminal, Stdin, Stdout};
@@ -31,7 +31,7 @@ fn main(rt: HostRuntime) -> ExitCode {
     ExitCode::from(status.number())
 }
 
-/// Hands `run_and_leave` the words, standard input and standard output, and answers its status. The runtime comes twice,
+/// Hands `run` the words, standard input and standard output, and answers its status. The runtime comes twice,
 /// since only `main` knows that it may start threads.
 fn run_words<R: Threads + Wait + Sync + AllocGlobal>(
     threads: &R,
@@ -43,7 +43,7 @@ fn run_words<R: Threads + Wait + Sync + AllocGlobal>(
     }
     let mut source = Watched::new(rt.alloc(), StdSource::new(rt.stdin()));
     let mut sink = StdSink::new(rt.stdout());
-    let status = run_and_leave(threads, rt.alloc(), words, &mut source, &mut sink, &NoGate);
+    let status = run(threads, rt.alloc(), words, &mut source, &mut sink, &NoGate);
     say_why(rt, status, &source, &sink);
     status
 }

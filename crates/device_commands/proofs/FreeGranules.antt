@@ -4,13 +4,13 @@ use Rattle.std.specs.Prelude.{count_by, filter}
 use Rattle.std.specs.List.{range_with_len}
 use Rattle.std.proofs.lemmas.Bool.{cases_Bool}
 use Rattle.std.proofs.lemmas.List.Sums.{length-filter}
-use Rattle.granule_map.specs.StateLists.{count_of, is_free_state, same_state}
-use Rattle.granule_map.specs.declared.states.GranuleState.{GranuleState}
-use Rattle.granule_table.specs.Tables.{CellTable, cell_at}
-use Rattle.device_state.specs.table_laws.specs.GranuleCells.{IsCell, status_of}
+use Rattle.selection.specs.granule_map.specs.StateLists.{count_of, is_free_state, same_state}
+use Rattle.selection.specs.granule_map.specs.declared.states.GranuleState.{GranuleState}
+use Rattle.selection.specs.granule_map.specs.Tables.{CellTable, cell_at}
+use Rattle.device_state.specs.device_laws.specs.GranuleCells.{IsCell, status_of}
 use Rattle.journal_core.specs.declared.outcome.Effect.{Effect}
-use Rattle.region_config.specs.Configurations.{Configuration}
-use Rattle.region_config.specs.Granules.{granule_total}
+use Rattle.list_rules.specs.media_map.specs.region_config.specs.Configurations.{Configuration}
+use Rattle.list_rules.specs.media_map.specs.region_config.specs.Granules.{granule_total}
 use Rattle.selection.proofs.Agreeing.{Agree}
 use Rattle.device_state.specs.device_rules.specs.Tags.{Status, dirty_granules, free_granules, is_dirty, is_free, status}
 

@@ -3,13 +3,13 @@ use Rattle.std.specs.Prelude.{◌≡◌, None}
 use Rattle.std.specs.declared.result.Result.{Result}
 use Rattle.std.specs.declared.result.Result.TheVariants.{Ok, Err}
 use Rattle.cci_codec.specs.declared.messages.Request.{Request}
-use Rattle.dcd_base.specs.declared.ids.HostId.{HostId}
-use Rattle.dcd_base.specs.declared.steps.LogId.{LogId}
-use Rattle.dcd_codes.specs.Rules.{ByRow}
-use Rattle.dcd_codes.specs.declared.refusals.Refusal.{Refusal}
+use Rattle.cci_codec.specs.field_bytes.specs.dcd_base.specs.declared.ids.HostId.{HostId}
+use Rattle.cci_codec.specs.field_bytes.specs.dcd_base.specs.declared.steps.LogId.{LogId}
+use Rattle.list_rules.specs.dcd_codes.specs.Rules.{ByRow}
+use Rattle.list_rules.specs.dcd_codes.specs.declared.refusals.Refusal.{Refusal}
 use Rattle.event_log.specs.LogStates.{LogState}
-use Rattle.region_config.specs.Configurations.{Configuration}
-use Rattle.region_config.specs.Granules.{with_blocks}
+use Rattle.list_rules.specs.media_map.specs.region_config.specs.Configurations.{Configuration}
+use Rattle.list_rules.specs.media_map.specs.region_config.specs.Granules.{with_blocks}
 use Rattle.host_payloads.specs.HostPayloads.{host_request}
 use Rattle.host_payloads.specs.declared.requests.HostRequest.{HostRequest}
 use Rattle.device_state.specs.host_lists.specs.Lists.{Lists}

@@ -19,8 +19,6 @@ pub mod SetDcRegionConfiguration
 pub mod ShownFlags
 pub mod TagChanges
 pub use Rattle.device_state.specs.device_rules
-pub use Rattle.device_state.specs.holding_laws
-pub use Rattle.device_state.specs.step_laws
-pub use Rattle.device_state.specs.table_laws
+pub use Rattle.device_state.specs.device_laws
 pub use Rattle.device_state.specs.host_lists
 pub use Rattle.device_state

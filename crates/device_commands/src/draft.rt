@@ -6,11 +6,10 @@ ghost use Rattle.std.specs.Prelude.{◌≡◌, [], IfOk, None};
 
 use crate::log_records::LogRecords;
 use crate::rooms::Room;
-use dcd_base::{Bytes, HostId, NoMemory, Seq, Tag};
+use cci_codec::field_bytes::dcd_base::{Bytes, HostId, NoMemory, Seq, ShortList, Tag};
 use device_state::host_lists::ListsChange;
 use device_state::{ListsUpdate, NewLists, TagChange, Update};
 use journal_core::{Effects, Reply};
-use short_list::ShortList;
 use std::alloc::Global;
 use std::marker::Model;
 

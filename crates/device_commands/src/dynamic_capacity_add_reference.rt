@@ -12,11 +12,11 @@ ghost use Rattle.tag_refs.specs.Tables.{entry_referenced, passes};
 
 use crate::draft::Draft;
 use crate::rooms::Room;
-use dcd_base::{NoMemory, Tag};
-use dcd_codes::{Refusal, Rule};
+use cci_codec::field_bytes::dcd_base::{NoMemory, Tag};
 use device_state::State;
 use journal_core::{Effect, Effects};
-use region_config::Config;
+use list_rules::dcd_codes::{Refusal, Rule};
+use list_rules::media_map::region_config::Config;
 use tag_refs::Tags;
 
 /// The manager refers to an open tag (profile). `NoSuchTag` comes exactly where the tag is not open.

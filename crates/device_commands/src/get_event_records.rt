@@ -10,12 +10,12 @@ ghost use Rattle.std.specs.Prelude.{◌≡◌, ◌≤◌, IfOk, None, [], length
 
 use crate::draft::Draft;
 use crate::rooms::Room;
-use dcd_base::limits::REPLY_RECORDS;
-use dcd_base::{Bytes, LogId, NoMemory, Seq};
-use dcd_codes::{Refusal, Rule};
+use cci_codec::field_bytes::dcd_base::limits::REPLY_RECORDS;
+use cci_codec::field_bytes::dcd_base::{Bytes, LogId, NoMemory, Seq};
 use event_log::EventLog;
 use event_records::Event;
 use host_payloads::write_events;
+use list_rules::dcd_codes::{Refusal, Rule};
 use std::alloc::Global;
 
 /// How many logs there are; the one with number 4 is that of dynamic capacity, and the others are always empty.

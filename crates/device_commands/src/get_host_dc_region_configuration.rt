@@ -14,12 +14,12 @@ ghost use Rattle.std.specs.Prelude.{◌≡◌, ◌++◌, ◌<◌, ◌≤◌, IfO
 use crate::draft::Draft;
 use crate::pages::{Flags, host_counts, regions_seen};
 use crate::rooms::Room;
-use dcd_base::{Bytes, HostId, NoMemory};
-use dcd_codes::{Refusal, Rule};
+use cci_codec::field_bytes::dcd_base::{Bytes, HostId, NoMemory};
 use device_state::State;
 use fm_payloads::regions_head;
 use host_payloads::{RegionView, counts_bytes, region_bytes};
-use region_config::Config;
+use list_rules::dcd_codes::{Refusal, Rule};
+use list_rules::media_map::region_config::Config;
 
 /// At most `count` regions of the host from `first` on, and what the host may have (profile).
 ///

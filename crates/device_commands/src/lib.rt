@@ -39,8 +39,9 @@ mod set_dc_region_configuration;
 mod tag_changes;
 mod tags;
 
+pub use cci_codec::field_bytes::dcd_base::ShortList;
 pub use device_state;
-pub use device_state::{device_rules, holding_laws, host_lists, step_laws, table_laws};
+pub use device_state::{device_laws, device_rules, host_lists};
 pub use draft::{Content, Draft, DraftParts, DraftedStep};
 pub use dynamic_capacity_add_reference::add_reference;
 pub use dynamic_capacity_remove_reference::remove_reference;
@@ -54,5 +55,4 @@ pub use responses::{answer, refused};
 pub use rooms::Room;
 pub use runs::run_of;
 pub use scrub::{Zeroed, zero_dirty};
-pub use short_list::ShortList;
 pub use tag_changes::{put_no_change, put_offer_change, told_change};

@@ -8,24 +8,25 @@ ghost use Rattle.device_commands.specs.ManagerMessages.{ManagerAnswers};
 ghost use Rattle.device_state.specs.StateAfter.{IsReached, part_of};
 ghost use Rattle.fm_payloads.specs.declared.requests.FmRequest.{FmRequest};
 ghost use Rattle.device_state.specs.device_rules.specs.Outcomes.{log_full};
-ghost use Rattle.granule_map.specs.StateLists.{is_free_at};
+ghost use Rattle.selection.specs.granule_map.specs.StateLists.{is_free_at};
 ghost use Rattle.device_state.specs.host_lists.specs.Lists.{extent_total};
-ghost use Rattle.region_config.specs.Granules.{granule_total, region_spec};
-ghost use Rattle.dcd_base.specs.declared.ids.HostId.{HostId};
+ghost use Rattle.list_rules.specs.media_map.specs.region_config.specs.Granules.{granule_total, region_spec};
+ghost use Rattle.cci_codec.specs.field_bytes.specs.dcd_base.specs.declared.ids.HostId.{HostId};
 ghost use Rattle.std.specs.Prelude.{◌≡◌, ◌+◌, ◌<◌, ◌≤◌, IfOk, count_by, if◌then◌else◌, length, not};
 ghost use Rattle.std.specs.List.{range_with_len};
 
 use crate::draft::{Draft, DraftParts};
 use crate::log_records::{LogRecords, event_for, log_full, no_extent};
 use crate::rooms::Room;
-use dcd_base::{Bytes, Granule, HostId, LogId, NoMemory, RegionId, Seq};
-use dcd_codes::{Refusal, Rule};
+use cci_codec::field_bytes::dcd_base::{
+    Bytes, Granule, HostId, LogId, NoMemory, RegionId, Seq, ShortList,
+};
 use device_state::State;
 use device_state::host_lists::Changed;
 use event_records::{Event, EventKind};
 use journal_core::Effect;
-use region_config::{BlockFault, Config};
-use short_list::ShortList;
+use list_rules::dcd_codes::{Refusal, Rule};
+use list_rules::media_map::region_config::{BlockFault, Config};
 use std::alloc::Global;
 
 /// Gives a region blocks of another size, in bytes (profile). Each host is told, also where the size is the old one.

@@ -4,15 +4,15 @@ ghost use Rattle.device_commands.specs.TagChanges.{AreGranular, IsOfferChange, O
 ghost use Rattle.journal_core.specs.declared.outcome.Effect.{Effect};
 ghost use Rattle.std.specs.Prelude.{◌≡◌, ◌<◌, IfOk, OnOk, length, map, ◌∷◌, []};
 ghost use Rattle.device_state.specs.declared.updates.TagChange.{TagChange};
-ghost use Rattle.media_map.specs.Places.{run_of};
+ghost use Rattle.list_rules.specs.media_map.specs.Places.{run_of};
 ghost use Rattle.std.specs.declared.result.Result.TheVariants.{Ok};
 ghost use Rattle.tag_refs.specs.Tables.{has_entry};
 
 use crate::runs::run_of;
-use dcd_base::{Extents, HostId, NoMemory, RegionId, Runs, Seq, Tag};
+use cci_codec::field_bytes::dcd_base::{Extents, HostId, NoMemory, RegionId, Runs, Seq, Tag};
 use device_state::{State, TagChange};
 use journal_core::{Effect, Effects};
-use region_config::Config;
+use list_rules::media_map::region_config::Config;
 use std::alloc::Global;
 use std::mem::replace;
 

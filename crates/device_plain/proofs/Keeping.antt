@@ -24,16 +24,16 @@ use Rattle.media_map.specs.Places.{locate}
 use Rattle.region_config.specs.Configurations.{Configuration}
 use Rattle.region_config.specs.Granules.{granule_total}
 use Rattle.region_config.specs.Soundness.{IsSound}
-use Rattle.live_device.specs.device_rules.specs.Hosts.{changes_of, moves}
-use Rattle.live_device.specs.device_rules.specs.Legal.{Meets, word_by}
-use Rattle.live_device.specs.control_core.specs.Deciding.{IsShort}
-use Rattle.live_device.specs.control_core.specs.Steps.{MayStep, journal_entry}
+use Rattle.control_core.specs.device_rules.specs.Hosts.{changes_of, moves}
+use Rattle.control_core.specs.device_rules.specs.Legal.{Meets, word_by}
+use Rattle.control_core.specs.Deciding.{IsShort}
+use Rattle.control_core.specs.Steps.{MayStep, journal_entry}
 use Rattle.journal_core.specs.Accesses.{access_entry, load_said}
-use Rattle.live_device.specs.Accesses.{AreZeroed, Stored, StoresAt, granted_place, store_said, word_from}
+use Rattle.device_plain.specs.Accesses.{AreZeroed, Stored, StoresAt, granted_place, store_said, word_from}
 use Rattle.device_plain.specs.Keeping.{Keeps}
-use Rattle.live_device.proofs.MemorySteps.{effects_stay, load_right, store_right, words_stored, words_zeroed, written}
+use Rattle.device_plain.proofs.MemorySteps.{effects_stay, load_right, store_right, words_stored, words_zeroed, written}
 use Rattle.device_plain.specs.Numbering.{IsCounted, IsReachedBy, accesses_of}
-use Rattle.live_device.specs.device_rules.proofs.Answered.{answer_same}
+use Rattle.control_core.specs.device_rules.proofs.Answered.{answer_same}
 use Rattle.device_plain.proofs.Numbered.{accesses-push, before_access, before_command, commands-push, reached_access, reached_command, since-push}
 
 never : IsTrue false → ⊥

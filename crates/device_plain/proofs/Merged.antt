@@ -18,9 +18,9 @@ use Rattle.media_map.specs.Places.{locate}
 use Rattle.region_config.specs.Configurations.{Configuration}
 use Rattle.region_config.specs.Granules.{granule_total}
 use Rattle.region_config.specs.Soundness.{IsSound}
-use Rattle.live_device.specs.control_core.specs.Deciding.{IsShort}
-use Rattle.live_device.specs.control_core.specs.Steps.{MayStep, journal_entry}
-use Rattle.live_device.specs.Accesses.{AreZeroed, Stored, StoresAt, granted_place, store_said, word_from}
+use Rattle.control_core.specs.Deciding.{IsShort}
+use Rattle.control_core.specs.Steps.{MayStep, journal_entry}
+use Rattle.device_plain.specs.Accesses.{AreZeroed, Stored, StoresAt, granted_place, store_said, word_from}
 use Rattle.device_plain.specs.Keeping.{Keeps, KeepsBoth}
 use Rattle.device_plain.specs.Numbering.{IsReachedBy, accesses_of}
 use Rattle.device_plain.proofs.Keeping.{keeps_command, keeps_first, keeps_load, keeps_store}

@@ -8,10 +8,10 @@ use Rattle.granule_mem.specs.Contents.{word_kept}
 use Rattle.journal_core.specs.declared.entries.Entry.{Entry}
 use Rattle.journal_core.specs.Entries.{Each, effects}
 use Rattle.journal_core.specs.Merging.{Numbered, commands_in, merged}
-use Rattle.live_device.specs.device_rules.specs.Hosts.{changes_of}
-use Rattle.live_device.specs.device_rules.specs.Legal.{Legal, word_of}
-use Rattle.live_device.specs.control_core.specs.Deciding.{AreShort}
-use Rattle.live_device.specs.Accesses.{Stored}
+use Rattle.control_core.specs.device_rules.specs.Hosts.{changes_of}
+use Rattle.control_core.specs.device_rules.specs.Legal.{Legal, word_of}
+use Rattle.control_core.specs.Deciding.{AreShort}
+use Rattle.device_plain.specs.Accesses.{Stored}
 use Rattle.device_plain.specs.Numbering.{IsCounted, IsReachedBy, accesses_of, accesses_since, commands_of}
 
 -- The journal is legal and numbered; the control has its commands and scrubs, which have all its effects and changes

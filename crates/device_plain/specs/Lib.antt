@@ -1,6 +1,9 @@
+pub mod Accesses
 pub mod Devices
 pub mod Keeping
+pub mod Lives
 pub mod Numbering
-pub use Rattle.live_device.specs.isolation_laws
-pub use Rattle.live_device.specs.control_core
-pub use Rattle.live_device
+pub use Rattle.control_core
+pub use Rattle.isolation_laws
+pub use Rattle.control_core.specs.device_rules
+pub use Rattle.control_core.specs.device_state

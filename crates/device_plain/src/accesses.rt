@@ -2,9 +2,9 @@
 
 ghost use Rattle.std.specs.Prelude.{◌≡◌, ◌+◌, ◌<◌, ◌^◌, OnOk, length, vec_capacity, vec_len};
 
+use control_core::Control;
 use dcd_base::{NoMemory, Stamp};
 use journal_core::Access;
-use live_device::control_core::Control;
 
 /// Makes room for one more load or store.
 pub(crate) fn reserve(accesses: &mut Vec<Access>) -> Result<(), NoMemory>

@@ -1,23 +1,23 @@
 //! The device of one thread.
 
-ghost use Rattle.live_device.specs.control_core.specs.Deciding.{AreShort};
-ghost use Rattle.live_device.specs.control_core.specs.Steps.{MayStep};
+ghost use Rattle.control_core.specs.Deciding.{AreShort};
+ghost use Rattle.control_core.specs.Steps.{MayStep};
 ghost use Rattle.dcd_base.specs.declared.steps.Actor.{Actor};
 ghost use Rattle.device_plain.specs.Devices.{Appends, Enters};
 ghost use Rattle.device_plain.specs.Numbering.{IsCounted, accesses_of, commands_of};
-ghost use Rattle.live_device.specs.device_rules.specs.Legal.{Exclusive, Legal};
+ghost use Rattle.control_core.specs.device_rules.specs.Legal.{Exclusive, Legal};
 ghost use Rattle.journal_core.specs.declared.acts.Act.{Act};
 ghost use Rattle.journal_core.specs.Entries.{Each, effects, fits};
 ghost use Rattle.journal_core.specs.Merging.{Numbered};
 ghost use Rattle.std.specs.Prelude.{◌≡◌, ◌<◌, ◌^◌, [], IfOk, IfSome, IsNone, IsTrue, OnErr, OnOk, length};
 
 use crate::accesses::{reserve, stamp_of};
+use crate::{granted, refused_by, store_at, word_at, zero_all};
+use control_core::Control;
+use control_core::device_laws::law_exclusive;
 use dcd_base::{Actor, HostId, NoMemory};
 use granule_mem::GranuleWords;
 use journal_core::{Access, Act, LentEntries, Reply, Whole, whole};
-use live_device::control_core::Control;
-use live_device::holding_laws::law_exclusive;
-use live_device::{granted, refused_by, store_at, word_at, zero_all};
 use region_config::Config;
 use std::alloc::Global;
 use std::marker::Model;

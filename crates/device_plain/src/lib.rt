@@ -1,9 +1,21 @@
-//! The serial device: one step at a time, and the journal of all of them.
+//! Two devices of one thread: the serial device, one step at a time with the journal of all of them, and the live device, which
+//! keeps nothing of its past: each reply is as every journal that leads to it asks for.
 #![tactic(auto)]
 
 mod accesses;
 mod device;
+mod faults;
+mod laws;
+mod live;
+mod live_accesses;
+mod zeroing;
 
+pub use control_core;
+pub use control_core::{device_rules, device_state};
 pub use device::Device;
-pub use live_device;
-pub use live_device::{control_core, isolation_laws};
+pub use faults::StepFault;
+pub use isolation_laws;
+pub use laws::law_lives;
+pub use live::LiveDevice;
+pub use live_accesses::{granted, loaded, refused_by, store_at, stored, word_at};
+pub use zeroing::zero_all;

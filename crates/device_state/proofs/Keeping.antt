@@ -5,15 +5,15 @@ use Rattle.std.specs.Cmp.Lexicographic.{same_text}
 use Rattle.std.specs.List.{AllByRecursion}
 use Rattle.std.proofs.lemmas.Bool.{cases_eq, cases_lt, eq-eqb, false≢true, ne_eqb}
 use Rattle.std.proofs.lemmas.List.{get_or_past}
-use Rattle.dcd_base.specs.Words.{has_tag, same_tag}
-use Rattle.dcd_base.specs.declared.capacity.Tag.{Tag}
-use Rattle.dcd_base.specs.declared.ids.HostId.{HostId}
-use Rattle.dcd_base.specs.declared.steps.LogId.{LogId}
+use Rattle.cci_codec.specs.field_bytes.specs.dcd_base.specs.Words.{has_tag, same_tag}
+use Rattle.cci_codec.specs.field_bytes.specs.dcd_base.specs.declared.capacity.Tag.{Tag}
+use Rattle.cci_codec.specs.field_bytes.specs.dcd_base.specs.declared.ids.HostId.{HostId}
+use Rattle.cci_codec.specs.field_bytes.specs.dcd_base.specs.declared.steps.LogId.{LogId}
 use Rattle.event_log.specs.LogStates.{LogState}
 use Rattle.event_log.specs.Logs.{empty_log, places_in, state_of}
-use Rattle.table_laws.specs.GranuleCells.{IsCell}
-use Rattle.table_laws.specs.GranuleTable.{AreKnown, StaysRight}
-use Rattle.granule_table.specs.Tables.{cell_at}
+use Rattle.device_laws.specs.GranuleCells.{IsCell}
+use Rattle.device_laws.specs.GranuleTable.{AreKnown, StaysRight}
+use Rattle.granule_map.specs.Tables.{cell_at}
 use Rattle.device_state.specs.StateAfter.{IsLogOf, lists_in, IsStateAfter, IsPart, no_part, part_of}
 use Rattle.host_lists.specs.Lists.{Lists}
 use Rattle.journal_core.proofs.EachSteps.{Each-push}
@@ -23,23 +23,23 @@ use Rattle.journal_core.specs.Holders.{holding_after, holds}
 use Rattle.journal_core.specs.declared.entries.Entry.{Entry}
 use Rattle.journal_core.specs.declared.outcome.Effect.{Effect}
 use Rattle.offer_core.specs.Offerings.{oldest_of}
-use Rattle.region_config.proofs.PresentBlocks.{with_block-with_blocks}
-use Rattle.region_config.specs.Configurations.{Configuration}
-use Rattle.region_config.specs.Granules.{granule_total, region_spec, with_blocks}
-use Rattle.region_config.specs.Soundness.{IsSound}
-use Rattle.table_laws.specs.TagTable.{IsEntry, IsTable}
-use Rattle.dcd_base.specs.Hosts.{has_host}
+use Rattle.list_rules.specs.media_map.specs.region_config.proofs.PresentBlocks.{with_block-with_blocks}
+use Rattle.list_rules.specs.media_map.specs.region_config.specs.Configurations.{Configuration}
+use Rattle.list_rules.specs.media_map.specs.region_config.specs.Granules.{granule_total, region_spec, with_blocks}
+use Rattle.list_rules.specs.media_map.specs.region_config.specs.Soundness.{IsSound}
+use Rattle.device_laws.specs.TagTable.{IsEntry, IsTable}
+use Rattle.cci_codec.specs.field_bytes.specs.dcd_base.specs.Hosts.{has_host}
 use Rattle.tag_refs.specs.Tables.{entry_with}
 use Rattle.tag_refs.specs.declared.entries.TagEntry.{TagEntry}
-use Rattle.table_laws.specs.holding_laws.proofs.LegalSound.{legal_is_sound}
-use Rattle.table_laws.specs.device_rules.proofs.ViewSteps.{view_of-push}
-use Rattle.table_laws.specs.device_rules.specs.Adding.{present}
-use Rattle.table_laws.specs.device_rules.specs.Hosts.{block_after, block_of, offers_of}
-use Rattle.table_laws.specs.device_rules.specs.Legal.{Legal, Meets}
-use Rattle.table_laws.specs.device_rules.specs.Logs.{log_after, log_of}
-use Rattle.table_laws.specs.device_rules.specs.Tags.{last_offer, open_tags, tag_runs}
-use Rattle.table_laws.specs.device_rules.specs.Views.{view_of}
-use Rattle.table_laws.specs.step_laws.proofs.LegalLogs.{legal_logs}
+use Rattle.device_laws.proofs.LegalSound.{legal_is_sound}
+use Rattle.device_laws.specs.device_rules.proofs.ViewSteps.{view_of-push}
+use Rattle.device_laws.specs.device_rules.specs.Adding.{present}
+use Rattle.device_laws.specs.device_rules.specs.Hosts.{block_after, block_of, offers_of}
+use Rattle.device_laws.specs.device_rules.specs.Legal.{Legal, Meets}
+use Rattle.device_laws.specs.device_rules.specs.Logs.{log_after, log_of}
+use Rattle.device_laws.specs.device_rules.specs.Tags.{last_offer, open_tags, tag_runs}
+use Rattle.device_laws.specs.device_rules.specs.Views.{view_of}
+use Rattle.device_laws.proofs.LegalLogs.{legal_logs}
 use Rattle.device_state.proofs.DeviceEffects.{each_of_device}
 use Rattle.device_state.proofs.HolderBits.{holding_over, length-over, none_over}
 use Rattle.device_state.proofs.RecordSteps.{log_all}

@@ -3,9 +3,9 @@ use Rattle.std.proofs.Common.{◌≡◌, ◌≢◌, ℕ, zero, suc, ◌+◌, ◌
 use Rattle.std.specs.Prelude.{fold, map, ◌==◌, if◌then◌else◌}
 use Rattle.std.specs.List.{AllByRecursion, list_all, range_with_len}
 use Rattle.std.proofs.lemmas.Bool.{and_parts, cases_Bool, eqb-false, false≢true, ne_eqb}
-use Rattle.dcd_base.specs.declared.capacity.Extent.{Extent}
-use Rattle.dcd_base.specs.declared.ids.HostId.{HostId}
-use Rattle.dcd_base.specs.declared.steps.LogId.{LogId}
+use Rattle.cci_codec.specs.field_bytes.specs.dcd_base.specs.declared.capacity.Extent.{Extent}
+use Rattle.cci_codec.specs.field_bytes.specs.dcd_base.specs.declared.ids.HostId.{HostId}
+use Rattle.cci_codec.specs.field_bytes.specs.dcd_base.specs.declared.steps.LogId.{LogId}
 use Rattle.event_log.specs.Logs.{IsHistory, Log, next_handle, room_in}
 use Rattle.event_records.specs.declared.events.Event.{Event}
 use Rattle.event_records.specs.declared.events.EventKind.{EventKind}
@@ -14,23 +14,23 @@ use Rattle.host_payloads.specs.declared.requests.HostRequest.{HostRequest}
 use Rattle.journal_core.specs.Entries.{effects}
 use Rattle.journal_core.specs.declared.entries.Entry.{Entry}
 use Rattle.journal_core.specs.declared.outcome.Effect.{Effect}
-use Rattle.region_config.specs.Configurations.{Configuration}
-use Rattle.table_laws.specs.device_rules.specs.Answers.{host_outcome, manager_outcome, scrubbed, zeroes}
-use Rattle.table_laws.specs.device_rules.specs.EventCommands.{clear_changes, clear_outcome}
-use Rattle.table_laws.specs.device_rules.specs.Legal.{Legal, Meets}
-use Rattle.table_laws.specs.device_rules.specs.Logs.{log_after, log_of, same_log}
-use Rattle.table_laws.specs.device_rules.specs.Outcomes.{Outcome, effects_of, ended, entered, entered_all, no_extent, record_for}
-use Rattle.table_laws.specs.device_rules.specs.ReleaseOutcomes.{is_cleaning, is_forced, removed}
-use Rattle.table_laws.specs.device_rules.specs.ResponseOutcomes.{response_records, unhold}
-use Rattle.table_laws.specs.device_rules.specs.Tags.{is_referenced}
-use Rattle.table_laws.specs.device_rules.specs.Views.{View, view_after, view_of}
-use Rattle.table_laws.specs.device_rules.specs.ResponseOutcomes.{respond_changes}
-use Rattle.table_laws.specs.device_rules.proofs.EffectKinds.{clear_passes, give_back_passes, reference_passes, removals_pass, respond_passes, unhold_passes, zeroes_pass}
-use Rattle.table_laws.specs.device_rules.proofs.Leaving.{all_pass, both_pass, map_passes, over-leaving}
-use Rattle.table_laws.specs.step_laws.proofs.LegalLogs.{legal_logs}
-use Rattle.table_laws.specs.device_rules.proofs.LegalSteps.{step_case}
-use Rattle.table_laws.specs.step_laws.proofs.LogHistories.{entered-history, entered_all-other, leaves_logs, log-left, one_log, told}
-use Rattle.table_laws.specs.step_laws.proofs.LogOutcomes.{held_leaves, lists_leave}
+use Rattle.list_rules.specs.media_map.specs.region_config.specs.Configurations.{Configuration}
+use Rattle.device_laws.specs.device_rules.specs.Answers.{host_outcome, manager_outcome, scrubbed, zeroes}
+use Rattle.device_laws.specs.device_rules.specs.EventCommands.{clear_changes, clear_outcome}
+use Rattle.device_laws.specs.device_rules.specs.Legal.{Legal, Meets}
+use Rattle.device_laws.specs.device_rules.specs.Logs.{log_after, log_of, same_log}
+use Rattle.device_laws.specs.device_rules.specs.Outcomes.{Outcome, effects_of, ended, entered, entered_all, no_extent, record_for}
+use Rattle.device_laws.specs.device_rules.specs.ReleaseOutcomes.{is_cleaning, is_forced, removed}
+use Rattle.device_laws.specs.device_rules.specs.ResponseOutcomes.{response_records, unhold}
+use Rattle.device_laws.specs.device_rules.specs.Tags.{is_referenced}
+use Rattle.device_laws.specs.device_rules.specs.Views.{View, view_after, view_of}
+use Rattle.device_laws.specs.device_rules.specs.ResponseOutcomes.{respond_changes}
+use Rattle.device_laws.specs.device_rules.proofs.EffectKinds.{clear_passes, give_back_passes, reference_passes, removals_pass, respond_passes, unhold_passes, zeroes_pass}
+use Rattle.device_laws.specs.device_rules.proofs.Leaving.{all_pass, both_pass, map_passes, over-leaving}
+use Rattle.device_laws.proofs.LegalLogs.{legal_logs}
+use Rattle.device_laws.specs.device_rules.proofs.LegalSteps.{step_case}
+use Rattle.device_laws.proofs.LogHistories.{entered-history, entered_all-other, leaves_logs, log-left, one_log, told}
+use Rattle.device_laws.proofs.LogOutcomes.{held_leaves, lists_leave}
 use Rattle.device_state.specs.Rooms.{HasRoom, HaveRoom, RoomFor}
 
 -- ---- effects without records

@@ -5,8 +5,8 @@ use Rattle.std.specs.declared.result.Result.{Result}
 use Rattle.std.specs.declared.result.Result.TheVariants.{Ok, Err}
 use Rattle.std.proofs.lemmas.List.Elements.{recursion_from_All}
 use Rattle.std.proofs.lemmas.Map.Keys.{IsDistinct-tail}
-use Rattle.dcd_base.specs.Words.{same_tag}
-use Rattle.dcd_base.specs.declared.capacity.Tag.{Tag}
+use Rattle.cci_codec.specs.field_bytes.specs.dcd_base.specs.Words.{same_tag}
+use Rattle.cci_codec.specs.field_bytes.specs.dcd_base.specs.declared.capacity.Tag.{Tag}
 use Rattle.tag_refs.specs.declared.entries.TagEntry.{TagEntry}
 use Rattle.tag_refs.specs.declared.faults.TagFault.{TagFault}
 use Rattle.tag_refs.specs.Stored.{AreUsed}

@@ -1,27 +1,27 @@
 -- What entering a step makes of what is kept, part by part.
 use Rattle.std.specs.Prelude.{◌≡◌, ℕ, ◌<◌, true, false, ◌==◌, nat_lt, List, [], ◌∷◌, ◌++◌, fold, length, map, Option, Some, None, if◌then◌else◌, Bool, ◌&&◌, nat_le, slice_index_or, slice_set}
 use Rattle.std.specs.List.{enumerate_from, list_any}
-use Rattle.dcd_base.specs.Words.{has_granule}
-use Rattle.dcd_base.specs.declared.capacity.Extent.{Extent}
-use Rattle.dcd_base.specs.declared.capacity.Tag.{Tag}
-use Rattle.dcd_base.specs.declared.ids.HostId.{HostId}
-use Rattle.dcd_base.specs.declared.media.Run.{Run}
-use Rattle.dcd_base.specs.declared.steps.LogId.{LogId}
+use Rattle.cci_codec.specs.field_bytes.specs.dcd_base.specs.Words.{has_granule}
+use Rattle.cci_codec.specs.field_bytes.specs.dcd_base.specs.declared.capacity.Extent.{Extent}
+use Rattle.cci_codec.specs.field_bytes.specs.dcd_base.specs.declared.capacity.Tag.{Tag}
+use Rattle.cci_codec.specs.field_bytes.specs.dcd_base.specs.declared.ids.HostId.{HostId}
+use Rattle.cci_codec.specs.field_bytes.specs.dcd_base.specs.declared.media.Run.{Run}
+use Rattle.cci_codec.specs.field_bytes.specs.dcd_base.specs.declared.steps.LogId.{LogId}
 use Rattle.event_log.specs.LogStates.{LogState, with_missed, with_record, without_oldest}
 use Rattle.event_records.specs.declared.events.Event.{Event}
-use Rattle.extent_list.specs.ExtentLists.{has_extent_of}
-use Rattle.table_laws.specs.GranuleCells.{cell_over}
-use Rattle.granule_table.specs.Tables.{cell_at}
+use Rattle.list_rules.specs.extent_list.specs.ExtentLists.{has_extent_of}
+use Rattle.device_laws.specs.GranuleCells.{cell_over}
+use Rattle.granule_map.specs.Tables.{cell_at}
 use Rattle.host_lists.specs.Changes.{changed_by}
 use Rattle.host_lists.specs.Lists.{Lists}
 use Rattle.journal_core.specs.declared.outcome.Effect.{Effect}
 use Rattle.journal_core.specs.declared.outcome.HeldKind.{HeldKind}
 use Rattle.offer_core.specs.Offerings.{oldest_of}
-use Rattle.region_config.specs.Blocks.{with_block}
-use Rattle.region_config.specs.Configurations.{Configuration}
-use Rattle.table_laws.specs.device_rules.specs.Logs.{same_log}
-use Rattle.table_laws.specs.TagTable.{host_of_tags_set}
-use Rattle.dcd_base.specs.Hosts.{with_host, without_host}
+use Rattle.list_rules.specs.media_map.specs.region_config.specs.Blocks.{with_block}
+use Rattle.list_rules.specs.media_map.specs.region_config.specs.Configurations.{Configuration}
+use Rattle.device_laws.specs.device_rules.specs.Logs.{same_log}
+use Rattle.device_laws.specs.TagTable.{host_of_tags_set}
+use Rattle.cci_codec.specs.field_bytes.specs.dcd_base.specs.Hosts.{with_host, without_host}
 use Rattle.tag_refs.specs.Tables.{entries_changed, entry_with, opened, still_used, with_reference, set_by}
 use Rattle.tag_refs.specs.declared.entries.TagEntry.{TagEntry}
 use Rattle.device_state.specs.StateAfter.{part_of}

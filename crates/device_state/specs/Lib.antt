@@ -6,8 +6,6 @@ pub mod Rooms
 pub mod Stages
 pub mod StateAfter
 pub mod Updates
-pub use Rattle.table_laws.specs.device_rules
-pub use Rattle.table_laws.specs.holding_laws
-pub use Rattle.table_laws
+pub use Rattle.device_laws.specs.device_rules
+pub use Rattle.device_laws
 pub use Rattle.host_lists
-pub use Rattle.table_laws.specs.step_laws

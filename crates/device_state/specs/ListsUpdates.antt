@@ -1,6 +1,6 @@
 -- What a step changes of the lists of a host, where it changes them.
 use Rattle.std.specs.Prelude.{Bool, true, false, Option, Some, None}
-use Rattle.dcd_base.specs.declared.ids.HostId.{HostId}
+use Rattle.cci_codec.specs.field_bytes.specs.dcd_base.specs.declared.ids.HostId.{HostId}
 use Rattle.host_lists.specs.Changes.{changed_by}
 use Rattle.host_lists.specs.Lists.{Lists}
 use Rattle.host_lists.specs.declared.lists_change.ListsChange.{ListsChange}

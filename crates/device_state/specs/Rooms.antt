@@ -1,10 +1,10 @@
 -- That the records of a step find room in their logs, each under the next handle.
 use Rattle.std.specs.Prelude.{◌≡◌, ◌<◌, true, List, [], ◌∷◌, length}
-use Rattle.dcd_base.specs.declared.steps.LogId.{LogId}
+use Rattle.cci_codec.specs.field_bytes.specs.dcd_base.specs.declared.steps.LogId.{LogId}
 use Rattle.event_log.specs.Logs.{IsHistory, Log, next_handle, places_in, records_in}
 use Rattle.event_records.specs.declared.events.Event.{Event}
 use Rattle.journal_core.specs.declared.outcome.Effect.{Effect}
-use Rattle.table_laws.specs.device_rules.specs.Logs.{log_after, log_of, same_log}
+use Rattle.device_laws.specs.device_rules.specs.Logs.{log_after, log_of, same_log}
 
 -- The log has room for the record, which has the next handle.
 pub record IsNextRecord (l : LogId) (log : Log) (event : Event) : Type 0 where

@@ -1,7 +1,7 @@
 -- What the effects of a step make of the hosts' parts, and what changed lists make of them.
 use Rattle.std.specs.Prelude.{◌≡◌, ◌<◌, List, fold, length, Option}
-use Rattle.dcd_base.specs.declared.ids.HostId.{HostId}
-use Rattle.dcd_base.specs.declared.steps.LogId.{LogId}
+use Rattle.cci_codec.specs.field_bytes.specs.dcd_base.specs.declared.ids.HostId.{HostId}
+use Rattle.cci_codec.specs.field_bytes.specs.dcd_base.specs.declared.steps.LogId.{LogId}
 use Rattle.journal_core.specs.declared.outcome.Effect.{Effect}
 use Rattle.device_state.specs.Entered.{lists_by, lists_put, log_by}
 use Rattle.device_state.specs.StateAfter.{part_of}

@@ -1,16 +1,16 @@
 -- What a step has to put in place, beside what its effects change.
 use Rattle.std.specs.Prelude.{◌≡◌, ℕ, ◌<◌, true, false, List, ◌++◌, fold, length, Option, Some, None, ◌∷◌, []}
-use Rattle.dcd_base.specs.declared.ids.HostId.{HostId}
-use Rattle.dcd_base.specs.declared.steps.LogId.{LogId}
-use Rattle.region_config.specs.Configurations.{Configuration}
-use Rattle.region_config.specs.Granules.{is_supported, region_spec}
+use Rattle.cci_codec.specs.field_bytes.specs.dcd_base.specs.declared.ids.HostId.{HostId}
+use Rattle.cci_codec.specs.field_bytes.specs.dcd_base.specs.declared.steps.LogId.{LogId}
+use Rattle.list_rules.specs.media_map.specs.region_config.specs.Configurations.{Configuration}
+use Rattle.list_rules.specs.media_map.specs.region_config.specs.Granules.{is_supported, region_spec}
 use Rattle.journal_core.specs.Entries.{effects}
 use Rattle.journal_core.specs.declared.entries.Entry.{Entry}
 use Rattle.journal_core.specs.declared.outcome.Effect.{Effect}
 use Rattle.device_state.specs.StateAfter.{lists_in, part_of, IsStateAfter}
 use Rattle.host_lists.specs.Lists.{Lists}
-use Rattle.table_laws.specs.device_rules.specs.Views.{view_after, view_of}
-use Rattle.table_laws.specs.TagTable.{IsTable}
+use Rattle.device_laws.specs.device_rules.specs.Views.{view_after, view_of}
+use Rattle.device_laws.specs.TagTable.{IsTable}
 use Rattle.tag_refs.specs.Tables.{has_entry}
 use Rattle.tag_refs.specs.declared.entries.TagEntry.{TagEntry}
 use Rattle.device_state.specs.Entered.{lists_by, lists_put, tags_put, IsEntered}

@@ -4,16 +4,16 @@ ghost use Rattle.device_state.specs.Entered.{one_told, tags_told, IsEntered, tag
 ghost use Rattle.device_state.specs.StateAfter.{part_of};
 ghost use Rattle.device_state.specs.Stages.{ListsPut};
 ghost use Rattle.device_state.specs.Updates.{CanChange, IsOfDevice, IsOfHosts};
-ghost use Rattle.region_config.specs.Granules.{granule_total, region_spec, with_blocks};
+ghost use Rattle.list_rules.specs.media_map.specs.region_config.specs.Granules.{granule_total, region_spec, with_blocks};
 ghost use Rattle.std.specs.Prelude.{◌≡◌, ◌+◌, ◌<◌, ◌≤◌, All, false, length, true};
 ghost use Rattle.tag_refs.specs.Tables.{entries_changed, still_used, with_reference};
 
 use crate::lists_update::ListsUpdate;
 use crate::state::State;
 use crate::updates::{TagChange, Update};
-use dcd_base::{HostId, Runs, Tag};
+use cci_codec::field_bytes::dcd_base::{HostId, Runs, Tag};
 use journal_core::Effect;
-use region_config::Config;
+use list_rules::media_map::region_config::Config;
 use std::mem::replace;
 use tag_refs::Tags;
 

@@ -18,6 +18,8 @@ mod regions;
 mod state;
 mod updates;
 
+pub use device_laws;
+pub use device_laws::device_rules;
 pub use holders::Holders;
 pub use host_lists;
 pub use laws::law_kept_entered;
@@ -25,6 +27,4 @@ pub use lists_update::ListsUpdate;
 pub use parts::HostPart;
 pub use records::change_log_named;
 pub use state::State;
-pub use table_laws;
-pub use table_laws::{device_rules, holding_laws, step_laws};
 pub use updates::{NewLists, TagChange, Update};

@@ -7,7 +7,7 @@ ghost use Rattle.std.specs.Option.{option_copied};
 ghost use Rattle.std.specs.Prelude.{◌≡◌, ◌++◌, ◌∷◌, [], IfOk, IsSome, None, OnOk, false};
 
 use crate::updates::NewLists;
-use dcd_base::{Extent, Extents, HostId, NoMemory};
+use cci_codec::field_bytes::dcd_base::{Extent, Extents, HostId, NoMemory};
 use host_lists::{Changed, HostLists, ListsChange, Responded};
 use release_core::GivenBack;
 use std::marker::Model;

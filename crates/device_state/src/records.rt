@@ -1,17 +1,17 @@
 //! What effects make of the logs, the block sizes and the held lists.
 
 ghost use Rattle.device_state.specs.Entered.{with_lists, with_log, log_by, put_in, unheld};
-ghost use Rattle.table_laws.specs.device_rules.specs.Logs.{same_log};
+ghost use Rattle.device_laws.specs.device_rules.specs.Logs.{same_log};
 ghost use Rattle.device_state.specs.Changes.{AreLogged, log_changed, log_told};
 ghost use Rattle.device_state.specs.StateAfter.{part_of};
 ghost use Rattle.device_state.specs.Updates.{IsOfLog};
 ghost use Rattle.event_log.specs.LogStates.{with_missed};
-ghost use Rattle.region_config.specs.Blocks.{with_block};
-ghost use Rattle.region_config.specs.Granules.{is_supported, region_spec};
+ghost use Rattle.list_rules.specs.media_map.specs.region_config.specs.Blocks.{with_block};
+ghost use Rattle.list_rules.specs.media_map.specs.region_config.specs.Granules.{is_supported, region_spec};
 ghost use Rattle.std.specs.Prelude.{◌≡◌, ◌<◌, Some, length, true};
 
 use crate::state::State;
-use dcd_base::{HostId, LogId, RegionId};
+use cci_codec::field_bytes::dcd_base::{HostId, LogId, RegionId};
 use event_log::EventLog;
 use event_records::Event;
 use host_lists::HostLists;

@@ -6,12 +6,12 @@ ghost use Rattle.std.specs.Prelude.{◌≡◌, ◌<◌, [], IfOk, length, replic
 
 use crate::holders::Holders;
 use crate::parts::HostPart;
-use dcd_base::limits::{HOST_RECORDS, MANAGER_RECORDS};
-use dcd_base::{HostId, LogId, NoMemory};
+use cci_codec::field_bytes::dcd_base::limits::{HOST_RECORDS, MANAGER_RECORDS};
+use cci_codec::field_bytes::dcd_base::{HostId, LogId, NoMemory};
 use event_log::EventLog;
-use granule_table::GranuleTable;
+use granule_map::GranuleTable;
 use host_lists::HostLists;
-use region_config::Config;
+use list_rules::media_map::region_config::Config;
 use std::alloc::Global;
 use tag_refs::Tags;
 

@@ -4,7 +4,7 @@ ghost use Rattle.device_state.specs.declared.updates.TagChange.{TagChange};
 ghost use Rattle.std.specs.Prelude.{◌≡◌, None};
 
 use crate::lists_update::ListsUpdate;
-use dcd_base::{HostId, RegionId, Runs, Seq, Tag};
+use cci_codec::field_bytes::dcd_base::{HostId, RegionId, Runs, Seq, Tag};
 use host_lists::ListsChange;
 
 /// What a step puts in place beside what its effects change: what changes of a host's lists, and of the open tags.

@@ -2,12 +2,28 @@
 #![tactic(auto)]
 
 #[cfg(test)]
+mod choices;
+#[cfg(test)]
+mod fixtures;
+#[cfg(test)]
+mod hosts;
+#[cfg(test)]
 mod items;
 #[cfg(test)]
 mod journals;
 #[cfg(test)]
+mod lists;
+#[cfg(test)]
 mod living;
 #[cfg(test)]
+mod offers;
+#[cfg(test)]
+mod releases;
+#[cfg(test)]
+mod scrubs;
+#[cfg(test)]
 mod seeing;
+#[cfg(test)]
+mod seeing_decisions;
 #[cfg(test)]
 mod steps;

@@ -7,7 +7,7 @@ use crate::seeing::see;
 use crate::steps::{HOST, MIB, OFFER, REGION, RESPONSE, Told, command, kind_of};
 use dcd_base::{Actor, LogId};
 use device_plain::control_core::LiveControl;
-use device_plain::live_device::{LiveDevice, StepFault, law_lives};
+use device_plain::{LiveDevice, StepFault, law_lives};
 use journal_core::{Act, Reply};
 use region_config::Config;
 use std::alloc::Global;

@@ -1,6 +1,8 @@
 //! Event records: what the device tells a host and the Fabric Manager about capacity, in 128 bytes each.
 #![tactic(auto)]
 
+pub use field_bytes;
+
 mod events;
 mod faults;
 mod identifier;

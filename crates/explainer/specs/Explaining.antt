@@ -1,7 +1,7 @@
 -- What explaining a text answers.
 use Rattle.std.specs.Prelude.{◌≡◌, ℕ, List, Result, Ok, Err}
 use Rattle.journal_core.specs.declared.entries.Entry.{Entry}
-use Rattle.text_printing.specs.script_codec.specs.declared.scripts.Script.{Script}
+use Rattle.script_text.specs.script_codec.specs.declared.scripts.Script.{Script}
 use Rattle.journal_check.specs.FirstWrong.{IsFirstWrong, IsJournalOf}
 use Rattle.explainer.specs.Explanations.{explanation}
 

@@ -14,14 +14,14 @@ use Rattle.journal_core.specs.declared.outcome.Effect.{Effect}
 use Rattle.journal_core.specs.Entries.{effects}
 use Rattle.journal_check.specs.device_rules.specs.Counts.{dirty_count, extent_count, free_count, granules_held, missed_of, records_of}
 use Rattle.journal_check.specs.report.specs.Texts.{host_name, log_name}
-use Rattle.text_printing.specs.script_codec.specs.declared.script_line.Line.{Line}
-use Rattle.text_printing.specs.script_codec.specs.declared.scripts.Script.{Script}
-use Rattle.text_printing.specs.text_lines.specs.declared.actors.Frame.{Frame}
-use Rattle.text_printing.specs.Printing.{printed_words}
-use Rattle.text_words.specs.Words.{line_text}
-use Rattle.reply_words.specs.PartWords.{detail, labelled, labelled_size}
-use Rattle.reply_words.specs.RecordWords.{record_words}
-use Rattle.reply_words.specs.ReplyWords.{answer_lines}
+use Rattle.script_text.specs.script_codec.specs.declared.script_line.Line.{Line}
+use Rattle.script_text.specs.script_codec.specs.declared.scripts.Script.{Script}
+use Rattle.script_text.specs.text_lines.specs.declared.actors.Frame.{Frame}
+use Rattle.script_text.specs.LinePrinting.{printed_words}
+use Rattle.script_text.specs.text_lines.specs.Words.{line_text}
+use Rattle.explainer.specs.PartWords.{detail, labelled, labelled_size}
+use Rattle.explainer.specs.RecordWords.{record_words}
+use Rattle.explainer.specs.ReplyWords.{answer_lines}
 
 -- ---- an entry: the line of the script that asked for it, and what was answered
 

@@ -1,4 +1,11 @@
+pub mod CodeWords
 pub mod Explaining
 pub mod Explanations
+pub mod PartWords
+pub mod RecordWords
+pub mod ReplyKinds
+pub mod ReplyWords
 pub use Rattle.journal_check
 pub use Rattle.journal_check.specs.report
+pub use Rattle.script_text
+pub use Rattle.script_text.specs.text_lines

@@ -5,20 +5,20 @@ ghost use Rattle.explainer.specs.Explanations.{access_refusal, entries_explained
 ghost use Rattle.journal_core.specs.Lending.{lent_entry};
 ghost use Rattle.journal_core.specs.Seen.{seen_reply};
 ghost use Rattle.journal_core.specs.declared.acts.Reply.{Reply};
-ghost use Rattle.reply_words.specs.PartWords.{detail, labelled};
-ghost use Rattle.text_printing.specs.script_codec.specs.Scripts.{are_lanes, is_sound_line};
-ghost use Rattle.text_printing.specs.script_codec.specs.Writing.{IsWritable, has_short_message};
+ghost use Rattle.explainer.specs.PartWords.{detail, labelled};
+ghost use Rattle.script_text.specs.script_codec.specs.Scripts.{are_lanes, is_sound_line};
+ghost use Rattle.script_text.specs.script_codec.specs.Writing.{IsWritable, has_short_message};
 ghost use Rattle.std.specs.Prelude.{◌≡◌, ◌-◌, ◌++◌, ◌∷◌, [], IsTrue, OnOk, codes, slice_get};
-ghost use Rattle.text_printing.specs.Printing.{printed_words};
-ghost use Rattle.text_words.specs.Words.{line_text};
+ghost use Rattle.script_text.specs.LinePrinting.{printed_words};
+ghost use Rattle.script_text.specs.text_lines.specs.Words.{line_text};
 
+use crate::{put_answer, put_labelled, put_labelled_size};
 use dcd_base::{AccessFault, Bytes, NoMemory};
 use journal_core::{Lender, Lent, ReplySeen};
-use reply_words::{put_answer, put_labelled, put_labelled_size};
+use script_text::put_line;
+use script_text::script_codec::{Line, Script};
+use script_text::text_lines::Frame;
 use std::alloc::Global;
-use text_printing::put_line;
-use text_printing::script_codec::{Line, Script};
-use text_printing::text_lines::Frame;
 
 /// Why a load or a store was refused.
 fn refusal_of(fault: AccessFault) -> &'static [u8]

@@ -3,7 +3,7 @@
 ghost use Rattle.explainer.specs.Explaining.{IsExplained};
 ghost use Rattle.explainer.specs.Explanations.{end_explained, entries_explained, explanation};
 ghost use Rattle.journal_core.specs.Entries.{effects};
-ghost use Rattle.text_printing.specs.script_codec.specs.Writing.{IsWritable};
+ghost use Rattle.script_text.specs.script_codec.specs.Writing.{IsWritable};
 ghost use Rattle.std.specs.Prelude.{◌≡◌, ◌++◌, IfOk, OnOk};
 
 use crate::entries::put_entries;
@@ -13,8 +13,8 @@ use dcd_base::{Bytes, NoMemory};
 use journal_check::control_core::Control;
 use journal_check::device_plain::Device;
 use journal_check::replay;
+use script_text::script_codec::Script;
 use std::alloc::Global;
-use text_printing::script_codec::Script;
 
 /// The entries of a device in words.
 fn entries_of(alloc: Global, script: &Script, device: &Device) -> Result<Bytes, NoMemory>

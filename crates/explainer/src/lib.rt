@@ -1,12 +1,33 @@
 //! A printed text in words: for each entry the line of the script that asked for it and what was answered, then what is left
 //! in the logs, and the state.
+//!
+//! `put_answer` writes what a device answered to a command, `put_record` an event record, and `put_extent_words` an extent
+//! with its tag. They take any bytes: what does not read as its layout says is shown byte by byte.
 #![tactic(auto)]
 
+mod codes;
 mod entries;
 mod explaining;
+mod extents;
+mod fields;
+mod headings;
+mod items;
+mod kinds;
 mod logs;
+mod parts;
+mod records;
+mod regions;
+mod replies;
 mod states;
+mod tags;
 
 pub use explaining::explain;
+pub use extents::put_extent_words;
 pub use journal_check;
 pub use journal_check::report;
+pub use kinds::ReplyKind;
+pub use parts::{put_labelled, put_labelled_size};
+pub use records::put_record;
+pub use replies::put_answer;
+pub use script_text;
+pub use script_text::text_lines;

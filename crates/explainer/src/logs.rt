@@ -7,13 +7,13 @@ ghost use Rattle.journal_core.specs.Entries.{effects};
 ghost use Rattle.journal_check.specs.report.specs.Texts.{host_name, log_name};
 ghost use Rattle.std.specs.Prelude.{◌≡◌, ◌++◌, OnOk};
 
+use crate::{put_labelled, put_record};
 use dcd_base::{Bytes, HostId, LogId, NoMemory};
 use event_records::{Event, encode};
 use journal_check::control_core::Control;
-use reply_words::{put_labelled, put_record};
 
 /// Appends the name of a host.
-#[tactic(auto, unfolding(reply_words::specs::PartWords::labelled))]
+#[tactic(auto, unfolding(crate::specs::PartWords::labelled))]
 pub(crate) fn put_host(host: HostId, out: &mut Bytes) -> Result<(), NoMemory>
     ensures { OnOk result (out.new ≡ out.old ++ host_name host) }
 {

@@ -5,13 +5,13 @@ ghost use Rattle.journal_check.specs.device_rules.specs.Counts.{dirty_count, ext
 ghost use Rattle.explainer.specs.Explanations.{granules_state, host_state, hosts_state, manager_state, state_explained, state_title};
 ghost use Rattle.journal_core.specs.Entries.{effects};
 ghost use Rattle.journal_check.specs.report.specs.Texts.{host_name};
-ghost use Rattle.reply_words.specs.PartWords.{labelled};
+ghost use Rattle.explainer.specs.PartWords.{labelled};
 ghost use Rattle.std.specs.Prelude.{◌≡◌, ◌<◌, ◌++◌, OnOk, codes, length};
 
 use crate::logs::put_host;
+use crate::put_labelled;
 use dcd_base::{Bytes, HostId, LogId, NoMemory};
 use journal_check::control_core::Control;
-use reply_words::put_labelled;
 
 /// Appends the name of a host at the start of its line.
 fn begin_host(host: HostId, out: &mut Bytes) -> Result<(), NoMemory>

@@ -8,8 +8,7 @@ ghost use Rattle.std.specs.Prelude.{◌≡◌, ◌+◌, ◌*◌, ◌≤◌, ◌+
 use crate::lengths::zeros;
 use crate::reading::u16_at;
 use crate::writing::{put_flag, put_u8, put_u16, put_zeros};
-use dcd_base::{Bytes, Handles, NoMemory};
-use short_list::ShortList;
+use dcd_base::{Bytes, Handles, NoMemory, ShortList};
 use std::alloc::Global;
 
 /// The length of a list of handles to clear: 6 bytes and 2 for each handle of its count.

@@ -4,6 +4,8 @@
 //! A payload grows once to its length, and then each field is put in its place.
 #![tactic(auto)]
 
+pub use dcd_base;
+
 mod appending;
 mod event_commands;
 mod extents;

@@ -5,8 +5,8 @@ use Rattle.std.specs.List.{AllByRecursion}
 use Rattle.std.specs.Int.{w16, w32, w64}
 use Rattle.std.proofs.lemmas.Bool.{eqb-true}
 use Rattle.std.proofs.lemmas.List.{length-map}
-use Rattle.dcd_base.specs.declared.capacity.Extent.{Extent}
-use Rattle.dcd_base.specs.declared.capacity.Tag.{Tag}
+use Rattle.field_bytes.specs.dcd_base.specs.declared.capacity.Extent.{Extent}
+use Rattle.field_bytes.specs.dcd_base.specs.declared.capacity.Tag.{Tag}
 use Rattle.field_bytes.specs.Layouts.{FitsField, Number, Raw, Reads, number_at, pieces, spelling}
 use Rattle.field_bytes.specs.Payloads.{has_flag, tag_at, Gives}
 use Rattle.field_bytes.specs.EventCommands.{clear_length, handles_in}

@@ -1,12 +1,12 @@
 -- What the manager asks, and the bytes of the replies.
 use Rattle.field_bytes.specs.Layouts.{spelling, Field, Reads, flag, number_at, pieces, Number, Raw, Reserved}
-use Rattle.dcd_base.specs.declared.tags.TagView.{TagView}
+use Rattle.field_bytes.specs.dcd_base.specs.declared.tags.TagView.{TagView}
 use Rattle.std.specs.Prelude.{◌≡◌, ◌≤◌, ℕ, ◌-◌, ◌/◌, ◌==◌, List, [], ◌∷◌, ◌++◌, length, map, flat_map, drop, slice_index, if◌then◌else◌}
 use Rattle.std.specs.Int.{w8, w16, w32, w64}
 use Rattle.std.specs.declared.result.Result.{Result}
 use Rattle.std.specs.declared.result.Result.TheVariants.{Ok, Err}
-use Rattle.dcd_base.specs.declared.capacity.Tag.{Tag}
-use Rattle.dcd_base.specs.declared.capacity.Extent.{Extent}
+use Rattle.field_bytes.specs.dcd_base.specs.declared.capacity.Tag.{Tag}
+use Rattle.field_bytes.specs.dcd_base.specs.declared.capacity.Extent.{Extent}
 use Rattle.field_bytes.specs.declared.faults.PayloadFault.{PayloadFault}
 use Rattle.fm_payloads.specs.declared.placing.Placed.{Placed}
 use Rattle.fm_payloads.specs.declared.requests.FmRequest.{FmRequest}

@@ -7,7 +7,7 @@ ghost use Rattle.std.specs.Prelude.{IfOk, Ok};
 
 use crate::placing::placed_of;
 use crate::requests::FmRequest;
-use dcd_base::Tag;
+use field_bytes::dcd_base::Tag;
 use field_bytes::{
     PayloadFault, clear_length, expect_length, flag_at, handles_of, tag_at, u16_at, u32_at, u64_at,
 };

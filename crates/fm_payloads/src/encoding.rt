@@ -8,7 +8,7 @@ ghost use Rattle.std.specs.Prelude.{◌≡◌, ◌++◌, [], ◌∷◌, IfOk, Is
 
 use crate::placing::placed_payload;
 use crate::requests::FmRequest;
-use dcd_base::{Bytes, NoMemory};
+use field_bytes::dcd_base::{Bytes, NoMemory};
 use field_bytes::{
     are_bytes, clear_payload, page_request, put_flag, put_u8, put_u16, put_u32, put_u64, put_zeros,
     zeros,

@@ -7,7 +7,7 @@ ghost use Rattle.std.specs.List.{AllByRecursion, list_all};
 ghost use Rattle.std.specs.Prelude.{◌≡◌, ◌+◌, ◌*◌, ◌<◌, ◌≤◌, ◌^◌, IfOk, IsTrue, OnOk, length, take};
 
 use crate::counted::placed_length;
-use dcd_base::{Bytes, Extent, Extents, NoMemory, Tag};
+use field_bytes::dcd_base::{Bytes, Extent, Extents, NoMemory, Tag};
 use field_bytes::{
     PayloadFault, expect_length, extents_of, put_extents, put_tag, put_u8, put_u16, put_u32,
     put_u64, tag_at, u16_at, u64_at, zeros,

@@ -1,7 +1,6 @@
 //! The commands of the Fabric Manager.
 
-use dcd_base::{Extents, Tag};
-use short_list::ShortList;
+use field_bytes::dcd_base::{Extents, ShortList, Tag};
 
 /// What the Fabric Manager asks of the device, the payload of its message.
 ///

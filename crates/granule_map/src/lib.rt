@@ -10,9 +10,11 @@ mod map;
 mod marks;
 mod replacing;
 mod states;
+mod tables;
 
 pub use blocks::FreeBlocks;
 pub use map::GranuleMap;
 pub use marks::{alike_from, are_few_alike, fill_few};
 pub use replacing::Replaced;
 pub use states::GranuleState;
+pub use tables::GranuleTable;

@@ -7,7 +7,7 @@ use Rattle.dcd_base.specs.declared.capacity.Extent.{Extent}
 use Rattle.dcd_base.specs.Words.{is_empty}
 use Rattle.event_records.specs.declared.events.Event.{Event}
 use Rattle.extent_list.specs.ExtentLists.{cut_all, has_range, is_in}
-use Rattle.report.specs.device_rules.proofs.ListSteps.{each-append, each-both, each-change, each-front}
+use Rattle.device_plain.specs.device_rules.proofs.ListSteps.{each-append, each-both, each-change, each-front}
 use Rattle.host_driver.specs.declared.due.Due.{Due}
 use Rattle.host_driver.specs.Driving.{Driven, cut_all_out, gone_on, with_page}
 use Rattle.host_driver.proofs.Apart.{turned, within}

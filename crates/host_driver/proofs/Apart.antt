@@ -5,7 +5,7 @@ use Rattle.std.specs.List.{AllByRecursion, list_any}
 use Rattle.std.proofs.lemmas.Bool.{cases_Bool, cases_lt, false≢true, le-ltb, lt-ltb}
 use Rattle.dcd_base.specs.declared.capacity.Extent.{Extent}
 use Rattle.extent_list.specs.ExtentLists.{cut, has_range, piece, without}
-use Rattle.report.specs.device_rules.proofs.ListSteps.{each-append, each-back, each-change, each-front}
+use Rattle.device_plain.specs.device_rules.proofs.ListSteps.{each-append, each-back, each-change, each-front}
 use Rattle.host_driver.proofs.Exchanging.{begins, ends}
 use Rattle.host_driver.proofs.Pending.{AreBeside, IsBeside}
 

@@ -7,7 +7,7 @@ use Rattle.std.proofs.lemmas.List.Sums.{fold-append}
 use Rattle.dcd_base.specs.declared.capacity.Extent.{Extent}
 use Rattle.event_records.specs.declared.events.Event.{Event}
 use Rattle.extent_list.specs.ExtentLists.{cut_all, has_range, is_in}
-use Rattle.report.specs.device_rules.proofs.ListSteps.{each-append, each-both, each-change}
+use Rattle.device_plain.specs.device_rules.proofs.ListSteps.{each-append, each-both, each-change}
 use Rattle.host_driver.specs.declared.due.Due.{Due}
 use Rattle.host_driver.specs.Driving.{Driven}
 use Rattle.host_driver.proofs.Apart.{AreApart, apart-across, apart-front, apart_cut, beside_cut, cut_beside, within}

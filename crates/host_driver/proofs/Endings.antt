@@ -220,7 +220,7 @@ pub over_front : (choice : DriveChoice) (left now old : Option (List ℕ)) (faul
     → TakesMore 16777216 left now → DriveEndsRefused ScriptFault.TooLong old faults new count status → EndsBy choice left now old faults new count status
 over_front choice left now old faults new count status t ends =
     over_input choice left now old faults new count status t.bytes (front_is 16777216 left now t) (λ few. absurd (omega (arith, t.one_more, few)))
-    (refused_ends choice.host choice.most ScriptFault.TooLong t.bytes old new faults count status (ap fault_of (too_long t.bytes (omega (arith, t.one_more)))) ends)
+    (refused_ends choice.host choice.most ScriptFault.TooLong t.bytes old new faults count status (ap fault_of (too_long t.bytes (omega (arith, t.one_more))).1) ends)
 
 -- ---- over a script
 

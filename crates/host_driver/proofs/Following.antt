@@ -15,13 +15,13 @@ use Rattle.journal_core.proofs.EachSteps.{Each-front, Each-push, EachFrom-at}
 use Rattle.journal_core.proofs.JournalSteps.{effects-push}
 use Rattle.region_config.specs.Configurations.{Configuration}
 use Rattle.region_config.specs.Soundness.{IsSound}
-use Rattle.report.specs.device_rules.specs.Counts.{records_of}
-use Rattle.report.specs.device_rules.specs.Hosts.{accepted_of}
-use Rattle.report.specs.device_rules.specs.Legal.{Legal, Meets}
-use Rattle.report.specs.device_rules.specs.Logs.{log_after, log_of, same_log}
-use Rattle.report.specs.device_rules.specs.Views.{view_of}
-use Rattle.report.specs.device_rules.proofs.LegalSteps.{by_steps}
-use Rattle.report.specs.device_rules.proofs.ListSteps.{each-append, each-back, each-front}
+use Rattle.device_plain.specs.device_rules.specs.Counts.{records_of}
+use Rattle.device_plain.specs.device_rules.specs.Hosts.{accepted_of}
+use Rattle.device_plain.specs.device_rules.specs.Legal.{Legal, Meets}
+use Rattle.device_plain.specs.device_rules.specs.Logs.{log_after, log_of, same_log}
+use Rattle.device_plain.specs.device_rules.specs.Views.{view_of}
+use Rattle.device_plain.specs.device_rules.proofs.LegalSteps.{by_steps}
+use Rattle.device_plain.specs.device_rules.proofs.ListSteps.{each-append, each-back, each-front}
 use Rattle.host_driver.specs.Journals.{IsDriven, IsDrivenStep, IsUnrefused, KeepsTable, driver_of, ends_with}
 use Rattle.host_driver.proofs.Lawful.{Keeps, keeps_first, keeps_on}
 use Rattle.host_driver.proofs.Passing.{without_all}

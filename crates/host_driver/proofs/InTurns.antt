@@ -21,9 +21,9 @@ use Rattle.region_config.specs.Soundness.{IsSound}
 use Rattle.report.specs.script_codec.specs.Covering.{pass_of}
 use Rattle.report.specs.script_codec.specs.Scripts.{is_lane, is_sound_line}
 use Rattle.report.specs.script_codec.specs.declared.script_line.Line.{Line}
-use Rattle.report.specs.device_rules.specs.Counts.{records_of}
-use Rattle.report.specs.device_rules.specs.Legal.{Legal}
-use Rattle.report.specs.device_rules.specs.Views.{view_of}
+use Rattle.device_plain.specs.device_rules.specs.Counts.{records_of}
+use Rattle.device_plain.specs.device_rules.specs.Legal.{Legal}
+use Rattle.device_plain.specs.device_rules.specs.Views.{view_of}
 use Rattle.device_plain.specs.isolation_laws.specs.Solo.{acts_for}
 use Rattle.host_driver.specs.Driving.{gives, reply_fault}
 use Rattle.host_driver.specs.Journals.{IsDrive, IsUnlined, driver_of, ends_with, entries_of_others, is_at_rest, is_fitting, line_of_others, lines_of_others}

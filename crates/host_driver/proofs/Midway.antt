@@ -11,8 +11,8 @@ use Rattle.event_records.specs.declared.events.Event.{Event}
 use Rattle.event_records.specs.declared.events.EventKind.{EventKind}
 use Rattle.extent_list.specs.ExtentLists.{cut, has_range}
 use Rattle.host_payloads.specs.HostPayloads.{FitsListed}
-use Rattle.report.specs.device_rules.specs.Views.{View}
-use Rattle.report.specs.device_rules.proofs.ListSteps.{each-append}
+use Rattle.device_plain.specs.device_rules.specs.Views.{View}
+use Rattle.device_plain.specs.device_rules.proofs.ListSteps.{each-append}
 use Rattle.host_driver.specs.declared.due.Due.{Due}
 use Rattle.host_driver.specs.Driving.{Driven, answer_to, behind_page, cut_out, cut_within, due_behind, noted, treated, unless_due}
 use Rattle.host_driver.proofs.Passing.{EachLies, without_all}

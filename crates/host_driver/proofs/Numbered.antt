@@ -7,8 +7,8 @@ use Rattle.dcd_base.specs.declared.ids.HostId.{HostId}
 use Rattle.event_log.specs.Logs.{Log, logged, next_handle, recorded, records_in}
 use Rattle.event_records.specs.declared.events.Event.{Event}
 use Rattle.event_records.specs.declared.events.EventKind.{EventKind}
-use Rattle.report.specs.device_rules.specs.Outcomes.{no_extent, record_for, records_of_extents}
-use Rattle.report.specs.device_rules.specs.Views.{View}
+use Rattle.device_plain.specs.device_rules.specs.Outcomes.{no_extent, record_for, records_of_extents}
+use Rattle.device_plain.specs.device_rules.specs.Views.{View}
 use Rattle.host_driver.proofs.Brought.{AreForced, AreOffer, AreQuiet}
 use Rattle.host_driver.proofs.Pending.{AreBehind, forced_in, left_of, offers_in}
 

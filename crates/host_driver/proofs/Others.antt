@@ -12,8 +12,8 @@ use Rattle.extent_list.specs.ExtentLists.{cut_all}
 use Rattle.journal_core.specs.declared.outcome.Effect.{Effect}
 use Rattle.region_config.specs.Configurations.{Configuration}
 use Rattle.region_config.specs.Granules.{is_supported, region_spec}
-use Rattle.report.specs.device_rules.specs.Outcomes.{no_extent, record_for, records_of_extents}
-use Rattle.report.specs.device_rules.specs.Views.{View}
+use Rattle.device_plain.specs.device_rules.specs.Outcomes.{no_extent, record_for, records_of_extents}
+use Rattle.device_plain.specs.device_rules.specs.Views.{View}
 use Rattle.device_plain.specs.isolation_laws.specs.Solo.{block_item, delivered, item_of, solo_after, extents_recorded, with_log_records}
 use Rattle.device_plain.specs.isolation_laws.specs.declared.items.Item.{Item}
 use Rattle.device_plain.specs.isolation_laws.proofs.OneItem.{IsOneAtMost}

@@ -24,15 +24,15 @@ use Rattle.journal_core.specs.declared.outcome.Effect.{Effect}
 use Rattle.journal_core.specs.declared.outcome.HeldKind.{HeldKind}
 use Rattle.media_map.specs.Places.{run_of}
 use Rattle.region_config.specs.Configurations.{Configuration}
-use Rattle.report.specs.device_rules.specs.Answers.{dropped, host_outcome, host_result, host_result_in, host_rule, reply_with, unless}
-use Rattle.report.specs.device_rules.specs.EventCommands.{clear_changes, cleared, events_reply, rule_of}
-use Rattle.report.specs.device_rules.specs.Hosts.{accepted_after, held_after, offers_after}
-use Rattle.report.specs.device_rules.specs.Logs.{log_after}
-use Rattle.report.specs.device_rules.specs.Outcomes.{Outcome}
-use Rattle.report.specs.device_rules.specs.ReleaseOutcomes.{give_back_changes, leaves}
-use Rattle.report.specs.device_rules.specs.ResponseOutcomes.{respond_changes, unhold}
-use Rattle.report.specs.device_rules.specs.Views.{View, view_after}
-use Rattle.report.specs.device_rules.proofs.ListSteps.{each-front, each-map}
+use Rattle.device_plain.specs.device_rules.specs.Answers.{dropped, host_outcome, host_result, host_result_in, host_rule, reply_with, unless}
+use Rattle.device_plain.specs.device_rules.specs.EventCommands.{clear_changes, cleared, events_reply, rule_of}
+use Rattle.device_plain.specs.device_rules.specs.Hosts.{accepted_after, held_after, offers_after}
+use Rattle.device_plain.specs.device_rules.specs.Logs.{log_after}
+use Rattle.device_plain.specs.device_rules.specs.Outcomes.{Outcome}
+use Rattle.device_plain.specs.device_rules.specs.ReleaseOutcomes.{give_back_changes, leaves}
+use Rattle.device_plain.specs.device_rules.specs.ResponseOutcomes.{respond_changes, unhold}
+use Rattle.device_plain.specs.device_rules.specs.Views.{View, view_after}
+use Rattle.device_plain.specs.device_rules.proofs.ListSteps.{each-front, each-map}
 use Rattle.device_plain.specs.isolation_laws.specs.Solo.{changes_with}
 use Rattle.device_plain.specs.isolation_laws.proofs.RemovalViews.{IsOwnRun}
 use Rattle.host_driver.specs.declared.due.Due.{Due}

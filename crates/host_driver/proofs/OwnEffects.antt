@@ -12,8 +12,8 @@ use Rattle.extent_list.specs.ExtentLists.{cut, cut_all}
 use Rattle.journal_core.specs.declared.outcome.Effect.{Effect}
 use Rattle.media_map.specs.Places.{run_of}
 use Rattle.region_config.specs.Configurations.{Configuration}
-use Rattle.report.specs.device_rules.specs.Hosts.{accepted_after}
-use Rattle.report.specs.device_rules.specs.ReleaseOutcomes.{leaves}
+use Rattle.device_plain.specs.device_rules.specs.Hosts.{accepted_after}
+use Rattle.device_plain.specs.device_rules.specs.ReleaseOutcomes.{leaves}
 use Rattle.device_plain.specs.isolation_laws.proofs.RemovalViews.{IsOwnRun}
 use Rattle.host_driver.specs.Driving.{bare}
 

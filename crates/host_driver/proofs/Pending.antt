@@ -5,7 +5,7 @@ use Rattle.std.specs.List.{AllByRecursion}
 use Rattle.dcd_base.specs.declared.capacity.Extent.{Extent}
 use Rattle.event_records.specs.declared.events.Event.{Event}
 use Rattle.event_records.specs.declared.events.EventKind.{EventKind}
-use Rattle.report.specs.device_rules.proofs.ListSteps.{each-back, each-front}
+use Rattle.device_plain.specs.device_rules.proofs.ListSteps.{each-back, each-front}
 use Rattle.host_driver.proofs.Exchanging.{Beside}
 
 -- ---- words

@@ -14,16 +14,16 @@ use Rattle.region_config.specs.Configurations.{Configuration}
 use Rattle.region_config.specs.Granules.{with_blocks}
 use Rattle.region_config.specs.Soundness.{IsSound}
 use Rattle.release_core.specs.Leaving.{count_after}
-use Rattle.report.specs.device_rules.specs.Answers.{host_rule}
-use Rattle.report.specs.device_rules.specs.Views.{View}
-use Rattle.report.specs.device_rules.proofs.ListSteps.{each-change}
-use Rattle.report.specs.holding_laws.specs.Pictures.{Picture}
-use Rattle.report.specs.holding_laws.specs.Standing.{IsMade, Stands}
-use Rattle.report.specs.holding_laws.proofs.Going.{IsGoing}
-use Rattle.report.specs.holding_laws.proofs.Holding.{present_whole}
-use Rattle.report.specs.holding_laws.proofs.Homes.{made_bytes, made_starts}
-use Rattle.report.specs.holding_laws.proofs.LeftStanding.{going_of, going_rule}
-use Rattle.report.specs.holding_laws.proofs.Overlaps.{neither}
+use Rattle.device_plain.specs.device_rules.specs.Answers.{host_rule}
+use Rattle.device_plain.specs.device_rules.specs.Views.{View}
+use Rattle.device_plain.specs.device_rules.proofs.ListSteps.{each-change}
+use Rattle.report.specs.device_laws.specs.Pictures.{Picture}
+use Rattle.report.specs.device_laws.specs.Standing.{IsMade, Stands}
+use Rattle.report.specs.device_laws.proofs.Going.{IsGoing}
+use Rattle.report.specs.device_laws.proofs.Holding.{present_whole}
+use Rattle.report.specs.device_laws.proofs.Homes.{made_bytes, made_starts}
+use Rattle.report.specs.device_laws.proofs.LeftStanding.{going_of, going_rule}
+use Rattle.report.specs.device_laws.proofs.Overlaps.{neither}
 use Rattle.device_plain.specs.isolation_laws.proofs.RemovalViews.{IsOwnRun}
 use Rattle.host_driver.specs.Driving.{bare}
 use Rattle.host_driver.proofs.Answered.{CanGive}

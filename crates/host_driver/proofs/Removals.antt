@@ -30,31 +30,31 @@ use Rattle.region_config.specs.Granules.{with_blocks}
 use Rattle.region_config.specs.Soundness.{IsSound}
 use Rattle.release_core.specs.Leaving.{count_after}
 use Rattle.release_core.specs.Removals.{by_tag_rule, prescribed_removal_rule, extents_of_tag}
-use Rattle.report.specs.device_rules.specs.Adding.{add_outcome, add_rule, offered}
-use Rattle.report.specs.device_rules.specs.Answers.{effects_with, manager_outcome, manager_result, manager_rule, scrubbed, unless, zeroes}
-use Rattle.report.specs.device_rules.specs.EventCommands.{clear_outcome}
-use Rattle.report.specs.device_rules.specs.Legal.{Meets, right_answer}
-use Rattle.report.specs.device_rules.specs.Logs.{log_of}
-use Rattle.report.specs.device_rules.specs.Outcomes.{Outcome, effects_of, log_full}
-use Rattle.report.specs.device_rules.specs.ReleaseOutcomes.{is_cleaning, is_forced, policy_in, remove_outcome, remove_rule, removed, removals}
-use Rattle.report.specs.device_rules.specs.Settings.{set_outcome}
-use Rattle.report.specs.device_rules.specs.TagCommands.{add_reference_outcome, remove_reference_outcome}
-use Rattle.report.specs.device_rules.specs.Tags.{is_referenced}
-use Rattle.report.specs.device_rules.specs.Views.{View, view_after, view_of}
-use Rattle.report.specs.device_rules.proofs.EffectKinds.{clear_passes, reference_passes, removals_pass, zeroes_pass}
-use Rattle.report.specs.device_rules.proofs.ListSteps.{each-both, each-change, each-map}
-use Rattle.report.specs.holding_laws.specs.Pictures.{Picture, picture_of}
-use Rattle.report.specs.holding_laws.specs.Standing.{IsMade, Sound}
-use Rattle.report.specs.holding_laws.proofs.AllLeave.{Behind}
-use Rattle.report.specs.holding_laws.proofs.Going.{IsGoing, some_going}
-use Rattle.report.specs.holding_laws.proofs.LeftStanding.{going_of, going_rule}
-use Rattle.report.specs.holding_laws.proofs.OneLeave.{loose}
-use Rattle.report.specs.holding_laws.proofs.Overlaps.{neither}
-use Rattle.report.specs.step_laws.proofs.LogHistories.{leaves_logs}
-use Rattle.report.specs.step_laws.proofs.LogOutcomes.{last_of, room_for}
-use Rattle.report.specs.step_laws.proofs.LogSteps.{IsSound as IsSoundLog}
-use Rattle.report.specs.step_laws.proofs.ViewOthers.{add-leaves, answer-leaves, remove-leaves}
-use Rattle.report.specs.step_laws.proofs.ViewsLeft.{leaves_view, outcome-leaves}
+use Rattle.device_plain.specs.device_rules.specs.Adding.{add_outcome, add_rule, offered}
+use Rattle.device_plain.specs.device_rules.specs.Answers.{effects_with, manager_outcome, manager_result, manager_rule, scrubbed, unless, zeroes}
+use Rattle.device_plain.specs.device_rules.specs.EventCommands.{clear_outcome}
+use Rattle.device_plain.specs.device_rules.specs.Legal.{Meets, right_answer}
+use Rattle.device_plain.specs.device_rules.specs.Logs.{log_of}
+use Rattle.device_plain.specs.device_rules.specs.Outcomes.{Outcome, effects_of, log_full}
+use Rattle.device_plain.specs.device_rules.specs.ReleaseOutcomes.{is_cleaning, is_forced, policy_in, remove_outcome, remove_rule, removed, removals}
+use Rattle.device_plain.specs.device_rules.specs.Settings.{set_outcome}
+use Rattle.device_plain.specs.device_rules.specs.TagCommands.{add_reference_outcome, remove_reference_outcome}
+use Rattle.device_plain.specs.device_rules.specs.Tags.{is_referenced}
+use Rattle.device_plain.specs.device_rules.specs.Views.{View, view_after, view_of}
+use Rattle.device_plain.specs.device_rules.proofs.EffectKinds.{clear_passes, reference_passes, removals_pass, zeroes_pass}
+use Rattle.device_plain.specs.device_rules.proofs.ListSteps.{each-both, each-change, each-map}
+use Rattle.report.specs.device_laws.specs.Pictures.{Picture, picture_of}
+use Rattle.report.specs.device_laws.specs.Standing.{IsMade, Sound}
+use Rattle.report.specs.device_laws.proofs.AllLeave.{Behind}
+use Rattle.report.specs.device_laws.proofs.Going.{IsGoing, some_going}
+use Rattle.report.specs.device_laws.proofs.LeftStanding.{going_of, going_rule}
+use Rattle.report.specs.device_laws.proofs.OneLeave.{loose}
+use Rattle.report.specs.device_laws.proofs.Overlaps.{neither}
+use Rattle.report.specs.device_laws.proofs.LogHistories.{leaves_logs}
+use Rattle.report.specs.device_laws.proofs.LogOutcomes.{last_of, room_for}
+use Rattle.report.specs.device_laws.proofs.LogSteps.{IsSound as IsSoundLog}
+use Rattle.report.specs.device_laws.proofs.ViewOthers.{add-leaves, answer-leaves, remove-leaves}
+use Rattle.report.specs.device_laws.proofs.ViewsLeft.{leaves_view, outcome-leaves}
 use Rattle.device_plain.specs.isolation_laws.specs.Solo.{block_item, acts_for, extents_recorded}
 use Rattle.device_plain.specs.isolation_laws.specs.declared.items.Item.{Item}
 use Rattle.device_plain.specs.isolation_laws.proofs.OwnRecords.{told_log_records}

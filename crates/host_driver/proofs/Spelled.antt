@@ -13,8 +13,8 @@ use Rattle.journal_core.specs.declared.outcome.Effect.{Effect}
 use Rattle.journal_core.proofs.EachSteps.{EachFrom-at}
 use Rattle.journal_core.proofs.JournalSteps.{effects-push}
 use Rattle.region_config.specs.Configurations.{Configuration}
-use Rattle.report.specs.device_rules.specs.Legal.{Legal, Meets, right_answer}
-use Rattle.report.specs.device_rules.proofs.ListSteps.{each-append}
+use Rattle.device_plain.specs.device_rules.specs.Legal.{Legal, Meets, right_answer}
+use Rattle.device_plain.specs.device_rules.proofs.ListSteps.{each-append}
 use Rattle.device_plain.specs.Numbering.{commands_of}
 use Rattle.device_plain.proofs.Numbered.{commands-push}
 use Rattle.host_driver.specs.Spelling.{AreSpelled, AreSpelledIn, IsSpelledIn}

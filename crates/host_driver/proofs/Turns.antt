@@ -17,8 +17,8 @@ use Rattle.journal_core.proofs.EachSteps.{Each-push, EachFrom-at}
 use Rattle.region_config.specs.Configurations.{Configuration}
 use Rattle.region_config.specs.Soundness.{IsSound}
 use Rattle.report.specs.script_codec.specs.Covering.{pass_of}
-use Rattle.report.specs.device_rules.specs.Legal.{Legal, Meets}
-use Rattle.report.specs.device_rules.specs.Views.{view_of}
+use Rattle.device_plain.specs.device_rules.specs.Legal.{Legal, Meets}
+use Rattle.device_plain.specs.device_rules.specs.Views.{view_of}
 use Rattle.device_plain.specs.isolation_laws.specs.Solo.{acts_for}
 use Rattle.host_driver.specs.Driving.{gives, replied, reply_fault}
 use Rattle.host_driver.specs.Journals.{IsDriven, IsDrivenStep, IsTurn, IsUnlined, driver_of, ends_with, entries_of_others, entry_of_others, is_at_rest, pair_of}

@@ -15,9 +15,9 @@ use Rattle.journal_core.specs.declared.entries.Entry.{Entry}
 use Rattle.journal_core.specs.Entries.{Each, effects, fits}
 use Rattle.report.specs.script_codec.specs.declared.script_line.Line.{Line}
 use Rattle.report.specs.script_codec.specs.Covering.{pass_of}
-use Rattle.report.specs.device_rules.specs.Counts.{records_of}
-use Rattle.report.specs.device_rules.specs.Hosts.{accepted_of}
-use Rattle.report.specs.device_rules.specs.Legal.{Legal}
+use Rattle.device_plain.specs.device_rules.specs.Counts.{records_of}
+use Rattle.device_plain.specs.device_rules.specs.Hosts.{accepted_of}
+use Rattle.device_plain.specs.device_rules.specs.Legal.{Legal}
 use Rattle.device_plain.specs.isolation_laws.specs.Solo.{acts_for}
 use Rattle.host_driver.specs.Driving.{Driven, driven, gives, is_refusal}
 

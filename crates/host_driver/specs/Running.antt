@@ -9,8 +9,8 @@ use Rattle.region_config.specs.Configurations.{Configuration}
 use Rattle.journal_core.specs.declared.entries.Entry.{Entry}
 use Rattle.journal_core.specs.Entries.{Each, effects}
 use Rattle.report.specs.script_codec.specs.declared.script_line.Line.{Line}
-use Rattle.report.specs.device_rules.specs.Legal.{Legal}
-use Rattle.report.specs.device_rules.specs.Logs.{log_of}
+use Rattle.device_plain.specs.device_rules.specs.Legal.{Legal}
+use Rattle.device_plain.specs.device_rules.specs.Logs.{log_of}
 use Rattle.device_plain.specs.Devices.{Plain}
 use Rattle.host_driver.specs.declared.due.Due.{Due}
 use Rattle.host_driver.specs.Driving.{Driven}

@@ -9,9 +9,8 @@ use crate::due::Due;
 use crate::kept::Kept;
 use crate::tables::listed;
 use cci_codec::{Payload, Request};
-use dcd_base::{Bytes, Extents, Handles, NoMemory};
+use dcd_base::{Bytes, Extents, Handles, NoMemory, ShortList};
 use host_payloads::{HostRequest, encode};
-use short_list::ShortList;
 use std::alloc::Global;
 
 /// The log of Dynamic Capacity events.

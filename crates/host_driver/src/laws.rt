@@ -1,6 +1,6 @@
 //! What a driver keeps in every legal journal.
 
-ghost use Rattle.report.specs.device_rules.specs.Legal.{Legal};
+ghost use Rattle.device_plain.specs.device_rules.specs.Legal.{Legal};
 ghost use Rattle.host_driver.specs.Journals.{IsDriven, KeepsTable};
 ghost use Rattle.std.specs.Prelude.{◌<◌};
 

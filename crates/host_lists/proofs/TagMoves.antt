@@ -7,10 +7,10 @@ use Rattle.std.proofs.lemmas.Cmp.{nat_list_eq_equiv}
 use Rattle.std.proofs.lemmas.List.{drop_more, map-append, take_all, take_more}
 use Rattle.std.specs.List.{list_all, list_any}
 use Rattle.std.proofs.lemmas.List.Folds.{list_any-append}
-use Rattle.dcd_base.specs.declared.capacity.Extent.{Extent}
-use Rattle.dcd_base.specs.declared.capacity.Tag.{Tag}
-use Rattle.dcd_base.specs.Words.{distinct_tags, is_zero_tag, same_tag}
-use Rattle.extent_list.specs.ExtentLists.{has_extent_of}
+use Rattle.list_rules.specs.dcd_codes.specs.dcd_base.specs.declared.capacity.Extent.{Extent}
+use Rattle.list_rules.specs.dcd_codes.specs.dcd_base.specs.declared.capacity.Tag.{Tag}
+use Rattle.list_rules.specs.dcd_codes.specs.dcd_base.specs.Words.{distinct_tags, is_zero_tag, same_tag}
+use Rattle.list_rules.specs.extent_list.specs.ExtentLists.{has_extent_of}
 use Rattle.host_lists.specs.Tags.{is_new, tag_count, tags_in_order}
 use Rattle.host_lists.proofs.Offered.{any-flat}
 use Rattle.host_lists.proofs.TagCounting.{is_real, no_extent, one_more, tag_count-push}

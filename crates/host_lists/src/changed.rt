@@ -1,7 +1,7 @@
 //! A host's lists as a change would leave them.
 
-ghost use Rattle.dcd_base.specs.Limits.{extents_supported, tags_supported};
-ghost use Rattle.extent_list.specs.ExtentLists.{count_in, has_extent_of, real_tags};
+ghost use Rattle.list_rules.specs.dcd_codes.specs.dcd_base.specs.Limits.{extents_supported, tags_supported};
+ghost use Rattle.list_rules.specs.extent_list.specs.ExtentLists.{count_in, has_extent_of, real_tags};
 ghost use Rattle.host_lists.specs.Changes.{changed_by, with_offer};
 ghost use Rattle.host_lists.specs.Lists.{extent_total, extents_of_lists};
 ghost use Rattle.offer_core.specs.Offerings.{lists_of};
@@ -13,9 +13,9 @@ use crate::lists_change::{ListsChange, OffersChange};
 use crate::offer_lists::OfferLists;
 use crate::tag_counts::has_in_offers;
 use crate::tags_after::tags_after;
-use dcd_base::limits::{EXTENTS, TAGS};
-use dcd_base::{Extent, Tag};
-use extent_list::has_extent_of;
+use list_rules::dcd_codes::dcd_base::limits::{EXTENTS, TAGS};
+use list_rules::dcd_codes::dcd_base::{Extent, Tag};
+use list_rules::extent_list::has_extent_of;
 use offer_core::Offers;
 use std::marker::Model;
 

@@ -7,9 +7,9 @@ ghost use Rattle.std.specs.Prelude.{◌≡◌, [], drop};
 
 use crate::lists::HostLists;
 use crate::tags_after::tags_after;
-use dcd_base::Extents;
-use dcd_base::limits::{EXTENTS, LISTED_EXTENTS};
-use extent_list::ExtentList;
+use list_rules::dcd_codes::dcd_base::Extents;
+use list_rules::dcd_codes::dcd_base::limits::{EXTENTS, LISTED_EXTENTS};
+use list_rules::extent_list::ExtentList;
 use offer_core::{Offer, Offers};
 use release_core::Releases;
 use std::mem::{replace, swap};

@@ -3,7 +3,7 @@
 ghost use Rattle.offer_core.specs.Offerings.{lists_of};
 ghost use Rattle.std.specs.Prelude.{◌≡◌, ◌<◌, Some, drop, length, slice_get};
 
-use dcd_base::Extent;
+use list_rules::dcd_codes::dcd_base::Extent;
 use offer_core::Offers;
 use std::marker::Model;
 
@@ -15,7 +15,7 @@ pub(crate) struct OfferLists<'a> {
 }
 
 impl<'a> Model for OfferLists<'a> {
-    ghost use Rattle.dcd_base.specs.declared.capacity.Extent.{Extent};
+    ghost use Rattle.list_rules.specs.dcd_codes.specs.dcd_base.specs.declared.capacity.Extent.{Extent};
     ghost use Rattle.offer_core.specs.Offerings.{lists_of};
     ghost use Rattle.std.specs.Prelude.{List, drop};
 

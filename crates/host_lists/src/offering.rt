@@ -7,7 +7,7 @@ ghost use Rattle.std.specs.Prelude.{◌≡◌, ◌++◌, ◌∷◌, [], OnErr, O
 use crate::lists::HostLists;
 use crate::offer_lists::OfferLists;
 use crate::tag_counts::more_tags;
-use dcd_base::{Extent, Extents, NoMemory};
+use list_rules::dcd_codes::dcd_base::{Extent, Extents, NoMemory};
 use offer_core::Offer;
 
 impl HostLists {

@@ -7,7 +7,7 @@ use crate::changes::next_generation;
 use crate::lists::HostLists;
 use crate::offer_lists::OfferLists;
 use crate::tag_counts::all_tags;
-use dcd_base::{Extents, NoMemory};
+use list_rules::dcd_codes::dcd_base::{Extents, NoMemory};
 
 impl HostLists {
     /// Takes those of these extents out of the accepted ones that lie in one when their turn comes, which counts as

@@ -1,7 +1,7 @@
 //! How many tags there are once extents have come and gone, without a count of the others.
 
-ghost use Rattle.dcd_base.specs.Words.{same_tag};
-ghost use Rattle.extent_list.specs.ExtentLists.{has_extent_of};
+ghost use Rattle.list_rules.specs.dcd_codes.specs.dcd_base.specs.Words.{same_tag};
+ghost use Rattle.list_rules.specs.extent_list.specs.ExtentLists.{has_extent_of};
 ghost use Rattle.host_lists.specs.Tags.{capped, is_new, tag_count, tags_in_order};
 ghost use Rattle.std.specs.List.{list_all};
 ghost use Rattle.offer_core.specs.Offerings.{lists_of};
@@ -9,8 +9,8 @@ ghost use Rattle.std.specs.Prelude.{◌≡◌, ◌++◌, ◌-◌, ◌<◌, ◌�
 
 use crate::offer_lists::OfferLists;
 use crate::tag_counts::{all_tags, has_in_offers, is_tag_of_last};
-use dcd_base::{Extent, Tag, no_tag};
-use extent_list::{has_extent_of, has_no_tags, same_tag};
+use list_rules::dcd_codes::dcd_base::{Extent, Tag, no_tag};
+use list_rules::extent_list::{has_extent_of, has_no_tags, same_tag};
 use offer_core::Offers;
 
 /// How many extents at the front of both lists have the same tags.

@@ -13,8 +13,8 @@ use crate::lists_change::{ListsChange, OffersChange};
 use crate::offer_lists::OfferLists;
 use crate::tag_changes::{tags_accepted, tags_answered, tags_replaced};
 use crate::tag_counts::{all_tags, more_tags};
-use dcd_base::Extent;
-use dcd_base::limits::EXTENTS;
+use list_rules::dcd_codes::dcd_base::Extent;
+use list_rules::dcd_codes::dcd_base::limits::EXTENTS;
 use offer_core::Offers;
 
 /// How many there are after the change.

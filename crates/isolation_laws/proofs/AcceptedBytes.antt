@@ -7,11 +7,11 @@ use Rattle.std.proofs.lemmas.List.Folds.{list_any-append}
 use Rattle.dcd_base.specs.declared.capacity.Extent.{Extent}
 use Rattle.dcd_base.specs.declared.ids.HostId.{HostId}
 use Rattle.event_records.specs.declared.events.EventKind.{EventKind}
-use Rattle.extent_list.specs.ExtentLists.{cut, cut_all, has_range, lies_in, piece, without}
+use Rattle.list_rules.specs.extent_list.specs.ExtentLists.{cut, cut_all, has_range, lies_in, piece, without}
 use Rattle.journal_core.specs.declared.outcome.Effect.{Effect}
-use Rattle.media_map.specs.Places.{bytes_of_run, start_of}
-use Rattle.region_config.specs.Configurations.{Configuration}
-use Rattle.region_config.specs.Granules.{is_supported, region_spec}
+use Rattle.list_rules.specs.media_map.specs.Places.{bytes_of_run, start_of}
+use Rattle.list_rules.specs.media_map.specs.region_config.specs.Configurations.{Configuration}
+use Rattle.list_rules.specs.media_map.specs.region_config.specs.Granules.{is_supported, region_spec}
 use Rattle.device_commands.specs.device_rules.specs.Hosts.{accepted_after}
 use Rattle.device_commands.specs.device_rules.specs.Outcomes.{no_extent, record_for}
 use Rattle.device_commands.specs.device_rules.specs.Views.{View}

@@ -6,9 +6,9 @@ use Rattle.cci_codec.specs.declared.messages.Request.{Request}
 use Rattle.dcd_base.specs.declared.capacity.Extent.{Extent}
 use Rattle.dcd_base.specs.declared.ids.HostId.{HostId}
 use Rattle.dcd_base.specs.declared.steps.LogId.{LogId}
-use Rattle.dcd_codes.specs.Rules.{code_of}
-use Rattle.dcd_codes.specs.declared.codes.Code.{Code}
-use Rattle.dcd_codes.specs.declared.rules.Rule.{Rule}
+use Rattle.list_rules.specs.dcd_codes.specs.Rules.{code_of}
+use Rattle.list_rules.specs.dcd_codes.specs.declared.codes.Code.{Code}
+use Rattle.list_rules.specs.dcd_codes.specs.declared.rules.Rule.{Rule}
 use Rattle.device_commands.specs.HostMessages.{IsDraft}
 use Rattle.device_commands.specs.Drafts.{AreAfter}
 use Rattle.device_commands.specs.device_state.specs.StateAfter.{IsLogOf, lists_in}
@@ -19,12 +19,12 @@ use Rattle.device_commands.specs.host_lists.specs.declared.lists_change.ListsCha
 use Rattle.journal_core.specs.declared.acts.Act.{Act}
 use Rattle.journal_core.specs.declared.acts.Reply.{Reply}
 use Rattle.journal_core.specs.declared.outcome.HeldKind.{HeldKind}
-use Rattle.region_config.specs.Configurations.{Configuration}
+use Rattle.list_rules.specs.media_map.specs.region_config.specs.Configurations.{Configuration}
 use Rattle.device_commands.specs.device_rules.specs.Answers.{dropped, host_outcome, host_result, host_result_in, reply_with, response, unless}
 use Rattle.device_commands.specs.device_rules.specs.Outcomes.{Outcome}
 use Rattle.device_commands.specs.device_rules.specs.ResponseOutcomes.{unhold}
 use Rattle.device_commands.specs.device_rules.specs.Views.{View, view_after}
-use Rattle.device_commands.specs.step_laws.proofs.ViewCommands.{after_refusal, view_after-dropped}
+use Rattle.device_commands.specs.device_laws.proofs.ViewCommands.{after_refusal, view_after-dropped}
 use Rattle.isolation_laws.specs.Acting.{ChangesAlone, changed_lists, without_held}
 use Rattle.isolation_laws.specs.Alone.{DoesAlone, IsAlone}
 use Rattle.isolation_laws.specs.Solo.{accepts_byte, changes_with}

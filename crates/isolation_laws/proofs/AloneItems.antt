@@ -9,8 +9,8 @@ use Rattle.dcd_base.specs.declared.ids.HostId.{HostId}
 use Rattle.dcd_base.specs.declared.media.Place.{Place}
 use Rattle.device_commands.specs.device_rules.specs.Views.{View, first_view}
 use Rattle.journal_core.specs.declared.acts.Act.{Act}
-use Rattle.media_map.specs.Places.{locate}
-use Rattle.region_config.specs.Configurations.{Configuration}
+use Rattle.list_rules.specs.media_map.specs.Places.{locate}
+use Rattle.list_rules.specs.media_map.specs.region_config.specs.Configurations.{Configuration}
 use Rattle.isolation_laws.specs.Alone.{IsAlone, access_in, replies_after, reply_in, solo_replies}
 use Rattle.isolation_laws.specs.Solo.{solo, solo_access, solo_after, solo_view, solo_word, solo_word_after}
 use Rattle.isolation_laws.specs.Telling.{replies_to}

@@ -6,10 +6,10 @@ use Rattle.std.proofs.lemmas.List.Sums.{sum_by_push}
 use Rattle.dcd_base.specs.declared.capacity.Extent.{Extent}
 use Rattle.dcd_base.specs.declared.ids.HostId.{HostId}
 use Rattle.device_commands.specs.device_rules.specs.Views.{View, extents_in}
-use Rattle.extent_list.specs.ExtentLists.{count_in, cut_all}
+use Rattle.list_rules.specs.extent_list.specs.ExtentLists.{count_in, cut_all}
 use Rattle.device_commands.specs.device_state.specs.StateAfter.{lists_in}
 use Rattle.device_commands.specs.host_lists.specs.Lists.{Lists, extent_total, next_generation}
-use Rattle.region_config.specs.Configurations.{Configuration}
+use Rattle.list_rules.specs.media_map.specs.region_config.specs.Configurations.{Configuration}
 use Rattle.isolation_laws.specs.Alone.{IsAlone}
 use Rattle.isolation_laws.specs.declared.alone.Alone.{Alone}
 use Rattle.isolation_laws.proofs.ToldAlone.{view_total}

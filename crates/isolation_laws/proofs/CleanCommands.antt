@@ -7,7 +7,7 @@ use Rattle.dcd_base.specs.declared.capacity.Extent.{Extent}
 use Rattle.dcd_base.specs.declared.capacity.Tag.{Tag}
 use Rattle.dcd_base.specs.declared.ids.HostId.{HostId}
 use Rattle.dcd_base.specs.declared.steps.LogId.{LogId}
-use Rattle.extent_list.specs.ExtentLists.{is_in, marked}
+use Rattle.list_rules.specs.extent_list.specs.ExtentLists.{is_in, marked}
 use Rattle.fm_payloads.specs.declared.requests.FmRequest.{FmRequest}
 use Rattle.host_payloads.specs.declared.requests.HostRequest.{HostRequest}
 use Rattle.journal_core.specs.Entries.{effects}
@@ -15,22 +15,22 @@ use Rattle.journal_core.specs.declared.entries.Entry.{Entry}
 use Rattle.journal_core.specs.declared.outcome.Effect.{Effect}
 use Rattle.journal_core.specs.declared.outcome.HeldKind.{HeldKind}
 use Rattle.list_rules.specs.Listing.{too_many_listed}
-use Rattle.media_map.specs.Places.{region_at, run_of}
+use Rattle.list_rules.specs.media_map.specs.Places.{region_at, run_of}
 use Rattle.offer_core.specs.Offerings.{oldest_of}
 use Rattle.offer_core.specs.Responses.{response_list_rule, respond_rule}
-use Rattle.region_config.specs.Configurations.{Configuration}
-use Rattle.region_config.specs.Granules.{granule_size, region_of, region_spec, with_blocks}
-use Rattle.region_config.specs.Soundness.{IsSound}
-use Rattle.device_commands.specs.holding_laws.specs.Pictures.{Picture, extents_at, picture_of}
-use Rattle.device_commands.specs.holding_laws.specs.Standing.{IsHome, IsMade, Sound, Stands}
-use Rattle.device_commands.specs.holding_laws.proofs.Adding.{added, row_of}
-use Rattle.device_commands.specs.holding_laws.proofs.CutSteps.{in_has}
-use Rattle.device_commands.specs.holding_laws.proofs.Holding.{home_made, present_whole}
-use Rattle.device_commands.specs.holding_laws.proofs.Homes.{made_of_region}
+use Rattle.list_rules.specs.media_map.specs.region_config.specs.Configurations.{Configuration}
+use Rattle.list_rules.specs.media_map.specs.region_config.specs.Granules.{granule_size, region_of, region_spec, with_blocks}
+use Rattle.list_rules.specs.media_map.specs.region_config.specs.Soundness.{IsSound}
+use Rattle.device_commands.specs.device_laws.specs.Pictures.{Picture, extents_at, picture_of}
+use Rattle.device_commands.specs.device_laws.specs.Standing.{IsHome, IsMade, Sound, Stands}
+use Rattle.device_commands.specs.device_laws.proofs.Adding.{added, row_of}
+use Rattle.device_commands.specs.device_laws.proofs.CutSteps.{in_has}
+use Rattle.device_commands.specs.device_laws.proofs.Holding.{home_made, present_whole}
+use Rattle.device_commands.specs.device_laws.proofs.Homes.{made_of_region}
 use Rattle.device_commands.specs.device_rules.proofs.ListSteps.{any-map, each-at, each-back, each-both, each-change, each-front}
-use Rattle.device_commands.specs.holding_laws.proofs.OneOffer.{reaches}
-use Rattle.device_commands.specs.holding_laws.proofs.Overlaps.{neither}
-use Rattle.device_commands.specs.holding_laws.proofs.Responding.{answer_of}
+use Rattle.device_commands.specs.device_laws.proofs.OneOffer.{reaches}
+use Rattle.device_commands.specs.device_laws.proofs.Overlaps.{neither}
+use Rattle.device_commands.specs.device_laws.proofs.Responding.{answer_of}
 use Rattle.device_commands.specs.device_rules.specs.Adding.{add_outcome, add_rule, offered}
 use Rattle.device_commands.specs.device_rules.specs.Answers.{host_outcome, host_rule, manager_outcome, manager_rule}
 use Rattle.device_commands.specs.device_rules.specs.EventCommands.{clear_outcome}
@@ -49,7 +49,7 @@ use Rattle.device_commands.specs.device_rules.proofs.EffectKinds.{PassClearing, 
 use Rattle.device_commands.specs.device_rules.proofs.Leaving.{both_pass, map_passes}
 use Rattle.device_commands.specs.device_rules.proofs.LegalSteps.{Cases, step_case}
 use Rattle.device_commands.specs.device_rules.proofs.RunEffects.{in_extents}
-use Rattle.device_commands.specs.step_laws.proofs.StatusOutcomes.{unhold-quiet}
+use Rattle.device_commands.specs.device_laws.proofs.StatusOutcomes.{unhold-quiet}
 use Rattle.isolation_laws.proofs.CalmEffects.{is_calm}
 use Rattle.isolation_laws.proofs.CleanSteps.{KeepsClean, keeps_answer, keeps_calm, keeps_offer, keeps_outcome, keeps_scrub}
 use Rattle.isolation_laws.proofs.OfferedFree.{free_untaken, offered_free}

@@ -5,7 +5,7 @@ use Rattle.event_log.proofs.Histories.{begins}
 use Rattle.event_log.specs.LogStates.{new_log}
 use Rattle.granule_mem.specs.Contents.{word_among}
 use Rattle.device_commands.specs.host_lists.specs.Lists.{extent_total, no_lists}
-use Rattle.region_config.specs.Configurations.{Configuration}
+use Rattle.list_rules.specs.media_map.specs.region_config.specs.Configurations.{Configuration}
 use Rattle.device_commands.specs.device_rules.specs.Views.{first_view}
 use Rattle.device_commands.specs.device_state.proofs.Fresh.{own_blocks}
 use Rattle.isolation_laws.specs.Alone.{IsAlone}

@@ -13,11 +13,11 @@ use Rattle.journal_core.specs.declared.acts.Act.{Act}
 use Rattle.journal_core.specs.declared.acts.Reply.{Reply}
 use Rattle.journal_core.specs.declared.entries.Entry.{Entry}
 use Rattle.journal_core.proofs.EachSteps.{Each-push}
-use Rattle.media_map.specs.Places.{locate}
-use Rattle.region_config.specs.Configurations.{Configuration}
-use Rattle.region_config.specs.Granules.{region_spec}
-use Rattle.region_config.specs.Soundness.{IsSound}
-use Rattle.device_commands.specs.holding_laws.proofs.LegalSound.{legal_is_sound}
+use Rattle.list_rules.specs.media_map.specs.Places.{locate}
+use Rattle.list_rules.specs.media_map.specs.region_config.specs.Configurations.{Configuration}
+use Rattle.list_rules.specs.media_map.specs.region_config.specs.Granules.{region_spec}
+use Rattle.list_rules.specs.media_map.specs.region_config.specs.Soundness.{IsSound}
+use Rattle.device_commands.specs.device_laws.proofs.LegalSound.{legal_is_sound}
 use Rattle.device_commands.specs.device_rules.specs.Answers.{host_result_in, reply_with}
 use Rattle.device_commands.specs.device_rules.specs.Legal.{Legal, access_at, granted_reply, right_answer, word_of}
 use Rattle.device_commands.specs.device_rules.proofs.LegalSteps.{by_steps}

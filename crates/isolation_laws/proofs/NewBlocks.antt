@@ -8,12 +8,12 @@ use Rattle.std.proofs.lemmas.List.FromFn.{length-enumerate_from}
 use Rattle.dcd_base.specs.Words.{flag_of}
 use Rattle.dcd_base.specs.declared.ids.HostId.{HostId}
 use Rattle.device_commands.specs.device_rules.specs.Views.{View}
-use Rattle.region_config.proofs.PresentBlocks.{region_spec-with_blocks, with_block-with_blocks}
-use Rattle.region_config.specs.Blocks.{block_fault, with_block}
-use Rattle.region_config.specs.Configurations.{Configuration}
-use Rattle.region_config.specs.Granules.{is_supported, region_spec, sizes_in}
-use Rattle.region_config.specs.declared.faults.BlockFault.{BlockFault}
-use Rattle.region_config.specs.declared.region_spec.RegionSpec.{RegionSpec}
+use Rattle.list_rules.specs.media_map.specs.region_config.proofs.PresentBlocks.{region_spec-with_blocks, with_block-with_blocks}
+use Rattle.list_rules.specs.media_map.specs.region_config.specs.Blocks.{block_fault, with_block}
+use Rattle.list_rules.specs.media_map.specs.region_config.specs.Configurations.{Configuration}
+use Rattle.list_rules.specs.media_map.specs.region_config.specs.Granules.{is_supported, region_spec, sizes_in}
+use Rattle.list_rules.specs.media_map.specs.region_config.specs.declared.faults.BlockFault.{BlockFault}
+use Rattle.list_rules.specs.media_map.specs.region_config.specs.declared.region_spec.RegionSpec.{RegionSpec}
 use Rattle.isolation_laws.specs.Alone.{IsAlone}
 use Rattle.isolation_laws.specs.Solo.{block_set, with_log_records}
 use Rattle.isolation_laws.specs.Telling.{resized}

@@ -10,8 +10,8 @@ use Rattle.event_log.specs.LogStates.{LogState}
 use Rattle.device_commands.specs.device_state.specs.StateAfter.{IsLogOf}
 use Rattle.host_payloads.specs.declared.requests.HostRequest.{HostRequest}
 use Rattle.journal_core.specs.declared.outcome.Effect.{Effect}
-use Rattle.region_config.specs.Configurations.{Configuration}
-use Rattle.region_config.specs.Granules.{with_blocks}
+use Rattle.list_rules.specs.media_map.specs.region_config.specs.Configurations.{Configuration}
+use Rattle.list_rules.specs.media_map.specs.region_config.specs.Granules.{with_blocks}
 use Rattle.device_commands.specs.device_rules.specs.Answers.{host_outcome, host_rule}
 use Rattle.device_commands.specs.device_rules.specs.Hosts.{block_after}
 use Rattle.device_commands.specs.device_rules.specs.Logs.{log_after}
@@ -21,11 +21,11 @@ use Rattle.device_commands.specs.device_rules.specs.Views.{View, view_after}
 use Rattle.device_commands.specs.device_state.proofs.RecordSteps.{log_all}
 use Rattle.device_commands.specs.device_state.proofs.Rooms.{records_none, rooms_none}
 use Rattle.device_commands.specs.device_state.specs.Entered.{log_by}
-use Rattle.device_commands.specs.step_laws.proofs.Clearing.{own_clear-history}
+use Rattle.device_commands.specs.device_laws.proofs.Clearing.{own_clear-history}
 use Rattle.device_commands.specs.device_rules.proofs.EffectKinds.{PassClearing, PassHeld, PassLists, clear_passes, give_back_passes, respond_passes}
 use Rattle.device_commands.specs.device_rules.proofs.Leaving.{all_pass, over-leaving}
-use Rattle.device_commands.specs.step_laws.proofs.LogHistories.{leaves_logs, log-left}
-use Rattle.device_commands.specs.step_laws.proofs.LogOutcomes.{held_leaves, lists_leave}
+use Rattle.device_commands.specs.device_laws.proofs.LogHistories.{leaves_logs, log-left}
+use Rattle.device_commands.specs.device_laws.proofs.LogOutcomes.{held_leaves, lists_leave}
 
 -- no block size and no record
 abbrev pub is_own : Effect → Bool

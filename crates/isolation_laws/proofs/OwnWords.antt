@@ -15,13 +15,13 @@ use Rattle.journal_core.specs.declared.acts.Act.{Act}
 use Rattle.journal_core.specs.declared.acts.Reply.{Reply}
 use Rattle.journal_core.specs.declared.entries.Entry.{Entry}
 use Rattle.journal_core.proofs.EachSteps.{Each-push}
-use Rattle.media_map.specs.Places.{IsPlace, address_of, locate}
-use Rattle.media_map.proofs.PlaceLemmas.{address_back}
-use Rattle.region_config.specs.Configurations.{Configuration}
-use Rattle.region_config.specs.Granules.{base_of, first_granule, granule_size, region_of, region_spec}
-use Rattle.region_config.specs.Soundness.{IsSound}
-use Rattle.device_commands.specs.holding_laws.proofs.ExclusiveHolding.{sound_apart}
-use Rattle.device_commands.specs.holding_laws.proofs.LegalSound.{legal_is_sound}
+use Rattle.list_rules.specs.media_map.specs.Places.{IsPlace, address_of, locate}
+use Rattle.list_rules.specs.media_map.proofs.PlaceLemmas.{address_back}
+use Rattle.list_rules.specs.media_map.specs.region_config.specs.Configurations.{Configuration}
+use Rattle.list_rules.specs.media_map.specs.region_config.specs.Granules.{base_of, first_granule, granule_size, region_of, region_spec}
+use Rattle.list_rules.specs.media_map.specs.region_config.specs.Soundness.{IsSound}
+use Rattle.device_commands.specs.device_laws.proofs.ExclusiveHolding.{sound_apart}
+use Rattle.device_commands.specs.device_laws.proofs.LegalSound.{legal_is_sound}
 use Rattle.device_commands.specs.device_rules.specs.Legal.{Legal, Meets, access_at, access_reply, is_zeroing, right_answer, stored_at, word_after, word_by, word_of, written_by}
 use Rattle.device_commands.specs.device_rules.specs.Views.{View, first_view, view_of}
 use Rattle.device_commands.specs.device_rules.proofs.LegalSteps.{by_steps}

@@ -14,7 +14,7 @@ use Rattle.event_log.specs.Logs.{logged, records_in}
 use Rattle.event_records.specs.declared.events.Event.{Event}
 use Rattle.device_commands.specs.device_state.specs.StateAfter.{IsLogOf, lists_in}
 use Rattle.device_commands.specs.host_lists.specs.Lists.{extent_total}
-use Rattle.region_config.specs.Configurations.{Configuration}
+use Rattle.list_rules.specs.media_map.specs.region_config.specs.Configurations.{Configuration}
 use Rattle.isolation_laws.specs.Alone.{IsAlone, TakesItem}
 use Rattle.isolation_laws.specs.Solo.{solo_after, solo_word_after, with_log_records}
 use Rattle.isolation_laws.specs.Telling.{Logs}

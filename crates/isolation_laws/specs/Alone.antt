@@ -16,10 +16,10 @@ use Rattle.device_commands.specs.device_state.specs.StateAfter.{IsLogOf, lists_i
 use Rattle.device_commands.specs.host_lists.specs.Lists.{extent_total}
 use Rattle.journal_core.specs.declared.acts.Act.{Act}
 use Rattle.journal_core.specs.declared.acts.Reply.{Reply}
-use Rattle.media_map.specs.Places.{locate}
-use Rattle.region_config.specs.Configurations.{Configuration}
-use Rattle.region_config.specs.Granules.{region_spec, with_blocks}
-use Rattle.region_config.specs.declared.region_spec.RegionSpec.{RegionSpec}
+use Rattle.list_rules.specs.media_map.specs.Places.{locate}
+use Rattle.list_rules.specs.media_map.specs.region_config.specs.Configurations.{Configuration}
+use Rattle.list_rules.specs.media_map.specs.region_config.specs.Granules.{region_spec, with_blocks}
+use Rattle.list_rules.specs.media_map.specs.region_config.specs.declared.region_spec.RegionSpec.{RegionSpec}
 use Rattle.isolation_laws.specs.Solo.{has_byte, solo, solo_after, solo_view, solo_word_after}
 use Rattle.isolation_laws.specs.declared.alone.Alone.{Alone}
 use Rattle.isolation_laws.specs.declared.alone.Stop.{Stop}

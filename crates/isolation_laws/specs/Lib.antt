@@ -4,7 +4,6 @@ pub mod Laws
 pub mod Solo
 pub mod Telling
 pub use Rattle.device_commands.specs.device_rules
-pub use Rattle.device_commands.specs.holding_laws
-pub use Rattle.device_commands.specs.table_laws
+pub use Rattle.device_commands.specs.device_laws
 pub use Rattle.device_commands.specs.device_state
 pub use Rattle.device_commands

@@ -8,7 +8,7 @@ use Rattle.device_commands.specs.device_rules.specs.Views.{View}
 use Rattle.event_log.specs.Logs.{records_in}
 use Rattle.event_records.specs.declared.events.Event.{Event}
 use Rattle.event_records.specs.declared.events.EventKind.{EventKind}
-use Rattle.region_config.specs.Configurations.{Configuration}
+use Rattle.list_rules.specs.media_map.specs.region_config.specs.Configurations.{Configuration}
 use Rattle.isolation_laws.specs.Alone.{IsAlone, reply_in}
 use Rattle.isolation_laws.specs.Solo.{with_log_records}
 use Rattle.isolation_laws.specs.declared.alone.Alone.{Alone}

@@ -13,13 +13,13 @@ use crate::items::SoloReply;
 use crate::words_alone::{clear_words, has_byte, store_word, word_at};
 use cci_codec::Request;
 use dcd_base::{AccessFault, HostId, LogId, NoMemory};
-use dcd_codes::{Code, Refusal};
 use device_commands::device_state::change_log_named;
 use device_commands::host_lists::ListsChange;
 use device_commands::{Draft, DraftParts, Room, answer, host_draft, refused};
 use journal_core::{Act, Effect, Reply};
-use media_map::locate;
-use region_config::Config;
+use list_rules::dcd_codes::{Code, Refusal};
+use list_rules::media_map::locate;
+use list_rules::media_map::region_config::Config;
 use std::alloc::Global;
 
 /// The opcodes whose refusal ends a held list: Add Dynamic Capacity Response and Release Dynamic Capacity.

@@ -9,7 +9,7 @@ use dcd_base::NoMemory;
 use dcd_base::limits::HOST_RECORDS;
 use device_commands::host_lists::HostLists;
 use event_log::EventLog;
-use region_config::Config;
+use list_rules::media_map::region_config::Config;
 use std::alloc::Global;
 use std::collections::BTreeMap;
 

@@ -7,7 +7,7 @@ ghost use Rattle.device_commands.specs.host_lists.specs.Lists.{extent_total};
 ghost use Rattle.isolation_laws.specs.Alone.{TakesItem};
 ghost use Rattle.isolation_laws.specs.Telling.{Logs, resized};
 ghost use Rattle.isolation_laws.specs.declared.items.Item.{Item};
-ghost use Rattle.region_config.specs.Configurations.{Configuration};
+ghost use Rattle.list_rules.specs.media_map.specs.region_config.specs.Configurations.{Configuration};
 ghost use Rattle.std.specs.Prelude.{◌≡◌, ◌+◌, ◌^◌, ◌<◌, ◌≤◌, ◌↔◌, All, IsTrue, OnErr, OnOk, fold, length};
 
 use crate::alone::{Alone, Stop};

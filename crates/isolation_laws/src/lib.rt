@@ -12,7 +12,7 @@ mod words_alone;
 
 pub use deliveries::own_items;
 pub use device_commands;
-pub use device_commands::{device_rules, device_state, holding_laws, table_laws};
+pub use device_commands::{device_laws, device_rules, device_state};
 pub use items::{Item, Items, SoloReplies, SoloReply};
 pub use laws::{law_clean, law_holdings, law_isolated, law_lawful, law_two_worlds, law_view};
 pub use replying::{SoloFault, solo_replies};

@@ -8,7 +8,7 @@ ghost use Rattle.std.specs.Prelude.{◌≡◌, ◌<◌, ◌≤◌, IfErr, IfOk, 
 use crate::alone::{Alone, Stop};
 use crate::items::{Item, SoloReplies};
 use dcd_base::{HostId, NoMemory};
-use region_config::Config;
+use list_rules::media_map::region_config::Config;
 use std::alloc::Global;
 use std::error::Error;
 use std::fmt::{self, Display};

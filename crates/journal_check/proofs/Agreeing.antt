@@ -8,7 +8,7 @@ use Rattle.journal_core.specs.declared.entries.Entry.{Entry}
 use Rattle.journal_core.proofs.EachSteps.{Each-front}
 use Rattle.report.specs.script_codec.specs.declared.scripts.Script.{Script}
 use Rattle.report.specs.script_codec.specs.Covering.{Covers}
-use Rattle.report.specs.device_rules.specs.Legal.{Legal, Meets}
+use Rattle.device_plain.specs.device_rules.specs.Legal.{Legal, Meets}
 use Rattle.report.specs.Texts.{text, entry_line, entry_lines, first_line}
 use Rattle.journal_check.specs.Claims.{behind_line, Claims}
 use Rattle.journal_check.specs.Following.{FollowsPasses, IsNextInPass, left_after, left_by_entry, without_line}

@@ -11,7 +11,7 @@ use Rattle.journal_core.specs.declared.entries.Entry.{Entry}
 use Rattle.report.specs.script_codec.specs.declared.scripts.Script.{Script}
 use Rattle.report.specs.script_codec.specs.Covering.{is_line}
 use Rattle.report.specs.script_codec.specs.Scripts.{IsScript}
-use Rattle.report.specs.device_rules.specs.Legal.{Legal}
+use Rattle.device_plain.specs.device_rules.specs.Legal.{Legal}
 use Rattle.report.specs.Texts.{text}
 use Rattle.journal_check.specs.Claims.{behind_line}
 use Rattle.journal_check.specs.FirstWrong.{IsFirstWrong, IsJournalOf, IsRightText}

@@ -8,7 +8,7 @@ use Rattle.std.proofs.lemmas.Fmt.{decimal_is_IsNumeral, digits_value-decimal}
 use Rattle.std.proofs.lemmas.Str.Parse.{FoldsDigits, IsNumeralModel, numerals_by_fold, tells_digits}
 use Rattle.edge_io.specs.Words.{number_in}
 use Rattle.journal_core.specs.declared.entries.Entry.{Entry}
-use Rattle.report.specs.Texts.{entry_line, step_line, actor_name, act_name, reply_words, rest_of_line}
+use Rattle.report.specs.Texts.{entry_line, actor_name, act_name, reply_words, rest_of_line}
 use Rattle.journal_check.specs.Claims.{first_word, behind, behind_word, claim_in}
 
 abbrev HasNoSpace : List ℕ → Type 0
@@ -46,7 +46,7 @@ written : (n : ℕ) → n < 2 ^ 64 → number_in (decimal n) ≡ n
 written n small = digits_value-decimal model n small
 
 pub claimed : (n : ℕ) (e : Entry) (rest : List ℕ) → n < 2 ^ 64 → e.line < 2 ^ 64 → claim_in (entry_line (n, e) ++ rest) ≡ e.line
-unfolding entry_line step_line
+unfolding entry_line
 claimed n e rest small few =
     let number = decimal_is_IsNumeral n small in
     let line = decimal_is_IsNumeral e.line few in

@@ -13,7 +13,7 @@ use Rattle.report.specs.script_codec.specs.declared.scripts.Script.{Script}
 use Rattle.report.specs.script_codec.specs.Covering.{Covers}
 use Rattle.report.specs.script_codec.specs.Scripts.{is_sound_line}
 use Rattle.report.specs.script_codec.proofs.CoveringLaws.{runs_cover}
-use Rattle.report.specs.device_rules.specs.Legal.{Legal}
+use Rattle.device_plain.specs.device_rules.specs.Legal.{Legal}
 use Rattle.report.specs.Texts.{text, first_line, entry_line, entry_lines, all_records, state_lines}
 use Rattle.journal_check.specs.Following.{without_line, FollowsPasses, left_after}
 use Rattle.journal_check.specs.FirstWrong.{IsRightTo}

@@ -13,7 +13,7 @@ use Rattle.report.specs.script_codec.specs.declared.script_line.Line.{Line}
 use Rattle.report.specs.script_codec.specs.declared.scripts.Script.{Script}
 use Rattle.report.specs.script_codec.specs.Covering.{Covers, is_line}
 use Rattle.report.specs.script_codec.specs.Scripts.{is_sound_line}
-use Rattle.report.specs.device_rules.specs.Legal.{Legal, Meets}
+use Rattle.device_plain.specs.device_rules.specs.Legal.{Legal, Meets}
 use Rattle.report.specs.Texts.{text, all_records, entry_lines, first_line, state_lines}
 use Rattle.journal_check.specs.Claims.{behind_line, claim_in, Claims}
 use Rattle.journal_check.specs.FirstWrong.{IsFirstWrong, IsRightText, IsRightTo}

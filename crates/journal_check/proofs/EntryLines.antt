@@ -14,7 +14,7 @@ use Rattle.cci_codec.specs.Messages.{response_bytes}
 use Rattle.journal_core.specs.declared.acts.Act.{Act}
 use Rattle.journal_core.specs.declared.acts.Reply.{Reply}
 use Rattle.journal_core.specs.declared.entries.Entry.{Entry}
-use Rattle.report.specs.Texts.{actor_name, act_name, entry_line, fault_number, reply_words, rest_of_line, step_line}
+use Rattle.report.specs.Texts.{actor_name, act_name, entry_line, fault_number, reply_words, rest_of_line}
 use Rattle.journal_check.proofs.TextLines.{IsWord}
 
 -- ---- bytes without a line feed
@@ -115,7 +115,7 @@ pub record IsLine (bytes : List ℕ) : Type 0 where
   pub whole : IsWord word
 
 pub entry_is_line : (n : ℕ) (e : Entry) → n < 2 ^ 64 → IsSmall e → IsLine (entry_line (n, e))
-unfolding entry_line step_line
+unfolding entry_line
 entry_is_line n e few small =
     let words : List (List ℕ) = decimal e.line ∷ actor_name e.actor ∷ act_name e.act ∷ reply_words e.reply in
     record {

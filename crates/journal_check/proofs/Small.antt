@@ -26,11 +26,11 @@ use Rattle.journal_core.specs.Holders.{holds}
 use Rattle.report.specs.script_codec.specs.declared.script_line.Line.{Line}
 use Rattle.report.specs.script_codec.specs.declared.scripts.Script.{Script}
 use Rattle.report.specs.script_codec.specs.Covering.{Covers, IsOfLine}
-use Rattle.report.specs.device_rules.specs.Answers.{host_result_in, manager_result, reply_with, scrubbed}
-use Rattle.report.specs.device_rules.specs.Legal.{Legal, Meets, access_at, granted_reply, right_answer}
-use Rattle.report.specs.device_rules.specs.Outcomes.{Outcome}
-use Rattle.report.specs.device_rules.specs.Tags.{dirty_granules, is_dirty, status}
-use Rattle.report.specs.device_rules.specs.Views.{view_of}
+use Rattle.device_plain.specs.device_rules.specs.Answers.{host_result_in, manager_result, reply_with, scrubbed}
+use Rattle.device_plain.specs.device_rules.specs.Legal.{Legal, Meets, access_at, granted_reply, right_answer}
+use Rattle.device_plain.specs.device_rules.specs.Outcomes.{Outcome}
+use Rattle.device_plain.specs.device_rules.specs.Tags.{dirty_granules, is_dirty, status}
+use Rattle.device_plain.specs.device_rules.specs.Views.{view_of}
 use Rattle.fm_payloads.specs.ManagerPayloads.{manager_request}
 use Rattle.journal_check.proofs.EntryLines.{IsSmall, IsSmallActor, IsSmallReply}
 

@@ -10,10 +10,10 @@ use Rattle.dcd_base.specs.declared.media.Place.{Place}
 use Rattle.dcd_base.specs.declared.failures.AccessFault.{AccessFault}
 use Rattle.media_map.specs.Places.{locate}
 use Rattle.journal_core.specs.Holders.{holds}
-use Rattle.report.specs.device_rules.specs.Answers.{answer}
-use Rattle.report.specs.device_rules.specs.Hosts.{changes_of, moves}
+use Rattle.device_plain.specs.device_rules.specs.Answers.{answer}
+use Rattle.device_plain.specs.device_rules.specs.Hosts.{changes_of, moves}
 use Rattle.std.specs.List.{list_any}
-use Rattle.report.specs.device_rules.proofs.Answered
+use Rattle.device_plain.specs.device_rules.proofs.Answered
 use Rattle.std.proofs.lemmas.Option.{same_Some}
 use Rattle.dcd_base.specs.declared.ids.HostId.{HostId}
 use Rattle.dcd_base.specs.declared.steps.Actor.{Actor}
@@ -26,7 +26,7 @@ use Rattle.journal_core.specs.Entries.{effects, EachFrom}
 use Rattle.report.specs.script_codec.specs.declared.script_line.Line.{Line}
 use Rattle.report.specs.script_codec.specs.declared.scripts.Script.{Script}
 use Rattle.report.specs.script_codec.specs.Covering.{IsOfLine, pass_of}
-use Rattle.report.specs.device_rules.specs.Legal.{Legal, Meets, right_answer, word_of, word_after, access_at}
+use Rattle.device_plain.specs.device_rules.specs.Legal.{Legal, Meets, right_answer, word_of, word_after, access_at}
 use Rattle.journal_check.specs.Following.{left_by_entry, without_line, FollowsPasses}
 
 abbrev pub unstamped : Entry → Entry

@@ -4,7 +4,7 @@ use Rattle.journal_core.specs.declared.entries.Entry.{Entry}
 use Rattle.journal_core.specs.Merging.{Numbered}
 use Rattle.report.specs.script_codec.specs.declared.scripts.Script.{Script}
 use Rattle.report.specs.script_codec.specs.Covering.{Covers}
-use Rattle.report.specs.device_rules.specs.Legal.{Exclusive, Legal}
+use Rattle.device_plain.specs.device_rules.specs.Legal.{Exclusive, Legal}
 use Rattle.device_plain.specs.isolation_laws.specs.Solo.{Isolated}
 use Rattle.report.specs.Texts.{text}
 use Rattle.journal_check.specs.Lines.{first_lines}

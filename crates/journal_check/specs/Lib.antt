@@ -8,8 +8,8 @@ pub mod Parting
 pub mod CheckPlanning
 pub mod CheckStatuses
 pub mod Replaying
-pub use Rattle.report.specs.device_rules
-pub use Rattle.report.specs.device_state
-pub use Rattle.report.specs.control_core
+pub use Rattle.device_plain.specs.device_rules
+pub use Rattle.device_plain.specs.device_state
+pub use Rattle.device_plain.specs.control_core
 pub use Rattle.device_plain
 pub use Rattle.report

@@ -1,6 +1,6 @@
 //! The journal of the order that a text claims.
 
-ghost use Rattle.report.specs.device_rules.specs.Legal.{Legal};
+ghost use Rattle.device_plain.specs.device_rules.specs.Legal.{Legal};
 ghost use Rattle.journal_check.specs.Claims.{behind_line};
 ghost use Rattle.journal_check.specs.Following.{IsFollowed, IsNumbered, StepsLine};
 ghost use Rattle.journal_check.specs.Fronts.{AreFronts, undone_of};

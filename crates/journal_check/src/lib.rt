@@ -15,9 +15,9 @@ mod status;
 
 pub use checking::check;
 pub use device_plain;
+pub use device_plain::{control_core, device_rules, device_state};
 pub use laws::{law_one_answer, law_one_journal};
 pub use program::run_check;
 pub use replaying::replay;
 pub use report;
-pub use report::{control_core, device_rules, device_state};
 pub use status::CheckStatus;

@@ -1,6 +1,6 @@
 //! The device that took the steps of a text, or the first wrong line.
 
-ghost use Rattle.report.specs.device_rules.specs.Legal.{Legal};
+ghost use Rattle.device_plain.specs.device_rules.specs.Legal.{Legal};
 ghost use Rattle.journal_check.specs.Claims.{behind_line};
 ghost use Rattle.journal_check.specs.Following.{IsFollowed};
 ghost use Rattle.journal_check.specs.Replaying.{IsCompared, IsReplayed};

@@ -3,7 +3,7 @@ use Rattle.std.proofs.Common.{◌≡◌, ◌≢◌, ℕ, zero, suc, ◌+◌, ◌
 use Rattle.std.specs.Int.{w64, from_le_bytes, to_le_bytes}
 use Rattle.std.proofs.lemmas.List.{get_or-set_other, get_or-set_same, length-set, take-set, take_more}
 use Rattle.std.proofs.lemmas.Nat.{from_le_bytes-to_le_bytes_8}
-use Rattle.field_bytes.proofs.Fields.{IsBytes}
+use Rattle.cci_codec.specs.field_bytes.proofs.Fields.{IsBytes}
 use Rattle.journal_core.specs.declared.coding.Coder.{Coder}
 use Rattle.journal_core.specs.Coding.{AddsBytes, CodesTo, IsOnlyDifference, IsPairDifference}
 use Rattle.journal_core.specs.Slots.{slots_in, with_slot}

@@ -3,7 +3,7 @@ use Rattle.std.proofs.Common.{◌≡◌, ℕ, ◌+◌, ◌*◌, ◌/◌, ◌%◌
 use Rattle.std.specs.Int.{w64, from_le_bytes}
 use Rattle.std.proofs.lemmas.Bool.{le-ltb, lt-ltb}
 use Rattle.std.proofs.lemmas.List.{take_all}
-use Rattle.field_bytes.proofs.Fields.{IsBytes}
+use Rattle.cci_codec.specs.field_bytes.proofs.Fields.{IsBytes}
 use Rattle.journal_core.specs.declared.coding.Coder.{Coder}
 use Rattle.journal_core.specs.declared.tokens.Token.{Token}
 use Rattle.journal_core.specs.Coding.{AddsBytes, CodesTo, IsFront}

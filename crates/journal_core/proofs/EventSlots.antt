@@ -3,8 +3,8 @@ use Rattle.std.proofs.Common.{◌≡◌, ℕ, ◌%◌, ◌^◌, ◌<◌, Bool, t
 use Rattle.event_records.specs.declared.events.Event.{Event}
 use Rattle.event_records.specs.declared.events.EventKind.{EventKind}
 use Rattle.event_records.specs.Records.{kind_number}
-use Rattle.dcd_base.specs.Words.{flag_of}
-use Rattle.dcd_base.specs.declared.steps.LogId.{LogId}
+use Rattle.region_config.specs.dcd_base.specs.Words.{flag_of}
+use Rattle.region_config.specs.dcd_base.specs.declared.steps.LogId.{LogId}
 use Rattle.std.proofs.lemmas.Bool.{lt-ltb}
 use Rattle.journal_core.specs.declared.outcome.HeldKind.{HeldKind}
 use Rattle.journal_core.specs.declared.slots.TheConstants.{EVENT_KIND, FLAG}

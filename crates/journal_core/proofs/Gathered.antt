@@ -2,7 +2,7 @@
 use Rattle.std.proofs.Common.{◌≡◌, ℕ, List, [], ◌∷◌, ◌++◌, None, Some, length, map, suc, arith, refl, sym, ap, ◌∙◌, append_assoc, append-nil}
 use Rattle.std.specs.Prelude.{◌==◌, IsFalse, filter_map, flat_map, true}
 use Rattle.std.proofs.lemmas.Bool.{eqb-true}
-use Rattle.dcd_base.specs.declared.capacity.Extent.{Extent}
+use Rattle.region_config.specs.dcd_base.specs.declared.capacity.Extent.{Extent}
 use Rattle.journal_core.specs.declared.coding.Coder.{Coder}
 use Rattle.journal_core.specs.declared.outcome.Effect.{Effect}
 use Rattle.journal_core.specs.declared.tokens.Token.{Token}

@@ -1,8 +1,8 @@
 -- Slots into which is put what stands in most of them.
 use Rattle.std.proofs.Common.{◌≡◌, ℕ, sym, ap, ◌∙◌}
-use Rattle.dcd_base.specs.Words.{flag_of}
-use Rattle.dcd_base.specs.declared.capacity.Extent.{Extent}
-use Rattle.dcd_base.specs.declared.steps.LogId.{LogId}
+use Rattle.region_config.specs.dcd_base.specs.Words.{flag_of}
+use Rattle.region_config.specs.dcd_base.specs.declared.capacity.Extent.{Extent}
+use Rattle.region_config.specs.dcd_base.specs.declared.steps.LogId.{LogId}
 use Rattle.event_records.specs.Records.{kind_number}
 use Rattle.event_records.specs.declared.events.Event.{Event}
 use Rattle.journal_core.specs.declared.slots.TheConstants.{EVENT_HOST, EVENT_KIND, EXTENTS_LEFT, FLAG, HANDLE, LOG, REGION, TAGS_LEFT}

@@ -5,7 +5,7 @@ use Rattle.std.proofs.lemmas.Bool.Decides.{nat_tests}
 use Rattle.std.proofs.Common.{arith}
 use Rattle.std.proofs.lemmas.List.Elements.{All-append, All-cons, All-head, All-tail, All-weaker}
 use Rattle.std.proofs.lemmas.List.Sums.{fold-append}
-use Rattle.dcd_base.specs.declared.steps.Stamp.{Stamp}
+use Rattle.region_config.specs.dcd_base.specs.declared.steps.Stamp.{Stamp}
 use Rattle.journal_core.specs.declared.both.Side.{Side}
 use Rattle.journal_core.specs.declared.entries.Entry.{Entry}
 use Rattle.journal_core.specs.Lending.{IsNext, first_entry, first_stamp, goes_first}

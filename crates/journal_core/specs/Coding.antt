@@ -1,12 +1,12 @@
 -- What a coder has written.
 use Rattle.std.specs.Prelude.{◌≡◌, ℕ, ◌+◌, ◌<◌, ◌++◌, List, None, Some, IsFalse, slice_index}
 use Rattle.std.specs.Int.{w64, to_le_bytes}
-use Rattle.dcd_base.specs.Words.{flag_of}
-use Rattle.dcd_base.specs.declared.capacity.Extent.{Extent}
-use Rattle.dcd_base.specs.declared.steps.LogId.{LogId}
+use Rattle.region_config.specs.dcd_base.specs.Words.{flag_of}
+use Rattle.region_config.specs.dcd_base.specs.declared.capacity.Extent.{Extent}
+use Rattle.region_config.specs.dcd_base.specs.declared.steps.LogId.{LogId}
 use Rattle.event_records.specs.Records.{kind_number}
 use Rattle.event_records.specs.declared.events.Event.{Event}
-use Rattle.field_bytes.specs.Layouts.{number_at}
+use Rattle.cci_codec.specs.field_bytes.specs.Layouts.{number_at}
 use Rattle.journal_core.specs.declared.coding.Coder.{Coder}
 use Rattle.journal_core.specs.declared.outcome.Effect.{Effect}
 use Rattle.journal_core.specs.declared.tokens.Token.{Token}

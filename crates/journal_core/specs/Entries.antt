@@ -3,7 +3,7 @@ use Rattle.std.specs.Prelude.{ℕ, nat_lt, true, false, Bool, List, flat_map, []
 use Rattle.journal_core.specs.declared.outcome.Effect.{Effect}
 use Rattle.journal_core.specs.declared.entries.Entry.{Entry}
 use Rattle.journal_core.specs.declared.acts.Act.{Act}
-use Rattle.dcd_base.specs.declared.steps.Actor.{Actor}
+use Rattle.region_config.specs.dcd_base.specs.declared.steps.Actor.{Actor}
 
 -- the effects of the entries, in order
 abbrev pub effects : List Entry → List Effect

@@ -1,6 +1,6 @@
 -- A token among the effects that are gathered.
 use Rattle.std.specs.Prelude.{◌≡◌, List, ◌∷◌}
-use Rattle.dcd_base.specs.declared.capacity.Extent.{Extent}
+use Rattle.region_config.specs.dcd_base.specs.declared.capacity.Extent.{Extent}
 use Rattle.journal_core.specs.declared.gathering.Step.{Step}
 use Rattle.journal_core.specs.declared.tokens.Token.{Token}
 use Rattle.journal_core.specs.Tokens.{effects_from}

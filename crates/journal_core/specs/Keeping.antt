@@ -2,8 +2,8 @@
 use Rattle.std.specs.Prelude.{◌≡◌, ◌≤◌, ◌<◌, ◌^◌, ℕ, ◌+◌, ◌-◌, ◌++◌, Bool, true, false, List, [], ◌∷◌, Some, drop, length, take}
 use Rattle.std.specs.Global.{Vec}
 use Rattle.std.specs.Vec.{vec_capacity, vec_len}
-use Rattle.dcd_base.specs.declared.steps.Stamp.{Stamp}
-use Rattle.dcd_base.specs.declared.steps.Actor.{Actor}
+use Rattle.region_config.specs.dcd_base.specs.declared.steps.Stamp.{Stamp}
+use Rattle.region_config.specs.dcd_base.specs.declared.steps.Actor.{Actor}
 use Rattle.journal_core.specs.Merging.{Rising}
 use Rattle.journal_core.specs.Tokens.{effects_told}
 use Rattle.journal_core.specs.declared.acts.Act.{Act}

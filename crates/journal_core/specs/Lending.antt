@@ -1,6 +1,6 @@
 -- Entries that are lent one after another.
 use Rattle.std.specs.Prelude.{◌≡◌, ℕ, Bool, true, false, not, All, List, [], ◌∷◌, Option, Some, None, drop, flat_map, if◌then◌else◌, take}
-use Rattle.dcd_base.specs.declared.steps.Stamp.{Stamp}
+use Rattle.region_config.specs.dcd_base.specs.declared.steps.Stamp.{Stamp}
 use Rattle.journal_core.specs.Keeping.{step_entry}
 use Rattle.journal_core.specs.Merging.{Rising, is_later}
 use Rattle.journal_core.specs.declared.both.Side.{Side}

@@ -1,15 +1,15 @@
 -- The numbers of a token, each in its slot.
 use Rattle.std.specs.Prelude.{ℕ, ◌%◌, ◌^◌, ◌≡◌, ◌==◌, ◌++◌, Bool, List, if◌then◌else◌, nat_lt, slice_index, slice_set}
 use Rattle.std.specs.Int.{w64, from_le_bytes, to_le_bytes}
-use Rattle.dcd_base.specs.Words.{flag_of}
-use Rattle.dcd_base.specs.declared.capacity.Extent.{Extent}
-use Rattle.dcd_base.specs.declared.capacity.Tag.{Tag}
-use Rattle.dcd_base.specs.declared.media.Run.{Run}
-use Rattle.dcd_base.specs.declared.steps.LogId.{LogId}
+use Rattle.region_config.specs.dcd_base.specs.Words.{flag_of}
+use Rattle.region_config.specs.dcd_base.specs.declared.capacity.Extent.{Extent}
+use Rattle.region_config.specs.dcd_base.specs.declared.capacity.Tag.{Tag}
+use Rattle.region_config.specs.dcd_base.specs.declared.media.Run.{Run}
+use Rattle.region_config.specs.dcd_base.specs.declared.steps.LogId.{LogId}
 use Rattle.event_records.specs.Records.{kind_number}
 use Rattle.event_records.specs.declared.events.Event.{Event}
 use Rattle.event_records.specs.declared.events.EventKind.{EventKind}
-use Rattle.field_bytes.specs.Layouts.{number_at}
+use Rattle.cci_codec.specs.field_bytes.specs.Layouts.{number_at}
 use Rattle.journal_core.specs.declared.outcome.HeldKind.{HeldKind}
 use Rattle.journal_core.specs.declared.slots.TheConstants.{COUNT, EVENT_HOST, EVENT_KIND, EXTENTS_LEFT, FIRST, FLAG, HANDLE, HOST, LENGTH, LOG, REGION, SEQUENCE, START, TAGS_LEFT, TAG_HIGH, TAG_LOW}
 

@@ -1,6 +1,6 @@
 -- What the bytes that an entry keeps tell of its effects.
 use Rattle.std.specs.Prelude.{ℕ, ◌/◌, ◌%◌, ◌^◌, ◌==◌, ◌++◌, Bool, true, false, List, [], ◌∷◌, Option, Some, None, filter, if◌then◌else◌, map, nat_lt}
-use Rattle.dcd_base.specs.declared.capacity.Extent.{Extent}
+use Rattle.region_config.specs.dcd_base.specs.declared.capacity.Extent.{Extent}
 use Rattle.journal_core.specs.declared.outcome.Effect.{Effect}
 use Rattle.journal_core.specs.declared.slots.TheConstants.{ANSWER, CLEARED, COUNT, HOLD, LEAVE, LENGTH, LOGGED, MISSED, MORE, OFFER, REF, REGION, RESET, SOIL, TAG_END, TAKE, UNHOLD, ZERO}
 use Rattle.journal_core.specs.declared.tokens.Token.{Token}

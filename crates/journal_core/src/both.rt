@@ -5,7 +5,7 @@ ghost use Rattle.journal_core.specs.Merging.{in_order};
 ghost use Rattle.std.specs.Prelude.{◌≡◌, ◌++◌};
 
 use crate::lending::{Lender, Lent, goes_first};
-use dcd_base::Stamp;
+use region_config::dcd_base::Stamp;
 use std::marker::Model;
 
 /// Which of the two has the next entry.

@@ -13,9 +13,9 @@ use crate::slots::{
     HOST, LEAVE, LENGTH, LOG, LOGGED, MISSED, MORE, OFFER, REF, REGION, RESET, SEQUENCE, SLOTS,
     SOIL, START, Slots, TAG_END, TAG_HIGH, TAG_LOW, TAGS_LEFT, TAKE, UNHOLD, ZERO,
 };
-use dcd_base::{Extent, HostId, LogId, NoMemory, RegionId, Run, Tag};
+use cci_codec::field_bytes::{are_bytes, u64_at};
 use event_records::{Event, EventKind};
-use field_bytes::{are_bytes, u64_at};
+use region_config::dcd_base::{Extent, HostId, LogId, NoMemory, RegionId, Run, Tag};
 use std::alloc::Global;
 
 /// So many bytes tell a changed number at most: for each of its eight bytes its place and itself.

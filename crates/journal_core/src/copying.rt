@@ -4,7 +4,7 @@ ghost use Rattle.std.specs.Prelude.{◌≡◌, IfOk};
 
 use crate::entries::Journal;
 use crate::lending::Lender;
-use dcd_base::NoMemory;
+use region_config::dcd_base::NoMemory;
 use std::alloc::Global;
 
 /// A journal of its own with copies of all entries that are lent, in their order. None is left then.

@@ -5,7 +5,7 @@ ghost use Rattle.std.specs.Prelude.{◌≡◌, IfOk};
 use crate::acts::{Act, Reply};
 use crate::entry_effects::EntryEffects;
 use crate::outcome::Effect;
-use dcd_base::{Actor, Duplicate, NoMemory, Seq, Stamp};
+use region_config::dcd_base::{Actor, Duplicate, NoMemory, Seq, Stamp};
 use std::alloc::Global;
 
 /// One step of the device: who did what, what was replied, and what it changed.

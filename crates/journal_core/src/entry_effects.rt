@@ -9,7 +9,7 @@ use crate::entries::Effects;
 use crate::gathering::{effects_told, next_alone};
 use crate::outcome::Effect;
 use crate::reading::Tokens;
-use dcd_base::{Boxed, Bytes, NoMemory};
+use region_config::dcd_base::{Boxed, Bytes, NoMemory};
 use std::alloc::Global;
 use std::marker::Model;
 

@@ -10,7 +10,7 @@ use crate::entries::Effects;
 use crate::outcome::Effect;
 use crate::reading::Tokens;
 use crate::tokens::Token;
-use dcd_base::{Extent, Extents, NoMemory};
+use region_config::dcd_base::{Extent, Extents, NoMemory};
 use std::alloc::Global;
 use std::mem::replace;
 

@@ -13,7 +13,7 @@ use crate::kept_list::KeptList;
 use crate::kept_steps::kept_small;
 use crate::lending::Lent;
 use crate::lent_lists::LentEntries;
-use dcd_base::{Actor, Boxed, NoMemory, Stamp};
+use region_config::dcd_base::{Actor, Boxed, NoMemory, Stamp};
 use std::alloc::Global;
 use std::marker::Model;
 

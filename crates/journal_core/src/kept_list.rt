@@ -14,7 +14,7 @@ use crate::kept_steps::{Kept, KeptStep, Parts, payload_asked, payload_replied};
 use crate::lending::Lent;
 use crate::lent_lists::LentEntries;
 use crate::outcome::Effect;
-use dcd_base::{Actor, Boxed, NoMemory};
+use region_config::dcd_base::{Actor, Boxed, NoMemory};
 use std::alloc::Global;
 use std::marker::Model;
 

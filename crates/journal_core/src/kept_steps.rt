@@ -9,7 +9,7 @@ use crate::acts::{Act, Reply};
 use crate::entries::Entry;
 use crate::lending::Lent;
 use crate::lent_steps::LentStep;
-use dcd_base::{Actor, Boxed, Stamp};
+use region_config::dcd_base::{Actor, Boxed, Stamp};
 use std::alloc::Global;
 
 /// An entry is kept apart where a payload has so many bytes or more.

@@ -13,7 +13,7 @@ use crate::entry_effects::WithoutExtents;
 use crate::lent_steps::LentStep;
 use crate::loads_and_stores::Access;
 use crate::seen::StepSeen;
-use dcd_base::{Actor, NoMemory, Stamp};
+use region_config::dcd_base::{Actor, NoMemory, Stamp};
 
 /// An entry that is lent.
 #[derive(Clone, Copy, Debug)]

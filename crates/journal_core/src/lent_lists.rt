@@ -7,7 +7,7 @@ ghost use Rattle.std.specs.Prelude.{◌≡◌, ◌≤◌, length};
 use crate::kept_steps::Kept;
 use crate::lending::{Lender, Lent};
 use crate::loads_and_stores::Access;
-use dcd_base::Stamp;
+use region_config::dcd_base::Stamp;
 use std::alloc::Global;
 use std::marker::Model;
 

@@ -12,7 +12,7 @@ use crate::entry_effects::{EntryEffects, WithoutExtents};
 use crate::kept_steps::{Exchange, KeptStep};
 use crate::seen::{ActKind, ReplySeen, ResponseSeen, StepSeen};
 use cci_codec::{Payload, Request, Response};
-use dcd_base::{Actor, Bytes, NoMemory, Stamp};
+use region_config::dcd_base::{Actor, Bytes, NoMemory, Stamp};
 use std::alloc::Global;
 
 /// A command or a scrub that is lent: what is kept of it, its bytes, and its number among the commands and scrubs.

@@ -10,7 +10,7 @@ use crate::acts::{Act, Reply};
 use crate::entries::Entry;
 use crate::entry_effects::{EntryEffects, WithoutExtents};
 use crate::seen::{ActKind, ReplySeen, StepSeen};
-use dcd_base::{AccessFault, Actor, HostId, Seq, Stamp};
+use region_config::dcd_base::{AccessFault, Actor, HostId, Seq, Stamp};
 use std::marker::Model;
 
 /// What was asked for.

@@ -11,9 +11,9 @@ use crate::slots::{
     START, Slots, TAG_END, TAG_HIGH, TAG_LOW, TAGS_LEFT, TAKE, UNHOLD, ZERO,
 };
 use crate::tokens::Token;
-use dcd_base::{Extent, Granule, HostId, LogId, RegionId, Run, Tag};
+use cci_codec::field_bytes::put_u64;
 use event_records::{Event, EventKind};
-use field_bytes::put_u64;
+use region_config::dcd_base::{Extent, Granule, HostId, LogId, RegionId, Run, Tag};
 use std::marker::Model;
 
 /// The tokens that bytes tell, one after another. Contracts see those that are still to come.

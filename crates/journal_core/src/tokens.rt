@@ -1,8 +1,8 @@
 //! What is kept of effects, one part after another.
 
 use crate::outcome::HeldKind;
-use dcd_base::{Extent, HostId, LogId, RegionId, Run, Tag};
 use event_records::Event;
+use region_config::dcd_base::{Extent, HostId, LogId, RegionId, Run, Tag};
 
 /// An effect, or one extent of the effect that follows. So none of them takes memory.
 #[derive(Clone, Copy, Debug)]

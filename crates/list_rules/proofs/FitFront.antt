@@ -4,8 +4,8 @@ use Rattle.std.specs.Prelude.{◌==◌, nat_le, nat_lt}
 use Rattle.std.proofs.lemmas.Bool.{and_from, and_left, and_parts, and_right, cases_Bool, cases_lt, leb-true, lt-ltb, ne_eqb}
 use Rattle.std.proofs.lemmas.List.{get_or_default}
 use Rattle.std.proofs.lemmas.List.Folds.{list_any_at}
-use Rattle.dcd_base.specs.declared.capacity.Extent.{Extent}
-use Rattle.dcd_base.specs.declared.ids.HostId.{HostId}
+use Rattle.dcd_codes.specs.dcd_base.specs.declared.capacity.Extent.{Extent}
+use Rattle.dcd_codes.specs.dcd_base.specs.declared.ids.HostId.{HostId}
 use Rattle.dcd_codes.specs.declared.rules.Rule.{Rule}
 use Rattle.dcd_codes.specs.Rules.{◌breaks◌, each_in}
 use Rattle.dcd_codes.proofs.RuleSteps.{each_in_more}
@@ -19,9 +19,9 @@ use Rattle.list_rules.proofs.FirstOwner.{no_extent, owner_at}
 use Rattle.media_map.proofs.PlaceLemmas.{has}
 use Rattle.media_map.proofs.RunLemmas.{region_at_is}
 use Rattle.media_map.specs.Places.{bounds_of, has_address, has_range, region_at}
-use Rattle.region_config.specs.Configurations.{Configuration}
-use Rattle.region_config.specs.Soundness.{IsSound}
-use Rattle.region_config.specs.Granules.{base_of, region_spec}
+use Rattle.media_map.specs.region_config.specs.Configurations.{Configuration}
+use Rattle.media_map.specs.region_config.specs.Soundness.{IsSound}
+use Rattle.media_map.specs.region_config.specs.Granules.{base_of, region_spec}
 
 -- two extents of which one lies in an extent above that of the other
 apart-in : (x y upper lower : Extent) → lies_in x upper ≡ true → lies_in y lower ≡ true → lower.start + lower.length ≤ upper.start → overlaps x y ≡ false

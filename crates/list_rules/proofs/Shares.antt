@@ -6,17 +6,17 @@ use Rattle.std.proofs.lemmas.Cmp.{nat_list_eq_equiv}
 use Rattle.std.proofs.lemmas.List.{get_or-map, get_or_past, length-map, take_all, take_more}
 use Rattle.std.proofs.lemmas.List.Elements.{filter_more}
 use Rattle.std.proofs.lemmas.List.Sums.{count_by_more_no, count_by_more_yes}
-use Rattle.dcd_base.specs.declared.capacity.Extent.{Extent}
-use Rattle.dcd_base.specs.declared.capacity.Tag.{Tag}
-use Rattle.dcd_base.specs.declared.ids.HostId.{HostId}
-use Rattle.dcd_base.specs.Words.{same_tag}
+use Rattle.dcd_codes.specs.dcd_base.specs.declared.capacity.Extent.{Extent}
+use Rattle.dcd_codes.specs.dcd_base.specs.declared.capacity.Tag.{Tag}
+use Rattle.dcd_codes.specs.dcd_base.specs.declared.ids.HostId.{HostId}
+use Rattle.dcd_codes.specs.dcd_base.specs.Words.{same_tag}
 use Rattle.dcd_codes.specs.Rules.{first_by}
 use Rattle.extent_list.specs.ExtentLists.{count_of_tag, marked, tags_of}
 use Rattle.list_rules.specs.Listing.{incomplete, is_shareable_at, shared_of, some_left, too_few_of}
 use Rattle.list_rules.specs.Sharing.{HasNoShareable, HaveSameTags}
 use Rattle.media_map.specs.Places.{region_at}
-use Rattle.region_config.specs.Configurations.{Configuration}
-use Rattle.region_config.specs.Granules.{no_region, region_spec}
+use Rattle.media_map.specs.region_config.specs.Configurations.{Configuration}
+use Rattle.media_map.specs.region_config.specs.Granules.{no_region, region_spec}
 
 none-shared : (c : Configuration) (h : HostId) (owners list : List Extent) → HasNoShareable c → shared_of c h owners list ≡ []
 none-shared c h owners [] none = refl

@@ -1,6 +1,6 @@
 -- Lists of extents by their addresses.
 use Rattle.std.specs.Prelude.{◌≡◌, ℕ, ◌<◌, List, None, length, slice_index_or, take}
-use Rattle.dcd_base.specs.declared.capacity.Extent.{Extent}
+use Rattle.dcd_codes.specs.dcd_base.specs.declared.capacity.Extent.{Extent}
 use Rattle.list_rules.specs.Listing.{overlapping}
 
 -- No extent shares an address with one before it.

@@ -1,6 +1,6 @@
 //! An extent of a list beside its owner and those before it.
 
-ghost use Rattle.dcd_base.specs.Words.{◌or◌};
+ghost use Rattle.dcd_codes.specs.dcd_base.specs.Words.{◌or◌};
 ghost use Rattle.dcd_codes.specs.Rules.{◌breaks◌};
 ghost use Rattle.dcd_codes.specs.declared.rules.Rule.{Rule};
 ghost use Rattle.extent_list.specs.ExtentLists.{is_in, marked};
@@ -9,9 +9,9 @@ ghost use Rattle.std.specs.Prelude.{◌≡◌, ◌==◌, ◌&&◌, ◌++◌, ◌
 
 use crate::lookup::Owners;
 use crate::owners::{is_shareable_at, shares_address};
-use dcd_base::{Extent, Extents, HostId, NoMemory};
 use dcd_codes::Rule;
-use region_config::Config;
+use dcd_codes::dcd_base::{Extent, Extents, HostId, NoMemory};
+use media_map::region_config::Config;
 
 /// The first rule that an extent breaks beside its owner and the extents before it, whose number is its index:
 /// `missing`, where it lies in no owner; `Overlap` with the first of those before with which it shares an address;

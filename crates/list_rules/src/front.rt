@@ -8,8 +8,8 @@ use crate::lookup::Owners;
 use crate::orders::are_apart;
 use crate::owners::{lies_in, shares_some};
 use crate::placing::{Area, region_at};
-use dcd_base::{Extent, HostId, RegionId};
-use region_config::Config;
+use dcd_codes::dcd_base::{Extent, HostId, RegionId};
+use media_map::region_config::Config;
 
 /// How many extents from the front of the list fit: each lies in a region, made of its blocks, and in an owner, whole where
 /// the region is shareable, and shares no address with one before it. The one behind them, if any, does not.

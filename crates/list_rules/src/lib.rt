@@ -4,6 +4,10 @@
 //! answers the first rule that its part of a row breaks, with the index of the extent that breaks it.
 #![tactic(auto)]
 
+pub use dcd_codes;
+pub use extent_list;
+pub use media_map;
+
 mod fitting;
 mod front;
 mod limits;

@@ -3,9 +3,9 @@
 ghost use Rattle.list_rules.specs.Listing.{too_many_extents, too_many_listed};
 ghost use Rattle.std.specs.Prelude.{◌≡◌};
 
-use dcd_base::Extent;
-use dcd_base::limits::{EXTENTS, LISTED_EXTENTS};
 use dcd_codes::Rule;
+use dcd_codes::dcd_base::Extent;
+use dcd_codes::dcd_base::limits::{EXTENTS, LISTED_EXTENTS};
 
 /// The rule that a list of more than 64 extents breaks, with its length.
 pub fn too_many_listed(list: &[Extent]) -> Option<Rule>

@@ -3,14 +3,14 @@
 ghost use Rattle.extent_list.specs.ExtentLists.{lies_in, owner_of};
 ghost use Rattle.list_rules.specs.Fitting.{FrontFits, area_of};
 ghost use Rattle.std.specs.Prelude.{◌≡◌, ◌<◌, ◌≤◌, IfSome, IsTrue, Some, length, position, slice_index_or};
-ghost use Rattle.dcd_base.specs.declared.capacity.Extent.{Extent};
+ghost use Rattle.dcd_codes.specs.dcd_base.specs.declared.capacity.Extent.{Extent};
 
 use crate::front::fits;
 use crate::owners::{first_owner, lies_in};
 use crate::placing::Area;
-use dcd_base::{Extent, HostId, RegionId};
+use dcd_codes::dcd_base::{Extent, HostId, RegionId};
 use extent_list::stand_apart;
-use region_config::Config;
+use media_map::region_config::Config;
 use std::marker::Model;
 
 /// The extents in which those of a list have to lie.
@@ -24,7 +24,7 @@ pub struct Owners<'a> {
 }
 
 impl<'a> Model for Owners<'a> {
-    ghost use Rattle.dcd_base.specs.declared.capacity.Extent.{Extent};
+    ghost use Rattle.dcd_codes.specs.dcd_base.specs.declared.capacity.Extent.{Extent};
     ghost use Rattle.extent_list.specs.Apart.{StandApart};
     ghost use Rattle.std.specs.Prelude.{◌≡◌, List, true};
 

@@ -4,7 +4,7 @@ ghost use Rattle.extent_list.specs.Apart.{AreFalling, AreRising};
 ghost use Rattle.list_rules.specs.Orders.{AreApart};
 ghost use Rattle.std.specs.Prelude.{◌≡◌, ◌+◌, ◌^◌, ◌<◌, ◌⊎◌, All, true};
 
-use dcd_base::Extent;
+use dcd_codes::dcd_base::Extent;
 use extent_list::stand_apart;
 
 /// Whether the extents are known to share no address with one before them, as those of a list by rising or by falling

@@ -7,10 +7,10 @@ ghost use Rattle.dcd_codes.specs.declared.rules.Rule.{Rule};
 ghost use Rattle.std.specs.Prelude.{◌≡◌, ◌^◌, ◌<◌, IfSome, None, false, length, not, position, true};
 
 use crate::placing::region_at;
-use dcd_base::{Extent, HostId};
 use dcd_codes::Rule;
+use dcd_codes::dcd_base::{Extent, HostId};
 use extent_list::{has_range_in, shares_range_with};
-use region_config::Config;
+use media_map::region_config::Config;
 
 /// Whether one extent lies in another.
 pub(crate) fn lies_in(extent: &Extent, owner: &Extent) -> bool

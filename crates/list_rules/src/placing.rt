@@ -5,10 +5,10 @@ ghost use Rattle.list_rules.specs.Listing.{misplaced};
 ghost use Rattle.media_map.specs.Places.{region_at};
 ghost use Rattle.std.specs.Prelude.{◌≡◌, ◌<◌, length};
 
-use dcd_base::{Extent, HostId, RegionId};
 use dcd_codes::Rule;
+use dcd_codes::dcd_base::{Extent, HostId, RegionId};
+use media_map::region_config::Config;
 use media_map::{Bounds, bounds_of};
-use region_config::Config;
 
 /// The first of these that the extent breaks, with its index in the list: `ZeroLength`; `OutsideRegion`, where it
 /// does not lie within that region, also where there is no such region; `Unaligned`, where its offset in the

@@ -1,6 +1,6 @@
 //! Tags of shareable regions, of which all extents are listed or none.
 
-ghost use Rattle.dcd_base.specs.Words.{where_true};
+ghost use Rattle.dcd_codes.specs.dcd_base.specs.Words.{where_true};
 ghost use Rattle.dcd_codes.specs.Rules.{◌breaks◌};
 ghost use Rattle.dcd_codes.specs.declared.rules.Rule.{Rule};
 ghost use Rattle.extent_list.specs.ExtentLists.{count_of_tag, has_extent_of};
@@ -13,10 +13,10 @@ use crate::fitting::marked_by;
 use crate::lookup::Owners;
 use crate::owners::is_shareable_at;
 use crate::placing::{Area, region_at};
-use dcd_base::{Extent, Extents, HostId, NoMemory, RegionId, Tag};
 use dcd_codes::Rule;
+use dcd_codes::dcd_base::{Extent, Extents, HostId, NoMemory, RegionId, Tag};
 use extent_list::{has_extent_of, same_tag};
-use region_config::Config;
+use media_map::region_config::Config;
 use std::alloc::Global;
 
 /// The rule that a list breaks which has some of a tag's extents in a shareable region and not all: how many are

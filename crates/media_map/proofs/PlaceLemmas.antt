@@ -4,10 +4,10 @@ use Rattle.std.proofs.lemmas.Bool.{and_from, and_parts, and_right, cases_lt, cas
 use Rattle.std.proofs.lemmas.Option.{none-some, same_Some}
 use Rattle.std.proofs.lemmas.Nat.{div-mul-add, div_below, mod-mul-add, mod_below, mul-add-lt, pow-add}
 use Rattle.std.proofs.Math.Nat.{mul_assoc, mul_comm}
-use Rattle.dcd_base.specs.declared.failures.AccessFault.{AccessFault}
+use Rattle.region_config.specs.dcd_base.specs.declared.failures.AccessFault.{AccessFault}
 use Rattle.std.specs.List.{find, range_with_len}
-use Rattle.dcd_base.specs.declared.ids.HostId.{HostId}
-use Rattle.dcd_base.specs.declared.media.Place.{Place}
+use Rattle.region_config.specs.dcd_base.specs.declared.ids.HostId.{HostId}
+use Rattle.region_config.specs.dcd_base.specs.declared.media.Place.{Place}
 use Rattle.region_config.specs.Configurations.{Configuration}
 use Rattle.region_config.specs.Granules.{base_of, first_granule, granule_size, region_granules, region_spec, regions_of}
 use Rattle.region_config.specs.Soundness.{IsSound, IsSoundRegion}

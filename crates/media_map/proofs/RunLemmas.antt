@@ -4,8 +4,8 @@ use Rattle.std.proofs.lemmas.Bool.{and_from, and_parts, cases_eq, cases_lt, case
 use Rattle.std.proofs.lemmas.Option.{none-some, same_Some}
 use Rattle.std.proofs.Math.Nat.{mul-div_cancel, mul-le-mul_right, mul-mod_left, zero-mul}
 use Rattle.std.specs.List.{find}
-use Rattle.dcd_base.specs.declared.ids.HostId.{HostId}
-use Rattle.dcd_base.specs.declared.media.Run.{Run}
+use Rattle.region_config.specs.dcd_base.specs.declared.ids.HostId.{HostId}
+use Rattle.region_config.specs.dcd_base.specs.declared.media.Run.{Run}
 use Rattle.region_config.specs.Configurations.{Configuration}
 use Rattle.region_config.specs.Granules.{base_of, first_granule, granule_size, region_granules, region_of, region_spec, regions_of}
 use Rattle.region_config.specs.Soundness.{IsSound}

@@ -3,8 +3,8 @@
 ghost use Rattle.media_map.specs.Places.{bounds_of, has_range, has_units, is_made_of, is_within};
 ghost use Rattle.std.specs.Prelude.{◌≡◌, ◌==◌, ◌%◌, ◌<◌, ◌≤◌, length};
 
-use dcd_base::{HostId, RegionId};
 use region_config::Config;
+use region_config::dcd_base::{HostId, RegionId};
 
 /// The first of a host's addresses that a region has, and how many it has, one behind the other.
 #[derive(Clone, Copy, Debug)]

@@ -5,6 +5,8 @@
 //! same offset in the same region.
 #![tactic(auto)]
 
+pub use region_config;
+
 mod bounds;
 mod places;
 mod runs;

@@ -7,8 +7,8 @@ ghost use Rattle.std.specs.List.{find};
 ghost use Rattle.std.specs.Prelude.{◌≡◌, ◌+◌, ◌-◌, ◌^◌, ◌<◌, IfOk, IfSome, IsTrue, length, true};
 
 use crate::bounds::bounds_of;
-use dcd_base::{AccessFault, Granule, HostId, Place, RegionId};
 use region_config::Config;
+use region_config::dcd_base::{AccessFault, Granule, HostId, Place, RegionId};
 
 /// The place of the host's address.
 ///

@@ -5,8 +5,8 @@ ghost use Rattle.region_config.specs.Soundness.{IsSound};
 ghost use Rattle.std.specs.Prelude.{◌≡◌, ◌+◌, ◌^◌, ◌<◌, ◌≤◌, IfSome, IsTrue, length};
 
 use crate::places::region_at;
-use dcd_base::{Extent, Granule, HostId, RegionId, Run, Tag};
 use region_config::Config;
+use region_config::dcd_base::{Extent, Granule, HostId, RegionId, Run, Tag};
 
 /// The granules of the range of the host's addresses, in bytes.
 ///

@@ -2,7 +2,7 @@
 
 ghost use Rattle.std.specs.Prelude.{◌≡◌, [], IfOk};
 
-use dcd_base::{Extents, NoMemory};
+use list_rules::dcd_codes::dcd_base::{Extents, NoMemory};
 use std::alloc::Global;
 
 /// Extents of one region that a host may accept, in the order in which they were chosen. Their region is read from their

@@ -1,13 +1,13 @@
 //! The unanswered offers of a host, and what it has answered so far.
 
-ghost use Rattle.extent_list.specs.ExtentLists.{count_in};
+ghost use Rattle.list_rules.specs.extent_list.specs.ExtentLists.{count_in};
 ghost use Rattle.offer_core.specs.Offerings.{lists_of, oldest_of};
 ghost use Rattle.offer_core.specs.Popped.{IsPopped};
 ghost use Rattle.std.specs.Prelude.{◌≡◌, ◌==◌, ◌++◌, ◌∷◌, ◌+◌, ◌^◌, ◌<◌, ◌≤◌, [], IfOk, OnErr, OnOk, Some, drop, length, slice_get};
 
 use crate::offer::Offer;
-use dcd_base::limits::{EXTENTS, LISTED_EXTENTS};
-use dcd_base::{Extent, NoMemory};
+use list_rules::dcd_codes::dcd_base::limits::{EXTENTS, LISTED_EXTENTS};
+use list_rules::dcd_codes::dcd_base::{Extent, NoMemory};
 use std::alloc::Global;
 use std::collections::VecDeque;
 use std::marker::Model;
@@ -26,7 +26,7 @@ pub struct Offers {
 }
 
 impl Model for Offers {
-    ghost use Rattle.extent_list.specs.ExtentLists.{count_in};
+    ghost use Rattle.list_rules.specs.extent_list.specs.ExtentLists.{count_in};
     ghost use Rattle.offer_core.specs.Offerings.{Offering, lists_of};
     ghost use Rattle.std.specs.Prelude.{◌≡◌, ◌%◌, ◌^◌, ◌≤◌, vec_capacity};
     ghost use Rattle.std.specs.VecDeque.{deque_capacity};

@@ -1,6 +1,6 @@
 //! What a response does to the offers.
 
-ghost use Rattle.extent_list.specs.ExtentLists.{count_in, marked};
+ghost use Rattle.list_rules.specs.extent_list.specs.ExtentLists.{count_in, marked};
 ghost use Rattle.offer_core.specs.Answers.{AnswersOldest, Leaves, NeverBroken, Responds};
 ghost use Rattle.offer_core.specs.InOrder.{IsInOrder};
 ghost use Rattle.offer_core.specs.Offerings.{lists_of, oldest_of};
@@ -9,10 +9,10 @@ ghost use Rattle.std.specs.Prelude.{◌≡◌, ◌++◌, ◌+◌, ◌<◌, ◌�
 use crate::answered::Answered;
 use crate::offers::Offers;
 use crate::row::broken_rule;
-use dcd_base::{Extent, Extents, HostId, NoMemory};
-use dcd_codes::Refusal;
+use list_rules::dcd_codes::Refusal;
+use list_rules::dcd_codes::dcd_base::{Extent, Extents, HostId, NoMemory};
+use list_rules::media_map::region_config::Config;
 use list_rules::{Owners, put_marked};
-use region_config::Config;
 use std::alloc::Global;
 
 impl Offers {

@@ -1,7 +1,7 @@
 //! The first rule that a response breaks.
 
-ghost use Rattle.dcd_codes.specs.Rules.{each_in};
-ghost use Rattle.extent_list.specs.ExtentLists.{count_in};
+ghost use Rattle.list_rules.specs.dcd_codes.specs.Rules.{each_in};
+ghost use Rattle.list_rules.specs.extent_list.specs.ExtentLists.{count_in};
 ghost use Rattle.list_rules.specs.Fitting.{FrontFits};
 ghost use Rattle.list_rules.specs.Listing.{overlapping};
 ghost use Rattle.offer_core.specs.Offerings.{lists_of};
@@ -9,13 +9,13 @@ ghost use Rattle.offer_core.specs.Responses.{extent_rule, respond_rule, response
 ghost use Rattle.std.specs.Prelude.{◌≡◌, ◌+◌, ◌^◌, ◌<◌, ◌≤◌, IfOk, None, drop, length, true};
 
 use crate::offers::Offers;
-use dcd_base::limits::LISTED_EXTENTS;
-use dcd_base::{Extent, Extents, HostId, NoMemory};
-use dcd_codes::Rule;
+use list_rules::dcd_codes::Rule;
+use list_rules::dcd_codes::dcd_base::limits::LISTED_EXTENTS;
+use list_rules::dcd_codes::dcd_base::{Extent, Extents, HostId, NoMemory};
+use list_rules::media_map::region_config::Config;
 use list_rules::{
     Owners, are_apart, fit_front, incomplete_among, misplaced, region_at, too_many_extents, unfit,
 };
-use region_config::Config;
 
 /// The first rule of its row that a response breaks (CXL 3.1, 8.2.9.9.9.3): this list of a message behind the held one.
 ///

@@ -13,11 +13,11 @@ use Rattle.std.specs.declared.result.Result.{Result}
 use Rattle.std.specs.declared.result.Result.TheVariants.{Ok, Err}
 use Rattle.fm_payloads.specs.declared.requests.FmRequest.{FmRequest}
 use Rattle.field_bytes.specs.declared.faults.PayloadFault.{PayloadFault}
-use Rattle.device_rules.specs.Answers.{broken, broken_host, manager_outcome, manager_result, manager_rule, unless}
+use Rattle.isolation_laws.specs.device_rules.specs.Answers.{broken, broken_host, manager_outcome, manager_result, manager_rule, unless}
 use Rattle.fm_payloads.specs.ManagerPayloads.{manager_request}
-use Rattle.device_rules.proofs.Answered.{view_same}
-use Rattle.demand_codec.specs.declared.demands.Demand.{Demand}
-use Rattle.demand_codec.specs.declared.demands.Demands.{Demands}
+use Rattle.isolation_laws.specs.device_rules.proofs.Answered.{view_same}
+use Rattle.plan_rules.specs.declared.demands.Demand.{Demand}
+use Rattle.plan_rules.specs.declared.demands.Demands.{Demands}
 use Rattle.plan_rules.specs.PlanAlike.{PlanAlike}
 use Rattle.plan_rules.specs.Holding.{Step, gain, stepped}
 use Rattle.plan_rules.specs.Listing.{added, gained, gaining, losing, planned, prepared, ready, offer_taken, zeroing}

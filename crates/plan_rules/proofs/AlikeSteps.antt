@@ -13,11 +13,11 @@ use Rattle.journal_core.specs.declared.acts.Act.{Act}
 use Rattle.journal_core.specs.declared.entries.Entry.{Entry}
 use Rattle.journal_core.specs.declared.outcome.Effect.{Effect}
 use Rattle.journal_core.proofs.JournalSteps.{effects-push}
-use Rattle.device_rules.specs.Answers.{answer}
-use Rattle.device_rules.specs.Hosts.{changes_of, moves}
-use Rattle.device_rules.specs.Legal.{Legal, Meets, right_answer}
-use Rattle.device_rules.proofs.LegalSteps.{by_steps}
-use Rattle.device_rules.proofs.Answered.{answer_same}
+use Rattle.isolation_laws.specs.device_rules.specs.Answers.{answer}
+use Rattle.isolation_laws.specs.device_rules.specs.Hosts.{changes_of, moves}
+use Rattle.isolation_laws.specs.device_rules.specs.Legal.{Legal, Meets, right_answer}
+use Rattle.isolation_laws.specs.device_rules.proofs.LegalSteps.{by_steps}
+use Rattle.isolation_laws.specs.device_rules.proofs.Answered.{answer_same}
 use Rattle.plan_rules.specs.PlanAlike.{PlanAlike, replayed, with_act_of}
 use Rattle.plan_rules.specs.Holding.{Step, entry_of_step, stepped}
 

@@ -23,14 +23,14 @@ use Rattle.journal_core.specs.Entries.{effects}
 use Rattle.journal_core.specs.declared.acts.Act.{Act}
 use Rattle.journal_core.specs.declared.entries.Entry.{Entry}
 use Rattle.journal_core.specs.declared.outcome.Effect.{Effect}
-use Rattle.device_rules.specs.Answers.{answer, broken, host_result_in, manager_result, reply_with}
-use Rattle.device_rules.specs.Outcomes.{Outcome}
-use Rattle.device_rules.specs.Views.{view_of}
-use Rattle.device_rules.specs.Counts.{dirty_count, records_of}
-use Rattle.device_rules.specs.Hosts.{offers_of}
+use Rattle.isolation_laws.specs.device_rules.specs.Answers.{answer, broken, host_result_in, manager_result, reply_with}
+use Rattle.isolation_laws.specs.device_rules.specs.Outcomes.{Outcome}
+use Rattle.isolation_laws.specs.device_rules.specs.Views.{view_of}
+use Rattle.isolation_laws.specs.device_rules.specs.Counts.{dirty_count, records_of}
+use Rattle.isolation_laws.specs.device_rules.specs.Hosts.{offers_of}
 use Rattle.fm_payloads.specs.ManagerPayloads.{manager_request}
-use Rattle.demand_codec.specs.declared.demands.Demand.{Demand}
-use Rattle.demand_codec.specs.declared.demands.Demands.{Demands}
+use Rattle.plan_rules.specs.declared.demands.Demand.{Demand}
+use Rattle.plan_rules.specs.declared.demands.Demands.{Demands}
 use Rattle.plan_rules.specs.Holding.{Step, entry_of_step, extents_in_region, gain, is_planned_step, stepped, surplus}
 use Rattle.plan_rules.specs.Listing.{refusal_step, clearing, gained, gaining, give_back_surplus, let_go, losing, planned, ready, refusals, removal, zeroing}
 use Rattle.plan_rules.specs.Planning.{AllSucceed, broken_at, is_success, plan_fault, refused_in}

@@ -9,9 +9,9 @@ use Rattle.media_map.specs.Places.{region_at}
 use Rattle.journal_core.specs.declared.acts.Act.{Act}
 use Rattle.journal_core.specs.declared.outcome.Effect.{Effect}
 use Rattle.journal_core.specs.declared.entries.Entry.{Entry}
-use Rattle.device_rules.specs.Answers.{answer}
-use Rattle.device_rules.specs.Hosts.{accepted_of, block_of}
-use Rattle.demand_codec.specs.declared.demands.Demand.{Demand}
+use Rattle.isolation_laws.specs.device_rules.specs.Answers.{answer}
+use Rattle.isolation_laws.specs.device_rules.specs.Hosts.{accepted_of, block_of}
+use Rattle.plan_rules.specs.declared.demands.Demand.{Demand}
 
 -- ---- holdings
 

@@ -17,11 +17,11 @@ use Rattle.journal_core.specs.Entries.{effects}
 use Rattle.journal_core.specs.declared.acts.Act.{Act}
 use Rattle.journal_core.specs.declared.outcome.Effect.{Effect}
 use Rattle.journal_core.specs.declared.entries.Entry.{Entry}
-use Rattle.device_rules.specs.Counts.{dirty_count, records_of}
-use Rattle.device_rules.specs.Hosts.{block_of, offers_of}
+use Rattle.isolation_laws.specs.device_rules.specs.Counts.{dirty_count, records_of}
+use Rattle.isolation_laws.specs.device_rules.specs.Hosts.{block_of, offers_of}
 use Rattle.plan_rules.specs.Holding.{Step, extents_in_region, gain, stepped, surplus}
-use Rattle.demand_codec.specs.declared.demands.Demand.{Demand}
-use Rattle.demand_codec.specs.declared.demands.Demands.{Demands}
+use Rattle.plan_rules.specs.declared.demands.Demand.{Demand}
+use Rattle.plan_rules.specs.declared.demands.Demands.{Demands}
 
 -- ---- messages; all have the message tag 0
 

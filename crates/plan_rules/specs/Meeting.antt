@@ -6,10 +6,10 @@ use Rattle.region_config.specs.Configurations.{Configuration}
 use Rattle.region_config.specs.Granules.{granule_total, region_of}
 use Rattle.journal_core.specs.Holders.{holds}
 use Rattle.journal_core.specs.declared.outcome.Effect.{Effect}
-use Rattle.device_rules.specs.Hosts.{accepted_of, offers_of}
+use Rattle.isolation_laws.specs.device_rules.specs.Hosts.{accepted_of, offers_of}
 use Rattle.plan_rules.specs.Holding.{blocks_held, extents_in_region}
-use Rattle.demand_codec.specs.declared.demands.Demand.{Demand}
-use Rattle.demand_codec.specs.declared.demands.Demands.{Demands}
+use Rattle.plan_rules.specs.declared.demands.Demand.{Demand}
+use Rattle.plan_rules.specs.declared.demands.Demands.{Demands}
 
 -- All that the host holds of the region first, it holds second too.
 abbrev pub HoldsStill : Configuration → HostId → ℕ → List Effect → List Effect → Type 0

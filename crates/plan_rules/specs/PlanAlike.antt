@@ -4,7 +4,7 @@ use Rattle.dcd_base.specs.declared.ids.HostId.{HostId}
 use Rattle.region_config.specs.Configurations.{Configuration}
 use Rattle.journal_core.specs.Entries.{effects, is_control}
 use Rattle.journal_core.specs.declared.entries.Entry.{Entry}
-use Rattle.device_rules.specs.Hosts.{changes_of}
+use Rattle.isolation_laws.specs.device_rules.specs.Hosts.{changes_of}
 use Rattle.plan_rules.specs.Holding.{entry_of_step}
 
 -- Both have had the same effects, and changed each host's list as often: one may have loads and stores that the other

@@ -11,13 +11,13 @@ use Rattle.journal_core.specs.declared.acts.Reply.{Reply}
 use Rattle.journal_core.specs.declared.entries.Entry.{Entry}
 use Rattle.journal_core.specs.declared.outcome.Effect.{Effect}
 use Rattle.journal_core.specs.declared.outcome.HeldKind.{HeldKind}
-use Rattle.device_rules.specs.Adding.{region_free_blocks, is_free_now, present}
-use Rattle.device_rules.specs.Answers.{broken}
-use Rattle.device_rules.specs.Hosts.{held_of, offers_of}
+use Rattle.isolation_laws.specs.device_rules.specs.Adding.{region_free_blocks, is_free_now, present}
+use Rattle.isolation_laws.specs.device_rules.specs.Answers.{broken}
+use Rattle.isolation_laws.specs.device_rules.specs.Hosts.{held_of, offers_of}
 use Rattle.plan_rules.specs.Holding.{Step, gain, stepped}
 use Rattle.plan_rules.specs.Listing.{planned, ready}
-use Rattle.demand_codec.specs.declared.demands.Demand.{Demand}
-use Rattle.demand_codec.specs.declared.demands.Demands.{Demands}
+use Rattle.plan_rules.specs.declared.demands.Demand.{Demand}
+use Rattle.plan_rules.specs.declared.demands.Demands.{Demands}
 use Rattle.plan_rules.specs.declared.faults.PlanFault.{PlanFault}
 
 -- the first number below n of which it is true

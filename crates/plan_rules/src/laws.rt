@@ -1,7 +1,7 @@
 //! What a plan depends on, and what follows where it has no fault.
 
-ghost use Rattle.demand_codec.specs.declared.demands.Demands.{Demands};
-ghost use Rattle.device_rules.specs.Legal.{Legal};
+ghost use Rattle.plan_rules.specs.declared.demands.Demands.{Demands};
+ghost use Rattle.isolation_laws.specs.device_rules.specs.Legal.{Legal};
 ghost use Rattle.journal_core.specs.declared.entries.Entry.{Entry};
 ghost use Rattle.plan_rules.specs.PlanAlike.{PlanAlike, replayed};
 ghost use Rattle.plan_rules.specs.Holding.{Step, stepped};

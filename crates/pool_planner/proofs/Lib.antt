@@ -1,5 +1,15 @@
+pub mod GainedInTurn
+pub mod HeldBounds
+pub mod LastBytes
 pub mod OneReading
+pub mod Placing
 pub mod PlanCompleted
 pub mod PlanEndings
+pub mod PlanEnds
 pub mod PlanLines
 pub mod PlanRunning
+pub mod Refusing
+pub mod SixtyFourBits
+pub mod TakenAgain
+pub mod Taking
+pub mod Untagged

@@ -5,10 +5,10 @@ use Rattle.std.specs.List.{AllZip}
 use Rattle.std.specs.Prelude.{codes, option_and_then}
 use Rattle.serde_json.specs.Data.{Data}
 use Rattle.serde_json.specs.Find.{as_array, as_number, as_u64}
-use Rattle.demand_codec.specs.DemandTexts.{IsArrayOf, IsReadAsDemands, IsWhole, MemberIs, StatesDemand, StatesDemands, items_in}
-use Rattle.demand_codec.specs.declared.demands.Demand.{Demand}
-use Rattle.demand_codec.specs.declared.demands.Demands.{Demands}
-use Rattle.demand_codec.specs.declared.faults.DemandFault.{DemandFault}
+use Rattle.plan_rules.specs.DemandTexts.{IsArrayOf, IsReadAsDemands, IsWhole, MemberIs, StatesDemand, StatesDemands, items_in}
+use Rattle.plan_rules.specs.declared.demands.Demand.{Demand}
+use Rattle.plan_rules.specs.declared.demands.Demands.{Demands}
+use Rattle.plan_rules.specs.declared.demand_faults.DemandFault.{DemandFault}
 
 one_number : (d : Data) (m n : ℕ) → IsWhole d m → IsWhole d n → m ≡ n
 one_number d m n a b = same_Some m n (ap (λ x. option_and_then as_u64 (as_number x)) (sym a.value ∙ b.value))

@@ -10,8 +10,8 @@ use Rattle.report.specs.script_codec.specs.Scripts.{ReadsScript}
 use Rattle.report.specs.script_codec.specs.declared.faults.ScriptFault.{ScriptFault}
 use Rattle.report.specs.script_codec.specs.declared.scripts.Script.{Script}
 use Rattle.report.specs.script_codec.proofs.ScriptLaws.{script_is}
-use Rattle.plan_maker.specs.plan_rules.specs.Planning.{plan_fault}
-use Rattle.plan_maker.specs.plan_rules.specs.declared.faults.PlanFault.{PlanFault}
+use Rattle.plan_rules.specs.Planning.{plan_fault}
+use Rattle.plan_rules.specs.declared.faults.PlanFault.{PlanFault}
 use Rattle.pool_planner.specs.PlanEnds.{IsFrameEnd, IsPlanEnd, IsScriptJournal, IsSoundPlan, PutsEnding, frame_rest, frame_script, most_of_frame}
 use Rattle.pool_planner.specs.PlanStatuses.{UnlessPlanFinished}
 use Rattle.pool_planner.specs.declared.status.PlanStatus.{PlanStatus}

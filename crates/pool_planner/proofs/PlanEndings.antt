@@ -13,17 +13,17 @@ use Rattle.journal_core.specs.Entries.{effects}
 use Rattle.journal_core.specs.declared.entries.Entry.{Entry}
 use Rattle.report.specs.script_codec.specs.Scripts.{ReadsScript}
 use Rattle.report.specs.script_codec.specs.declared.scripts.Script.{Script}
-use Rattle.demand_codec.specs.DemandTexts.{IsReadAsDemands}
-use Rattle.demand_codec.specs.declared.demands.Demands.{Demands}
-use Rattle.plan_maker.specs.plan_rules.specs.Holding.{Step, stepped}
-use Rattle.plan_maker.specs.plan_rules.specs.Listing.{planned}
-use Rattle.plan_maker.specs.plan_rules.specs.Meeting.{MeetsDemands}
-use Rattle.plan_maker.specs.plan_rules.specs.PlanAlike.{PlanAlike}
-use Rattle.plan_maker.specs.plan_rules.specs.Planning.{IsPlan, plan_fault}
-use Rattle.plan_maker.specs.plan_rules.specs.declared.faults.PlanFault.{PlanFault}
-use Rattle.plan_maker.specs.plan_rules.proofs.AlikePlans.{plan_fault_same, planned_same}
-use Rattle.plan_maker.specs.plan_rules.proofs.AlikeSteps.{alike_stepped}
-use Rattle.plan_maker.specs.plan_rules.proofs.Succeeding.{all_succeed}
+use Rattle.plan_rules.specs.DemandTexts.{IsReadAsDemands}
+use Rattle.plan_rules.specs.declared.demands.Demands.{Demands}
+use Rattle.plan_rules.specs.Holding.{Step, stepped}
+use Rattle.plan_rules.specs.Listing.{planned}
+use Rattle.plan_rules.specs.Meeting.{MeetsDemands}
+use Rattle.plan_rules.specs.PlanAlike.{PlanAlike}
+use Rattle.plan_rules.specs.Planning.{IsPlan, plan_fault}
+use Rattle.plan_rules.specs.declared.faults.PlanFault.{PlanFault}
+use Rattle.plan_rules.proofs.AlikePlans.{plan_fault_same, planned_same}
+use Rattle.plan_rules.proofs.AlikeSteps.{alike_stepped}
+use Rattle.plan_rules.proofs.Succeeding.{all_succeed}
 use Rattle.pool_planner.specs.PlanPrinting.{plan_text, planner_usage_line}
 use Rattle.pool_planner.specs.declared.ending.Ending.{Ending}
 use Rattle.pool_planner.specs.PlanEnds.{IsDemandsEnd, IsPlanBegun, IsPlanEnd, IsPlanFrame, IsPlanOutcome, IsPlanWritten, IsPlannedEnd, IsScriptEnd, PutsEnding, frame_rest, frame_script, most_of_frame}

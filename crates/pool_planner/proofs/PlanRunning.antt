@@ -15,20 +15,20 @@ use Rattle.journal_core.specs.declared.entries.Entry.{Entry}
 use Rattle.journal_core.specs.declared.outcome.Effect.{Effect}
 use Rattle.journal_core.proofs.EachPlaces.{Each-at}
 use Rattle.journal_core.proofs.JournalSteps.{effects-push}
-use Rattle.plan_maker.specs.device_rules.specs.Answers.{answer}
-use Rattle.plan_maker.specs.device_rules.specs.Hosts.{changes_of, moves}
-use Rattle.plan_maker.specs.device_rules.specs.Legal.{Legal, Meets, right_answer}
-use Rattle.plan_maker.specs.device_rules.proofs.Answered.{answer_same}
-use Rattle.plan_maker.specs.device_rules.proofs.LegalSteps.{by_steps}
+use Rattle.device_plain.specs.device_rules.specs.Answers.{answer}
+use Rattle.device_plain.specs.device_rules.specs.Hosts.{changes_of, moves}
+use Rattle.device_plain.specs.device_rules.specs.Legal.{Legal, Meets, right_answer}
+use Rattle.device_plain.specs.device_rules.proofs.Answered.{answer_same}
+use Rattle.device_plain.specs.device_rules.proofs.LegalSteps.{by_steps}
 use Rattle.device_plain.specs.Devices.{Plain}
 use Rattle.device_plain.specs.Numbering.{commands_of}
 use Rattle.device_plain.proofs.Numbered.{commands-push}
 use Rattle.report.specs.script_codec.specs.Covering.{IsEntryOf, Runs}
 use Rattle.report.specs.script_codec.specs.declared.script_line.Line.{Line}
 use Rattle.report.specs.script_codec.proofs.CoveringLaws.{Runs-do, Runs-mark}
-use Rattle.plan_maker.specs.plan_rules.specs.Holding.{Step, entry_of_step, stepped}
-use Rattle.plan_maker.specs.plan_rules.specs.PlanAlike.{PlanAlike}
-use Rattle.plan_maker.specs.plan_rules.proofs.AlikeSteps.{alike_push}
+use Rattle.plan_rules.specs.Holding.{Step, entry_of_step, stepped}
+use Rattle.plan_rules.specs.PlanAlike.{PlanAlike}
+use Rattle.plan_rules.proofs.AlikeSteps.{alike_push}
 use Rattle.pool_planner.specs.PlanRuns.{AddsScriptLine, IsBehind, IsBehindList}
 
 -- ---- lines of a script

@@ -1,4 +1,6 @@
+pub mod Naming
 pub mod PlanEnds
 pub mod PlanPrinting
 pub mod PlanRuns
 pub mod PlanStatuses
+pub mod Trials

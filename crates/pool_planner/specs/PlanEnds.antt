@@ -7,20 +7,20 @@ use Rattle.dcd_base.specs.Streams.{HasRisen, Passes}
 use Rattle.region_config.specs.Configurations.{Configuration}
 use Rattle.journal_core.specs.Entries.{effects}
 use Rattle.journal_core.specs.declared.entries.Entry.{Entry}
-use Rattle.plan_maker.specs.device_rules.specs.Legal.{Legal}
+use Rattle.device_plain.specs.device_rules.specs.Legal.{Legal}
 use Rattle.report.specs.script_codec.specs.Covering.{Runs}
 use Rattle.report.specs.script_codec.specs.Reading.{first_fault}
 use Rattle.report.specs.script_codec.specs.Scripts.{ReadsScript}
 use Rattle.report.specs.script_codec.specs.declared.faults.ScriptFault.{ScriptFault}
 use Rattle.report.specs.script_codec.specs.declared.scripts.Script.{Script}
 use Rattle.report.specs.Refusals.{refusal_line}
-use Rattle.demand_codec.specs.DemandTexts.{IsReadAsDemands}
-use Rattle.demand_codec.specs.declared.demands.Demands.{Demands}
-use Rattle.demand_codec.specs.declared.faults.DemandFault.{DemandFault}
-use Rattle.plan_maker.specs.plan_rules.specs.Holding.{stepped}
-use Rattle.plan_maker.specs.plan_rules.specs.Listing.{planned}
-use Rattle.plan_maker.specs.plan_rules.specs.Meeting.{MeetsDemands}
-use Rattle.plan_maker.specs.plan_rules.specs.Planning.{AllSucceed, plan_fault}
+use Rattle.plan_rules.specs.DemandTexts.{IsReadAsDemands}
+use Rattle.plan_rules.specs.declared.demands.Demands.{Demands}
+use Rattle.plan_rules.specs.declared.demand_faults.DemandFault.{DemandFault}
+use Rattle.plan_rules.specs.Holding.{stepped}
+use Rattle.plan_rules.specs.Listing.{planned}
+use Rattle.plan_rules.specs.Meeting.{MeetsDemands}
+use Rattle.plan_rules.specs.Planning.{AllSucceed, plan_fault}
 use Rattle.pool_planner.specs.PlanPrinting.{demands_refused, plan_fault_line, plan_text, planner_usage_line}
 use Rattle.pool_planner.specs.declared.status.PlanStatus.{PlanStatus}
 

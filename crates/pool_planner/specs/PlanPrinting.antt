@@ -7,9 +7,9 @@ use Rattle.journal_core.specs.Entries.{effects, fits}
 use Rattle.journal_core.specs.declared.acts.Act.{Act}
 use Rattle.journal_core.specs.declared.entries.Entry.{Entry}
 use Rattle.report.specs.Texts.{actor_name, line_of, state_lines}
-use Rattle.demand_codec.specs.declared.faults.DemandFault.{DemandFault}
-use Rattle.plan_maker.specs.plan_rules.specs.Holding.{Step, stepped}
-use Rattle.plan_maker.specs.plan_rules.specs.declared.faults.PlanFault.{PlanFault}
+use Rattle.plan_rules.specs.declared.demand_faults.DemandFault.{DemandFault}
+use Rattle.plan_rules.specs.Holding.{Step, stepped}
+use Rattle.plan_rules.specs.declared.faults.PlanFault.{PlanFault}
 
 -- ---- what a list has
 

@@ -7,17 +7,16 @@ ghost use Rattle.report.specs.script_codec.specs.Scripts.{IsScript};
 ghost use Rattle.std.specs.Prelude.{◌≡◌, ◌≤◌, IfOk, length};
 
 use crate::ending::Ending;
+use crate::plan;
 use crate::printing::act_lines;
 use crate::refusals::{demands_refusal, plan_refusal, script_refusal};
 use crate::running::{are_sound, put_state, run_lines, take_steps};
 use crate::status::PlanStatus;
 use dcd_base::{Actor, Bytes, NoMemory};
-use demand_codec::{DemandFault, Demands, read_demands};
 use device_plain::Device;
 use field_bytes::u32_at;
 use journal_core::Act;
-use plan_maker::plan;
-use plan_maker::plan_rules::PlanFault;
+use plan_rules::{DemandFault, Demands, PlanFault, read_demands};
 use report::script_codec::{Script, ScriptFault, read};
 use std::alloc::Global;
 

@@ -8,8 +8,7 @@ ghost use Rattle.std.specs.Prelude.{◌≡◌, ◌≢◌, [], IfOk, List, OnErr,
 
 use crate::printing::put_number;
 use dcd_base::{Bytes, Failed, MemSink, NoMemory, Sink, write_all};
-use demand_codec::DemandFault;
-use plan_maker::plan_rules::PlanFault;
+use plan_rules::{DemandFault, PlanFault};
 use report::refusal;
 use report::script_codec::ScriptFault;
 use std::alloc::Global;

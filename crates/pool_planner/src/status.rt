@@ -3,8 +3,7 @@
 ghost use Rattle.pool_planner.specs.PlanStatuses.{plan_status_number};
 ghost use Rattle.std.specs.Prelude.{◌≡◌};
 
-use demand_codec::DemandFault;
-use plan_maker::plan_rules::PlanFault;
+use plan_rules::{DemandFault, PlanFault};
 use report::script_codec::ScriptFault;
 
 /// How a run of the planner ends.

@@ -3,3 +3,4 @@ pub mod Configurations
 pub mod Granules
 pub mod Setups
 pub mod Soundness
+pub use Rattle.dcd_base

@@ -5,6 +5,8 @@
 //! every `Config` from then on.
 #![tactic(auto)]
 
+pub use dcd_base;
+
 mod configuration;
 mod faults;
 mod first_fault;

@@ -1,9 +1,9 @@
 //! Extents as they leave: with the tag and the sequence of the accepted extent in which each lies.
 
-ghost use Rattle.extent_list.specs.ExtentLists.{marked};
+ghost use Rattle.list_rules.specs.extent_list.specs.ExtentLists.{marked};
 ghost use Rattle.std.specs.Prelude.{◌≡◌, ◌++◌, IfOk, map};
 
-use dcd_base::{Extent, Extents, NoMemory};
+use list_rules::dcd_codes::dcd_base::{Extent, Extents, NoMemory};
 use list_rules::{Owners, put_marked};
 use std::alloc::Global;
 

@@ -1,11 +1,10 @@
 -- How parts of a text make up the whole.
-use Rattle.std.proofs.Common.{◌/◌, ◌%◌, slice_index, get_or, drop, ◌≡◌, Bool, if◌then◌else◌, ℕ, zero, suc, ◌+◌, ◌≤◌, ◌<◌, List, [], ◌∷◌, ◌++◌, Option, Some, None, sym, ap, ◌∙◌, arith, take, length, flat_map, subst, refl}
+use Rattle.std.proofs.Common.{◌/◌, ◌%◌, slice_index, ◌≡◌, Bool, if◌then◌else◌, ℕ, zero, suc, ◌+◌, ◌≤◌, ◌<◌, List, [], ◌∷◌, ◌++◌, Option, Some, None, sym, ap, ◌∙◌, arith, take, length, flat_map, subst, refl}
 use Rattle.std.specs.Prelude.{slice_get, IsFalse, OnErr, OnOk}
 use Rattle.std.specs.declared.result.Result.{Result}
 use Rattle.std.specs.declared.result.Result.TheVariants.{Ok, Err}
 use Rattle.std.specs.List.{enumerate_from, range_with_len}
-use Rattle.std.proofs.Math.Seq.{take-add}
-use Rattle.std.proofs.lemmas.List.{append_assoc, append-nil, flat_map_more, length-take-le, take_more}
+use Rattle.std.proofs.lemmas.List.{append_assoc, append-nil, flat_map_more, take_more}
 use Rattle.std.proofs.lemmas.Option.{get_or_from_slice_get}
 use Rattle.std.proofs.lemmas.Grind.{flat_map-append}
 use Rattle.field_bytes.specs.Layouts.{Field, Raw, spell, spelling}
@@ -15,7 +14,7 @@ use Rattle.journal_core.specs.declared.entries.Entry.{Entry}
 use Rattle.hex.specs.Hex.{encode_lower, encode_with, lower_digits}
 use Rattle.dcd_base.specs.Streams.{HasRisen, Passes}
 use Rattle.dcd_base.proofs.Passing.{passes_start, passes_more, passes_then, risen_before}
-use Rattle.report.specs.Printing.{with_bytes, Printed, Prints, with_byte}
+use Rattle.report.specs.Printing.{with_bytes, Printed, Prints}
 
 -- nothing was put
 pub prints_nothing : (taken : Option (List ℕ)) (count : ℕ) (waits : Option (List ℕ)) → Prints taken count waits taken count waits []
@@ -38,22 +37,6 @@ pub prints_more : {t t' t'' : Option (List ℕ)} {n n' n'' : ℕ} {w w' w'' : Op
     → Prints t n w t' n' w' a → Prints t' n' w' t'' n'' w'' b → c ≡ a ++ b → Prints t n w t'' n'' w'' c
 prints_more {t} {t'} {t''} {n} {n'} {n''} {w} {w'} {w''} first next e =
     subst (λ ys. Prints t n w t'' n'' w'' ys) (sym e) (prints_then first next)
-
--- one more byte waits
-printed_byte : (start : Option (List ℕ)) (faults : ℕ) (taken : Option (List ℕ)) (count : ℕ) (waits : Option (List ℕ)) (text : List ℕ) (byte : ℕ)
-    → Printed start faults taken count waits text → Printed start faults taken count (with_byte byte waits) (text ++ byte ∷ [])
-printed_byte start faults taken count None text byte printed =
-    (printed.0, record { risen = printed.1.risen; rest = printed.1.rest ++ byte ∷ []; took = passes_more (byte ∷ []) printed.1.took })
-printed_byte start faults taken count (Some waits) text byte printed = (printed.0, passes_more (byte ∷ []) printed.1)
-
-pub prints_byte : {t t' : Option (List ℕ)} {n n' : ℕ} {w w' w'' : Option (List ℕ)} → (byte : ℕ)
-    → Prints t n w t' n' w' [] → w'' ≡ with_byte byte w' → Prints t n w t' n' w'' (byte ∷ [])
-prints_byte {t} {t'} {n} {n'} {w} {w'} {w''} byte room e = record {
-  onto = λ start faults text printed.
-      subst (λ x. Printed start faults t' n' x (text ++ byte ∷ [])) (sym e)
-      (printed_byte start faults t' n' w' text byte
-      (subst (λ ys. Printed start faults t' n' w' ys) (append-nil text) (room.onto start faults text printed)));
-}
 
 -- more bytes wait
 printed_bytes : (start : Option (List ℕ)) (faults : ℕ) (taken : Option (List ℕ)) (count : ℕ) (waits : Option (List ℕ)) (text bytes : List ℕ)
@@ -78,15 +61,10 @@ encode_with-append table (x ∷ xs) ys =
 pub encode_lower-append : (xs ys : List ℕ) → encode_lower (xs ++ ys) ≡ encode_lower xs ++ encode_lower ys
 encode_lower-append xs ys = encode_with-append lower_digits xs ys
 
--- the digits of one part more and of the byte behind it
-pub parts_more : (bytes rest part : List ℕ) (at n : ℕ) → rest ≡ drop at bytes → part ≡ take n rest → n < length rest
-    → encode_lower (take (at + (length part + 1)) bytes) ≡ encode_lower (take at bytes) ++ encode_lower (part ++ get_or rest (length part) 0 ∷ [])
-parts_more bytes rest part at n behind is within =
-    let count : length part ≡ n = ap length is ∙ length-take-le n rest (omega (arith, within)) in
-    let more : take (length part + 1) rest ≡ part ++ get_or rest (length part) 0 ∷ [] =
-    take_more rest (length part) 0 (omega (arith, within, count)) ∙ ap (λ xs. xs ++ get_or rest (length part) 0 ∷ []) (ap (λ m. take m rest) count ∙ sym is) in
-    ap encode_lower (take-add at (length part + 1) bytes ∙ ap (λ xs. take at bytes ++ take (length part + 1) xs) (sym behind) ∙ ap (λ xs. take at bytes ++ xs) more)
-    ∙ encode_lower-append (take at bytes) (part ++ get_or rest (length part) 0 ∷ [])
+-- the digits of one more part of bytes
+pub digits_more : {t t' t'' : Option (List ℕ)} {n n' n'' : ℕ} {w w' w'' : Option (List ℕ)} (done part : List ℕ)
+    → Prints t n w t' n' w' (encode_lower done) → Prints t' n' w' t'' n'' w'' (encode_lower part) → Prints t n w t'' n'' w'' (encode_lower (done ++ part))
+digits_more done part first next = prints_more first next (encode_lower-append done part)
 
 -- a text of which a piece waits, and what is left of it once the sink took some of the piece
 passes_piece : {start t t' : Option (List ℕ)} {piece text rest : List ℕ} → Passes start t piece text → Passes t t' rest piece

@@ -3,7 +3,5 @@ pub mod Refusals
 pub mod Texts
 pub use Rattle.control_core
 pub use Rattle.control_core.specs.device_rules
-pub use Rattle.control_core.specs.holding_laws
-pub use Rattle.control_core.specs.step_laws
-pub use Rattle.control_core.specs.device_state
+pub use Rattle.control_core.specs.device_laws
 pub use Rattle.script_codec

@@ -1,7 +1,6 @@
 -- How a printer passes a text on to a sink, a part at a time.
-use Rattle.std.specs.Prelude.{◌≡◌, ℕ, ◌+◌, ◌*◌, ◌≤◌, length, List, [], ◌∷◌, ◌++◌, Option, Some, None, take}
+use Rattle.std.specs.Prelude.{ℕ, ◌≤◌, List, ◌++◌, Option, Some, None}
 use Rattle.dcd_base.specs.Streams.{HasRisen, Passes}
-use Rattle.journal_core.specs.declared.acts.Reply.{Reply}
 
 -- A write failed, and a front of the text was taken.
 pub record IsCut (start : Option (List ℕ)) (faults : ℕ) (taken : Option (List ℕ)) (count : ℕ) (text : List ℕ) : Type 0 where
@@ -31,23 +30,6 @@ abbrev pub with_bytes : List ℕ → Option (List ℕ) → Option (List ℕ)
 with_bytes bytes None = None
 with_bytes bytes (Some waits) = Some (waits ++ bytes)
 
--- one more byte waits
-abbrev pub with_byte : ℕ → Option (List ℕ) → Option (List ℕ)
-with_byte byte None = None
-with_byte byte (Some waits) = Some (waits ++ byte ∷ [])
-
 -- how many bytes a piece has; the last piece of a text may have fewer
 abbrev pub piece_length : ℕ
-piece_length = 16384
-
--- These bytes stand in a buffer from a place to an end, behind what stood before that place.
-pub record IsWrittenAt (start : ℕ) (old : List ℕ) (end : ℕ) (new : List ℕ) (bytes : List ℕ) : Type 0 where
-  pub front : take end new ≡ take start old ++ bytes
-
--- in how much room the line of a step with this reply is written
-abbrev pub step_room : Reply → ℕ
-step_room (Reply.Answer s) = 96 + 2 * length s.payload
-step_room (Reply.Word n) = 96
-step_room Reply.Stored = 96
-step_room (Reply.Refused fault) = 96
-step_room (Reply.Scrubbed n) = 96
+piece_length = 4096

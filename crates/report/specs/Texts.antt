@@ -9,8 +9,7 @@ use Rattle.dcd_base.specs.declared.steps.LogId.{LogId}
 use Rattle.dcd_base.specs.declared.failures.AccessFault.{AccessFault}
 use Rattle.event_records.specs.declared.events.Event.{Event}
 use Rattle.event_records.specs.Records.{record_bytes}
-use Rattle.cci_codec.specs.Messages.{response_bytes, response_head_fields}
-use Rattle.field_bytes.specs.Layouts.{spelling}
+use Rattle.cci_codec.specs.Messages.{response_bytes}
 use Rattle.region_config.specs.Configurations.{Configuration}
 use Rattle.region_config.specs.Granules.{hosts_of}
 use Rattle.journal_core.specs.declared.acts.Act.{Act}
@@ -18,10 +17,8 @@ use Rattle.journal_core.specs.declared.acts.Reply.{Reply}
 use Rattle.journal_core.specs.declared.outcome.Effect.{Effect}
 use Rattle.journal_core.specs.declared.entries.Entry.{Entry}
 use Rattle.journal_core.specs.Entries.{effects}
-use Rattle.journal_core.specs.Seen.{kind_of, seen_reply}
+use Rattle.journal_core.specs.Seen.{kind_of}
 use Rattle.journal_core.specs.declared.seen.ActKind.{ActKind}
-use Rattle.journal_core.specs.declared.seen.ResponseSeen.{ResponseSeen}
-use Rattle.journal_core.specs.declared.seen.StepSeen.{StepSeen}
 use Rattle.control_core.specs.device_rules.specs.Counts.{dirty_count, extent_count, free_count, granules_held, missed_of, records_of}
 
 -- a word that is not the first of its line
@@ -70,21 +67,9 @@ reply_words Reply.Stored = codes "ok" ∷ []
 reply_words (Reply.Refused fault) = codes "refused" ∷ decimal (fault_number fault) ∷ []
 reply_words (Reply.Scrubbed n) = decimal n ∷ []
 
--- the line of a step: its number, its line in the script, who did what, and the reply
-unfoldable pub step_line : ℕ → ℕ → Actor → ActKind → Reply → List ℕ
-step_line n line actor kind reply = line_of (decimal n ∷ decimal line ∷ actor_name actor ∷ kind_name kind ∷ reply_words reply)
-
--- the line of a step that is lent
-abbrev pub seen_line : ℕ → StepSeen → List ℕ
-seen_line n step = step_line n step.line step.actor step.kind (seen_reply step.reply)
-
--- the header of a response that is lent
-abbrev pub seen_head : ResponseSeen → List ℕ
-seen_head response = spelling (response_head_fields response.tag response.opcode response.code (length response.payload.now))
-
--- the line of an entry, and its number
+-- the line of an entry and its number: who did what, for which line of the script, and the reply
 unfoldable pub entry_line : ℕ × Entry → List ℕ
-entry_line (n, e) = step_line n e.line e.actor (kind_of e.act) e.reply
+entry_line (n, e) = line_of (decimal n ∷ decimal e.line ∷ actor_name e.actor ∷ act_name e.act ∷ reply_words e.reply)
 
 unfoldable pub entry_lines : List Entry → List ℕ
 entry_lines journal = flat_map entry_line (enumerate_from 1 journal)

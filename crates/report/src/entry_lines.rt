@@ -5,15 +5,13 @@ ghost use Rattle.journal_core.specs.Lending.{lent_entry};
 ghost use Rattle.journal_core.specs.Seen.{seen_reply, seen_response};
 ghost use Rattle.journal_core.specs.declared.acts.Reply.{Reply};
 ghost use Rattle.report.specs.Printing.{Puts};
-ghost use Rattle.report.specs.Texts.{entry_line, entry_lines, fault_number, kind_name, next_word, reply_words, rest_of_line, seen_line};
+ghost use Rattle.report.specs.Texts.{entry_line, entry_lines, fault_number, kind_name, next_word, reply_words, rest_of_line};
 ghost use Rattle.std.specs.Prelude.{◌≡◌, ◌<◌, ◌^◌, length};
 
-use crate::line_numbers::LineNumber;
 use crate::printing::Printer;
-use crate::step_writing::step_room;
 use cci_codec::response_head;
 use dcd_base::{AccessFault, Sink};
-use journal_core::{ActKind, Lender, Lent, ReplySeen, ResponseSeen, StepSeen};
+use journal_core::{ActKind, Lender, Lent, ReplySeen, ResponseSeen};
 
 /// The number of a fault of a load or store.
 fn fault_number(fault: AccessFault) -> u64
@@ -31,10 +29,10 @@ fn put_kind<K: Sink>(printer: &mut Printer, sink: &mut K, kind: ActKind)
     ensures { Puts K.taken K.faults sink.old printer.old sink.new printer.new (next_word (kind_name kind)) }
 {
     match kind {
-        ActKind::Command => printer.put(sink, b" cmd"),
-        ActKind::Load => printer.put(sink, b" ld"),
-        ActKind::Store => printer.put(sink, b" st"),
-        ActKind::Scrub => printer.put(sink, b" sc"),
+        ActKind::Command => printer.put_word(sink, b"cmd"),
+        ActKind::Load => printer.put_word(sink, b"ld"),
+        ActKind::Store => printer.put_word(sink, b"st"),
+        ActKind::Scrub => printer.put_word(sink, b"sc"),
     }
 }
 
@@ -50,7 +48,7 @@ fn put_response<K: Sink>(printer: &mut Printer, sink: &mut K, response: &Respons
         response.code,
         response.payload.len() as u32,
     );
-    printer.put_byte(sink, b' ');
+    printer.put(sink, b" ");
     printer.put_hex(sink, head.as_slice());
     printer.put_hex(sink, response.payload);
     printer.end_line(sink);
@@ -61,16 +59,18 @@ fn put_response<K: Sink>(printer: &mut Printer, sink: &mut K, response: &Respons
 fn put_loaded<K: Sink>(printer: &mut Printer, sink: &mut K, word: u64)
     ensures { Puts K.taken K.faults sink.old printer.old sink.new printer.new (rest_of_line (reply_words (Reply.Word word))) }
 {
-    printer.put_byte(sink, b' ');
+    printer.put(sink, b" ");
     printer.put_hex(sink, word.to_be_bytes().as_slice());
     printer.end_line(sink);
 }
 
 /// Says that a store was done.
+#[tactic(auto, using(crate::proofs::Parts::prints_then))]
 fn put_stored<K: Sink>(printer: &mut Printer, sink: &mut K)
     ensures { Puts K.taken K.faults sink.old printer.old sink.new printer.new (rest_of_line (reply_words Reply.Stored)) }
 {
-    printer.put(sink, b" ok\n");
+    printer.put_word(sink, b"ok");
+    printer.end_line(sink);
 }
 
 /// Says that a load or a store was refused, and why.
@@ -105,43 +105,18 @@ fn put_reply<K: Sink>(printer: &mut Printer, sink: &mut K, reply: &ReplySeen<'_>
     }
 }
 
-/// Puts the parts of the line of a step.
-#[tactic(auto, using(crate::proofs::Parts::prints_then), unfolding(crate::specs::Texts::step_line))]
-fn put_step<K: Sink>(printer: &mut Printer, sink: &mut K, number: u64, step: &StepSeen<'_>)
-    requires { IsShort (seen_reply step.now.reply) }
-    ensures { Puts K.taken K.faults sink.old printer.old sink.new printer.new (seen_line number step.now) }
-{
-    printer.put_numbers(sink, number, u64::from(step.line));
-    printer.put_actor(sink, step.actor);
-    put_kind(printer, sink, step.kind);
-    put_reply(printer, sink, &step.reply);
-}
-
-/// Puts the parts of the line of an entry, which is lent, where a piece ends in it.
-#[cold]
-#[inline(never)]
-#[tactic(auto, unfolding(crate::specs::Texts::entry_line))]
-fn put_parts<K: Sink>(printer: &mut Printer, sink: &mut K, number: u64, entry: &Lent<'_>)
+/// Puts the line of an entry, which is lent: its number, its line in the script, its actor, and its answer.
+#[tactic(auto, using(crate::proofs::Parts::prints_then), unfolding(crate::specs::Texts::entry_line))]
+fn put_entry<K: Sink>(printer: &mut Printer, sink: &mut K, number: u64, entry: &Lent<'_>)
     requires { IsShort (lent_entry entry.now).reply }
     ensures { Puts K.taken K.faults sink.old printer.old sink.new printer.new (entry_line (number, lent_entry entry.now)) }
 {
     let step = entry.seen();
-    put_step(printer, sink, number, &step);
-}
-
-/// Puts the line of an entry, which is lent: its number, its line in the script, its actor, and its answer. It mostly fits into
-/// the piece.
-#[tactic(auto, using(crate::proofs::Parts::prints_waiting), unfolding(crate::specs::Texts::entry_line))]
-fn put_entry<K: Sink>(printer: &mut Printer, sink: &mut K, number: &LineNumber, entry: &Lent<'_>)
-    requires { IsShort (lent_entry entry.now).reply }
-    ensures { Puts K.taken K.faults sink.old printer.old sink.new printer.new (entry_line (number.now, lent_entry entry.now)) }
-{
-    let step = entry.seen();
-    if step_room(&step.reply) <= printer.room() {
-        printer.store_step(number, &step);
-    } else {
-        put_parts(printer, sink, number.number(), entry);
-    }
+    printer.put_number(sink, number);
+    printer.put_count(sink, u64::from(step.line));
+    printer.put_actor(sink, step.actor);
+    put_kind(printer, sink, step.kind);
+    put_reply(printer, sink, &step.reply);
 }
 
 /// Puts a line for each entry that is lent, numbered from 1, and answers how many there are. None is left then.
@@ -153,12 +128,10 @@ pub fn put_entries<K: Sink, J: Lender>(printer: &mut Printer, sink: &mut K, jour
     ensures lines { Puts K.taken K.faults sink.old printer.old sink.new printer.new (entry_lines (J.rest journal.old)) }
 {
     let mut count = 0;
-    let mut number = LineNumber::new(1);
     while let Some(entry) = journal.peek() {
-        put_entry(printer, sink, &number, &entry);
-        journal.skip();
-        number.count_up();
         count += 1;
+        put_entry(printer, sink, count, &entry);
+        journal.skip();
     }
     count
 }

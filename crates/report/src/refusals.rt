@@ -2,52 +2,13 @@
 
 ghost use Rattle.dcd_base.specs.Streams.{HasRisen, Passes};
 ghost use Rattle.report.specs.Printing.{Puts};
-ghost use Rattle.report.specs.Refusals.{fault_place, refusal_line, refused_at, script_fault_number};
+ghost use Rattle.report.specs.Refusals.{refusal_line, refused_at, usage_line};
 ghost use Rattle.script_codec.specs.declared.faults.ScriptFault.{ScriptFault};
-ghost use Rattle.std.specs.Prelude.{◌≡◌, ◌≢◌, ◌≤◌, [], List, OnErr, OnOk, ℕ};
+ghost use Rattle.std.specs.Prelude.{◌≢◌, ◌≤◌, [], List, OnErr, OnOk, ℕ};
 
 use crate::printing::Printer;
-use dcd_base::{Failed, Sink};
+use dcd_base::{Failed, Sink, write_all};
 use script_codec::ScriptFault;
-
-/// The number of a script's fault.
-fn number_of(fault: &ScriptFault) -> u64
-    ensures { result ≡ script_fault_number fault.now }
-{
-    match fault {
-        ScriptFault::BadMagic => 1,
-        ScriptFault::BadVersion(_) => 2,
-        ScriptFault::BadConfig(_) => 3,
-        ScriptFault::Truncated(_) => 4,
-        ScriptFault::UnknownKind(_) => 5,
-        ScriptFault::UnknownActor(_) => 6,
-        ScriptFault::BadMessage { .. } => 7,
-        ScriptFault::TooLong => 8,
-        ScriptFault::AfterEnd(_) => 9,
-        ScriptFault::TooManyLines(_) => 10,
-        ScriptFault::NoMemory => 11,
-        ScriptFault::BadLanes(_) => 12,
-    }
-}
-
-/// How many bytes of the script stand before the fault.
-fn place_of(fault: &ScriptFault) -> u64
-    ensures { result ≡ fault_place fault.now }
-{
-    match fault {
-        ScriptFault::BadMagic | ScriptFault::NoMemory => 0,
-        ScriptFault::BadVersion(_) => 4,
-        ScriptFault::BadConfig(_) => 8,
-        ScriptFault::Truncated(place)
-        | ScriptFault::UnknownKind(place)
-        | ScriptFault::UnknownActor(place)
-        | ScriptFault::AfterEnd(place)
-        | ScriptFault::TooManyLines(place) => *place,
-        ScriptFault::BadMessage { at, .. } => *at,
-        ScriptFault::TooLong => 16_777_216,
-        ScriptFault::BadLanes(_) => 10,
-    }
-}
 
 /// Puts the line of a refused script.
 #[tactic(auto, using(crate::proofs::Parts::prints_then), unfolding(crate::specs::Refusals::refused_at))]
@@ -83,5 +44,18 @@ pub fn refusal<K: Sink>(fault: &ScriptFault, sink: &mut K) -> Result<(), Failed>
     ensures failed { OnErr result (HasRisen (K.faults sink.old) (K.faults sink.new)) }
     ensures never_falls { K.faults sink.old ≤ K.faults sink.new }
 {
-    write_refused_at(number_of(fault), place_of(fault), sink)
+    write_refused_at(u64::from(fault.number()), fault.place(), sink)
+}
+
+/// Writes the line that says which words the program takes.
+///
+/// It takes no memory, and fails as `refusal` does.
+#[tactic(auto, unfolding(crate::specs::Refusals::usage_line))]
+pub fn usage<K: Sink>(sink: &mut K) -> Result<(), Failed>
+    ensures whole { OnOk result (Passes (K.taken sink.old) (K.taken sink.new) [] usage_line) }
+    ensures front { OnErr result ((rest : List ℕ) × Passes (K.taken sink.old) (K.taken sink.new) rest usage_line) }
+    ensures failed { OnErr result (HasRisen (K.faults sink.old) (K.faults sink.new)) }
+    ensures never_falls { K.faults sink.old ≤ K.faults sink.new }
+{
+    write_all(sink, b"usage: dcdsim [--mode serial|threads] [--gen N]\n")
 }

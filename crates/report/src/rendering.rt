@@ -61,9 +61,9 @@ fn put_summary<K: Sink, J: Lender>(
 /// log, and the lines of the state. No entry is left to lend then.
 ///
 /// The control's entries have the effects of the journal's. The payload of each response in the journal has a length
-/// that the message can say. The text goes out in pieces of 16,384 bytes, the last one of 1 to 16,384; what a write
-/// leaves of a piece is handed in next. It takes no memory. `Failed` comes only where the sink's count of faults has
-/// risen; the sink has then taken a front of the text.
+/// that the message can say. The text goes out in pieces of 4,096 bytes, the last one of 1 to 4,096; what a write leaves
+/// of a piece is handed in next. It takes no memory. `Failed` comes only where the sink's count of faults has risen; the
+/// sink has then taken a front of the text.
 pub fn render<K: Sink, J: Lender>(
     control: &Control,
     journal: &mut J,

@@ -19,7 +19,7 @@ fn put_record<K: Sink>(printer: &mut Printer, sink: &mut K, log: &LogId, event: 
 {
     printer.put(sink, b"rec");
     printer.put_log(sink, log);
-    printer.put_byte(sink, b' ');
+    printer.put(sink, b" ");
     printer.put_hex(sink, encode(event).as_slice());
     printer.end_line(sink);
 }

@@ -2,8 +2,8 @@
 use Rattle.std.proofs.Common.{◌≡◌, ℕ, ◌+◌, ◌<◌, ◌≤◌, Bool, true, false, cond, List, [], ◌∷◌, ◌++◌, length, get_or, take, drop, replicate, refl, ap, ◌∙◌, sym, subst, arith, suc, length-append, length-drop}
 use Rattle.std.specs.Prelude.{All, ◌||◌}
 use Rattle.std.proofs.lemmas.List.{length-replicate, length-take-le}
-use Rattle.dcd_base.specs.declared.media.Run.{Run}
-use Rattle.dcd_base.specs.Words.{has_granule, has_in_runs}
+use Rattle.region_config.specs.dcd_base.specs.declared.media.Run.{Run}
+use Rattle.region_config.specs.dcd_base.specs.Words.{has_granule, has_in_runs}
 use Rattle.granule_map.specs.StateLists.{with_run}
 use Rattle.granule_map.specs.declared.states.GranuleState.{GranuleState}
 use Rattle.granule_map.proofs.Changes.{state_after_run}

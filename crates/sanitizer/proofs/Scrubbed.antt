@@ -3,7 +3,7 @@ use Rattle.std.proofs.Common.{◌≡◌, ℕ, zero, suc, ◌+◌, ◌<◌, ◌�
 use Rattle.std.specs.Prelude.{◌&&◌}
 use Rattle.std.specs.List.{filter, list_all, range_with_len}
 use Rattle.std.proofs.lemmas.Bool.{and_from, and_parts, cases_Bool, cases_lt, eqb-true, false≢true, leb-true, ltb-true}
-use Rattle.dcd_base.specs.Words.{has_granule, has_in_runs}
+use Rattle.region_config.specs.dcd_base.specs.Words.{has_granule, has_in_runs}
 use Rattle.granule_map.specs.Choices.{joined, joined_onto, passing}
 use Rattle.region_config.specs.Configurations.{Configuration}
 use Rattle.region_config.specs.Granules.{granule_total, same_region}

@@ -1,7 +1,7 @@
 -- Which granules a turn of the sanitizer zeroes, and what it leaves. `dirty` tells whether a granule is dirty.
 use Rattle.std.specs.Prelude.{◌≡◌, ℕ, suc, ◌+◌, ◌-◌, ◌<◌, ◌≤◌, Bool, if◌then◌else◌, List, [], ◌∷◌, fold, map, take, slice_index_or, sum_by, Option, Some, None}
-use Rattle.dcd_base.specs.declared.media.Run.{Run}
-use Rattle.dcd_base.specs.Words.{has_in_runs}
+use Rattle.region_config.specs.dcd_base.specs.declared.media.Run.{Run}
+use Rattle.region_config.specs.dcd_base.specs.Words.{has_in_runs}
 use Rattle.granule_map.specs.Choices.{joined, lowest_from, passing}
 use Rattle.granule_map.specs.StateLists.{with_run}
 use Rattle.granule_map.specs.declared.states.GranuleState.{GranuleState}

@@ -4,6 +4,8 @@
 //! the granules than their states takes `dirty_runs` alone, and makes the change.
 #![tactic(auto)]
 
+pub use granule_map;
+
 mod scrubbing;
 mod search;
 

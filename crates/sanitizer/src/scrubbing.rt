@@ -1,15 +1,15 @@
 //! A turn of the sanitizer.
 
-ghost use Rattle.dcd_base.specs.Words.{has_in_runs};
+ghost use Rattle.region_config.specs.dcd_base.specs.Words.{has_in_runs};
 ghost use Rattle.granule_map.specs.StateLists.{is_dirty_at};
 ghost use Rattle.region_config.specs.Granules.{granule_total};
 ghost use Rattle.sanitizer.specs.Turns.{AreFreed, IsInRegion, freed, granules_of_runs, scrub_runs, lowest_dirty};
 ghost use Rattle.std.specs.Prelude.{◌≡◌, ◌+◌, ◌≤◌, All, IfOk, IsTrue, OnErr, OnOk, [], length, ℕ};
 
 use crate::search::next_run;
-use dcd_base::{NoMemory, Run, Runs};
 use granule_map::{GranuleMap, GranuleState};
 use region_config::Config;
+use region_config::dcd_base::{NoMemory, Run, Runs};
 use std::alloc::Global;
 
 /// Frees the lowest dirty granules, so many or all where there are fewer, and answers them as the longest runs

@@ -6,9 +6,9 @@ ghost use Rattle.sanitizer.specs.Turns.{NextDirtyRun};
 ghost use Rattle.std.specs.List.{prefix_len, range_with_len};
 ghost use Rattle.std.specs.Prelude.{◌≡◌, ◌+◌, ◌<◌, ◌≤◌, length, suc};
 
-use dcd_base::{Granule, Run};
 use granule_map::GranuleMap;
 use region_config::Config;
+use region_config::dcd_base::{Granule, Run};
 
 /// The lowest run of dirty granules of one region from a granule on, at most so many of them.
 pub(crate) fn next_run(map: &GranuleMap, config: &Config, from: u32, most: u32) -> Option<Run>

@@ -1,4 +1,5 @@
 pub mod Covering
+pub mod FaultNumbers
 pub mod Fields
 pub mod Heads
 pub mod LineByLine

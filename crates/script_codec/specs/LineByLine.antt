@@ -6,7 +6,7 @@ use Rattle.script_codec.specs.declared.scripts.Script.{Script}
 use Rattle.script_codec.specs.declared.faults.ScriptFault.{ScriptFault}
 use Rattle.script_codec.specs.Fields.{◌>>=◌}
 use Rattle.script_codec.specs.Lines.{lines_from}
-use Rattle.script_codec.specs.Reading.{most_lines, script_in}
+use Rattle.script_codec.specs.Reading.{head_in, most_lines, script_in}
 use Rattle.script_codec.specs.Scripts.{is_sound_line, ReadsScript}
 use Rattle.script_codec.specs.Unread.{Unread}
 
@@ -22,8 +22,11 @@ with_head head lines = record { version = head.version; lanes = head.lanes; conf
 abbrev pub head_then : Head → Result (List Line) ScriptFault → Result Script ScriptFault
 head_then head rest = rest >>= (λ lines. Ok (with_head head lines))
 
--- The bytes are the head and what is still to come behind it; where they are a script, they read as it by the layout.
+-- The bytes begin with the head, and are it and what is still to come behind it; where they are a script, they read as it by
+-- the layout.
 pub record Begins (bytes : List ℕ) (head : Head) (unread : Unread) : Type 0 where
+  pub place : ℕ
+  pub headed : head_in bytes ≡ Ok (head, place)
   pub is : script_in bytes ≡ head_then head unread.rest
   pub hosts_are : unread.hosts ≡ head.config.hosts
   pub lanes_are : unread.lanes ≡ head.lanes
@@ -31,11 +34,15 @@ pub record Begins (bytes : List ℕ) (head : Head) (unread : Unread) : Type 0 wh
   pub reads : (script : Script) → script_in bytes ≡ Ok script → ReadsScript bytes script
   pub short : length bytes ≤ 16777216
 
--- What beginning answers: the head and what is still to come, or the first fault of the bytes. Memory may be wanting at
+-- The bytes begin with no head: the fault is their first, and it comes before the lines.
+abbrev pub FailsInHead : List ℕ → ScriptFault → Type 0
+FailsInHead bytes fault = (head_in bytes ≡ Err fault) × (script_in bytes ≡ Err fault)
+
+-- What beginning answers: the head and what is still to come, or the first fault of the head. Memory may be wanting at
 -- any time.
 abbrev pub HasBegun : List ℕ → Result (Head × Unread) ScriptFault → Type 0
 HasBegun bytes (Ok begun) = Begins bytes begun.0 begun.1
-HasBegun bytes (Err fault) = fault ≢ ScriptFault.NoMemory → script_in bytes ≡ Err fault
+HasBegun bytes (Err fault) = fault ≢ ScriptFault.NoMemory → FailsInHead bytes fault
 
 -- what is still to come behind a head
 abbrev pub behind_head : Head → List ℕ → ℕ → Unread
@@ -49,7 +56,7 @@ behind_head head bytes place = record {
 -- The same of the head and the place behind it.
 abbrev pub IsBegunAt : List ℕ → Result (Head × ℕ) ScriptFault → Type 0
 IsBegunAt bytes (Ok begun) = Begins bytes begun.0 (behind_head begun.0 bytes begun.1)
-IsBegunAt bytes (Err fault) = fault ≢ ScriptFault.NoMemory → script_in bytes ≡ Err fault
+IsBegunAt bytes (Err fault) = fault ≢ ScriptFault.NoMemory → FailsInHead bytes fault
 
 -- The line came first of what was still to come, and it is sound.
 pub record TakesLine (old new : Unread) (line : Line) : Type 0 where

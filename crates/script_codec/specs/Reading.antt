@@ -1,5 +1,6 @@
 -- What reading a script answers: the script, or the first fault.
 use Rattle.std.specs.Prelude.{◌≡◌, ◌≢◌, ℕ, nat_lt, List, length, Option, Some, None, Result, Ok, Err, if◌then◌else◌}
+use Rattle.script_codec.specs.declared.heads.Head.{Head}
 use Rattle.script_codec.specs.declared.scripts.Script.{Script}
 use Rattle.script_codec.specs.declared.faults.ScriptFault.{ScriptFault}
 use Rattle.script_codec.specs.Fields.{◌>>=◌}
@@ -22,6 +23,11 @@ fields_in bytes = do
 -- The script that bytes are, or else their first fault: they are too many, or the first in the order of the fields.
 unfoldable pub script_in : List ℕ → Result Script ScriptFault
 script_in bytes = if nat_lt most_bytes (length bytes) then Err ScriptFault.TooLong else fields_in bytes
+
+-- The head that bytes begin with and the place behind it, or else their first fault up to there: they are too many, or the
+-- first in the order of the fields.
+unfoldable pub head_in : List ℕ → Result (Head × ℕ) ScriptFault
+head_in bytes = if nat_lt most_bytes (length bytes) then Err ScriptFault.TooLong else head_from bytes 0
 
 -- the first fault of bytes, if they are no script
 abbrev pub fault_of : Result Script ScriptFault → Option ScriptFault

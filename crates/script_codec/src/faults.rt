@@ -1,12 +1,13 @@
 //! Why bytes are no script.
 
+ghost use Rattle.script_codec.specs.FaultNumbers.{fault_number, fault_place};
 ghost use Rattle.script_codec.specs.Moving.{IsWithin, moved_fault};
 ghost use Rattle.script_codec.specs.declared.faults.ScriptFault.TheVariants.{NoMemory as OutOfMemory};
 ghost use Rattle.std.specs.Prelude.{◌≡◌, ◌≤◌};
 
 use cci_codec::MessageFault;
-use dcd_base::NoMemory;
 use region_config::ConfigFault;
+use region_config::dcd_base::NoMemory;
 use std::alloc::AllocFailed;
 
 /// Why bytes are no script. `TooLong` is tried first; then the fields are read in order, and the first fault is
@@ -41,6 +42,45 @@ pub enum ScriptFault {
 }
 
 impl ScriptFault {
+    /// Its number, as it is printed where a script is refused.
+    pub fn number(&self) -> u32
+        ensures { result ≡ fault_number self.now }
+    {
+        match self {
+            ScriptFault::BadMagic => 1,
+            ScriptFault::BadVersion(_) => 2,
+            ScriptFault::BadConfig(_) => 3,
+            ScriptFault::Truncated(_) => 4,
+            ScriptFault::UnknownKind(_) => 5,
+            ScriptFault::UnknownActor(_) => 6,
+            ScriptFault::BadMessage { .. } => 7,
+            ScriptFault::TooLong => 8,
+            ScriptFault::AfterEnd(_) => 9,
+            ScriptFault::TooManyLines(_) => 10,
+            ScriptFault::NoMemory => 11,
+            ScriptFault::BadLanes(_) => 12,
+        }
+    }
+
+    /// Its place: how many bytes of the script stand before it.
+    pub fn place(&self) -> u64
+        ensures { result ≡ fault_place self.now }
+    {
+        match self {
+            ScriptFault::BadMagic | ScriptFault::NoMemory => 0,
+            ScriptFault::BadVersion(_) => 4,
+            ScriptFault::BadConfig(_) => 8,
+            ScriptFault::Truncated(place)
+            | ScriptFault::UnknownKind(place)
+            | ScriptFault::UnknownActor(place)
+            | ScriptFault::AfterEnd(place)
+            | ScriptFault::TooManyLines(place) => *place,
+            ScriptFault::BadMessage { at, .. } => *at,
+            ScriptFault::TooLong => 16_777_216,
+            ScriptFault::BadLanes(_) => 10,
+        }
+    }
+
     /// The same fault of bytes behind so many others, no more than a script may have.
     pub fn moved(self, before: u64) -> ScriptFault
         requires before { before ≤ 16777216 }

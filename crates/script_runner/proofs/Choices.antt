@@ -1,8 +1,8 @@
 -- From how a run of what the words ask for ends to how the run by the words ends.
 use Rattle.std.proofs.Common.{◌≡◌, ℕ, List, [], Option, Some, None, refl, sym, ap, subst, ◌∙◌, arith}
 use Rattle.dcd_base.specs.Streams.{HasRisen, with_front}
-use Rattle.script_source.specs.script_codec.specs.declared.faults.ScriptFault.{ScriptFault}
-use Rattle.script_source.specs.script_codec.specs.Reading.{fault_of, first_fault}
+use Rattle.script_gen.specs.script_codec.specs.declared.faults.ScriptFault.{ScriptFault}
+use Rattle.script_gen.specs.script_codec.specs.Reading.{fault_of, first_fault}
 use Rattle.script_runner.specs.declared.status.Status.{Status}
 use Rattle.script_runner.specs.declared.words.Choice.{Choice}
 use Rattle.script_runner.specs.Completing.{IsSoundBy, IsSoundFor}

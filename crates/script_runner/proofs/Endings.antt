@@ -1,7 +1,7 @@
 -- What an ending says at each status, and how the ending of a part is that of the whole.
 use Rattle.std.proofs.Common.{◌≡◌, ℕ, List, Option}
 use Rattle.dcd_base.specs.Streams.{HasRisen}
-use Rattle.script_source.specs.script_codec.specs.declared.faults.ScriptFault.{ScriptFault}
+use Rattle.script_gen.specs.script_codec.specs.declared.faults.ScriptFault.{ScriptFault}
 use Rattle.script_runner.specs.declared.status.Status.{Status}
 use Rattle.script_runner.specs.Endings.{EndsAs, IsFaultPlan}
 use Rattle.script_runner.specs.Planning.{IsBegun, IsWritten}

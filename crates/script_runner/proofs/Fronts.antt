@@ -15,15 +15,14 @@ use Rattle.dcd_base.specs.declared.steps.Actor.{Actor}
 use Rattle.region_config.specs.Configurations.{Configuration}
 use Rattle.journal_core.specs.declared.acts.Act.{Act}
 use Rattle.journal_core.specs.declared.entries.Entry.{Entry}
-use Rattle.script_source.specs.script_codec.specs.declared.script_line.Line.{Line}
-use Rattle.script_source.specs.script_codec.specs.declared.scripts.Script.{Script}
-use Rattle.script_source.specs.script_codec.specs.declared.heads.Head.{Head}
-use Rattle.script_source.specs.script_codec.specs.declared.faults.ScriptFault.{ScriptFault}
-use Rattle.script_source.specs.script_codec.specs.Covering.{Covers, IsOfLine, is_line, pass_of}
-use Rattle.script_source.specs.script_codec.specs.LineByLine.{Begins, head_then, with_head}
-use Rattle.script_source.specs.script_codec.specs.Reading.{fault_of, first_fault}
-use Rattle.script_source.specs.script_codec.specs.Scripts.{ReadsScript}
-use Rattle.script_source.specs.script_codec.specs.Unread.{Unread}
+use Rattle.script_gen.specs.script_codec.specs.declared.script_line.Line.{Line}
+use Rattle.script_gen.specs.script_codec.specs.declared.scripts.Script.{Script}
+use Rattle.script_gen.specs.script_codec.specs.declared.heads.Head.{Head}
+use Rattle.script_gen.specs.script_codec.specs.declared.faults.ScriptFault.{ScriptFault}
+use Rattle.script_gen.specs.script_codec.specs.Covering.{Covers, IsOfLine, is_line, pass_of}
+use Rattle.script_gen.specs.script_codec.specs.LineByLine.{Begins, FailsInHead, head_then, with_head}
+use Rattle.script_gen.specs.script_codec.specs.Reading.{fault_of, first_fault}
+use Rattle.script_gen.specs.script_codec.specs.Unread.{Unread}
 use Rattle.script_runner.specs.Fronts.{AddsEntry, CoversFront, RanAll, RanLines, RanRest, RanScript, RunsLine, RunsLines}
 
 all_push : {X : Type 0} (P : X → Type 0) (xs : List X) (x : X) → AllByRecursion P xs → P x → AllByRecursion P (xs ++ x ∷ [])
@@ -161,26 +160,23 @@ ran_all s done config journal config_is whole ran =
       rising = front.rising;
     }
 
--- all lines of a script that was read
-pub ran_read : (input : List ℕ) (s : Script) (config : Configuration) (journal : List Entry) → ReadsScript input s → config ≡ s.config
-    → RanLines config.hosts s.lanes s.lines journal → RanScript input config journal
-ran_read input s config journal reads config_is ran =
-    let hosts : s.config.hosts ≡ config.hosts = ap (λ (k : Configuration). k.hosts) (sym config_is) in
-    let front : CoversFront s (length s.lines) journal = ran.front s [] (sym (append-nil s.lines)) hosts refl in
-    record {
-      script = s;
-      reads = reads;
-      config_is = config_is;
-      covers = front_end s journal (length s.lines) (omega arith) front;
-      rising = front.rising;
-    }
-
 -- what was read and what was done make the script
 pub ran_script : (input : List ℕ) (head : Head) (unread : Unread) (config : Configuration) (journal : List Entry) → Begins input head unread
     → config ≡ head.config → RanRest config.hosts head.lanes unread.rest journal → RanScript input config journal
 ran_script input head unread config journal begun config_is ran =
     let s : Script = with_head head ran.lines in
-    ran_read input s config journal (begun.reads s (begun.is ∙ ap (head_then head) ran.whole)) config_is ran.ran
+    let hosts : s.config.hosts ≡ config.hosts = ap (λ (k : Configuration). k.hosts) (sym config_is) in
+    let front : CoversFront s (length ran.lines) journal = ran.ran.front s [] (sym (append-nil ran.lines)) hosts refl in
+    record {
+      script = s;
+      reads = begun.reads s (begun.is ∙ ap (head_then head) ran.whole);
+      config_is = config_is;
+      covers = front_end s journal (length ran.lines) (omega arith) front;
+      rising = front.rising;
+    }
+
+pub head_fault : (input : List ℕ) (fault : ScriptFault) → FailsInHead input fault → first_fault input ≡ Some fault
+head_fault input fault fails = ap fault_of fails.1
 
 pub fault_behind : (input : List ℕ) (head : Head) (unread : Unread) (fault : ScriptFault) → Begins input head unread → unread.rest ≡ Err fault
     → first_fault input ≡ Some fault

@@ -8,9 +8,9 @@ use Rattle.edge_io.specs.ReadEnds.{TakesAtMost as TakesFew}
 use Rattle.edge_io.specs.declared.reading.ReadEnd.{ReadEnd}
 use Rattle.edge_io.proofs.Fronts.{all_is, front_is}
 use Rattle.report.specs.Refusals.{refusal_line}
-use Rattle.script_source.specs.script_codec.specs.declared.faults.ScriptFault.{ScriptFault}
-use Rattle.script_source.specs.script_codec.specs.Reading.{fault_of, first_fault, most_bytes}
-use Rattle.script_source.specs.script_codec.proofs.Beginnings.{too_long}
+use Rattle.script_gen.specs.script_codec.specs.declared.faults.ScriptFault.{ScriptFault}
+use Rattle.script_gen.specs.script_codec.specs.Reading.{fault_of, first_fault, most_bytes}
+use Rattle.script_gen.specs.script_codec.proofs.Beginnings.{too_long}
 use Rattle.script_runner.specs.declared.status.Status.{Status}
 use Rattle.script_runner.specs.declared.words.Mode.{Mode}
 use Rattle.script_runner.specs.Endings.{IsFaultPlan, IsPlannedFor, IsPlannedOf}
@@ -18,7 +18,7 @@ use Rattle.script_runner.specs.Taking.{IsInput, IsTaken, IsTakenWhole, most_read
 
 -- ---- all that was left
 
-pub up_to : (left : Option (List ℕ)) (input : List ℕ) → IfSome left (λ all. input ≡ all) → length input ≤ most_bytes → IsInput left input
+up_to : (left : Option (List ℕ)) (input : List ℕ) → IfSome left (λ all. input ≡ all) → length input ≤ most_bytes → IsInput left input
 up_to None input is short = tt
 up_to (Some all) input is short = is ∙ sym (take_all most_read all (omega (arith, ap length is, short)))
 
@@ -40,7 +40,7 @@ pub front_of : (left now : Option (List ℕ)) (faults count : ℕ) (end : ReadEn
 front_of left now faults count end is ends = subst (λ (x : ReadEnd). Ends most_bytes left now faults count (Err x)) is ends
 
 front_refused : (left now : Option (List ℕ)) (t : TakesMore most_bytes left now) → first_fault t.bytes ≡ Some ScriptFault.TooLong
-front_refused left now t = ap fault_of (too_long t.bytes (omega (arith, t.one_more)))
+front_refused left now t = ap fault_of (too_long t.bytes (omega (arith, t.one_more))).1
 
 pub planned_of_front : (mode : Mode) (left now : Option (List ℕ)) → TakesMore most_bytes left now → (status : Status) (printed : List ℕ)
     → IsFaultPlan ScriptFault.TooLong status printed → IsPlannedOf mode left status printed

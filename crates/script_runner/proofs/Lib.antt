@@ -1,9 +1,10 @@
+mod AllRan
 mod Choices
 mod Endings
 mod Fronts
 mod Inputs
-mod Lightness
+pub mod LineActors
+mod LinesRan
+pub mod NewPassesReady
 mod Printed
-mod Skimming
-mod Sources
 mod WordItems

@@ -3,15 +3,13 @@ use Rattle.std.proofs.Common.{◌≡◌, ℕ, List, ap, subst}
 use Rattle.region_config.specs.Configurations.{Configuration}
 use Rattle.journal_core.specs.declared.entries.Entry.{Entry}
 use Rattle.journal_core.specs.Merging.{merged}
-use Rattle.script_threads.specs.device_rules.specs.Legal.{Exclusive, Legal}
-use Rattle.script_threads.specs.isolation_laws.specs.Solo.{Isolated}
+use Rattle.device_plain.specs.device_rules.specs.Legal.{Exclusive, Legal}
+use Rattle.device_plain.specs.isolation_laws.specs.Solo.{Isolated}
 use Rattle.report.specs.Texts.{summary, text}
-use Rattle.script_source.specs.script_codec.specs.Covering.{Covers}
-use Rattle.script_source.specs.script_codec.specs.declared.scripts.Script.{Script}
+use Rattle.script_gen.specs.script_codec.specs.Covering.{Covers}
+use Rattle.script_gen.specs.script_codec.specs.declared.scripts.Script.{Script}
 use Rattle.script_gen.specs.Generated.{generated}
-use Rattle.script_runner.specs.declared.status.Status.{Status}
 use Rattle.script_runner.specs.declared.words.Mode.{Mode}
-use Rattle.script_runner.specs.Endings.{IsPlannedFor, IsSummaryPlan}
 use Rattle.script_runner.specs.Fronts.{RanAll, RanScript}
 use Rattle.script_runner.specs.Planning.{IsSummaryOf, IsTextOf}
 use Rattle.script_runner.specs.Running.{IsLawful, IsScriptRun}
@@ -79,31 +77,3 @@ summary_of_threads seed config entries shards ran = record {
   runs = in_threads (generated seed) config entries shards ran;
   is = ap (λ k. summary k (merged entries shards)) ran.config_is;
 }
-
--- ---- a run in order is one that threads may make
-
-one_order : (s : Script) (journal : List Entry) → IsScriptRun Mode.Serial s journal → IsScriptRun Mode.Threads s journal
-one_order s journal runs = record {
-  legal = runs.legal;
-  exclusive = runs.exclusive;
-  numbered = runs.numbered;
-  isolated = runs.isolated;
-  covers = runs.covers;
-  rising = tt;
-}
-
-pub text_in_order : (input : List ℕ) (status : Status) (printed : List ℕ) → IsPlannedFor Mode.Serial input status printed → IsPlannedFor Mode.Threads input status printed
-text_in_order input Status.Done printed p = record { script = p.script; journal = p.journal; reads = p.reads; runs = one_order p.script p.journal p.runs; is = p.is }
-text_in_order input Status.Usage printed p = p
-text_in_order input (Status.ScriptRefused fault) printed p = p
-text_in_order input Status.NoMemory printed p = p
-text_in_order input Status.ReadFault printed p = p
-text_in_order input Status.WriteFault printed p = p
-
-pub summary_in_order : (seed : ℕ) (status : Status) (printed : List ℕ) → IsSummaryPlan Mode.Serial seed status printed → IsSummaryPlan Mode.Threads seed status printed
-summary_in_order seed Status.Done printed p = record { journal = p.journal; runs = one_order (generated seed) p.journal p.runs; is = p.is }
-summary_in_order seed Status.Usage printed p = p
-summary_in_order seed (Status.ScriptRefused fault) printed p = p
-summary_in_order seed Status.NoMemory printed p = p
-summary_in_order seed Status.ReadFault printed p = p
-summary_in_order seed Status.WriteFault printed p = p

@@ -2,8 +2,8 @@
 use Rattle.std.specs.Prelude.{◌≡◌, ℕ, List, take, Option, Some, None}
 use Rattle.std.specs.declared.result.Result.TheVariants.{Ok}
 use Rattle.dcd_base.specs.Streams.{HasRisen}
-use Rattle.script_source.specs.script_codec.specs.declared.scripts.Script.{Script}
-use Rattle.script_source.specs.script_codec.specs.Reading.{script_in}
+use Rattle.script_gen.specs.script_codec.specs.declared.scripts.Script.{Script}
+use Rattle.script_gen.specs.script_codec.specs.Reading.{script_in}
 use Rattle.script_runner.specs.declared.words.Choice.{Choice}
 use Rattle.script_runner.specs.Taking.{most_read}
 use Rattle.script_runner.specs.Words.{Accepts}

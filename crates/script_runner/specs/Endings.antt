@@ -1,13 +1,12 @@
 -- How a part of a run ends, by what is planned for it.
 use Rattle.std.specs.Prelude.{◌≡◌, ℕ, List, Option, Some, None}
 use Rattle.dcd_base.specs.Streams.{HasRisen}
-use Rattle.report.specs.Refusals.{refusal_line}
-use Rattle.script_source.specs.script_codec.specs.declared.faults.ScriptFault.{ScriptFault}
-use Rattle.script_source.specs.script_codec.specs.Reading.{first_fault}
+use Rattle.report.specs.Refusals.{refusal_line, usage_line}
+use Rattle.script_gen.specs.script_codec.specs.declared.faults.ScriptFault.{ScriptFault}
+use Rattle.script_gen.specs.script_codec.specs.Reading.{first_fault}
 use Rattle.script_runner.specs.declared.status.Status.{Status}
 use Rattle.script_runner.specs.declared.words.Mode.{Mode}
 use Rattle.script_runner.specs.Planning.{IsAskedText, IsBegun, IsFaultLine, IsSummaryOf, IsTextOf, IsWritten}
-use Rattle.script_runner.specs.Words.{usage_line}
 
 -- It ends so, by its status: what the sink took and its count of faults, before and after. What is so where a read
 -- failed is told apart.

@@ -2,19 +2,19 @@
 use Rattle.std.specs.Prelude.{◌≡◌, ℕ, List, [], Option, Some, None}
 use Rattle.dcd_base.specs.Streams.{Passes}
 use Rattle.journal_core.specs.declared.entries.Entry.{Entry}
-use Rattle.script_source.specs.script_codec.specs.declared.faults.ScriptFault.{ScriptFault}
-use Rattle.script_source.specs.script_codec.specs.declared.scripts.Script.{Script}
-use Rattle.script_source.specs.script_codec.specs.Reading.{first_fault}
-use Rattle.script_source.specs.script_codec.specs.Scripts.{ReadsScript}
+use Rattle.script_gen.specs.script_codec.specs.declared.faults.ScriptFault.{ScriptFault}
+use Rattle.script_gen.specs.script_codec.specs.declared.scripts.Script.{Script}
+use Rattle.script_gen.specs.script_codec.specs.Reading.{first_fault}
+use Rattle.script_gen.specs.script_codec.specs.Scripts.{ReadsScript}
 use Rattle.script_gen.specs.Generated.{generated}
 use Rattle.report.specs.Texts.{summary, text}
-use Rattle.report.specs.Refusals.{refusal_line}
+use Rattle.report.specs.Refusals.{refusal_line, usage_line}
 use Rattle.script_runner.specs.declared.status.Status.{Status}
 use Rattle.script_runner.specs.declared.words.Choice.{Choice}
 use Rattle.script_runner.specs.declared.words.Mode.{Mode}
 use Rattle.script_runner.specs.Running.{IsScriptRun}
 use Rattle.script_runner.specs.Taking.{IsInput, IsWholeInput}
-use Rattle.script_runner.specs.Words.{Accepts, AreRefused, AskForSource, usage_line}
+use Rattle.script_runner.specs.Words.{Accepts, AreRefused, AskForSource}
 
 -- The input reads as a script, whatever its reserved bits, and the text is that of a run of it in this mode.
 pub record IsTextOf (mode : Mode) (input printed : List ℕ) : Type 0 where

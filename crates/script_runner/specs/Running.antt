@@ -2,11 +2,11 @@
 use Rattle.std.specs.Prelude.{◌<◌, List, AllPairs}
 use Rattle.journal_core.specs.declared.entries.Entry.{Entry}
 use Rattle.region_config.specs.Configurations.{Configuration}
-use Rattle.script_source.specs.script_codec.specs.declared.scripts.Script.{Script}
-use Rattle.script_source.specs.script_codec.specs.Covering.{Covers}
+use Rattle.script_gen.specs.script_codec.specs.declared.scripts.Script.{Script}
+use Rattle.script_gen.specs.script_codec.specs.Covering.{Covers}
 use Rattle.journal_core.specs.Merging.{Numbered}
-use Rattle.script_threads.specs.isolation_laws.specs.Solo.{Isolated}
-use Rattle.script_threads.specs.device_rules.specs.Legal.{Exclusive, Legal}
+use Rattle.device_plain.specs.isolation_laws.specs.Solo.{Isolated}
+use Rattle.device_plain.specs.device_rules.specs.Legal.{Exclusive, Legal}
 use Rattle.script_runner.specs.declared.words.Mode.{Mode}
 
 -- What every device keeps of its journal: it is legal, exclusive, numbered and isolated.

@@ -19,14 +19,6 @@ OnDone Status.NoMemory P = Unit {0}
 OnDone Status.ReadFault P = Unit {0}
 OnDone Status.WriteFault P = Unit {0}
 
-abbrev pub OnUsage : Status → Type 0 → Type 0
-OnUsage Status.Done P = Unit {0}
-OnUsage Status.Usage P = P
-OnUsage (Status.ScriptRefused fault) P = Unit {0}
-OnUsage Status.NoMemory P = Unit {0}
-OnUsage Status.ReadFault P = Unit {0}
-OnUsage Status.WriteFault P = Unit {0}
-
 abbrev pub OnReadFault : Status → Type 0 → Type 0
 OnReadFault Status.Done P = Unit {0}
 OnReadFault Status.Usage P = Unit {0}

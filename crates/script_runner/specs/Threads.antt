@@ -4,9 +4,9 @@ use Rattle.journal_core.specs.declared.entries.Entry.{Entry}
 use Rattle.journal_core.specs.Lending.{AllRise}
 use Rattle.journal_core.specs.Merging.{merged}
 use Rattle.region_config.specs.Configurations.{Configuration}
-use Rattle.script_source.specs.script_codec.specs.declared.scripts.Script.{Script}
-use Rattle.script_source.specs.script_codec.specs.Scripts.{ReadsScript}
-use Rattle.script_threads.specs.ThreadRuns.{IsTakenApart, IsThreadRun}
+use Rattle.script_gen.specs.script_codec.specs.declared.scripts.Script.{Script}
+use Rattle.script_gen.specs.script_codec.specs.Scripts.{ReadsScript}
+use Rattle.script_runner.specs.ThreadRuns.{IsTakenApart, IsThreadRun}
 
 -- All that is printed from: the entries of the control, and those of the shards, which make one journal.
 pub record CanBeLent (config : Configuration) (entries : List Entry) (shards : List (List Entry)) : Type 0 where

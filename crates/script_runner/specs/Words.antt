@@ -1,7 +1,6 @@
 -- The words of the command line, and what they ask for.
 use Rattle.std.specs.Prelude.{◌≡◌, ◌⊎◌, ℕ, List, [], ◌∷◌, ◌++◌, codes, Option, Some, None}
 use Rattle.edge_io.specs.Words.{IsNumber}
-use Rattle.report.specs.Texts.{line_of}
 use Rattle.script_runner.specs.declared.words.Choice.{Choice}
 use Rattle.script_runner.specs.declared.words.Mode.{Mode}
 
@@ -49,10 +48,6 @@ AreRefused words = (choice : Choice) → Accepts words choice → ⊥
 -- The words ask for the script of the source, in some mode.
 abbrev pub AskForSource : List (List ℕ) → Type 0
 AskForSource words = (mode : Mode) × Accepts words (record { mode = mode; seed = None })
-
--- what is printed of words that are refused
-unfoldable pub usage_line : List ℕ
-usage_line = line_of (codes "usage:" ∷ codes "dcdsim" ∷ codes "[--mode" ∷ codes "serial|threads]" ∷ codes "[--gen" ∷ codes "N]" ∷ [])
 
 -- ---- the answer
 

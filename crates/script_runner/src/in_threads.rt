@@ -1,44 +1,34 @@
 //! A script in threads: all of it is read or made first.
 
-ghost use Rattle.script_source.specs.script_codec.specs.Reading.{first_fault};
-ghost use Rattle.script_source.specs.script_codec.specs.Scripts.{IsScript, ReadsScript};
+ghost use Rattle.script_gen.specs.script_codec.specs.Reading.{first_fault};
+ghost use Rattle.script_gen.specs.script_codec.specs.Scripts.{IsScript, ReadsScript};
 ghost use Rattle.script_gen.specs.Generated.{generated};
 ghost use Rattle.script_runner.specs.Threads.{RanInThreads, RanInput};
 ghost use Rattle.std.specs.Prelude.{◌≡◌, ◌≢◌, IfErr, IfOk, Some};
 
+use crate::run_in_threads;
 use dcd_base::{Bytes, Gate, NoMemory};
+use device_plain::control_core::Control;
 use journal_core::Accesses;
-use report::control_core::Control;
 use script_gen::generate;
-use script_source::script_codec::{Script, ScriptFault, read};
-use script_threads::{Sharing, run_in_threads};
+use script_gen::script_codec::{Script, ScriptFault, read};
 use std::alloc::{AllocGlobal, Global};
 use std::sync::Wait;
 use std::thread::Threads;
 
-/// How the lines of a run are shared out. Where the run leaves its memory to the end of the program, no gate waits for another line.
-pub(crate) fn sharing_of(leaves: bool) -> Sharing {
-    if leaves {
-        Sharing::BySize
-    } else {
-        Sharing::EachPhase
-    }
-}
-
 /// Runs the script that the input is, or answers the first fault of the input. `NoMemory` may come in place of any answer.
-/// The bytes are let go once they are read, and the lines as they are done.
+/// The bytes are let go once they are read.
 pub(crate) fn run_input_in_threads<R: Threads + Wait + Sync + AllocGlobal, G: Gate>(
     rt: &R,
     alloc: Global,
     input: Bytes,
-    sharing: Sharing,
     gate: &G,
 ) -> Result<(Control, Vec<Accesses>), ScriptFault>
     ensures ran { IfOk result (λ left. RanInput input left.0.config left.0.entries left.1.items) }
     ensures fault { IfErr result (λ fault. fault ≢ ScriptFault.NoMemory → first_fault input ≡ Some fault) }
 {
     match script_of(alloc, input) {
-        Ok(script) => match run_owned(rt, script, sharing, gate) {
+        Ok(script) => match run_owned(rt, script, gate) {
             Ok(left) => Ok(left),
             Err(NoMemory) => Err(ScriptFault::NoMemory),
         },
@@ -46,18 +36,17 @@ pub(crate) fn run_input_in_threads<R: Threads + Wait + Sync + AllocGlobal, G: Ga
     }
 }
 
-/// Runs the generated script of the seed. The lines are let go as they are done.
+/// Runs the generated script of the seed.
 pub(crate) fn run_seed_in_threads<R: Threads + Wait + Sync + AllocGlobal, G: Gate>(
     rt: &R,
     alloc: Global,
     seed: u64,
-    sharing: Sharing,
     gate: &G,
 ) -> Result<(Control, Vec<Accesses>), NoMemory>
     ensures { IfOk result (λ left. RanInThreads (generated seed) left.0.config left.0.entries left.1.items) }
 {
     match generate(alloc, seed) {
-        Ok(script) => run_owned(rt, script, sharing, gate),
+        Ok(script) => run_owned(rt, script, gate),
         Err(NoMemory) => Err(NoMemory),
     }
 }
@@ -70,15 +59,14 @@ fn script_of(alloc: Global, input: Bytes) -> Result<Script, ScriptFault>
     read(alloc, input.as_slice())
 }
 
-/// Runs a script, which is let go.
+/// Runs a script, which is let go then.
 fn run_owned<R: Threads + Wait + Sync + AllocGlobal, G: Gate>(
     rt: &R,
     script: Script,
-    sharing: Sharing,
     gate: &G,
 ) -> Result<(Control, Vec<Accesses>), NoMemory>
     requires { IsScript script }
     ensures { IfOk result (λ left. RanInThreads script left.0.config left.0.entries left.1.items) }
 {
-    run_in_threads(rt, script, sharing, gate)
+    run_in_threads(rt, &script, gate)
 }

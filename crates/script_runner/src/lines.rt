@@ -1,6 +1,6 @@
 //! The lines of a script, one after another on the device of one thread.
 
-ghost use Rattle.script_source.specs.script_codec.specs.Scripts.{is_sound_line};
+ghost use Rattle.script_gen.specs.script_codec.specs.Scripts.{is_sound_line};
 ghost use Rattle.script_runner.specs.Fronts.{RunsLine, RunsLines};
 ghost use Rattle.script_runner.specs.Running.{IsLawful};
 ghost use Rattle.std.specs.List.{list_all};
@@ -8,9 +8,8 @@ ghost use Rattle.std.specs.Prelude.{◌≡◌, ◌+◌, ◌≤◌, IfOk, IsTrue,
 
 use dcd_base::NoMemory;
 use device_plain::Device;
-use script_source::script_codec::{Line, Lines, pass_of};
-use script_threads::isolation_laws::law_isolated;
-use std::mem::ManuallyDrop;
+use device_plain::isolation_laws::law_isolated;
+use script_gen::script_codec::{Line, Lines, pass_of};
 
 /// Does a line: a step of its actor, or nothing for a mark, since there is one thread. The journal has what its act says.
 pub(crate) fn run_line(
@@ -63,12 +62,4 @@ pub(crate) fn is_lawful(device: &Device)
     // A configuration is sound, and the journal legal.
     let _hosts = device.control().config().hosts();
     let _journal = device.journal();
-}
-
-/// Leaves the memory of what is left of a run to the end of the program, when all of it goes back at once, or else gives
-/// it back.
-pub(crate) fn part<T: Drop>(left: T, leaves: bool) {
-    if leaves {
-        let _ = ManuallyDrop::new(left);
-    }
 }

@@ -9,10 +9,10 @@ ghost use Rattle.std.specs.Prelude.{[], OnErr, OnOk};
 
 use dcd_base::{Failed, Sink};
 use device_plain::Device;
+use device_plain::control_core::Control;
 use journal_core::Accesses;
-use report::control_core::Control;
 use report::{render, summary};
-use script_threads::shared_device::lend_journal;
+use shared_device::lend_journal;
 
 /// Writes the text of the journal of a device.
 pub(crate) fn print_text<K: Sink>(device: &Device, sink: &mut K) -> Result<(), Failed>

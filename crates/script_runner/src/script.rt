@@ -1,6 +1,6 @@
 //! The script of an input: each line is done as soon as it is read.
 
-ghost use Rattle.script_source.specs.script_codec.specs.Reading.{first_fault};
+ghost use Rattle.script_gen.specs.script_codec.specs.Reading.{first_fault};
 ghost use Rattle.script_runner.specs.Fronts.{RanRest, RanScript};
 ghost use Rattle.script_runner.specs.Running.{IsLawful};
 ghost use Rattle.std.specs.Prelude.{◌≡◌, ◌≢◌, ◌≤◌, [], Err, IfErr, IfOk, OnOk, Some};
@@ -8,7 +8,7 @@ ghost use Rattle.std.specs.Prelude.{◌≡◌, ◌≢◌, ◌≤◌, [], Err, If
 use crate::lines::{is_lawful, run_line};
 use dcd_base::Bytes;
 use device_plain::Device;
-use script_source::script_codec::{Line, OwnReader, ScriptFault};
+use script_gen::script_codec::{Line, OwnReader, ScriptFault};
 use std::alloc::Global;
 
 /// Does the lines that are still to come, in their order, on the fresh device. All are read into one place.
@@ -32,6 +32,7 @@ fn run_rest(reader: &mut OwnReader, lanes: u8, device: &mut Device) -> Result<()
 
 /// Does all lines of the script that the input is on a fresh device, or answers the first fault of the input. `NoMemory`
 /// may come in place of any answer. The bytes are let go as they are read.
+#[tactic(auto, using(crate::proofs::Fronts::head_fault))]
 pub(crate) fn run_script(alloc: Global, input: Bytes) -> Result<Device, ScriptFault>
     ensures ran { IfOk result (λ device. RanScript input device.config device.journal) }
     ensures lawful { IfOk result (λ device. IsLawful device.config device.journal) }

@@ -3,7 +3,7 @@
 ghost use Rattle.script_runner.specs.Statuses.{status_number};
 ghost use Rattle.std.specs.Prelude.{◌≡◌};
 
-use script_source::script_codec::ScriptFault;
+use script_gen::script_codec::ScriptFault;
 
 /// How a run ends.
 #[derive(Clone, Copy, Debug, PartialEq, Eq)]

@@ -4,9 +4,7 @@ ghost use Rattle.script_runner.specs.Endings.{EndsAs, IsSummaryPlan};
 ghost use Rattle.script_runner.specs.declared.words.Mode.{Mode};
 
 use crate::generated::run_rounds;
-use crate::in_threads::{run_seed_in_threads, sharing_of};
-use crate::light_rounds::has_light_rounds;
-use crate::lines::part;
+use crate::in_threads::run_seed_in_threads;
 use crate::printing::{print_merged_summary, print_summary};
 use crate::status::Status;
 use crate::words::Mode;
@@ -15,8 +13,7 @@ use std::alloc::{AllocGlobal, Global};
 use std::sync::Wait;
 use std::thread::Threads;
 
-/// Runs the generated script of the seed in the mode and writes the summary of its journal. Where it `leaves`, what is
-/// left of a whole run keeps its memory.
+/// Runs the generated script of the seed in the mode and writes the summary of its journal.
 pub(crate) fn run_generated<R: Threads + Wait + Sync + AllocGlobal, K: Sink, G: Gate>(
     rt: &R,
     alloc: Global,
@@ -24,67 +21,41 @@ pub(crate) fn run_generated<R: Threads + Wait + Sync + AllocGlobal, K: Sink, G: 
     seed: u64,
     sink: &mut K,
     gate: &G,
-    leaves: bool,
 ) -> Status
     ensures { EndsAs (IsSummaryPlan mode seed) ⊥ K.taken K.faults sink.old sink.new result }
 {
     match mode {
-        Mode::Serial => summary_serially(alloc, seed, sink, leaves),
-        Mode::Threads => summary_in_threads(rt, alloc, seed, sink, gate, leaves),
+        Mode::Serial => summary_serially(alloc, seed, sink),
+        Mode::Threads => summary_in_threads(rt, alloc, seed, sink, gate),
     }
 }
 
 /// Runs the script on the serial device.
-fn summary_serially<K: Sink>(alloc: Global, seed: u64, sink: &mut K, leaves: bool) -> Status
+fn summary_serially<K: Sink>(alloc: Global, seed: u64, sink: &mut K) -> Status
     ensures { EndsAs (IsSummaryPlan Mode.Serial seed) ⊥ K.taken K.faults sink.old sink.new result }
 {
     match run_rounds(alloc, seed) {
         Ok(device) => match print_summary(&device, sink) {
-            Ok(()) => {
-                part(device, leaves);
-                Status::Done
-            }
+            Ok(()) => Status::Done,
             Err(Failed) => Status::WriteFault,
         },
         Err(NoMemory) => Status::NoMemory,
     }
 }
 
-/// Runs the script in threads. Where no thread would start, since each phase is light, that is its run on the serial device.
+/// Runs the script in threads.
 fn summary_in_threads<R: Threads + Wait + Sync + AllocGlobal, K: Sink, G: Gate>(
     rt: &R,
     alloc: Global,
     seed: u64,
     sink: &mut K,
     gate: &G,
-    leaves: bool,
 ) -> Status
     ensures { EndsAs (IsSummaryPlan Mode.Threads seed) ⊥ K.taken K.faults sink.old sink.new result }
 {
-    match has_light_rounds(alloc, seed, sharing_of(leaves).light()) {
-        Ok(true) => summary_serially(alloc, seed, sink, leaves),
-        Ok(false) => summary_by_workers(rt, alloc, seed, sink, gate, leaves),
-        Err(NoMemory) => Status::NoMemory,
-    }
-}
-
-/// Runs the script by workers.
-fn summary_by_workers<R: Threads + Wait + Sync + AllocGlobal, K: Sink, G: Gate>(
-    rt: &R,
-    alloc: Global,
-    seed: u64,
-    sink: &mut K,
-    gate: &G,
-    leaves: bool,
-) -> Status
-    ensures { EndsAs (IsSummaryPlan Mode.Threads seed) ⊥ K.taken K.faults sink.old sink.new result }
-{
-    match run_seed_in_threads(rt, alloc, seed, sharing_of(leaves), gate) {
+    match run_seed_in_threads(rt, alloc, seed, gate) {
         Ok(left) => match print_merged_summary(&left.0, left.1.as_slice(), sink) {
-            Ok(()) => {
-                part(left, leaves);
-                Status::Done
-            }
+            Ok(()) => Status::Done,
             Err(Failed) => Status::WriteFault,
         },
         Err(NoMemory) => Status::NoMemory,

@@ -25,9 +25,9 @@ use std::thread::Threads;
 /// its summary, and the source is not read. With `--mode serial` or `--mode=serial` the lines are done in their order by one
 /// thread, and with `--mode threads`, or without a mode, those of each lane by a worker of its own.
 ///
-/// The words are tried first, then the source is read, at most 16,777,217 bytes of it, and the lines of the script are
-/// run, in serial mode while it is read, then the text is written. All memory is taken before the first write of the text or
-/// the summary, and all of it goes back. In threads mode the gate is called once for each load and store.
+/// The words are tried first, then the source is read, at most 16,777,217 bytes of it, then the lines of the script are
+/// run, then the text is written. All memory is taken before the first write of the text or the summary, and all of it goes
+/// back. In threads mode the gate is called before each line that is no mark, and once more inside each load and store.
 pub fn run<R: Threads + Wait + Sync + AllocGlobal, S: Source, K: Sink, G: Gate>(
     rt: &R,
     alloc: Global,
@@ -48,41 +48,14 @@ pub fn run<R: Threads + Wait + Sync + AllocGlobal, S: Source, K: Sink, G: Gate>(
     ensures to_the_end { OnDone result (AskForSource (words_of words.now) → IsAtEnd (S.left source.new)) }
     ensures untouched { (AskForSource (words_of words.now) → ⊥) → source.new ≡ source.old }
     ensures read_fault { OnReadFault result (HasRisen (S.faults source.old) (S.faults source.new)) }
+    ensures read_asked { OnReadFault result (AskForSource (words_of words.now)) }
     ensures write_fault { OnWriteFault result (HasRisen (K.faults sink.old) (K.faults sink.new)) }
     ensures complete { UnlessFinished result (¬ IsSoundRun (words_of words.now) S.left S.faults K.faults source.old source.new sink.old sink.new) }
 {
-    run_by(rt, alloc, words, source, sink, gate, false)
+    run_by(rt, alloc, words, source, sink, gate)
 }
 
-/// As `run`, but what is left of a whole run, the device and its journal, keeps its memory, which goes back at the end of
-/// the program, all at once. For a program that ends then.
-///
-/// In threads mode lines that are not worth a thread get none: the calling thread does phases of few lines, in the order of the
-/// lines, and a phase of very many lines is done part by part. So the gate is not to wait for a line of another lane. A script
-/// that has no other phases is done as in serial mode, and the gate is not called.
-pub fn run_and_leave<R: Threads + Wait + Sync + AllocGlobal, S: Source, K: Sink, G: Gate>(
-    rt: &R,
-    alloc: Global,
-    words: &[String],
-    source: &mut S,
-    sink: &mut K,
-    gate: &G,
-) -> Status
-    ensures written { IfWhole result (IsWritten (IsPlanned (words_of words.now) (S.left source.old)) (K.taken sink.old) (K.taken sink.new)) }
-    ensures begun { OnWriteFault result (IsBegun (IsPlanned (words_of words.now) (S.left source.old)) (K.taken sink.old) (K.taken sink.new)) }
-    ensures nothing { OnNothing result (K.taken sink.new ≡ K.taken sink.old) }
-    ensures taken { IsTaken (S.left source.old) (S.left source.new) }
-    ensures taken_whole { OnRead result (AskForSource (words_of words.now) → IsTakenWhole (S.left source.old) (S.left source.new)) }
-    ensures to_the_end { OnDone result (AskForSource (words_of words.now) → IsAtEnd (S.left source.new)) }
-    ensures untouched { (AskForSource (words_of words.now) → ⊥) → source.new ≡ source.old }
-    ensures read_fault { OnReadFault result (HasRisen (S.faults source.old) (S.faults source.new)) }
-    ensures write_fault { OnWriteFault result (HasRisen (K.faults sink.old) (K.faults sink.new)) }
-    ensures complete { UnlessFinished result (¬ IsSoundRun (words_of words.now) S.left S.faults K.faults source.old source.new sink.old sink.new) }
-{
-    run_by(rt, alloc, words, source, sink, gate, true)
-}
-
-/// Does what the words ask for. Where it `leaves`, what is left of a whole run keeps its memory.
+/// Does what the words ask for.
 fn run_by<R: Threads + Wait + Sync + AllocGlobal, S: Source, K: Sink, G: Gate>(
     rt: &R,
     alloc: Global,
@@ -90,7 +63,6 @@ fn run_by<R: Threads + Wait + Sync + AllocGlobal, S: Source, K: Sink, G: Gate>(
     source: &mut S,
     sink: &mut K,
     gate: &G,
-    leaves: bool,
 ) -> Status
     ensures ends { EndsAs (IsPlanned (words_of words.now) (S.left source.old)) (AskForSource (words_of words.now)) K.taken K.faults sink.old sink.new result }
     ensures taken { IsTaken (S.left source.old) (S.left source.new) }
@@ -101,8 +73,8 @@ fn run_by<R: Threads + Wait + Sync + AllocGlobal, S: Source, K: Sink, G: Gate>(
 {
     match chosen(words) {
         Some(choice) => match choice.seed {
-            None => run_source(rt, alloc, choice.mode, source, sink, gate, leaves),
-            Some(seed) => run_generated(rt, alloc, choice.mode, seed, sink, gate, leaves),
+            None => run_source(rt, alloc, choice.mode, source, sink, gate),
+            Some(seed) => run_generated(rt, alloc, choice.mode, seed, sink, gate),
         },
         None => refuse_words(sink),
     }

@@ -1,6 +1,10 @@
 pub mod HeadLaws
 pub mod LineLoops
-pub mod PlainReading
+pub mod PrintLaws
+pub mod PrintedActors
+pub mod PrintedActs
+pub mod PrintedParts
+pub mod PrintedPolicies
 pub mod PrintedScripts
 pub mod ScriptSizes
 pub mod WholeTexts

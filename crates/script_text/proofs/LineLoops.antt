@@ -2,25 +2,21 @@
 use Rattle.std.proofs.Common.{◌≡◌, ℕ, suc, ◌+◌, ◌-◌, true, false, ◌==◌, List, [], ◌∷◌, ◌++◌, Result, Ok, Err, refl, sym, ap, ◌∙◌, append-nil, append_assoc}
 use Rattle.std.proofs.lemmas.Bool.{cond-false, cond-true, eq-eqb, ne_eqb}
 use Rattle.region_config.specs.declared.region_spec.RegionSpec.{RegionSpec}
-use Rattle.text_printing.specs.script_codec.specs.declared.script_line.Line.{Line}
-use Rattle.text_words.specs.Unread.{UnreadWords}
-use Rattle.text_printing.specs.text_lines.specs.Chains.{◌>>!◌ as ◌>>=◌}
-use Rattle.text_printing.specs.text_lines.specs.Fields.{begins, number_ahead}
-use Rattle.text_printing.specs.text_lines.specs.Layouts.{most_64}
-use Rattle.text_printing.specs.text_lines.specs.Lines.{opening_ahead, rest_ahead}
-use Rattle.text_printing.specs.text_lines.specs.declared.actors.Frame.{Frame}
-use Rattle.text_printing.specs.text_lines.specs.declared.faults.Cause.{Cause}
-use Rattle.text_printing.specs.text_lines.specs.declared.faults.TextFault.{TextFault}
-use Rattle.text_printing.specs.text_lines.specs.declared.keywords.Keyword.{Keyword}
-use Rattle.text_printing.specs.text_lines.specs.declared.openings.Opening.{Opening}
+use Rattle.text_lines.specs.script_codec.specs.declared.script_line.Line.{Line}
+use Rattle.text_lines.specs.Unread.{UnreadWords}
+use Rattle.text_lines.specs.Chains.{◌>>!◌ as ◌>>=◌}
+use Rattle.text_lines.specs.Fields.{begins, number_ahead}
+use Rattle.text_lines.specs.Layouts.{most_64}
+use Rattle.text_lines.specs.Lines.{opening_ahead, rest_ahead}
+use Rattle.text_lines.specs.declared.actors.Frame.{Frame}
+use Rattle.text_lines.specs.declared.faults.Cause.{Cause}
+use Rattle.text_lines.specs.declared.faults.TextFault.{TextFault}
+use Rattle.text_lines.specs.declared.keywords.Keyword.{Keyword}
+use Rattle.text_lines.specs.declared.openings.Opening.{Opening}
 use Rattle.script_text.specs.Heads.{base_list_behind, bases_at, bases_behind, host_line_ahead, host_lines_at, hosts_behind, region_ahead, regions_at, regions_behind}
 use Rattle.script_text.specs.Texts.{first_begins, lines_at, lines_behind, room_for_line}
 
 -- ---- regions
-pub regions_begin : (read : Result (List RegionSpec × List UnreadWords) TextFault) → regions_behind [] read ≡ read
-regions_begin (Ok x) = refl
-regions_begin (Err fault) = refl
-
 pub regions_end : (turn : ℕ) (done : List RegionSpec) (us : List UnreadWords) (whole : Result (List RegionSpec × List UnreadWords) TextFault) → first_begins Keyword.Region us ≡ false → regions_behind done (regions_at turn us) ≡ whole → whole ≡ Ok (done, us)
 unfolding regions_at
 regions_end turn done [] whole none is = sym is ∙ ap (λ rs. Ok (rs, [])) (append-nil done)
@@ -70,10 +66,6 @@ pub bases_fail : (n left : ℕ) (done : List ℕ) (u : UnreadWords) (fault : Tex
 bases_fail n left done u fault whole more read is = sym is ∙ ap (bases_behind done) (bases_step n left u more ∙ ap (base_then left) read)
 
 -- ---- hosts
-pub hosts_begin : (read : Result ((ℕ × List ℕ) × List UnreadWords) TextFault) → hosts_behind [] read ≡ read
-hosts_begin (Ok x) = refl
-hosts_begin (Err fault) = refl
-
 pub hosts_end : (regions turn : ℕ) (done : List ℕ) (us : List UnreadWords) (whole : Result ((ℕ × List ℕ) × List UnreadWords) TextFault) → first_begins Keyword.Host us ≡ false → hosts_behind done (host_lines_at regions turn us) ≡ whole → whole ≡ Ok ((turn, done), us)
 unfolding host_lines_at
 hosts_end regions turn done [] whole none is = sym is ∙ ap (λ bs. Ok ((turn, bs), [])) (append-nil done)

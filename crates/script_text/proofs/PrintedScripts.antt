@@ -5,18 +5,18 @@ use Rattle.std.proofs.lemmas.Grind.{flat_map-append}
 use Rattle.std.proofs.lemmas.List.{drop-drop, get_or-drop, get_or-take, length-take-le, map-append, take_more}
 use Rattle.std.proofs.Math.Nat.{suc-mul}
 use Rattle.region_config.specs.declared.region_spec.RegionSpec.{RegionSpec}
-use Rattle.text_printing.specs.script_codec.proofs.Adding.{within_seats}
-use Rattle.text_printing.specs.script_codec.specs.Writing.{IsWritable}
-use Rattle.text_printing.specs.script_codec.specs.declared.script_line.Line.{Line}
-use Rattle.text_printing.specs.script_codec.specs.declared.scripts.Script.{Script}
-use Rattle.text_words.specs.Texts.{IsWordLine, words_of_lines}
-use Rattle.text_words.specs.Words.{line_text}
-use Rattle.text_words.proofs.TextLaws.{text_parts as text_has}
-use Rattle.text_printing.specs.text_lines.specs.Layouts.{line_parts, most_64}
-use Rattle.text_printing.specs.text_lines.specs.Parts.{Form, Part, parts_words}
-use Rattle.text_printing.specs.text_lines.specs.declared.actors.Frame.{Frame}
-use Rattle.text_printing.specs.Printing.{AddsLine, AddsParts, PrintsLine, printed_words}
-use Rattle.text_printing.proofs.PrintLaws.{adds_then}
+use Rattle.text_lines.specs.script_codec.proofs.Adding.{within_seats}
+use Rattle.text_lines.specs.script_codec.specs.Writing.{IsWritable}
+use Rattle.text_lines.specs.script_codec.specs.declared.script_line.Line.{Line}
+use Rattle.text_lines.specs.script_codec.specs.declared.scripts.Script.{Script}
+use Rattle.text_lines.specs.Texts.{IsWordLine, words_of_lines}
+use Rattle.text_lines.specs.Words.{line_text}
+use Rattle.text_lines.proofs.TextLaws.{text_parts as text_has}
+use Rattle.text_lines.specs.Layouts.{line_parts, most_64}
+use Rattle.text_lines.specs.Parts.{Form, Part, parts_words}
+use Rattle.text_lines.specs.declared.actors.Frame.{Frame}
+use Rattle.script_text.specs.LinePrinting.{AddsLine, AddsParts, PrintsLine, printed_words}
+use Rattle.script_text.proofs.PrintLaws.{adds_then}
 use Rattle.script_text.specs.Layouts.{ReadsLines, Says, SaysLines, base_parts, frame_of_script, head_parts, host_parts, hosts_parts, region_parts, regions_parts}
 use Rattle.script_text.specs.Printing.{AddsLines, AddsScriptLines, printed_line, printed_script_line, script_text, text_parts}
 

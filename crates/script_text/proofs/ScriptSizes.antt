@@ -1,20 +1,16 @@
 -- How many bytes a script has.
-use Rattle.std.proofs.Common.{◌≡◌, ℕ, ◌+◌, ◌*◌, ◌-◌, ◌^◌, ◌<◌, ◌≤◌, Bool, true, false, ◌==◌, nat_le, nat_lt, List, [], ◌∷◌, ◌++◌, length, map, min, Ok, Err, refl, sym, ap, ◌∙◌, inl, inr, arith, length-append}
+use Rattle.std.proofs.Common.{◌≡◌, ℕ, ◌+◌, ◌*◌, ◌-◌, ◌^◌, ◌<◌, ◌≤◌, Bool, true, false, ◌==◌, nat_le, List, [], ◌∷◌, ◌++◌, length, map, min, refl, sym, ap, ◌∙◌, inl, inr, arith, length-append}
 use Rattle.std.specs.Prelude.{flat_map}
 use Rattle.std.specs.Int.{w8, w64}
-use Rattle.std.proofs.lemmas.Bool.{cases_Bool, cond-false, cond-true, le-leb, le-ltb, leb-false, leb-true, lt-ltb}
+use Rattle.std.proofs.lemmas.Bool.{cases_Bool, le-leb, leb-false, leb-true}
 use Rattle.std.proofs.lemmas.Grind.{flat_map-append}
 use Rattle.std.proofs.Math.Nat.{mul_assoc}
 use Rattle.field_bytes.specs.Layouts.{Field, Number, spell, spelling}
 use Rattle.region_config.specs.declared.region_spec.RegionSpec.{RegionSpec}
-use Rattle.text_printing.specs.script_codec.specs.Scripts.{lanes_fields, line_fields, region_fields, script_head, start_fields}
-use Rattle.text_printing.specs.script_codec.specs.Reading.{most_bytes}
-use Rattle.text_printing.specs.script_codec.specs.Writing.{script_bytes}
-use Rattle.text_printing.specs.script_codec.specs.declared.script_line.Line.{Line}
-use Rattle.text_printing.specs.script_codec.specs.declared.scripts.Script.{Script}
-use Rattle.text_printing.specs.text_lines.specs.declared.faults.Cause.{Cause}
-use Rattle.text_printing.specs.text_lines.specs.declared.faults.TextFault.{TextFault}
-use Rattle.script_text.specs.Texts.{short_script}
+use Rattle.text_lines.specs.script_codec.specs.Scripts.{lanes_fields, line_fields, region_fields, script_head, start_fields}
+use Rattle.text_lines.specs.script_codec.specs.Writing.{script_bytes}
+use Rattle.text_lines.specs.script_codec.specs.declared.script_line.Line.{Line}
+use Rattle.text_lines.specs.script_codec.specs.declared.scripts.Script.{Script}
 
 joined_size : (fs gs : List Field) → length (spelling (fs ++ gs)) ≡ length (spelling fs) + length (spelling gs)
 joined_size fs gs = ap length (flat_map-append spell fs gs) ∙ length-append (spelling fs) (spelling gs)
@@ -83,9 +79,3 @@ pub script_fits : (s : Script) (head size : ℕ) → length (spelling (script_he
 script_fits s head size first small is =
     let whole = whole_size s in
     same_test size (16777215 - head) (length (script_bytes s)) 16777216 (λ h. omega (arith, h, whole, first, small, is)) (λ h. omega (arith, h, whole, first, small, is))
-
-pub script_over : (end : ℕ) (s : Script) → nat_le (length (script_bytes s)) 16777216 ≡ false → short_script end s ≡ Err (TextFault.Refused end 1 Cause.TooLong)
-script_over end s over = cond-true (nat_lt most_bytes (length (script_bytes s))) (Err (TextFault.Refused end 1 Cause.TooLong)) (Ok s) (lt-ltb most_bytes (length (script_bytes s)) (leb-false (length (script_bytes s)) 16777216 over))
-
-pub script_within : (end : ℕ) (s : Script) → nat_le (length (script_bytes s)) 16777216 ≡ true → short_script end s ≡ Ok s
-script_within end s within = cond-false (nat_lt most_bytes (length (script_bytes s))) (Err (TextFault.Refused end 1 Cause.TooLong)) (Ok s) (le-ltb most_bytes (length (script_bytes s)) (leb-true (length (script_bytes s)) 16777216 within))

@@ -5,38 +5,38 @@ use Rattle.std.specs.Prelude.{IfOk}
 use Rattle.std.specs.List.{list_all}
 use Rattle.std.proofs.lemmas.List.{drop_at, length-take-le, take_at}
 use Rattle.std.proofs.Math.Nat.{suc-mul}
-use Rattle.std.proofs.lemmas.Bool.{and_from, cases_Bool, cond-false, cond-true, eqb-false, le-ltb, ltb-false, ne_eqb}
+use Rattle.std.proofs.lemmas.Bool.{and_from, cases_Bool, cond-false, cond-true, le-ltb, ltb-false, ne_eqb}
 use Rattle.region_config.specs.Configurations.{Configuration}
 use Rattle.region_config.specs.Setups.{config_fault}
 use Rattle.region_config.specs.declared.faults.ConfigFault.{ConfigFault}
 use Rattle.region_config.specs.declared.region_spec.RegionSpec.{RegionSpec}
-use Rattle.text_printing.specs.script_codec.specs.Reading.{most_bytes, most_lines}
-use Rattle.text_printing.specs.script_codec.specs.Scripts.{are_lanes, is_sound_line}
-use Rattle.text_printing.specs.script_codec.specs.Writing.{IsWritable, has_short_message, script_bytes}
-use Rattle.text_printing.specs.script_codec.specs.declared.heads.Head.{Head}
-use Rattle.text_printing.specs.script_codec.specs.declared.script_line.Line.{Line}
-use Rattle.text_printing.specs.script_codec.specs.declared.scripts.Script.{Script}
-use Rattle.text_printing.specs.script_codec.proofs.Writable.{counted}
-use Rattle.text_words.specs.Unread.{Ahead, UnreadWords, all_of, leading_word}
-use Rattle.text_printing.specs.text_lines.specs.Chains.{◌>>!◌ as ◌>>=◌}
-use Rattle.text_printing.specs.text_lines.specs.Fields.{GivesLast, begins}
-use Rattle.text_printing.specs.text_lines.specs.Keywords.{keyword_text}
-use Rattle.text_printing.specs.text_lines.specs.Layouts.{SaysLine}
-use Rattle.text_printing.specs.text_lines.specs.Lines.{opening_ahead, opening_of_word, rest_ahead}
-use Rattle.text_printing.specs.text_lines.specs.Parts.{Part, ReadsParts}
-use Rattle.text_printing.specs.text_lines.specs.declared.actors.Frame.{Frame}
-use Rattle.text_printing.specs.text_lines.specs.declared.faults.Cause.{Cause}
-use Rattle.text_printing.specs.text_lines.specs.declared.faults.TextFault.{TextFault}
-use Rattle.text_printing.specs.text_lines.specs.declared.faults.Wanted.{Wanted}
-use Rattle.text_printing.specs.text_lines.specs.declared.keywords.Keyword.{Keyword}
-use Rattle.text_printing.specs.text_lines.specs.declared.openings.Opening.{Opening}
-use Rattle.text_printing.specs.text_lines.proofs.FieldLaws.{begins_with, begins_words, bound, ok_is, one_sound}
-use Rattle.text_printing.specs.text_lines.proofs.LineLaws.{line_goes, line_sound, word_first}
-use Rattle.text_printing.specs.text_lines.proofs.OpeningLaws.{host_never_opens}
-use Rattle.text_printing.specs.text_lines.proofs.SoundLaws.{short_message, sound_line}
+use Rattle.text_lines.specs.script_codec.specs.Reading.{most_bytes, most_lines}
+use Rattle.text_lines.specs.script_codec.specs.Scripts.{are_lanes, is_sound_line}
+use Rattle.text_lines.specs.script_codec.specs.Writing.{IsWritable, has_short_message, script_bytes}
+use Rattle.text_lines.specs.script_codec.specs.declared.heads.Head.{Head}
+use Rattle.text_lines.specs.script_codec.specs.declared.script_line.Line.{Line}
+use Rattle.text_lines.specs.script_codec.specs.declared.scripts.Script.{Script}
+use Rattle.text_lines.specs.script_codec.proofs.Writable.{counted}
+use Rattle.text_lines.specs.Unread.{Ahead, UnreadWords, all_of, leading_word}
+use Rattle.text_lines.specs.Chains.{◌>>!◌ as ◌>>=◌}
+use Rattle.text_lines.specs.Fields.{GivesLast, begins}
+use Rattle.text_lines.specs.Keywords.{keyword_text}
+use Rattle.text_lines.specs.Layouts.{SaysLine}
+use Rattle.text_lines.specs.Lines.{opening_ahead, opening_of_word, rest_ahead}
+use Rattle.text_lines.specs.Parts.{Part, ReadsParts}
+use Rattle.text_lines.specs.declared.actors.Frame.{Frame}
+use Rattle.text_lines.specs.declared.faults.Cause.{Cause}
+use Rattle.text_lines.specs.declared.faults.TextFault.{TextFault}
+use Rattle.text_lines.specs.declared.faults.Wanted.{Wanted}
+use Rattle.text_lines.specs.declared.keywords.Keyword.{Keyword}
+use Rattle.text_lines.specs.declared.openings.Opening.{Opening}
+use Rattle.text_lines.proofs.FieldLaws.{begins_with, begins_words, bound, ok_is, one_sound}
+use Rattle.text_lines.proofs.LineLaws.{line_goes, line_sound, word_first}
+use Rattle.text_lines.proofs.OpeningLaws.{host_never_opens}
+use Rattle.text_lines.proofs.SoundLaws.{short_message, sound_line}
 use Rattle.script_text.specs.Heads.{host_line_ahead, host_lines_at, hosts_behind, region_ahead, regions_at, regions_behind, start_ahead}
 use Rattle.script_text.specs.Layouts.{ReadsLines, Says, SaysLines, frame_of_script, head_parts, host_parts, hosts_parts, regions_parts, start_parts}
-use Rattle.script_text.specs.Texts.{IsParsed, IsParsedAs, config_ahead, config_or_fault, config_checked, first_begins, frame_of, frame_of_head, head_ahead, lines_at, lines_behind, made_config, opening_read, refused_before, room_for_line, script_of_lines, script_said, script_with, short_script, some_hosts_ahead, some_read, some_regions_ahead, started}
+use Rattle.script_text.specs.Texts.{IsParsed, IsParsedAs, config_ahead, config_or_fault, config_checked, first_begins, frame_of, frame_of_head, head_ahead, lines_at, lines_behind, made_config, opening_read, room_for_line, script_of_lines, script_said, script_with, short_script, some_hosts_ahead, some_read, some_regions_ahead, started}
 use Rattle.script_text.proofs.HeadLaws.{host_goes, host_sound, region_goes, region_sound, start_goes, start_sound}
 
 -- ---- lines with words that are still to come
@@ -289,12 +289,6 @@ opening_is_read frame (u ∷ us) (l ∷ ls) says = ap (λ (o : Result (Opening �
 
 some_is_read : (end : ℕ) (us : List UnreadWords) (k : Keyword) (count : ℕ) → 0 < count → some_read end us k count ≡ Ok tt
 some_is_read end us k count some = cond-false (count == 0) _ _ (ne_eqb count 0 (λ e. omega (arith, some, e)))
-
-read_some : (end : ℕ) (us : List UnreadWords) (k : Keyword) (count : ℕ) (x : Unit {0}) → some_read end us k count ≡ Ok x → 0 < count
-read_some end us k count x is = elim (cases_Bool (count == 0)) [
-  | inl e ↦ let f : Err (refused_before end us (Cause.Wanted (Wanted.Keyword k))) ≡ Ok x = sym (cond-true (count == 0) (Err (refused_before end us (Cause.Wanted (Wanted.Keyword k)))) (Ok tt) e) ∙ is in cc
-  | inr e ↦ let some = eqb-false count 0 e in omega (arith, some)
-]
 
 -- ---- a text that says a script is read as it
 abbrev with_rest : {A : Type 0} → List UnreadWords → A → Result (A × List UnreadWords) TextFault

@@ -2,14 +2,14 @@
 use Rattle.std.specs.Prelude.{◌≡◌, ℕ, zero, suc, ◌+◌, ◌*◌, ◌^◌, ◌==◌, List, [], ◌∷◌, ◌++◌, length, map, take, drop, if◌then◌else◌, codes}
 use Rattle.region_config.specs.Configurations.{Configuration}
 use Rattle.region_config.specs.declared.region_spec.RegionSpec.{RegionSpec}
-use Rattle.text_printing.specs.script_codec.specs.Writing.{IsWritable}
-use Rattle.text_printing.specs.script_codec.specs.declared.script_line.Line.{Line}
-use Rattle.text_printing.specs.script_codec.specs.declared.scripts.Script.{Script}
-use Rattle.text_words.specs.Texts.{words_of_lines}
-use Rattle.text_printing.specs.text_lines.specs.Layouts.{SaysLine, most_32, most_64}
-use Rattle.text_printing.specs.text_lines.specs.Parts.{Form, Part, ReadsParts, key}
-use Rattle.text_printing.specs.text_lines.specs.declared.actors.Frame.{Frame}
-use Rattle.text_printing.specs.text_lines.specs.declared.keywords.Keyword.{Keyword}
+use Rattle.text_lines.specs.script_codec.specs.Writing.{IsWritable}
+use Rattle.text_lines.specs.script_codec.specs.declared.script_line.Line.{Line}
+use Rattle.text_lines.specs.script_codec.specs.declared.scripts.Script.{Script}
+use Rattle.text_lines.specs.Texts.{words_of_lines}
+use Rattle.text_lines.specs.Layouts.{SaysLine, most_32, most_64}
+use Rattle.text_lines.specs.Parts.{Form, Part, ReadsParts, key}
+use Rattle.text_lines.specs.declared.actors.Frame.{Frame}
+use Rattle.text_lines.specs.declared.keywords.Keyword.{Keyword}
 
 -- the version, and the lanes where it tells them
 abbrev pub start_parts : ℕ → ℕ → List Part

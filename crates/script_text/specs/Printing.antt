@@ -1,14 +1,14 @@
 -- The one text of a script, and what printing appends.
 use Rattle.std.specs.Prelude.{◌≡◌, ℕ, List, ◌++◌, map}
 use Rattle.std.specs.List.{AllByRecursion, flat_map}
-use Rattle.text_printing.specs.script_codec.specs.declared.script_line.Line.{Line}
-use Rattle.text_printing.specs.script_codec.specs.declared.scripts.Script.{Script}
-use Rattle.text_words.specs.Texts.{IsWordLine}
-use Rattle.text_words.specs.Words.{line_text}
-use Rattle.text_printing.specs.text_lines.specs.Layouts.{line_parts}
-use Rattle.text_printing.specs.text_lines.specs.Parts.{Part, parts_words}
-use Rattle.text_printing.specs.text_lines.specs.declared.actors.Frame.{Frame}
-use Rattle.text_printing.specs.Printing.{printed_words}
+use Rattle.text_lines.specs.script_codec.specs.declared.script_line.Line.{Line}
+use Rattle.text_lines.specs.script_codec.specs.declared.scripts.Script.{Script}
+use Rattle.text_lines.specs.Texts.{IsWordLine}
+use Rattle.text_lines.specs.Words.{line_text}
+use Rattle.text_lines.specs.Layouts.{line_parts}
+use Rattle.text_lines.specs.Parts.{Part, parts_words}
+use Rattle.text_lines.specs.declared.actors.Frame.{Frame}
+use Rattle.script_text.specs.LinePrinting.{printed_words}
 use Rattle.script_text.specs.Layouts.{ReadsLines, SaysLines, frame_of_script, head_parts}
 
 -- the parts of each line of the text

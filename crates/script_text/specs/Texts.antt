@@ -4,21 +4,20 @@ use Rattle.region_config.specs.Configurations.{Configuration}
 use Rattle.region_config.specs.Setups.{config_fault}
 use Rattle.region_config.specs.declared.faults.ConfigFault.{ConfigFault}
 use Rattle.region_config.specs.declared.region_spec.RegionSpec.{RegionSpec}
-use Rattle.text_printing.specs.script_codec.specs.Reading.{most_bytes, most_lines}
-use Rattle.text_printing.specs.script_codec.specs.Writing.{script_bytes}
-use Rattle.text_printing.specs.script_codec.specs.declared.heads.Head.{Head}
-use Rattle.text_printing.specs.script_codec.specs.declared.script_line.Line.{Line}
-use Rattle.text_printing.specs.script_codec.specs.declared.scripts.Script.{Script}
-use Rattle.text_words.specs.Unread.{UnreadWords, Ahead, all_of}
-use Rattle.text_printing.specs.text_lines.specs.Chains.{◌>>!◌ as ◌>>=◌}
-use Rattle.text_printing.specs.text_lines.specs.Fields.{begins, refused}
-use Rattle.text_printing.specs.text_lines.specs.Lines.{opening_ahead, rest_ahead}
-use Rattle.text_printing.specs.text_lines.specs.declared.actors.Frame.{Frame}
-use Rattle.text_printing.specs.text_lines.specs.declared.faults.Cause.{Cause}
-use Rattle.text_printing.specs.text_lines.specs.declared.faults.TextFault.{TextFault}
-use Rattle.text_printing.specs.text_lines.specs.declared.faults.Wanted.{Wanted}
-use Rattle.text_printing.specs.text_lines.specs.declared.keywords.Keyword.{Keyword}
-use Rattle.text_printing.specs.text_lines.specs.declared.openings.Opening.{Opening}
+use Rattle.text_lines.specs.script_codec.specs.Reading.{most_bytes, most_lines}
+use Rattle.text_lines.specs.script_codec.specs.Writing.{script_bytes}
+use Rattle.text_lines.specs.script_codec.specs.declared.heads.Head.{Head}
+use Rattle.text_lines.specs.script_codec.specs.declared.script_line.Line.{Line}
+use Rattle.text_lines.specs.script_codec.specs.declared.scripts.Script.{Script}
+use Rattle.text_lines.specs.Unread.{UnreadWords, Ahead, all_of}
+use Rattle.text_lines.specs.Chains.{◌>>!◌ as ◌>>=◌}
+use Rattle.text_lines.specs.Fields.{begins, refused}
+use Rattle.text_lines.specs.Lines.{opening_ahead, rest_ahead}
+use Rattle.text_lines.specs.declared.actors.Frame.{Frame}
+use Rattle.text_lines.specs.declared.faults.Cause.{Cause}
+use Rattle.text_lines.specs.declared.faults.TextFault.{TextFault}
+use Rattle.text_lines.specs.declared.faults.Wanted.{Wanted}
+use Rattle.text_lines.specs.declared.keywords.Keyword.{Keyword}
 use Rattle.script_text.specs.Heads.{start_ahead, regions_at, host_lines_at}
 
 -- The call answers what the definition reads, and leaves these lines. Memory may be wanting at any time.
@@ -34,21 +33,6 @@ first_begins keyword (u ∷ us) = begins keyword u
 abbrev pub TakesLineWith : Keyword → Ahead → Ahead → Option UnreadWords → Type 0
 TakesLineWith keyword old new (Some u) = (old.lines ≡ u ∷ new.lines) × (begins keyword u ≡ Bool.true) × (new.end ≡ old.end)
 TakesLineWith keyword old new None = (first_begins keyword old.lines ≡ Bool.false) × (new ≡ old)
-
--- The first of the lines is read as this one.
-pub record IsReadFirst (frame : Frame) (old new : Ahead) (line : Line) : Type 0 where
-  pub first : UnreadWords
-  pub behind : UnreadWords
-  pub opening : Opening
-  pub here : old.lines ≡ first ∷ new.lines
-  pub end : new.end ≡ old.end
-  pub opens : opening_ahead frame first ≡ Ok (opening, behind)
-  pub reads : rest_ahead frame opening behind ≡ Ok line
-
--- What taking a line that can be read at once answers: the next one as it is read, or that nothing is taken.
-abbrev pub TakesPlainLine : Frame → Ahead → Ahead → Option Line → Type 0
-TakesPlainLine frame old new (Some line) = IsReadFirst frame old new line
-TakesPlainLine frame old new None = new ≡ old
 
 -- lines of the script before those that are still to come
 abbrev pub lines_behind : List Line → Result (List Line) TextFault → Result (List Line) TextFault

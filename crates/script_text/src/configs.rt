@@ -3,15 +3,14 @@
 ghost use Rattle.script_text.specs.Heads.{host_lines_at, regions_at};
 ghost use Rattle.script_text.specs.Texts.{GivesLines, TakesLineWith, config_ahead, config_checked as config_said, head_ahead, made_config, opening_read, refused_before, some_hosts_ahead, some_read, some_regions_ahead, started};
 ghost use Rattle.std.specs.Prelude.{◌≡◌, ◌*◌, ◌≤◌, [], IfOk, OnOk, length};
-ghost use Rattle.text_printing.specs.text_lines.specs.Fields.{GivesLast};
+ghost use Rattle.text_lines.specs.Fields.{GivesLast};
 
 use crate::heads::{host_line, region, start};
 use region_config::{Config, ConfigFault, RegionSpec};
 use std::alloc::Global;
-use text_printing::script_codec::Head;
-use text_printing::text_lines::fields::{begins, refused};
-use text_printing::text_lines::{Cause, Frame, Keyword, TextFault, Wanted, opening};
-use text_words::{TextLines, Words};
+use text_lines::fields::{begins, refused};
+use text_lines::script_codec::Head;
+use text_lines::{Cause, Frame, Keyword, TextFault, TextLines, Wanted, Words, opening};
 
 /// What is wrong before the next line, or at the end.
 fn fault_at(lines: &TextLines<'_>, cause: Cause) -> TextFault

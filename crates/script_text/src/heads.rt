@@ -2,14 +2,11 @@
 
 ghost use Rattle.script_text.specs.Heads.{base_list_behind, bases_at, bases_behind, decode_ahead, extent_of_region_ahead, host_line_ahead, in_turn, in_units, lanes_ahead, region_ahead, sizes_ahead, sizes_or, some_lanes, start_ahead, told_lanes_ahead, turn_ahead, version_ahead, version_of_word as version_said};
 ghost use Rattle.std.specs.Prelude.{◌≡◌, ◌+◌, ◌<◌, ◌≤◌, OnOk, length};
-ghost use Rattle.text_printing.specs.text_lines.specs.Fields.{GivesWords, GivesLast, number_of_word as number_said};
+ghost use Rattle.text_lines.specs.Fields.{GivesWords, GivesLast, number_of_word as number_said};
 
 use region_config::RegionSpec;
-use text_printing::text_lines::fields::{
-    end, flag, keyword, may, named, number, number_of_word, one_word,
-};
-use text_printing::text_lines::{Cause, Keyword, TextFault, Wanted};
-use text_words::{Words, sizes_of};
+use text_lines::fields::{end, flag, keyword, may, named, number, number_of_word, one_word};
+use text_lines::{Cause, Keyword, TextFault, Wanted, Words, sizes_of};
 
 /// The version that a word says.
 fn version_of_word(word: &[u8]) -> Result<u16, Cause>

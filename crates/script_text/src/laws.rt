@@ -1,6 +1,6 @@
 //! What is printed is read back.
 
-ghost use Rattle.text_printing.specs.script_codec.specs.declared.scripts.Script.{Script};
+ghost use Rattle.text_lines.specs.script_codec.specs.declared.scripts.Script.{Script};
 ghost use Rattle.script_text.specs.Layouts.{Says};
 ghost use Rattle.script_text.specs.Texts.{script_said};
 ghost use Rattle.std.specs.Prelude.{◌≡◌, ◌↔◌, List, Ok, ℕ};

@@ -1,27 +1,27 @@
 //! A script, printed as the one text that says it.
 
 ghost use Rattle.region_config.specs.Granules.{base_of};
-ghost use Rattle.text_printing.specs.script_codec.specs.Scripts.{are_lanes, is_sound_line};
-ghost use Rattle.text_printing.specs.script_codec.specs.Writing.{IsWritable, has_short_message};
+ghost use Rattle.text_lines.specs.script_codec.specs.Scripts.{are_lanes, is_sound_line};
+ghost use Rattle.text_lines.specs.script_codec.specs.Writing.{IsWritable, has_short_message};
 ghost use Rattle.script_text.specs.Layouts.{Says, base_parts, bases_of_host, host_parts, hosts_parts, region_parts, regions_parts, start_parts};
 ghost use Rattle.script_text.specs.Printing.{AddsLines, AddsScriptLines, script_text};
 ghost use Rattle.script_text.specs.Texts.{frame_of};
 ghost use Rattle.std.specs.List.{list_all};
 ghost use Rattle.std.specs.Prelude.{◌≡◌, ◌++◌, ◌*◌, ◌^◌, ◌<◌, ◌≤◌, [], ◌∷◌, IsTrue, OnOk, codes, length};
-ghost use Rattle.text_printing.specs.text_lines.specs.Parts.{Form, Part, key};
-ghost use Rattle.text_printing.specs.text_lines.specs.declared.keywords.Keyword.{Keyword};
-ghost use Rattle.text_printing.specs.Printing.{AddsLine, AddsParts};
+ghost use Rattle.text_lines.specs.Parts.{Form, Part, key};
+ghost use Rattle.text_lines.specs.declared.keywords.Keyword.{Keyword};
+ghost use Rattle.script_text.specs.LinePrinting.{AddsLine, AddsParts};
 
-use dcd_base::{Bytes, HostId, NoMemory, RegionId};
-use region_config::{Config, RegionSpec};
-use std::alloc::Global;
-use text_printing::put_line;
-use text_printing::script_codec::{Line, Script};
-use text_printing::text_lines::{Frame, Keyword};
-use text_printing::words::{
+use crate::put_line;
+use crate::words::{
     begin_with, end_line, put_block_sizes, put_count, put_fixed, put_flag, put_key, put_may_count,
     put_named_count, put_named_number, put_number,
 };
+use dcd_base::{Bytes, HostId, NoMemory, RegionId};
+use region_config::{Config, RegionSpec};
+use std::alloc::Global;
+use text_lines::script_codec::{Line, Script};
+use text_lines::{Frame, Keyword};
 
 /// Appends the first line of version 1.
 fn put_first_start(out: &mut Bytes) -> Result<(), NoMemory>

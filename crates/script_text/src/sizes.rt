@@ -1,14 +1,14 @@
 //! How many bytes a script has.
 
 ghost use Rattle.field_bytes.specs.Layouts.{spelling};
-ghost use Rattle.text_printing.specs.script_codec.specs.Scripts.{script_head, line_fields};
-ghost use Rattle.text_printing.specs.script_codec.specs.Writing.{script_bytes};
+ghost use Rattle.text_lines.specs.script_codec.specs.Scripts.{script_head, line_fields};
+ghost use Rattle.text_lines.specs.script_codec.specs.Writing.{script_bytes};
 ghost use Rattle.std.specs.List.{flat_map};
 ghost use Rattle.std.specs.Prelude.{◌≡◌, ◌+◌, ◌*◌, ◌<◌, ◌^◌, length, min, nat_le};
 
 use journal_core::Act;
 use region_config::Config;
-use text_printing::script_codec::{Line, Script};
+use text_lines::script_codec::{Line, Script};
 
 /// The most bytes of a script.
 const MOST_BYTES: u64 = 16_777_216;
@@ -40,18 +40,21 @@ fn size_of_head(script: &Script) -> u64
     16 + 40 * regions + 8 * hosts * regions
 }
 
-/// The bytes of lines and of one more, up to 2^64 - 1.
-pub fn size_with(size: u64, line: &Line) -> u64
-    ensures { result ≡ min (size + length (spelling (line_fields line.now))) 18446744073709551615 }
+/// The bytes of lines, up to 2^64 - 1.
+fn size_of_lines(lines: &[Line]) -> u64
+    ensures { result ≡ min (length (spelling (flat_map line_fields lines.now))) 18446744073709551615 }
 {
-    size.saturating_add(size_of_line(line))
+    let mut size = 0u64;
+    for line in lines {
+        size = size.saturating_add(size_of_line(line));
+    }
+    size
 }
 
-/// Whether a script whose lines have so many bytes is short enough to be written.
-pub fn is_short(script: &Script, size: u64) -> bool
-    requires based { length script.now.config.bases ≡ script.now.config.hosts * length script.now.config.regions }
-    requires size { size ≡ min (length (spelling (flat_map line_fields script.now.lines))) 18446744073709551615 }
+/// Whether a script is short enough to be written.
+pub fn is_short(script: &Script) -> bool
+    requires { length script.now.config.bases ≡ script.now.config.hosts * length script.now.config.regions }
     ensures { result ≡ nat_le (length (script_bytes script.now)) 16777216 }
 {
-    size <= MOST_BYTES - 1 - size_of_head(script)
+    size_of_lines(script.lines.as_slice()) <= MOST_BYTES - 1 - size_of_head(script)
 }

@@ -1,2 +1,3 @@
 pub mod Selections
 pub mod Picks
+pub use Rattle.granule_map

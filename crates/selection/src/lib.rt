@@ -5,6 +5,8 @@
 //! The map of states is read and never changed.
 #![tactic(auto)]
 
+pub use granule_map;
+
 mod adjacent;
 mod blocks;
 mod listed;

@@ -4,7 +4,7 @@ use Rattle.std.specs.List.{All}
 use Rattle.std.proofs.lemmas.List.{length-map}
 use mathlib.Core.Option.{some}
 use lib.ListN.{get_elem?}
-use Rattle.shared_device.specs.control_core.specs.Steps.{MayStep}
+use Rattle.device_plain.specs.control_core.specs.Steps.{MayStep}
 use Rattle.dcd_base.specs.declared.steps.Actor.{Actor}
 use Rattle.journal_core.proofs.Splits.{all_from_places}
 use Rattle.journal_core.specs.declared.acts.Act.{Act}

@@ -7,14 +7,14 @@ use mathlib.Core.Option.{some, some-injective, some-ne-none}
 use native.Mathlib.Decide.{dec_lt}
 use lib.ListN.{get_elem?, length-map}
 use Rattle.dcd_base.specs.declared.steps.Stamp.{Stamp}
-use Rattle.block_shard.specs.device_rules.specs.Legal.{Legal}
-use Rattle.control_core.specs.holding_laws.proofs.ExclusiveHolding.{legal_exclusive}
-use Rattle.journal_core.specs.declared.entries.Entry.{Entry}
-use Rattle.journal_core.specs.Lending.{AllRise}
-use Rattle.journal_core.specs.Merging.{Numbered, Rising, call_of, calls_of, is_later, merged}
-use Rattle.journal_core.proofs.Filters.{all_flat}
-use Rattle.journal_core.proofs.MergedFilters.{merged-all}
-use Rattle.journal_core.proofs.Splits.{all_at, all_from_places}
+use Rattle.control_core.specs.device_rules.specs.Legal.{Legal}
+use Rattle.control_core.specs.device_laws.proofs.ExclusiveHolding.{legal_exclusive}
+use Rattle.block_shard.specs.journal_core.specs.declared.entries.Entry.{Entry}
+use Rattle.block_shard.specs.journal_core.specs.Lending.{AllRise}
+use Rattle.block_shard.specs.journal_core.specs.Merging.{Numbered, Rising, call_of, calls_of, is_later, merged}
+use Rattle.block_shard.specs.journal_core.proofs.Filters.{all_flat}
+use Rattle.block_shard.specs.journal_core.proofs.MergedFilters.{merged-all}
+use Rattle.block_shard.specs.journal_core.proofs.Splits.{all_at, all_from_places}
 use Rattle.region_config.specs.Soundness.{IsSound}
 use Rattle.block_shard.specs.ruled_cells.specs.declared.about.About.{About}
 use Rattle.block_shard.specs.ruled_cells.specs.declared.cell_value.CellValue.TheVariants.{Rest}

@@ -7,10 +7,10 @@ use native.Mathlib.Decide.{dec_lt}
 use lib.ListN.{get_elem?}
 use Rattle.atomic_table.proofs.Lists.{set_else}
 use Rattle.control_core.specs.declared.plan.Plan.{Plan}
-use Rattle.block_shard.specs.device_rules.specs.ChangedRuns.{AreChanges}
-use Rattle.block_shard.specs.device_rules.specs.Legal.{Legal}
-use Rattle.journal_core.specs.declared.entries.Entry.{Entry}
-use Rattle.journal_core.specs.Entries.{effects}
+use Rattle.control_core.specs.device_rules.specs.ChangedRuns.{AreChanges}
+use Rattle.control_core.specs.device_rules.specs.Legal.{Legal}
+use Rattle.block_shard.specs.journal_core.specs.declared.entries.Entry.{Entry}
+use Rattle.block_shard.specs.journal_core.specs.Entries.{effects}
 use Rattle.region_config.specs.Configurations.{Configuration}
 use Rattle.block_shard.specs.ruled_cells.specs.declared.about.SeatView.{SeatView}
 use Rattle.block_shard.specs.ruled_cells.specs.declared.cell_value.CellValue.{CellValue}

@@ -2,7 +2,7 @@
 use Rattle.std.proofs.Common.{◌≡◌, ℕ, suc, ◌+◌, List, [], ◌∷◌, ◌++◌, length, sym, ap, ◌∙◌, subst, ⊎_elim, arith}
 use mathlib.Core.Option.{some}
 use lib.ListN.{get_elem?}
-use Rattle.block_shard.specs.device_rules.specs.Legal.{Legal}
+use Rattle.control_core.specs.device_rules.specs.Legal.{Legal}
 use Rattle.region_config.specs.Configurations.{Configuration}
 use Rattle.block_shard.specs.ruled_cells.specs.Ruling.{names}
 use Rattle.block_shard.specs.ruled_cells.specs.Telling.{MayOpen}

@@ -13,16 +13,16 @@ use Rattle.dcd_base.specs.declared.failures.AccessFault.{AccessFault}
 use Rattle.dcd_base.specs.declared.ids.HostId.{HostId}
 use Rattle.dcd_base.specs.declared.media.Place.{Place}
 use Rattle.dcd_base.specs.declared.steps.Actor.{Actor}
-use Rattle.block_shard.specs.device_rules.specs.Legal.{Legal, Meets, access_at, granted_reply, right_answer}
-use Rattle.journal_core.specs.declared.acts.Act.{Act}
-use Rattle.journal_core.specs.declared.acts.Reply.{Reply}
-use Rattle.journal_core.specs.declared.entries.Entry.{Entry}
-use Rattle.journal_core.specs.Entries.{effects, fits, is_control}
-use Rattle.journal_core.specs.Holders.{holds}
-use Rattle.journal_core.specs.Merging.{Numbered, Rising, is_later, merged}
-use Rattle.journal_core.proofs.EachPlaces.{Each-all}
-use Rattle.journal_core.proofs.Filters.{filter_dropped, filter_kept}
-use Rattle.journal_core.proofs.Splits.{all_both}
+use Rattle.control_core.specs.device_rules.specs.Legal.{Legal, Meets, access_at, granted_reply, right_answer}
+use Rattle.block_shard.specs.journal_core.specs.declared.acts.Act.{Act}
+use Rattle.block_shard.specs.journal_core.specs.declared.acts.Reply.{Reply}
+use Rattle.block_shard.specs.journal_core.specs.declared.entries.Entry.{Entry}
+use Rattle.block_shard.specs.journal_core.specs.Entries.{effects, fits, is_control}
+use Rattle.block_shard.specs.journal_core.specs.Holders.{holds}
+use Rattle.block_shard.specs.journal_core.specs.Merging.{Numbered, Rising, is_later, merged}
+use Rattle.block_shard.specs.journal_core.proofs.EachPlaces.{Each-all}
+use Rattle.block_shard.specs.journal_core.proofs.Filters.{filter_dropped, filter_kept}
+use Rattle.block_shard.specs.journal_core.proofs.Splits.{all_both}
 use Rattle.media_map.specs.Places.{locate}
 use Rattle.region_config.specs.Configurations.{Configuration}
 use Rattle.block_shard.specs.shard_laws.proofs.LeftOut.{effects_kept, no_effects, not_both}

@@ -5,8 +5,8 @@ use lib.ListN.{get_elem?}
 use Rattle.dcd_base.specs.declared.ids.HostId.{HostId}
 use Rattle.dcd_base.specs.declared.steps.Actor.{Actor}
 use Rattle.dcd_base.specs.declared.steps.Stamp.{Stamp}
-use Rattle.journal_core.specs.declared.acts.Act.{Act}
-use Rattle.journal_core.specs.declared.acts.Reply.{Reply}
+use Rattle.block_shard.specs.journal_core.specs.declared.acts.Act.{Act}
+use Rattle.block_shard.specs.journal_core.specs.declared.acts.Reply.{Reply}
 use Rattle.block_shard.specs.ruled_cells.specs.declared.about.SeatView.{SeatView}
 use Rattle.block_shard.specs.ruled_cells.specs.declared.seat.Seat.{Seat}
 use Rattle.block_shard.specs.ruled_cells.specs.Seats.{IsSameSeat, NoTurns, seat_number, seat_view}

@@ -3,10 +3,10 @@ use Rattle.std.proofs.Common.{◌≡◌, ℕ, List, [], ◌∷◌, length, refl,
 use Rattle.cci_codec.specs.declared.messages.Request.{Request}
 use Rattle.cci_codec.specs.declared.messages.Response.{Response}
 use Rattle.dcd_base.specs.declared.failures.AccessFault.{AccessFault}
-use Rattle.journal_core.specs.declared.acts.Act.{Act}
-use Rattle.journal_core.specs.declared.acts.Reply.{Reply}
-use Rattle.journal_core.specs.declared.entries.Entry.{Entry}
-use Rattle.journal_core.specs.Merging.{call_of}
+use Rattle.block_shard.specs.journal_core.specs.declared.acts.Act.{Act}
+use Rattle.block_shard.specs.journal_core.specs.declared.acts.Reply.{Reply}
+use Rattle.block_shard.specs.journal_core.specs.declared.entries.Entry.{Entry}
+use Rattle.block_shard.specs.journal_core.specs.Merging.{call_of}
 
 -- all numbers of a and b are the same
 abbrev pub Alike : {X : Type 0} → X → X → Type 0

@@ -10,11 +10,11 @@ use Rattle.dcd_base.specs.declared.failures.NoMemory.{NoMemory}
 use Rattle.dcd_base.specs.declared.ids.HostId.{HostId}
 use Rattle.dcd_base.specs.declared.steps.Actor.{Actor}
 use Rattle.dcd_base.specs.declared.steps.Stamp.{Stamp}
-use Rattle.journal_core.specs.Accesses.{access_entry}
-use Rattle.journal_core.specs.declared.acts.Act.{Act}
-use Rattle.journal_core.specs.declared.acts.Reply.{Reply}
-use Rattle.journal_core.specs.declared.entries.Entry.{Entry}
-use Rattle.journal_core.specs.Merging.{call_of}
+use Rattle.block_shard.specs.journal_core.specs.Accesses.{access_entry}
+use Rattle.block_shard.specs.journal_core.specs.declared.acts.Act.{Act}
+use Rattle.block_shard.specs.journal_core.specs.declared.acts.Reply.{Reply}
+use Rattle.block_shard.specs.journal_core.specs.declared.entries.Entry.{Entry}
+use Rattle.block_shard.specs.journal_core.specs.Merging.{call_of}
 use Rattle.region_config.specs.Configurations.{Configuration}
 use Rattle.block_shard.specs.ruled_cells.specs.declared.about.SeatView.{SeatView}
 use Rattle.block_shard.specs.ruled_cells.specs.declared.cell_value.CellValue.{CellValue}

@@ -9,10 +9,10 @@ use Rattle.std.proofs.lemmas.List.Kept.{AllPairs-filter}
 use mathlib.Core.Option.{some, some-injective, some-ne-none}
 use lib.ListN.{get_elem?}
 use Rattle.dcd_base.specs.declared.steps.Stamp.{Stamp}
-use Rattle.journal_core.specs.declared.entries.Entry.{Entry}
-use Rattle.journal_core.specs.Merging.{Rising, call_of, calls_of, insert_entry, is_later, merged}
-use Rattle.journal_core.proofs.Merges.{merged-rising}
-use Rattle.journal_core.proofs.Splits.{pairs_head, pairs_tail}
+use Rattle.block_shard.specs.journal_core.specs.declared.entries.Entry.{Entry}
+use Rattle.block_shard.specs.journal_core.specs.Merging.{Rising, call_of, calls_of, insert_entry, is_later, merged}
+use Rattle.block_shard.specs.journal_core.proofs.Merges.{merged-rising}
+use Rattle.block_shard.specs.journal_core.proofs.Splits.{pairs_head, pairs_tail}
 use Rattle.block_shard.specs.ruled_cells.specs.Booking.{own, weigh, weight_one}
 use Rattle.shared_device.proofs.ToldCalls.{same_call}
 

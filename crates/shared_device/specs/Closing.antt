@@ -2,10 +2,10 @@
 use Rattle.std.specs.Prelude.{◌≡◌, ℕ, ◌<◌, List, length, filter}
 use mathlib.Core.Option.{some}
 use lib.ListN.{get_elem?}
-use Rattle.block_shard.specs.device_rules.specs.Legal.{Exclusive, Legal}
-use Rattle.journal_core.specs.declared.entries.Entry.{Entry}
-use Rattle.journal_core.specs.Entries.{is_control}
-use Rattle.journal_core.specs.Merging.{Numbered, calls_of, merged}
+use Rattle.control_core.specs.device_rules.specs.Legal.{Exclusive, Legal}
+use Rattle.block_shard.specs.journal_core.specs.declared.entries.Entry.{Entry}
+use Rattle.block_shard.specs.journal_core.specs.Entries.{is_control}
+use Rattle.block_shard.specs.journal_core.specs.Merging.{Numbered, calls_of, merged}
 use Rattle.region_config.specs.Configurations.{Configuration}
 use Rattle.block_shard.specs.ruled_cells.specs.Calls.{seats_of}
 use Rattle.shared_device.specs.declared.pass.Pass.{Pass}

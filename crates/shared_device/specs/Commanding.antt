@@ -1,8 +1,8 @@
 -- The first cell as contracts see it, and what the rule of the cells reads of it.
 use Rattle.std.specs.Prelude.{ℕ, List, [], ◌∷◌, ◌++◌, replicate, flat_map}
 use Rattle.dcd_base.specs.declared.steps.Actor.{Actor}
-use Rattle.block_shard.specs.device_rules.specs.Legal.{Legal}
-use Rattle.journal_core.specs.declared.entries.Entry.{Entry}
+use Rattle.control_core.specs.device_rules.specs.Legal.{Legal}
+use Rattle.block_shard.specs.journal_core.specs.declared.entries.Entry.{Entry}
 use Rattle.region_config.specs.Configurations.{Configuration}
 use Rattle.region_config.specs.Granules.{hosts_of}
 use Rattle.block_shard.specs.ruled_cells.specs.Reads.{ChiefReads}

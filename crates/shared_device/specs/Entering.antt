@@ -7,13 +7,13 @@ use Rattle.control_core.specs.Deciding.{IsShort}
 use Rattle.control_core.specs.Steps.{IsNextEntry}
 use Rattle.dcd_base.specs.declared.steps.Actor.{Actor}
 use Rattle.dcd_base.specs.declared.steps.Stamp.{Stamp}
-use Rattle.block_shard.specs.device_rules.specs.ChangedRuns.{AreChanges, LiesIn}
-use Rattle.block_shard.specs.device_rules.specs.Legal.{Legal}
+use Rattle.control_core.specs.device_rules.specs.ChangedRuns.{AreChanges, LiesIn}
+use Rattle.control_core.specs.device_rules.specs.Legal.{Legal}
 use Rattle.control_core.specs.device_state.specs.Updates.{IsUpdate}
-use Rattle.journal_core.specs.declared.acts.Act.{Act}
-use Rattle.journal_core.specs.declared.acts.Reply.{Reply}
-use Rattle.journal_core.specs.declared.entries.Entry.{Entry}
-use Rattle.journal_core.specs.Entries.{effects}
+use Rattle.block_shard.specs.journal_core.specs.declared.acts.Act.{Act}
+use Rattle.block_shard.specs.journal_core.specs.declared.acts.Reply.{Reply}
+use Rattle.block_shard.specs.journal_core.specs.declared.entries.Entry.{Entry}
+use Rattle.block_shard.specs.journal_core.specs.Entries.{effects}
 use Rattle.region_config.specs.Granules.{granule_total}
 use Rattle.block_shard.specs.ruled_cells.specs.declared.about.SeatView.{SeatView}
 use Rattle.block_shard.specs.ruled_cells.specs.declared.seat.Seat.{Seat}

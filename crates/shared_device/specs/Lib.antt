@@ -5,5 +5,5 @@ pub mod Passing
 pub mod Trying
 pub mod Visiting
 pub use Rattle.block_shard.specs.ruled_cells
-pub use Rattle.block_shard.specs.device_rules
+pub use Rattle.control_core.specs.device_rules
 pub use Rattle.control_core

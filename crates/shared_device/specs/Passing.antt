@@ -4,9 +4,9 @@ use mathlib.Core.Option.{some}
 use lib.ListN.{get_elem?}
 use Rattle.dcd_base.specs.declared.steps.Actor.{Actor}
 use Rattle.dcd_base.specs.declared.steps.Stamp.{Stamp}
-use Rattle.journal_core.specs.declared.acts.Act.{Act}
-use Rattle.journal_core.specs.declared.acts.Reply.{Reply}
-use Rattle.journal_core.specs.Merging.{Call, call_of}
+use Rattle.block_shard.specs.journal_core.specs.declared.acts.Act.{Act}
+use Rattle.block_shard.specs.journal_core.specs.declared.acts.Reply.{Reply}
+use Rattle.block_shard.specs.journal_core.specs.Merging.{Call, call_of}
 use Rattle.block_shard.specs.ruled_cells.specs.Calls.{IsOf, opened_with}
 use Rattle.block_shard.specs.ruled_cells.specs.Reads.{about_of}
 use Rattle.block_shard.specs.ruled_cells.specs.Seats.{saw_of, seat_view, tries_of}

@@ -2,8 +2,8 @@
 use Rattle.std.specs.Prelude.{◌≡◌, ◌≢◌, ℕ, suc, ◌+◌, ◌<◌}
 use Rattle.std.specs.declared.result.Result.{Result}
 use Rattle.std.specs.declared.result.Result.TheVariants.{Ok, Err}
-use Rattle.journal_core.specs.declared.acts.Act.{Act}
-use Rattle.journal_core.specs.declared.acts.Reply.{Reply}
+use Rattle.block_shard.specs.journal_core.specs.declared.acts.Act.{Act}
+use Rattle.block_shard.specs.journal_core.specs.declared.acts.Reply.{Reply}
 use Rattle.block_shard.specs.ruled_cells.specs.Calls.{seats_of}
 use Rattle.block_shard.specs.ruled_cells.specs.Seats.{tried_at}
 use Rattle.block_shard.specs.shard_laws.specs.Belonging.{shard_by}

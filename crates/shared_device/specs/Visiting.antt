@@ -5,10 +5,10 @@ use lib.ListN.{get_elem?}
 use Rattle.dcd_base.specs.declared.ids.HostId.{HostId}
 use Rattle.dcd_base.specs.declared.steps.Actor.{Actor}
 use Rattle.dcd_base.specs.declared.steps.Stamp.{Stamp}
-use Rattle.journal_core.specs.Accesses.{access_entry}
-use Rattle.journal_core.specs.declared.acts.Act.{Act}
-use Rattle.journal_core.specs.declared.acts.Reply.{Reply}
-use Rattle.journal_core.specs.Entries.{is_control}
+use Rattle.block_shard.specs.journal_core.specs.Accesses.{access_entry}
+use Rattle.block_shard.specs.journal_core.specs.declared.acts.Act.{Act}
+use Rattle.block_shard.specs.journal_core.specs.declared.acts.Reply.{Reply}
+use Rattle.block_shard.specs.journal_core.specs.Entries.{is_control}
 use Rattle.media_map.specs.Places.{locate}
 use Rattle.region_config.specs.Configurations.{Configuration}
 use Rattle.block_shard.specs.ruled_cells.specs.declared.seat.Seat.{Seat}

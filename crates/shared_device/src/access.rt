@@ -1,6 +1,6 @@
 //! Loads and stores that wait for their shard.
 
-ghost use Rattle.journal_core.specs.Entries.{fits, is_control};
+ghost use Rattle.block_shard.specs.journal_core.specs.Entries.{fits, is_control};
 ghost use Rattle.block_shard.specs.ruled_cells.specs.Calls.{IsOf};
 ghost use Rattle.block_shard.specs.ruled_cells.specs.Ruling.{names};
 ghost use Rattle.block_shard.specs.ruled_cells.specs.Seats.{HasCell, IsNoTry, IsSameSeat, seat_view, turns_of};
@@ -16,9 +16,9 @@ use crate::moment::Moment;
 use crate::pass::Pass;
 use crate::shared::Shared;
 use crate::target::{Target, target_of};
+use block_shard::journal_core::{Act, Reply};
 use block_shard::ruled_cells::Seat;
 use dcd_base::{NoMemory, Stamp};
-use journal_core::{Act, Reply};
 use std::sync::Wait;
 
 impl Shared {

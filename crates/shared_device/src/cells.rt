@@ -1,8 +1,8 @@
 //! What the cells of the device hold. Both are boxes: a turn moves the value out of its slot and into it, and that is a word.
 
 ghost use Rattle.dcd_base.specs.declared.steps.Actor.TheVariants.{Host};
-ghost use Rattle.journal_core.specs.Accesses.{access_entry};
-ghost use Rattle.journal_core.specs.Entries.{is_control};
+ghost use Rattle.block_shard.specs.journal_core.specs.Accesses.{access_entry};
+ghost use Rattle.block_shard.specs.journal_core.specs.Entries.{is_control};
 ghost use Rattle.media_map.specs.Places.{locate};
 ghost use Rattle.block_shard.specs.shard_laws.specs.Accessing.{AddsAccess, IsAccess};
 ghost use Rattle.block_shard.specs.shard_laws.specs.Belonging.{asked_at, shard_at};
@@ -10,10 +10,10 @@ ghost use Rattle.block_shard.specs.shard_laws.specs.Clocks.{IsNextStamp};
 ghost use Rattle.std.specs.Prelude.{◌≡◌, ◌+◌, ◌<◌, ◌^◌, IfOk, OnErr, OnOk, false};
 
 use block_shard::Shard;
+use block_shard::journal_core::{Act, Reply};
 use block_shard::ruled_cells::{Chief, Member};
 use control_core::Control;
 use dcd_base::{AccessFault, Actor, HostId, NoMemory, Place, Seq, Stamp};
-use journal_core::{Act, Reply};
 use std::marker::Model;
 
 /// The control, and the actor of each pass.

@@ -1,6 +1,6 @@
 //! Taking the device apart.
 
-ghost use Rattle.journal_core.specs.Lending.{AllRise};
+ghost use Rattle.block_shard.specs.journal_core.specs.Lending.{AllRise};
 ghost use Rattle.block_shard.specs.ruled_cells.specs.Calls.{seats_of};
 ghost use Rattle.shared_device.specs.Closing.{AreAllPasses, IsClosed};
 ghost use Rattle.std.specs.Prelude.{◌≡◌, ◌≤◌, [], IfErr, IfOk, length, map, vec_capacity};
@@ -8,10 +8,10 @@ ghost use Rattle.std.specs.Prelude.{◌≡◌, ◌≤◌, [], IfErr, IfOk, lengt
 use crate::cells::{Commands, ControlCell, ShardCell};
 use crate::pass::Pass;
 use crate::shared::Shared;
+use block_shard::journal_core::Accesses;
 use block_shard::ruled_cells::Seat;
 use control_core::Control;
 use dcd_base::NoMemory;
-use journal_core::Accesses;
 use std::alloc::Global;
 
 /// How many shards a device has.

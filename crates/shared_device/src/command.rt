@@ -10,8 +10,8 @@ mod planning;
 use crate::command::entering::enter;
 use crate::pass::Pass;
 use crate::shared::Shared;
+use block_shard::journal_core::{Act, Reply};
 use dcd_base::NoMemory;
-use journal_core::{Act, Reply};
 use std::sync::Wait;
 
 impl Shared {

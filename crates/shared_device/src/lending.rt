@@ -1,15 +1,15 @@
 //! The journal of a device that was taken apart.
 
 ghost use Rattle.control_core.specs.Deciding.{AreShort};
-ghost use Rattle.journal_core.specs.Entries.{effects};
-ghost use Rattle.journal_core.specs.Lending.{AllRise};
-ghost use Rattle.journal_core.specs.Merging.{merged};
+ghost use Rattle.block_shard.specs.journal_core.specs.Entries.{effects};
+ghost use Rattle.block_shard.specs.journal_core.specs.Lending.{AllRise};
+ghost use Rattle.block_shard.specs.journal_core.specs.Merging.{merged};
 ghost use Rattle.shared_device.specs.Closing.{IsClosed};
 ghost use Rattle.shared_device.specs.declared.pass.Pass.{Pass};
 ghost use Rattle.std.specs.Prelude.{◌≡◌, ◌+◌, ◌^◌, ◌<◌, ◌≤◌, List, flat_map, length, ℕ};
 
+use block_shard::journal_core::{Accesses, KeptEntries, WholeOfShards, whole_of_shards};
 use control_core::Control;
-use journal_core::{Accesses, KeptEntries, WholeOfShards, whole_of_shards};
 
 /// How many loads and stores the lists have.
 fn count_all(lists: &[Accesses]) -> u64

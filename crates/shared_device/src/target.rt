@@ -1,13 +1,13 @@
 //! Which shard a load or a store is of.
 
 ghost use Rattle.dcd_base.specs.declared.steps.Actor.TheVariants.{Host};
-ghost use Rattle.journal_core.specs.Entries.{fits, is_control};
+ghost use Rattle.block_shard.specs.journal_core.specs.Entries.{fits, is_control};
 ghost use Rattle.block_shard.specs.shard_laws.specs.Belonging.{asked_at, shard_at as shard_of_place};
 ghost use Rattle.shared_device.specs.Visiting.{IsTarget};
 ghost use Rattle.std.specs.Prelude.{◌≡◌, ◌<◌, IsTrue, false};
 
+use block_shard::journal_core::Act;
 use dcd_base::{AccessFault, Actor, HostId, Place, shard_of};
-use journal_core::Act;
 use media_map::locate;
 use region_config::Config;
 

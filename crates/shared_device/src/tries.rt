@@ -2,8 +2,8 @@
 
 ghost use Rattle.dcd_base.specs.declared.ids.HostId.{HostId};
 ghost use Rattle.dcd_base.specs.declared.steps.Actor.TheVariants.{Host};
-ghost use Rattle.journal_core.specs.declared.acts.Act.TheVariants.{Load, Store};
-ghost use Rattle.journal_core.specs.Entries.{fits, is_control};
+ghost use Rattle.block_shard.specs.journal_core.specs.declared.acts.Act.TheVariants.{Load, Store};
+ghost use Rattle.block_shard.specs.journal_core.specs.Entries.{fits, is_control};
 ghost use Rattle.shared_device.specs.Passing.{IsOneOf, IsSamePass, pass_actor, pass_calls, pass_tries};
 ghost use Rattle.shared_device.specs.Trying.{AtItsShard, Tried};
 ghost use Rattle.std.specs.Prelude.{◌≡◌, ◌+◌, ◌^◌, ◌<◌, IsTrue, false, length};
@@ -12,7 +12,7 @@ use crate::faults::TryFault;
 use crate::pass::Pass;
 use crate::shared::Shared;
 use crate::target::target_of;
-use journal_core::{Act, Reply};
+use block_shard::journal_core::{Act, Reply};
 
 impl Shared {
     /// A load that waits for nobody: `Busy` comes exactly where its one step on the turn of its place's shard found another pass.

@@ -1,6 +1,6 @@
 -- Words and lines that come later, one by one.
 use Rattle.std.proofs.Common.{◌≡◌, ℕ, zero, suc, ◌-◌, ◌<◌, List, ap, arith}
-use Rattle.text_words.specs.Extents.{after}
+use Rattle.explainer.specs.text_lines.specs.Extents.{after}
 use Rattle.text_converter.specs.Columns.{after_word, lines_later, words_later}
 
 pub words_step : (n : ℕ) (bytes : List ℕ) → 0 < n → words_later n bytes ≡ words_later (n - 1) (after_word bytes)

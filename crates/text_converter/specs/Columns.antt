@@ -1,8 +1,8 @@
 -- Where a word of a text stands.
 use Rattle.std.specs.Prelude.{ℕ, zero, suc, ◌+◌, ◌-◌, List, length, drop}
-use Rattle.text_words.specs.Characters.{passed_from, is_gap, is_plain}
-use Rattle.text_words.specs.Extents.{before, after}
-use Rattle.text_words.specs.Words.{without_return}
+use Rattle.explainer.specs.text_lines.specs.Characters.{passed_from, is_gap, is_plain}
+use Rattle.explainer.specs.text_lines.specs.Extents.{before, after}
+use Rattle.explainer.specs.text_lines.specs.Words.{without_return}
 
 -- the text from the line on that comes so many lines later
 abbrev pub lines_later : ℕ → List ℕ → List ℕ

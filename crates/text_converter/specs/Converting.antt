@@ -2,16 +2,16 @@
 use Rattle.std.specs.Prelude.{◌≡◌, ◌≢◌, ℕ, ◌<◌, ◌≤◌, List, length, Some, Result, Ok, Err}
 use Rattle.explainer.specs.Explaining.{IsExplained}
 use Rattle.explainer.specs.journal_check.specs.Frames.{needed, script_part, text_part}
-use Rattle.script_text.specs.script_codec.specs.Reading.{first_fault}
-use Rattle.script_text.specs.script_codec.specs.Scripts.{ReadsScript}
-use Rattle.script_text.specs.script_codec.specs.Writing.{script_bytes}
-use Rattle.script_text.specs.script_codec.specs.declared.faults.ScriptFault.{ScriptFault}
-use Rattle.script_text.specs.script_codec.specs.declared.scripts.Script.{Script}
-use Rattle.script_text.specs.Layouts.{Says}
-use Rattle.script_text.specs.Printing.{script_text}
-use Rattle.script_text.specs.Texts.{script_said}
-use Rattle.script_text.specs.text_lines.specs.declared.faults.Cause.{Cause}
-use Rattle.script_text.specs.text_lines.specs.declared.faults.TextFault.{TextFault}
+use Rattle.explainer.specs.report.specs.script_codec.specs.Reading.{first_fault}
+use Rattle.explainer.specs.report.specs.script_codec.specs.Scripts.{ReadsScript}
+use Rattle.explainer.specs.report.specs.script_codec.specs.Writing.{script_bytes}
+use Rattle.explainer.specs.report.specs.script_codec.specs.declared.faults.ScriptFault.{ScriptFault}
+use Rattle.explainer.specs.report.specs.script_codec.specs.declared.scripts.Script.{Script}
+use Rattle.explainer.specs.script_text.specs.Layouts.{Says}
+use Rattle.explainer.specs.script_text.specs.Printing.{script_text}
+use Rattle.explainer.specs.script_text.specs.Texts.{script_said}
+use Rattle.explainer.specs.text_lines.specs.declared.faults.Cause.{Cause}
+use Rattle.explainer.specs.text_lines.specs.declared.faults.TextFault.{TextFault}
 use Rattle.text_converter.specs.Columns.{column_of}
 use Rattle.text_converter.specs.declared.columns.Place.{Place}
 use Rattle.text_converter.specs.declared.converting.Refusal.{Refusal}

@@ -4,7 +4,7 @@ use Rattle.dcd_base.specs.Streams.{HasRisen, Passes}
 use Rattle.edge_io.specs.ReadEnds.{TakesAll, TakesMore}
 use Rattle.explainer.specs.journal_check.specs.Frames.{most_input}
 use Rattle.explainer.specs.report.specs.Refusals.{refusal_line}
-use Rattle.script_text.specs.script_codec.specs.declared.faults.ScriptFault.{ScriptFault}
+use Rattle.explainer.specs.report.specs.script_codec.specs.declared.faults.ScriptFault.{ScriptFault}
 use Rattle.text_converter.specs.Asking.{name_asked, task_asked}
 use Rattle.text_converter.specs.Converting.{IsConverted, IsRefused}
 use Rattle.text_converter.specs.Faults.{cut_line, fault_line, stopped_line}

@@ -2,11 +2,11 @@
 
 ghost use Rattle.std.specs.Prelude.{◌≡◌, ◌-◌, ◌≤◌, length};
 ghost use Rattle.text_converter.specs.Columns.{after_word, column_of, from_word, line_said, lines_later, word_onward};
-ghost use Rattle.text_words.specs.Characters.{passed_from, is_gap as gap, is_plain as plain_byte};
-ghost use Rattle.text_words.specs.Extents.{after, before};
-ghost use Rattle.text_words.specs.Words.{without_return as cut_return};
+ghost use Rattle.explainer.specs.text_lines.specs.Characters.{passed_from, is_gap as gap, is_plain as plain_byte};
+ghost use Rattle.explainer.specs.text_lines.specs.Extents.{after, before};
+ghost use Rattle.explainer.specs.text_lines.specs.Words.{without_return as cut_return};
 
-use text_words::place_of;
+use explainer::text_lines::place_of;
 
 /// A place of a text: its line and its column, both from 1, columns in bytes.
 #[derive(Clone, Copy, Debug, PartialEq, Eq)]

@@ -8,9 +8,9 @@ ghost use Rattle.text_converter.specs.declared.converting.Task.{Task};
 use crate::columns::{Place, place_in};
 use dcd_base::{Bytes, NoMemory};
 use explainer::explain;
+use explainer::report::script_codec::{ScriptFault, read, write};
+use explainer::script_text::{Cause, TextFault, parse, print};
 use field_bytes::u32_at;
-use script_text::script_codec::{ScriptFault, read, write};
-use script_text::{Cause, TextFault, parse, print};
 use std::alloc::Global;
 
 /// What is to be turned into what.

@@ -2,16 +2,16 @@
 
 ghost use Rattle.cci_codec.specs.declared.faults.MessageFault.{MessageFault};
 ghost use Rattle.std.specs.Prelude.{◌≡◌, ◌++◌, OnOk, decimal};
-ghost use Rattle.script_text.specs.text_lines.specs.declared.faults.Cause.{Cause};
-ghost use Rattle.script_text.specs.text_lines.specs.declared.faults.Wanted.{Wanted};
+ghost use Rattle.explainer.specs.text_lines.specs.declared.faults.Cause.{Cause};
+ghost use Rattle.explainer.specs.text_lines.specs.declared.faults.Wanted.{Wanted};
 ghost use Rattle.text_converter.specs.Faults.{cause_text, config_text, cut_line, fault_line, message_text, of_region, of_seat, stopped_line, wanted_text};
 
 use crate::columns::Place;
 use cci_codec::MessageFault;
 use dcd_base::{Bytes, NoMemory};
+use explainer::script_text::{Cause, Keyword, Wanted};
+use explainer::text_lines::put_decimal;
 use region_config::ConfigFault;
-use script_text::{Cause, Keyword, Wanted};
-use text_words::put_decimal;
 
 /// Appends a word of the grammar between its marks.
 fn put_keyword(keyword: Keyword, out: &mut Bytes) -> Result<(), NoMemory>

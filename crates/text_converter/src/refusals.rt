@@ -1,7 +1,7 @@
 //! The lines on inputs that are refused.
 
 ghost use Rattle.explainer.specs.report.specs.Refusals.{refusal_line};
-ghost use Rattle.script_text.specs.script_codec.specs.declared.faults.ScriptFault.{ScriptFault};
+ghost use Rattle.explainer.specs.report.specs.script_codec.specs.declared.faults.ScriptFault.{ScriptFault};
 ghost use Rattle.std.specs.Prelude.{◌≢◌};
 ghost use Rattle.text_converter.specs.Faults.{cut_line, fault_line, stopped_line};
 ghost use Rattle.text_converter.specs.Runs.{EndsLine, long_frame_line, long_line, long_text_line};
@@ -12,8 +12,8 @@ use crate::faults::{put_cut, put_fault, put_stopped};
 use crate::status::Status;
 use dcd_base::{Bytes, Failed, NoMemory, Sink, write_all};
 use explainer::report::refusal;
-use script_text::Cause;
-use script_text::script_codec::ScriptFault;
+use explainer::report::script_codec::ScriptFault;
+use explainer::script_text::Cause;
 use std::alloc::Global;
 
 /// Writes a line that says why.

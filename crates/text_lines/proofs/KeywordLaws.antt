@@ -3,9 +3,9 @@ use Rattle.std.proofs.Common.{◌≡◌, ℕ, false, ◌==◌, List, [], ◌∷�
 use lib.Pointwise.{pointwise, bytes_decides}
 use Rattle.std.proofs.lemmas.Bool.{cases_Bool}
 use Rattle.dcd_base.specs.declared.capacity.Extent.{Extent}
-use Rattle.text_words.specs.Extents.{extent_said}
-use Rattle.text_words.specs.Numbers.{digits_from, number_said}
-use Rattle.text_words.specs.Unread.{leading_word}
+use Rattle.text_lines.specs.Extents.{extent_said}
+use Rattle.text_lines.specs.Numbers.{digits_from, number_said}
+use Rattle.text_lines.specs.Unread.{leading_word}
 use Rattle.text_lines.specs.Keywords.{keyword_text}
 use Rattle.text_lines.specs.Parts.{AllSay, SaysExtent, SaysNumber}
 use Rattle.text_lines.specs.declared.keywords.Keyword.{Keyword}

@@ -10,7 +10,7 @@ use Rattle.fm_payloads.specs.declared.requests.FmRequest.{FmRequest}
 use Rattle.host_payloads.specs.declared.requests.HostRequest.{HostRequest}
 use Rattle.journal_core.specs.declared.acts.Act.{Act}
 use Rattle.script_codec.specs.declared.script_line.Line.{Line}
-use Rattle.text_words.specs.Unread.{UnreadWords, first_unread}
+use Rattle.text_lines.specs.Unread.{UnreadWords, first_unread}
 use Rattle.text_lines.specs.Actors.{actor_ahead, actor_of_word}
 use Rattle.text_lines.specs.Commands.{host_command_said, host_command_text, manager_command_said, manager_command_text}
 use Rattle.text_lines.specs.Chains.{◌>>!◌ as ◌>>=◌}

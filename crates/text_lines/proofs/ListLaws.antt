@@ -3,9 +3,9 @@ use Rattle.std.proofs.Common.{◌≡◌, ℕ, ◌+◌, ◌-◌, ◌<◌, ◌≤�
 use lib.Pointwise.{pointwise, bytes_decides}
 use Rattle.std.proofs.lemmas.Bool.{cases_Bool, cond-false, cond-true, eqb-false, ne_eqb}
 use Rattle.dcd_base.specs.declared.capacity.Extent.{Extent}
-use Rattle.text_words.specs.Extents.{extent_said, fits_64, limited_extent}
-use Rattle.text_words.specs.Unread.{UnreadWords, behind_next, leading_word}
-use Rattle.text_words.specs.declared.faults.NumberFault.{NumberFault}
+use Rattle.text_lines.specs.Extents.{extent_said, fits_64, limited_extent}
+use Rattle.text_lines.specs.Unread.{UnreadWords, behind_next, leading_word}
+use Rattle.text_lines.specs.declared.word_faults.NumberFault.{NumberFault}
 use Rattle.text_lines.specs.Chains.{◌>>!◌ as ◌>>=◌}
 use Rattle.text_lines.specs.Fields.{and_room, extent_of_word, extent_or, list_at, list_behind, told}
 use Rattle.text_lines.specs.Keywords.{keyword_text}

@@ -1,12 +1,9 @@
 -- The steps of the loops over the words of a list, and over the words of a message.
-use Rattle.std.proofs.Common.{◌≡◌, ℕ, zero, suc, ◌+◌, ◌-◌, ◌<◌, ◌≤◌, true, false, ◌==◌, nat_lt, ◌⊎◌, List, [], ◌∷◌, ◌++◌, length, Option, Some, None, Result, Ok, Err, refl, sym, ap, ◌∙◌, subst, inl, inr, arith, append-nil, append_assoc}
+use Rattle.std.proofs.Common.{◌≡◌, ℕ, zero, suc, ◌+◌, ◌-◌, ◌<◌, ◌≤◌, true, false, ◌==◌, nat_lt, ◌⊎◌, List, [], ◌∷◌, ◌++◌, length, Option, Some, None, Result, Ok, Err, refl, sym, ap, ◌∙◌, inl, inr, arith, append-nil, append_assoc}
 use lib.Pointwise.{pointwise}
-use Rattle.std.specs.Prelude.{IfOk, IsTrue}
-use Rattle.std.proofs.lemmas.Bool.{cases_Bool, cond-false, cond-true, le-ltb, lt-ltb, ne_eqb}
-use Rattle.dcd_base.specs.declared.capacity.Extent.{Extent}
-use Rattle.host_payloads.specs.HostPayloads.{is_untagged}
-use Rattle.text_words.specs.Pairs.{AppendsPairs, pairs_said}
-use Rattle.text_words.specs.Unread.{UnreadWords, behind_next, leading_word, is_done, first_unread, none_left}
+use Rattle.std.proofs.lemmas.Bool.{cond-false, cond-true, le-ltb, lt-ltb}
+use Rattle.text_lines.specs.Pairs.{AppendsPairs, pairs_said}
+use Rattle.text_lines.specs.Unread.{UnreadWords, behind_next, leading_word, is_done, first_unread, none_left}
 use Rattle.text_lines.specs.Chains.{◌>>!◌ as ◌>>=◌}
 use Rattle.text_lines.specs.Fields.{and_room, begins, list_at, list_behind, list_ahead, one_word, refused, told}
 use Rattle.text_lines.specs.Keywords.{keyword_text}
@@ -15,7 +12,6 @@ use Rattle.text_lines.specs.declared.faults.Cause.{Cause}
 use Rattle.text_lines.specs.declared.faults.TextFault.{TextFault}
 use Rattle.text_lines.specs.declared.faults.Wanted.{Wanted}
 use Rattle.text_lines.specs.declared.keywords.Keyword.{Keyword}
-use Rattle.text_lines.proofs.FieldLaws.{ok_is}
 
 module _ {A : Type 0} (read : List ℕ → Result A Cause) where
   -- the list ends where no word is left, or the message tag comes
@@ -61,24 +57,9 @@ module _ {A : Type 0} (read : List ℕ → Result A Cause) where
       ∙ ap (item_then left) step))
       ∙ is
 
-  pub nothing_behind : (rest : Result (List A × UnreadWords) TextFault) → list_behind [] rest ≡ rest
-  nothing_behind (Ok others) = refl
-  nothing_behind (Err fault) = refl
-
-  -- where a word is there, no list ends
-  pub some_word : (u : UnreadWords) (x : A) (cause : Cause) → read [] ≡ Err cause → read (first_unread u) ≡ Ok x → is_done u ≡ false
-  some_word u x cause none is = at u.words is
-    where
-      at : (words : List (List ℕ)) → read (leading_word words) ≡ Ok x → none_left words ≡ false
-      at [] e = let f : Err cause ≡ Ok x = sym none ∙ e in cc
-      at (w ∷ ws) e = refl
-
-  pub list_takes : (wanted : Wanted) (left : ℕ) (u v : UnreadWords) (xs : List A) (x : A) (whole : Result (List A × UnreadWords) TextFault) → is_done u ≡ false → begins Keyword.MessageTag u ≡ false
-      → read (first_unread u) ≡ Ok x → 0 < left → v ≡ behind_next u → list_behind xs (list_ahead read left u) ≡ whole → list_behind (xs ++ x ∷ []) (list_ahead read (left - 1) v) ≡ whole
-  list_takes wanted left u v xs x whole some other is room next same =
-      let room_for : and_room left (read (first_unread u)) ≡ Ok x = ap (and_room left) is ∙ cond-false (left == 0) (Err Cause.MessageTooLong) (Ok x) (ne_eqb left 0 (λ e. omega (arith, room, e))) in
-      list_goes_on wanted left u v xs x whole some other
-      (one_told wanted u (and_room left (read (first_unread u))) some ∙ ap (told u) room_for ∙ ap (λ (w : UnreadWords). Ok (x, w)) (sym next)) same
+  pub nothing_behind : (none : List A) (rest : Result (List A × UnreadWords) TextFault) → none ≡ [] → list_behind none rest ≡ rest
+  nothing_behind none (Ok others) is = ap (λ xs. Ok (xs ++ others.0, others.1)) is
+  nothing_behind none (Err fault) is = refl
 
   pub list_fails : (wanted : Wanted) (left : ℕ) (u : UnreadWords) (xs : List A) (fault : TextFault) (whole : Result (List A × UnreadWords) TextFault) → is_done u ≡ false → begins Keyword.MessageTag u ≡ false
       → one_word wanted u (and_room left (read (first_unread u))) ≡ Err fault → list_behind xs (list_ahead read left u) ≡ whole → whole ≡ Err fault
@@ -99,31 +80,6 @@ module _ {A : Type 0} (read : List ℕ → Result A Cause) where
   -- a word is taken only where there is room
   pub some_room : (wanted : Wanted) (left : ℕ) (u v : UnreadWords) (x : A) → is_done u ≡ false → one_word wanted u (and_room left (read (first_unread u))) ≡ Ok (x, v) → 0 < left
   some_room wanted left u v x some here = told_room u v left x (and_room left (read (first_unread u))) refl (sym (one_told wanted u (and_room left (read (first_unread u))) some) ∙ here)
-
-pub list_begins : {A : Type 0} (rest : Result (List A × UnreadWords) TextFault) → list_behind [] rest ≡ rest
-list_begins (Ok x) = refl
-list_begins (Err fault) = refl
-
--- ---- extents without tags
-cause_is : {A : Type 0} (x y : A) → ◌≡◌ {A = Result A Cause} (Ok x) (Ok y) → x ≡ y
-cause_is x y e = cc
-
-room_untagged : (left : ℕ) (r : Result Extent Cause) (x : Extent) → and_room left r ≡ Ok x → IfOk r (λ y. IsTrue (is_untagged y)) → is_untagged x ≡ true
-room_untagged left (Ok y) x is each = elim (cases_Bool (left == 0)) [
-  | inl e ↦ let f : Err Cause.MessageTooLong ≡ Ok x = sym (cond-true (left == 0) (Err Cause.MessageTooLong) (Ok y) e) ∙ is in cc
-  | inr e ↦ subst (λ z. is_untagged z ≡ true) (cause_is y x (sym (cond-false (left == 0) (Err Cause.MessageTooLong) (Ok y) e) ∙ is)) each
-]
-room_untagged left (Err cause) x is each = cc
-
-told_untagged : (u v : UnreadWords) (left : ℕ) (r s : Result Extent Cause) (x : Extent) → and_room left r ≡ s → told u s ≡ Ok (x, v) → IfOk r (λ y. IsTrue (is_untagged y)) → is_untagged x ≡ true
-told_untagged u v left r (Ok y) x e is each =
-    let f : y ≡ x = ap (λ (p : Extent × UnreadWords). p.0) (ok_is (y, behind_next u) (x, v) is) in
-    room_untagged left r x (e ∙ ap (λ (z : Extent). Ok z) f) each
-told_untagged u v left r (Err cause) x e is each = cc
-
-pub item_untagged : (wanted : Wanted) (left : ℕ) (u v : UnreadWords) (r : Result Extent Cause) (x : Extent) → is_done u ≡ false → one_word wanted u (and_room left r) ≡ Ok (x, v) → IfOk r (λ y. IsTrue (is_untagged y)) → is_untagged x ≡ true
-item_untagged wanted left u v r x some here each =
-    told_untagged u v left r (and_room left r) x refl (sym (cond-false (is_done u) (Err (refused u (Cause.Wanted wanted))) (told u (and_room left r)) some) ∙ here) each
 
 -- ---- the bytes of a message
 bytes_end_at : (before : List ℕ) (line word : ℕ) (words : List (List ℕ)) → none_left words ≡ true → bytes_at before line word words ≡ Ok (before, record { line = line; word = word; words = words })

@@ -6,9 +6,9 @@ use Rattle.cci_codec.specs.declared.faults.MessageFault.{MessageFault}
 use Rattle.cci_codec.specs.declared.messages.Request.{Request}
 use Rattle.cci_codec.proofs.Reading.{no_message_fault, request_read, request_reads}
 use Rattle.field_bytes.proofs.Fields.{IsBytes}
-use Rattle.text_words.specs.Pairs.{pairs_said}
-use Rattle.text_words.proofs.PrintedPairs.{pairs_small}
-use Rattle.text_words.specs.Unread.{UnreadWords, behind_next, is_done}
+use Rattle.text_lines.specs.Pairs.{pairs_said}
+use Rattle.text_lines.proofs.PrintedPairs.{pairs_small}
+use Rattle.text_lines.specs.Unread.{UnreadWords, behind_next, is_done}
 use Rattle.text_lines.specs.Chains.{◌>>!◌ as ◌>>=◌}
 use Rattle.text_lines.specs.Fields.{refused, told}
 use Rattle.text_lines.specs.Lines.{bytes_ahead, bytes_at, bytes_or, bytes_with_room, message_or_fault, message_said}

@@ -3,8 +3,8 @@ use Rattle.std.proofs.Common.{◌≡◌, ℕ, Bool, true, false, cond, ◌==◌,
 use lib.Pointwise.{pointwise, bytes_decides}
 use Rattle.std.specs.Prelude.{Option, codes}
 use Rattle.std.proofs.lemmas.Bool.{cases_Bool, cond-false, cond-true}
-use Rattle.text_words.specs.Numbers.{digits_from, under}
-use Rattle.text_words.specs.declared.faults.NumberFault.{NumberFault}
+use Rattle.text_lines.specs.Numbers.{digits_from, under}
+use Rattle.text_lines.specs.declared.word_faults.NumberFault.{NumberFault}
 use Rattle.text_lines.specs.Actors.{actor_of_seat, actor_of_word, has_dot, host_said, is_manager_word, seat_of_parts, seat_said}
 use Rattle.text_lines.specs.Keywords.{keyword_text}
 use Rattle.text_lines.specs.Lines.{opening_of_actor, opening_of_word}
@@ -41,10 +41,6 @@ scrub_no_actor frame wanted = no_actor frame wanted (codes "scrub") refl refl re
 command_no_actor : (frame : Frame) (wanted : Wanted) → actor_of_word frame wanted (codes "command") ≡ Err (Cause.Wanted wanted)
 unfolding host_said
 command_no_actor frame wanted = no_actor frame wanted (codes "command") refl refl refl
-
-region_no_actor : (frame : Frame) (wanted : Wanted) → actor_of_word frame wanted (keyword_text Keyword.Region) ≡ Err (Cause.Wanted wanted)
-unfolding host_said
-region_no_actor frame wanted = no_actor frame wanted (keyword_text Keyword.Region) refl refl refl
 
 host_no_actor : (frame : Frame) (wanted : Wanted) → actor_of_word frame wanted (keyword_text Keyword.Host) ≡ Err (Cause.Wanted wanted)
 unfolding host_said digits_from
@@ -133,9 +129,6 @@ never_opens frame Opening.Mark word a b d none opened = let e : true ≡ false =
 never_opens frame Opening.Scrub word a b d none opened = let e : true ≡ false = sym ((bytes_decides word (codes "scrub")).1 opened) ∙ b in cc
 never_opens frame Opening.Command word a b d none opened = let e : true ≡ false = sym ((bytes_decides word (codes "command")).1 opened) ∙ d in cc
 never_opens frame (Opening.By speaker) word a b d none opened = let e : Err (Cause.Wanted Wanted.Actor) ≡ Ok speaker = sym none ∙ opened in cc
-
-pub region_never_opens : (frame : Frame) (o : Opening) → opening_of_word frame (keyword_text Keyword.Region) ≡ Ok o → ⊥
-region_never_opens frame o is = never_opens frame o (keyword_text Keyword.Region) refl refl refl (region_no_actor frame Wanted.Actor) (opened_by frame (keyword_text Keyword.Region) o is)
 
 pub host_never_opens : (frame : Frame) (o : Opening) → opening_of_word frame (keyword_text Keyword.Host) ≡ Ok o → ⊥
 host_never_opens frame o is = never_opens frame o (keyword_text Keyword.Host) refl refl refl (host_no_actor frame Wanted.Actor) (opened_by frame (keyword_text Keyword.Host) o is)

@@ -1,14 +1,18 @@
 -- Parts that are lists, tags, hosts and policies: what is read of them is what their words say.
 use Rattle.std.proofs.Common.{◌≡◌, ℕ, ◌<◌, ◌≤◌, Bool, true, false, cond, nat_lt, List, [], ◌∷◌, ◌++◌, length, Option, Some, None, Result, Ok, Err, refl, sym, ap, ◌∙◌, subst, inl, inr, arith}
-use Rattle.std.proofs.lemmas.Bool.{cases_Bool, cond-false, cond-true, lt-ltb, ltb-true}
+use Rattle.std.specs.List.{list_all}
+use Rattle.std.proofs.lemmas.Bool.{and_from, cases_Bool, cond-false, cond-true, lt-ltb, ltb-true}
 use Rattle.dcd_base.specs.Words.{zero_tag}
 use Rattle.dcd_base.specs.declared.capacity.Extent.{Extent}
 use Rattle.dcd_base.specs.declared.capacity.Tag.{Tag}
 use Rattle.dcd_base.specs.declared.steps.Actor.{Actor}
-use Rattle.text_words.specs.Numbers.{under}
-use Rattle.text_words.specs.Pairs.{tag_said}
-use Rattle.text_words.specs.Unread.{UnreadWords, behind_next, behind_first, first_unread}
-use Rattle.text_words.specs.declared.faults.NumberFault.{NumberFault}
+use Rattle.host_payloads.specs.HostPayloads.{is_untagged}
+use Rattle.text_lines.specs.WordChains.{◌>>?◌ as ◌>>=◌}
+use Rattle.text_lines.specs.Extents.{after, before, extent_said, untagged}
+use Rattle.text_lines.specs.Numbers.{number_said, under}
+use Rattle.text_lines.specs.Pairs.{tag_said}
+use Rattle.text_lines.specs.Unread.{UnreadWords, behind_next, behind_first, first_unread}
+use Rattle.text_lines.specs.declared.word_faults.NumberFault.{NumberFault}
 use Rattle.text_lines.specs.Actors.{SaysActor, actor_ahead, actor_of_word, host_ahead, host_or, host_said}
 use Rattle.text_lines.specs.Fields.{begins, extent_of_word, extents_ahead, handles_ahead, list_behind, list_ahead, may_tag_ahead, number_ahead, number_of_word, tag_ahead, tag_or}
 use Rattle.text_lines.specs.Keywords.{keyword_text}
@@ -34,6 +38,27 @@ unfolding extents_ahead
 extents_sound most u x is =
     let p = list_sound extent_of_word SaysExtent (λ y w e. extent_says y w e) most u.line u.word u.words x is in
     took_one u.words p.front x.1.words (Part.Extents most x.0) p.is (p.few, p.all)
+
+said_untagged : (x : Extent) (word : List ℕ) → extent_said word ≡ Some x → is_untagged x ≡ true
+unfolding extent_said
+said_untagged x word is = by (number_said (before 43 word)) (number_said (after 43 word)) is
+  where
+    by : (start size : Option ℕ) → (start >>= (λ a. size >>= (λ b. Some (untagged a b)))) ≡ Some x → is_untagged x ≡ true
+    by None size e = cc
+    by (Some a) None e = cc
+    by (Some a) (Some b) e = let f : untagged a b ≡ x = (cc) in subst (λ y. is_untagged y ≡ true) f refl
+
+all_untagged : (xs : List Extent) (words : List (List ℕ)) → AllSay SaysExtent xs words → list_all is_untagged xs ≡ true
+all_untagged [] words each = refl
+all_untagged (x ∷ xs) [] each = absurd each
+all_untagged (x ∷ xs) (w ∷ ws) each = and_from (is_untagged x) (list_all is_untagged xs) (said_untagged x w each.0.said) (all_untagged xs ws each.1)
+
+-- what was read has no tags and is not too much
+pub extents_read : (most : ℕ) (u : UnreadWords) (x : List Extent × UnreadWords) → extents_ahead most u ≡ Ok x → (length x.0 ≤ most) × (list_all is_untagged x.0 ≡ true)
+unfolding extents_ahead
+extents_read most u x is =
+    let p = list_sound extent_of_word SaysExtent (λ y w e. extent_says y w e) most u.line u.word u.words x is in
+    (p.few, all_untagged x.0 p.front p.all)
 
 -- ---- handles
 pub handles_goes : (handles : List ℕ) (u : UnreadWords) (front rest : List (List ℕ)) → u.words ≡ front ++ rest → ReadsPart front (Part.Handles handles) → Stops rest → IsNot Keyword.Handles rest → Goes (handles_ahead u) handles rest
@@ -73,6 +98,13 @@ handles_sound u x is = elim (cases_Bool (begins Keyword.Handles u)) [
       let f : ([], u) ≡ x = ok_is ([], u) x (sym (cond-false (begins Keyword.Handles u) _ _ e) ∙ is) in
       subst (λ (y : List ℕ × UnreadWords). Took u.words (Part.Handles y.0 ∷ []) y.1.words) f (took_one u.words [] u.words (Part.Handles []) refl (inl (refl, refl)))
 ]
+
+pub handles_read : (u : UnreadWords) (x : List ℕ × UnreadWords) → handles_ahead u ≡ Ok x → length x.0 ≤ 255
+handles_read u x is = by (handles_sound u x is).all.3
+  where
+    by : {words : List (List ℕ)} → ReadsPart words (Part.Handles x.0) → length x.0 ≤ 255
+    by (inl absent) = omega (arith, ap length absent.1)
+    by (inr tells) = tells.few
 
 -- ---- tags
 tag_says : (word : List ℕ) (tag : Tag) (said : Option Tag) → tag_said word ≡ said → tag_or said ≡ Ok tag → tag_said word ≡ Some tag

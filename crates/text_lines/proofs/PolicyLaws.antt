@@ -1,7 +1,7 @@
 -- Policies: what is read of them is what their words say.
 use Rattle.std.proofs.Common.{◌≡◌, ℕ, Bool, true, false, List, [], ◌∷◌, ◌++◌, Option, Some, None, Result, Ok, refl, sym, ap, ◌∙◌, subst, inl, inr, append_assoc}
 use Rattle.std.proofs.lemmas.Bool.{cases_Bool, cond-false, cond-true}
-use Rattle.text_words.specs.Unread.{UnreadWords, behind_next, behind_first, first_unread}
+use Rattle.text_lines.specs.Unread.{UnreadWords, behind_next, behind_first, first_unread}
 use Rattle.text_lines.specs.Fields.{begins, flag_ahead, number_ahead, number_of_word}
 use Rattle.text_lines.specs.Keywords.{keyword_text}
 use Rattle.text_lines.specs.Parts.{Form, NamesRelease, Part, ReadsPart}

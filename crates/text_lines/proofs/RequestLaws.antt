@@ -5,7 +5,7 @@ use Rattle.dcd_base.specs.declared.capacity.Extent.{Extent}
 use Rattle.dcd_base.specs.declared.capacity.Tag.{Tag}
 use Rattle.fm_payloads.specs.declared.requests.FmRequest.{FmRequest}
 use Rattle.host_payloads.specs.declared.requests.HostRequest.{HostRequest}
-use Rattle.text_words.specs.Unread.{UnreadWords}
+use Rattle.text_lines.specs.Unread.{UnreadWords}
 use Rattle.text_lines.specs.Actors.{host_ahead}
 use Rattle.text_lines.specs.Chains.{◌>>!◌ as ◌>>=◌}
 use Rattle.text_lines.specs.Fields.{extents_ahead, flag_ahead, handles_ahead, may_ahead, may_tag_ahead, named_ahead, tag_ahead}
@@ -49,9 +49,6 @@ made_of {A} {B} read make x is =
     record { found = b.value; begun = b.begun; value_is = ap (λ (p : B × UnreadWords). p.0) e; left_is = ap (λ (p : B × UnreadWords). p.1) e }
 
 -- ---- pages
-first_inner : IsInner Keyword.First
-first_inner = record { some = refl; no_tag = refl }
-
 pub page_goes : (most first count : ℕ) (u : UnreadWords) (rest : List (List ℕ)) → Takes u.words (page_parts most first count) rest → Goes (page_ahead most u) (record { first = first; count = count }) rest
 unfolding page_ahead
 page_goes most first count u rest takes =

@@ -20,11 +20,11 @@ use Rattle.journal_core.specs.declared.acts.Act.{Act}
 use Rattle.script_codec.specs.Scripts.{is_sound_line}
 use Rattle.script_codec.specs.Writing.{has_short_message}
 use Rattle.script_codec.specs.declared.script_line.Line.{Line}
-use Rattle.text_words.specs.Extents.{after, before, extent_said, untagged}
-use Rattle.text_words.specs.Chains.{◌>>?◌ as ◌>>=◌}
-use Rattle.text_words.specs.Numbers.{digits_said, number_said, under}
-use Rattle.text_words.specs.Pairs.{pairs_said, tag_of_bytes, tag_said}
-use Rattle.text_words.specs.declared.faults.NumberFault.{NumberFault}
+use Rattle.text_lines.specs.Extents.{after, before, extent_said, untagged}
+use Rattle.text_lines.specs.WordChains.{◌>>?◌ as ◌>>=◌}
+use Rattle.text_lines.specs.Numbers.{digits_said, number_said, under}
+use Rattle.text_lines.specs.Pairs.{pairs_said, tag_of_bytes, tag_said}
+use Rattle.text_lines.specs.declared.word_faults.NumberFault.{NumberFault}
 use Rattle.text_lines.specs.Actors.{actor_of_seat, actor_of_word, has_dot, host_said, is_manager_word, seat_of_parts, seat_said}
 use Rattle.text_lines.specs.Layouts.{NamesHostCommand, NamesManagerCommand, SaysLine, TellsBytes, host_tail, manager_tail, tag_part}
 use Rattle.text_lines.specs.Parts.{AllSay, Part, ReadsPart, SaysExtent, Takes}

@@ -2,11 +2,11 @@
 use Rattle.std.specs.Prelude.{◌≡◌, ℕ, ◌&&◌, ◌==◌, nat_lt, Bool, List, ◌++◌, length, drop, slice_index, Option, Some, None, Result, Ok, Err, if◌then◌else◌, codes, decimal}
 use lib.Pointwise.{pointwise}
 use Rattle.dcd_base.specs.declared.steps.Actor.{Actor}
-use Rattle.text_words.specs.Characters.{passed_from, is_other}
-use Rattle.text_words.specs.Numbers.{digits_said, under}
-use Rattle.text_words.specs.Extents.{before, after}
-use Rattle.text_words.specs.Unread.{UnreadWords, first_unread}
-use Rattle.text_words.specs.declared.faults.NumberFault.{NumberFault}
+use Rattle.text_lines.specs.Characters.{passed_from, is_other}
+use Rattle.text_lines.specs.Numbers.{digits_said, under}
+use Rattle.text_lines.specs.Extents.{before, after}
+use Rattle.text_lines.specs.Unread.{UnreadWords, first_unread}
+use Rattle.text_lines.specs.declared.word_faults.NumberFault.{NumberFault}
 use Rattle.text_lines.specs.declared.actors.Frame.{Frame}
 use Rattle.text_lines.specs.declared.actors.Speaker.{Speaker}
 use Rattle.text_lines.specs.declared.faults.Wanted.{Wanted}

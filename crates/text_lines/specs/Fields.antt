@@ -4,11 +4,11 @@ use lib.Pointwise.{pointwise}
 use Rattle.dcd_base.specs.declared.capacity.Extent.{Extent}
 use Rattle.dcd_base.specs.declared.capacity.Tag.{Tag}
 use Rattle.dcd_base.specs.Words.{zero_tag}
-use Rattle.text_words.specs.declared.faults.NumberFault.{NumberFault}
-use Rattle.text_words.specs.Unread.{UnreadWords, is_done, first_unread, behind_next}
-use Rattle.text_words.specs.Numbers.{number_said, limited}
-use Rattle.text_words.specs.Extents.{extent_said, limited_extent}
-use Rattle.text_words.specs.Pairs.{tag_said}
+use Rattle.text_lines.specs.declared.word_faults.NumberFault.{NumberFault}
+use Rattle.text_lines.specs.Unread.{UnreadWords, is_done, first_unread, behind_next}
+use Rattle.text_lines.specs.Numbers.{number_said, limited}
+use Rattle.text_lines.specs.Extents.{extent_said, limited_extent}
+use Rattle.text_lines.specs.Pairs.{tag_said}
 use Rattle.text_lines.specs.declared.keywords.Keyword.{Keyword}
 use Rattle.text_lines.specs.declared.faults.Wanted.{Wanted}
 use Rattle.text_lines.specs.declared.faults.Cause.{Cause}
@@ -30,12 +30,9 @@ GivesLast view (Err fault) read = fault ≢ TextFault.NoMemory → read ≡ Err 
 abbrev pub refused : UnreadWords → Cause → TextFault
 refused u cause = TextFault.Refused u.line u.word cause
 
--- whether the next word is this one
-abbrev pub is_next : List ℕ → UnreadWords → Bool
-is_next word u = pointwise ◌==◌ (first_unread u) word
-
+-- whether that word of the grammar comes next
 abbrev pub begins : Keyword → UnreadWords → Bool
-begins keyword u = is_next (keyword_text keyword) u
+begins keyword u = pointwise ◌==◌ (first_unread u) (keyword_text keyword)
 
 -- what a word says, with what comes behind it
 abbrev pub told : {A : Type 0} → UnreadWords → Result A Cause → Result (A × UnreadWords) TextFault

@@ -1,7 +1,7 @@
 -- How the commands of a host are read behind their names.
 use Rattle.std.specs.Prelude.{ℕ, ◌-◌, ◌^◌, Result, Ok}
 use Rattle.host_payloads.specs.declared.requests.HostRequest.{HostRequest}
-use Rattle.text_words.specs.Unread.{UnreadWords}
+use Rattle.text_lines.specs.Unread.{UnreadWords}
 use Rattle.text_lines.specs.declared.commands.HostCommand.{HostCommand}
 use Rattle.text_lines.specs.declared.faults.TextFault.{TextFault}
 use Rattle.text_lines.specs.declared.forms.Clearing.{Clearing}

@@ -12,8 +12,8 @@ use Rattle.host_payloads.specs.HostPayloads.{host_fields, host_opcode}
 use Rattle.host_payloads.specs.declared.requests.HostRequest.{HostRequest}
 use Rattle.journal_core.specs.declared.acts.Act.{Act}
 use Rattle.script_codec.specs.declared.script_line.Line.{Line}
-use Rattle.text_words.specs.Pairs.{pairs_said}
-use Rattle.text_words.specs.Unread.{UnreadWords, is_done, first_unread}
+use Rattle.text_lines.specs.Pairs.{pairs_said}
+use Rattle.text_lines.specs.Unread.{UnreadWords, is_done, first_unread}
 use Rattle.text_lines.specs.Actors.{actor_ahead, actor_of_word}
 use Rattle.text_lines.specs.Commands.{host_command_said, manager_command_said}
 use Rattle.text_lines.specs.Chains.{◌>>!◌ as ◌>>=◌}

@@ -1,7 +1,7 @@
 -- How the commands of the manager are read behind their names.
 use Rattle.std.specs.Prelude.{ℕ, ◌-◌, ◌^◌, Result, Ok}
 use Rattle.fm_payloads.specs.declared.requests.FmRequest.{FmRequest}
-use Rattle.text_words.specs.Unread.{UnreadWords}
+use Rattle.text_lines.specs.Unread.{UnreadWords}
 use Rattle.text_lines.specs.Actors.{host_ahead}
 use Rattle.text_lines.specs.declared.commands.ManagerCommand.{ManagerCommand}
 use Rattle.text_lines.specs.declared.faults.TextFault.{TextFault}

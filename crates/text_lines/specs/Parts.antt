@@ -5,10 +5,10 @@ use Rattle.dcd_base.specs.Words.{is_zero_tag, zero_tag}
 use Rattle.dcd_base.specs.declared.capacity.Extent.{Extent}
 use Rattle.dcd_base.specs.declared.capacity.Tag.{Tag}
 use Rattle.dcd_base.specs.declared.steps.Actor.{Actor}
-use Rattle.text_words.specs.Extents.{extent_said, extent_text, fits_64}
-use Rattle.text_words.specs.Numbers.{number_said, size_text}
-use Rattle.text_words.specs.Pairs.{pair_text, pairs_said, tag_said, tag_text}
-use Rattle.text_words.specs.Sizes.{sizes_said, sizes_text}
+use Rattle.text_lines.specs.Extents.{extent_said, extent_text, fits_64}
+use Rattle.text_lines.specs.Numbers.{number_said, size_text}
+use Rattle.text_lines.specs.Pairs.{pair_text, pairs_said, tag_said, tag_text}
+use Rattle.text_lines.specs.Sizes.{sizes_said, sizes_text}
 use Rattle.text_lines.specs.Actors.{SaysActor, actor_text, host_said, host_text}
 use Rattle.text_lines.specs.Keywords.{keyword_text}
 use Rattle.text_lines.specs.Policies.{add_policy_said, add_policy_text, release_flags, release_flags_text, release_policy_said, word_where}

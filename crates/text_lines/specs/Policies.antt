@@ -2,8 +2,8 @@
 use Rattle.std.specs.Prelude.{ℕ, ◌+◌, ◌*◌, ◌/◌, ◌%◌, ◌&&◌, ◌==◌, nat_lt, Bool, List, [], ◌∷◌, ◌++◌, Option, Some, None, Result, Ok, Err, if◌then◌else◌, codes, decimal}
 use lib.Pointwise.{pointwise}
 use Rattle.dcd_base.specs.Words.{flag_of}
-use Rattle.text_words.specs.Unread.{UnreadWords, first_unread, behind_next}
-use Rattle.text_words.specs.Numbers.{hexadecimal}
+use Rattle.text_lines.specs.Unread.{UnreadWords, first_unread, behind_next}
+use Rattle.text_lines.specs.Numbers.{hexadecimal}
 use Rattle.text_lines.specs.declared.faults.Wanted.{Wanted}
 use Rattle.text_lines.specs.declared.faults.Cause.{Cause}
 use Rattle.text_lines.specs.declared.faults.TextFault.{TextFault}

@@ -3,11 +3,11 @@
 ghost use Rattle.std.specs.Prelude.{◌≡◌, ◌+◌, ◌<◌, IfOk, drop, length, take};
 ghost use Rattle.text_lines.specs.Actors.{actor_ahead, actor_of_word as actor_said, host_ahead, host_or, host_said, seat_of_parts, seat_said};
 ghost use Rattle.text_lines.specs.Fields.{GivesWords};
-ghost use Rattle.text_words.specs.Numbers.{digits_said, under};
+ghost use Rattle.text_lines.specs.Numbers.{digits_said, under};
 
 use crate::faults::{Cause, TextFault, Wanted};
 use crate::fields::one_word;
-use text_words::{NumberFault, Words, decimal_of, place_of};
+use crate::{NumberFault, Words, decimal_of, place_of};
 
 /// What the head of a script says that its lines depend on.
 #[derive(Clone, Copy, Debug, PartialEq, Eq)]
@@ -30,7 +30,6 @@ pub enum Speaker {
 
 /// The number behind the h of a host, below the limit.
 #[tactic(auto, unfolding(crate::specs::Actors::host_said))]
-#[inline(always)]
 fn host_number(word: &[u8], limit: u64) -> Result<u64, NumberFault>
     ensures value { result ≡ under limit (host_said word.now) }
     ensures small { IfOk result (λ host. host < limit) }
@@ -43,7 +42,6 @@ fn host_number(word: &[u8], limit: u64) -> Result<u64, NumberFault>
 }
 
 /// The number of a host of the script.
-#[inline(always)]
 fn host_below(word: &[u8], hosts: u8) -> Result<u8, NumberFault>
     ensures { result ≡ under hosts (host_said word.now) }
 {
@@ -54,7 +52,6 @@ fn host_below(word: &[u8], hosts: u8) -> Result<u8, NumberFault>
 }
 
 /// The number of a lane of the script.
-#[inline(always)]
 fn lane_below(digits: &[u8], lanes: u8) -> Result<u8, NumberFault>
     ensures { result ≡ under lanes (digits_said 10 digits.now) }
 {
@@ -65,7 +62,6 @@ fn lane_below(digits: &[u8], lanes: u8) -> Result<u8, NumberFault>
 }
 
 /// Lane 0, where there are lanes.
-#[inline(always)]
 fn first_lane(lanes: u8) -> Result<u8, NumberFault>
     ensures { result ≡ under lanes (Some 0) }
 {
@@ -77,7 +73,6 @@ fn first_lane(lanes: u8) -> Result<u8, NumberFault>
 }
 
 /// A host and a lane. What is out of form comes before what the script does not have.
-#[inline(always)]
 fn seat_of(
     host: Result<u8, NumberFault>,
     lane: Result<u8, NumberFault>,
@@ -94,7 +89,6 @@ fn seat_of(
 }
 
 /// A host of the script and its lane, with a dot between them where one is at that place.
-#[inline(always)]
 fn seat_at(frame: Frame, place: usize, word: &[u8]) -> Result<(u8, u8), NumberFault>
     requires { place < length word.now }
     ensures { result ≡ seat_of_parts (under frame.hosts (host_said (take place word.now))) (under frame.lanes (digits_said 10 (drop (place + 1) word.now))) }
@@ -109,7 +103,6 @@ fn seat_at(frame: Frame, place: usize, word: &[u8]) -> Result<(u8, u8), NumberFa
 
 /// A host of the script and its lane.
 #[tactic(auto, unfolding(crate::specs::Actors::seat_said))]
-#[inline(always)]
 fn seat(frame: Frame, word: &[u8]) -> Result<(u8, u8), NumberFault>
     ensures { result ≡ seat_said frame word.now }
 {
@@ -124,7 +117,6 @@ fn seat(frame: Frame, word: &[u8]) -> Result<(u8, u8), NumberFault>
 
 /// The actor that a word says; what is wanted where it says none.
 #[tactic(auto, unfolding(crate::specs::Actors::actor_of_word))]
-#[inline(always)]
 pub fn actor_of_word(frame: Frame, wanted: Wanted, word: &[u8]) -> Result<Speaker, Cause>
     ensures { result ≡ actor_said frame wanted word.now }
 {
@@ -148,7 +140,6 @@ pub fn actor(words: &mut Words<'_>, frame: Frame) -> Result<Speaker, TextFault>
 }
 
 /// The host that a word names, whether the script has it or not.
-#[inline(always)]
 fn host_of_word(word: &[u8]) -> Result<u16, Cause>
     ensures { result ≡ host_or (under 65536 (host_said word.now)) }
 {
@@ -161,7 +152,6 @@ fn host_of_word(word: &[u8]) -> Result<u16, Cause>
 
 /// A host that the manager speaks of.
 #[tactic(auto, unfolding(crate::specs::Actors::host_ahead))]
-#[inline(always)]
 pub fn host(words: &mut Words<'_>) -> Result<u16, TextFault>
     ensures { GivesWords (λ host. host) result words.new (host_ahead words.old) }
 {

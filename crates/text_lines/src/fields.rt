@@ -2,17 +2,15 @@
 
 ghost use Rattle.host_payloads.specs.HostPayloads.{is_untagged};
 ghost use Rattle.std.specs.Prelude.{◌≡◌, ◌≤◌, IfOk, IsTrue};
-ghost use Rattle.text_lines.specs.Fields.{GivesWords, begins as begins_with, end_ahead, extent_of_word as extent_said, flag_ahead, is_next as next_is, keyword_ahead, may_ahead, may_tag_ahead, named_ahead, number_ahead, number_of_word as number_said, one_word as one_word_in, refused as refused_at, tag_ahead, tag_or};
+ghost use Rattle.text_lines.specs.Fields.{GivesWords, begins as begins_with, end_ahead, extent_of_word as extent_said, flag_ahead, keyword_ahead, may_ahead, may_tag_ahead, named_ahead, number_ahead, number_of_word as number_said, one_word as one_word_in, refused as refused_at, tag_ahead, tag_or};
 
 use crate::faults::{Cause, TextFault, Wanted};
 use crate::keywords::Keyword;
+use crate::{NumberFault, Words, extent_of, number_of, tag_of};
 use dcd_base::{Extent, Tag, no_tag};
 use std::alloc::Global;
-use text_words::{NumberFault, Words, extent_of, number_of, tag_of};
 
 /// What is wrong with the next word.
-#[cold]
-#[inline(never)]
 pub fn refused(words: &Words<'_>, cause: Cause) -> TextFault
     ensures { result ≡ refused_at words.now cause }
 {
@@ -23,24 +21,14 @@ pub fn refused(words: &Words<'_>, cause: Cause) -> TextFault
     }
 }
 
-/// Whether the next word is this one.
-#[inline(always)]
-pub fn is_next(words: &Words<'_>, word: &[u8]) -> bool
-    ensures { result ≡ next_is word.now words.now }
-{
-    words.next() == word
-}
-
 /// Whether the next word is that of the grammar.
-#[inline(always)]
 pub fn begins(words: &Words<'_>, keyword: Keyword) -> bool
     ensures { result ≡ begins_with keyword words.now }
 {
-    is_next(words, keyword.text())
+    words.next() == keyword.text()
 }
 
 /// What the next word says, which has to be there.
-#[inline(always)]
 pub fn one_word<T: Drop>(
     words: &mut Words<'_>,
     wanted: Wanted,
@@ -62,7 +50,6 @@ pub fn one_word<T: Drop>(
 
 /// A word of the grammar.
 #[tactic(auto, unfolding(crate::specs::Fields::keyword_ahead))]
-#[inline(always)]
 pub fn keyword(words: &mut Words<'_>, keyword: Keyword) -> Result<(), TextFault>
     ensures { GivesWords (λ x. x) result words.new (keyword_ahead keyword words.old) }
 {
@@ -75,7 +62,6 @@ pub fn keyword(words: &mut Words<'_>, keyword: Keyword) -> Result<(), TextFault>
 
 /// Whether that word of the grammar comes next; then it is passed.
 #[tactic(auto, unfolding(crate::specs::Fields::flag_ahead))]
-#[inline(always)]
 pub fn flag(words: &mut Words<'_>, keyword: Keyword) -> bool
     ensures { flag_ahead keyword words.old ≡ (result, words.new) }
 {
@@ -88,7 +74,6 @@ pub fn flag(words: &mut Words<'_>, keyword: Keyword) -> bool
 
 /// That nothing more stands on the line.
 #[tactic(auto, unfolding(crate::specs::Fields::end_ahead))]
-#[inline(always)]
 pub fn end(words: &mut Words<'_>) -> Result<(), TextFault>
     ensures { GivesWords (λ x. x) result words.new (end_ahead words.old) }
 {
@@ -100,7 +85,6 @@ pub fn end(words: &mut Words<'_>) -> Result<(), TextFault>
 }
 
 /// The number of a word, at most `most`.
-#[inline(always)]
 pub fn number_of_word(most: u64, word: &[u8]) -> Result<u64, Cause>
     ensures value { result ≡ number_said most word.now }
     ensures small { IfOk result (λ n. n ≤ most) }
@@ -114,7 +98,6 @@ pub fn number_of_word(most: u64, word: &[u8]) -> Result<u64, Cause>
 
 /// A number that is at most `most`.
 #[tactic(auto, unfolding(crate::specs::Fields::number_ahead))]
-#[inline(always)]
 pub fn number(words: &mut Words<'_>, most: u64) -> Result<u64, TextFault>
     ensures value { GivesWords (λ n. n) result words.new (number_ahead most words.old) }
     ensures small { IfOk result (λ n. n ≤ most) }
@@ -125,7 +108,6 @@ pub fn number(words: &mut Words<'_>, most: u64) -> Result<u64, TextFault>
 
 /// A number behind its keyword, at most `most`; 0 where both are left out.
 #[tactic(auto, unfolding(crate::specs::Fields::may_ahead))]
-#[inline(always)]
 pub fn may(words: &mut Words<'_>, keyword: Keyword, most: u64) -> Result<u64, TextFault>
     ensures value { GivesWords (λ n. n) result words.new (may_ahead keyword most words.old) }
     ensures small { IfOk result (λ n. n ≤ most) }
@@ -139,7 +121,6 @@ pub fn may(words: &mut Words<'_>, keyword: Keyword, most: u64) -> Result<u64, Te
 
 /// A number behind its keyword, at most `most`.
 #[tactic(auto, unfolding(crate::specs::Fields::named_ahead))]
-#[inline(always)]
 pub fn named(words: &mut Words<'_>, name: Keyword, most: u64) -> Result<u64, TextFault>
     ensures value { GivesWords (λ n. n) result words.new (named_ahead name most words.old) }
     ensures small { IfOk result (λ n. n ≤ most) }
@@ -149,7 +130,6 @@ pub fn named(words: &mut Words<'_>, name: Keyword, most: u64) -> Result<u64, Tex
 }
 
 /// The tag that was read.
-#[inline(always)]
 fn told_tag(tag: Option<Tag>) -> Result<Tag, Cause>
     ensures { result ≡ tag_or tag }
 {
@@ -181,7 +161,6 @@ pub fn may_tag(alloc: Global, words: &mut Words<'_>) -> Result<Tag, TextFault>
 }
 
 /// The extent of a word.
-#[inline(always)]
 pub fn extent_of_word(word: &[u8]) -> Result<Extent, Cause>
     ensures value { result ≡ extent_said word.now }
     ensures untagged { IfOk result (λ extent. IsTrue (is_untagged extent)) }

@@ -6,16 +6,16 @@ ghost use Rattle.std.specs.Prelude.{◌≤◌, IfOk, IsTrue, length};
 ghost use Rattle.text_lines.specs.Fields.{GivesWords};
 ghost use Rattle.text_lines.specs.HostRequests.{clearing_ahead, host_request_ahead, listing_ahead, page_ahead};
 
+use crate::Words;
 use crate::commands::HostCommand;
 use crate::faults::TextFault;
 use crate::fields::{flag, may, named};
 use crate::forms::{Clearing, Listing, Page};
 use crate::keywords::Keyword;
 use crate::lists::{extents, handles};
+use dcd_base::ShortList;
 use host_payloads::HostRequest;
-use short_list::ShortList;
 use std::alloc::Global;
-use text_words::Words;
 
 /// A log, whether all of its records are meant, and handles.
 #[tactic(auto, unfolding(crate::specs::HostRequests::clearing_ahead))]

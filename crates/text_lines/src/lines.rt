@@ -4,6 +4,7 @@ ghost use Rattle.std.specs.Prelude.{◌≡◌};
 ghost use Rattle.text_lines.specs.Fields.{GivesWords, GivesLast};
 ghost use Rattle.text_lines.specs.Lines.{actor_line_ahead, host_act_ahead, host_rest_ahead, host_word as host_word_said, load_ahead, manager_act_ahead, manager_word as manager_word_said, opened_ahead, opening_ahead, opening_of_word as opening_said, rest_ahead, scrub_ahead, speaker_act_ahead, store_ahead};
 
+use crate::Words;
 use crate::actors::{Frame, Speaker, actor_of_word};
 use crate::commands::{ManagerCommand, host_command, manager_command};
 use crate::faults::{Cause, TextFault, Wanted};
@@ -14,11 +15,9 @@ use dcd_base::Actor;
 use journal_core::Act;
 use script_codec::Line;
 use std::alloc::Global;
-use text_words::Words;
 
 /// What the first word of a line begins.
 #[tactic(auto, unfolding(crate::specs::Lines::opening_of_word))]
-#[inline(always)]
 fn opening_of_word(frame: Frame, word: &[u8]) -> Result<Opening, Cause>
     ensures { result ≡ opening_said frame word.now }
 {
@@ -39,7 +38,6 @@ fn opening_of_word(frame: Frame, word: &[u8]) -> Result<Opening, Cause>
 
 /// The first word of a line.
 #[tactic(auto, unfolding(crate::specs::Lines::opening_ahead))]
-#[inline(always)]
 pub fn opening(words: &mut Words<'_>, frame: Frame) -> Result<Opening, TextFault>
     ensures { GivesWords (λ opening. opening) result words.new (opening_ahead frame words.old) }
 {
@@ -49,7 +47,6 @@ pub fn opening(words: &mut Words<'_>, frame: Frame) -> Result<Opening, TextFault
 
 /// What a host does.
 #[tactic(auto, unfolding(crate::specs::Lines::host_word))]
-#[inline(always)]
 fn host_word(word: &[u8]) -> Result<HostWord, Cause>
     ensures { result ≡ host_word_said word.now }
 {
@@ -67,7 +64,6 @@ fn host_word(word: &[u8]) -> Result<HostWord, Cause>
 
 /// A load: the DPA.
 #[tactic(auto, unfolding(crate::specs::Lines::load_ahead))]
-#[inline(always)]
 fn load(words: &mut Words<'_>) -> Result<Act, TextFault>
     ensures { GivesWords (λ act. act) result words.new (load_ahead words.old) }
 {
@@ -77,7 +73,6 @@ fn load(words: &mut Words<'_>) -> Result<Act, TextFault>
 
 /// A store: the DPA and the word.
 #[tactic(auto, unfolding(crate::specs::Lines::store_ahead))]
-#[inline(always)]
 fn store(words: &mut Words<'_>) -> Result<Act, TextFault>
     ensures { GivesWords (λ act. act) result words.new (store_ahead words.old) }
 {
@@ -87,7 +82,6 @@ fn store(words: &mut Words<'_>) -> Result<Act, TextFault>
 }
 
 /// What stands behind what a host does.
-#[inline(always)]
 fn host_rest(alloc: Global, name: HostWord, words: &mut Words<'_>) -> Result<Act, TextFault>
     ensures { GivesWords (λ act. act) result words.new (host_rest_ahead name words.old) }
 {
@@ -100,7 +94,6 @@ fn host_rest(alloc: Global, name: HostWord, words: &mut Words<'_>) -> Result<Act
 
 /// What a host does, and what stands behind that.
 #[tactic(auto, unfolding(crate::specs::Lines::host_act_ahead))]
-#[inline(always)]
 fn host_act(alloc: Global, words: &mut Words<'_>) -> Result<Act, TextFault>
     ensures { GivesWords (λ act. act) result words.new (host_act_ahead words.old) }
 {
@@ -131,7 +124,6 @@ fn manager_act(alloc: Global, words: &mut Words<'_>) -> Result<Act, TextFault>
 
 /// A turn of the sanitizer.
 #[tactic(auto, unfolding(crate::specs::Lines::scrub_ahead))]
-#[inline(always)]
 fn scrub(words: &mut Words<'_>) -> Result<Line, TextFault>
     ensures { GivesWords (λ line. line) result words.new (scrub_ahead words.old) }
 {
@@ -146,7 +138,6 @@ fn scrub(words: &mut Words<'_>) -> Result<Line, TextFault>
 }
 
 /// What an actor does.
-#[inline(always)]
 fn speaker_act(alloc: Global, speaker: Speaker, words: &mut Words<'_>) -> Result<Act, TextFault>
     ensures { GivesWords (λ act. act) result words.new (speaker_act_ahead speaker words.old) }
 {
@@ -158,7 +149,6 @@ fn speaker_act(alloc: Global, speaker: Speaker, words: &mut Words<'_>) -> Result
 
 /// The line of what an actor does.
 #[tactic(auto, unfolding(crate::specs::Lines::actor_line_ahead))]
-#[inline(always)]
 fn actor_line(alloc: Global, speaker: Speaker, words: &mut Words<'_>) -> Result<Line, TextFault>
     ensures { GivesWords (λ line. line) result words.new (actor_line_ahead speaker words.old) }
 {
@@ -167,7 +157,6 @@ fn actor_line(alloc: Global, speaker: Speaker, words: &mut Words<'_>) -> Result<
 }
 
 /// What stands behind what opens a line.
-#[inline(always)]
 fn opened(
     alloc: Global,
     frame: Frame,
@@ -186,7 +175,6 @@ fn opened(
 
 /// The rest of a line behind what opens it, up to its end.
 #[tactic(auto, unfolding(crate::specs::Lines::rest_ahead))]
-#[inline(always)]
 pub fn rest(
     alloc: Global,
     frame: Frame,

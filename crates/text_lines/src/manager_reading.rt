@@ -5,6 +5,7 @@ ghost use Rattle.std.specs.Prelude.{◌≤◌, IfOk, length};
 ghost use Rattle.text_lines.specs.Fields.{GivesWords};
 ghost use Rattle.text_lines.specs.ManagerRequests.{add_ahead, capacity_ahead, host_page_ahead, manager_request_ahead, remove_ahead, setting_ahead, spot_ahead};
 
+use crate::Words;
 use crate::actors::host;
 use crate::commands::ManagerCommand;
 use crate::faults::TextFault;
@@ -14,10 +15,9 @@ use crate::host_reading::{clearing, page};
 use crate::keywords::Keyword;
 use crate::lists::extents;
 use crate::policies::{add_policy, release_flags};
+use dcd_base::ShortList;
 use fm_payloads::FmRequest;
-use short_list::ShortList;
 use std::alloc::Global;
-use text_words::Words;
 
 /// A host, the index of the first, and how many are wanted.
 #[tactic(auto, unfolding(crate::specs::ManagerRequests::host_page_ahead))]

@@ -13,15 +13,14 @@ use crate::fields::{may, refused};
 use crate::host_reading::host_request;
 use crate::keywords::Keyword;
 use crate::manager_reading::manager_request;
-use crate::payloads::{host_payload, manager_payload};
-use cci_codec::{MessageFault, Request, decode};
+use crate::{Words, put_pairs_of};
+use cci_codec::{MessageFault, Payload, Request, decode};
 use dcd_base::{Actor, Bytes, HostId, NoMemory};
 use fm_payloads::FmRequest;
 use host_payloads::HostRequest;
 use journal_core::Act;
 use script_codec::Line;
 use std::alloc::Global;
-use text_words::{Words, put_pairs_of};
 
 /// Puts the bytes of the words that are left behind those that are there.
 fn fill_bytes(words: &mut Words<'_>, bytes: &mut Bytes) -> Result<(), TextFault>
@@ -70,7 +69,6 @@ fn request_of(alloc: Global, line: u64, word: u64, bytes: &[u8]) -> Result<Reque
 }
 
 /// The line of an act of an actor.
-#[inline(always)]
 pub fn line_by(speaker: Speaker, act: Act) -> Line
     ensures { result ≡ line_of_speaker speaker act }
 {
@@ -116,15 +114,17 @@ fn host_opcode_of(request: &HostRequest) -> u16
 }
 
 /// The message that says a request of a host.
-pub fn host_message(alloc: Global, tag: u8, request: &HostRequest) -> Result<Request, NoMemory>
+fn host_message(alloc: Global, tag: u8, request: &HostRequest) -> Result<Request, NoMemory>
     requires counts { HostCountsFit request.now }
     requires untagged { IsTrue (lists_untagged request.now) }
     ensures { IfOk result (λ message. message ≡ message_of_host tag request.now) }
 {
+    let mut payload = Bytes::new(alloc);
+    host_payloads::encode(request, &mut payload)?;
     Ok(Request {
         tag,
         opcode: host_opcode_of(request),
-        payload: host_payload(alloc, request)?,
+        payload: Payload::from_slice(alloc, payload.as_slice())?,
     })
 }
 
@@ -148,14 +148,16 @@ fn manager_opcode_of(request: &FmRequest) -> u16
 }
 
 /// The message that says a request of the manager.
-pub fn manager_message(alloc: Global, tag: u8, request: &FmRequest) -> Result<Request, NoMemory>
+fn manager_message(alloc: Global, tag: u8, request: &FmRequest) -> Result<Request, NoMemory>
     requires { ManagerCountsFit request.now }
     ensures { IfOk result (λ message. message ≡ message_of_manager tag request.now) }
 {
+    let mut payload = Bytes::new(alloc);
+    fm_payloads::encode(request, &mut payload)?;
     Ok(Request {
         tag,
         opcode: manager_opcode_of(request),
-        payload: manager_payload(alloc, request)?,
+        payload: Payload::from_slice(alloc, payload.as_slice())?,
     })
 }
 

@@ -4,10 +4,10 @@ ghost use Rattle.std.specs.Prelude.{◌≡◌, ◌<◌, IfOk, IfSome};
 ghost use Rattle.text_lines.specs.Fields.{GivesWords};
 ghost use Rattle.text_lines.specs.Policies.{add_name_ahead, add_policy_ahead, add_policy_said, named_flags_ahead, policy_or, release_flags as flags_of, release_flags_ahead, release_name_ahead, release_policy_said};
 
+use crate::Words;
 use crate::faults::{Cause, TextFault, Wanted};
 use crate::fields::{begins, flag, number, one_word};
 use crate::keywords::Keyword;
-use text_words::Words;
 
 /// The policy of an add that a word names.
 #[tactic(auto, unfolding(crate::specs::Policies::add_policy_said))]
@@ -82,7 +82,7 @@ fn release_name(words: &mut Words<'_>) -> Result<u8, TextFault>
 }
 
 /// The flags of a release: bits 3:0 are the policy, bit 4 forced, bit 5 sanitize.
-pub fn release_flags_of(policy: u8, forced: bool, sanitize: bool) -> u8
+fn release_flags_of(policy: u8, forced: bool, sanitize: bool) -> u8
     requires { policy < 2 }
     ensures { result ≡ flags_of policy forced sanitize }
 {

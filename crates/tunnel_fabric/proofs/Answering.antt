@@ -13,10 +13,10 @@ use Rattle.journal_core.specs.declared.entries.Entry.{Entry}
 use Rattle.journal_core.specs.Entries.{fits}
 use Rattle.journal_core.proofs.EachPlaces.{Each-at}
 use Rattle.fm_payloads.specs.ManagerPayloads.{manager_request}
-use Rattle.report.specs.device_rules.specs.Answers.{manager_result, reply_with}
-use Rattle.report.specs.device_rules.specs.Outcomes.{Outcome}
-use Rattle.report.specs.device_rules.specs.Legal.{Legal, Meets, right_answer}
-use Rattle.report.specs.control_core.specs.Deciding.{AreShort, IsShort}
+use Rattle.device_plain.specs.device_rules.specs.Answers.{manager_result, reply_with}
+use Rattle.device_plain.specs.device_rules.specs.Outcomes.{Outcome}
+use Rattle.device_plain.specs.device_rules.specs.Legal.{Legal, Meets, right_answer}
+use Rattle.device_plain.specs.control_core.specs.Deciding.{AreShort, IsShort}
 use Rattle.device_plain.specs.Devices.{Enters, Plain}
 use Rattle.tunnel_fabric.specs.Stepping.{AnswersCommand}
 

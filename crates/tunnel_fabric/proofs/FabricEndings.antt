@@ -11,12 +11,12 @@ use Rattle.edge_io.specs.ReadEnds.{Ends, TakesAll, TakesMore}
 use Rattle.edge_io.specs.declared.reading.ReadEnd.{ReadEnd}
 use Rattle.edge_io.proofs.Fronts.{all_is, front_is}
 use Rattle.region_config.specs.Configurations.{Configuration}
-use Rattle.fabric_codec.specs.declared.fabric_lines.FabricLine.{FabricLine}
-use Rattle.fabric_codec.specs.declared.fabric_scripts.FabricScript.{FabricScript}
-use Rattle.fabric_codec.specs.declared.faults.FabricFault.{FabricFault}
-use Rattle.fabric_codec.specs.FabricLayout.{fits_there, is_manager, is_sound_fabric_line, ReadsFabric}
-use Rattle.fabric_codec.specs.FabricReading.{fabric_in}
-use Rattle.fabric_codec.proofs.FabricLaws.{fabric_is, fabric_too_long}
+use Rattle.tunnel_fabric.specs.declared.fabric_lines.FabricLine.{FabricLine}
+use Rattle.tunnel_fabric.specs.declared.fabric_scripts.FabricScript.{FabricScript}
+use Rattle.tunnel_fabric.specs.declared.faults.FabricFault.{FabricFault}
+use Rattle.tunnel_fabric.specs.FabricLayout.{fits_there, is_manager, is_sound_fabric_line, ReadsFabric}
+use Rattle.tunnel_fabric.specs.FabricReading.{fabric_in}
+use Rattle.tunnel_fabric.proofs.FabricLaws.{fabric_is, fabric_too_long}
 use Rattle.tunnel_fabric.specs.declared.status.FabricStatus.{FabricStatus}
 use Rattle.tunnel_fabric.specs.Planning.{FabricEndsBy, FabricEndsFor, FabricEndsOn, FabricEndsOver, FabricEndsRan, FabricEndsWith, IsFabricBegun, IsFabricBegunOf, IsFabricPlanned, IsFabricPlannedOf, IsFabricText, IsFabricWritten, IsFabricWrittenOf, IsSoundFabricRun, most_of_fabric}
 use Rattle.tunnel_fabric.specs.Printing.{fabric_refusal, fabric_text}

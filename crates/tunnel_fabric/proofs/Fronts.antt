@@ -20,10 +20,10 @@ use Rattle.journal_core.specs.declared.acts.Reply.{Reply}
 use Rattle.journal_core.specs.declared.entries.Entry.{Entry}
 use Rattle.region_config.specs.Configurations.{Configuration}
 use Rattle.device_plain.specs.Devices.{Enters, Plain}
-use Rattle.fabric_codec.specs.script_codec.specs.Covering.{pass_of}
-use Rattle.fabric_codec.specs.FabricLayout.{fits_there}
-use Rattle.fabric_codec.specs.declared.fabric_lines.FabricLine.{FabricLine}
-use Rattle.fabric_codec.specs.declared.fabric_scripts.FabricScript.{FabricScript}
+use Rattle.report.specs.script_codec.specs.Covering.{pass_of}
+use Rattle.tunnel_fabric.specs.FabricLayout.{fits_there}
+use Rattle.tunnel_fabric.specs.declared.fabric_lines.FabricLine.{FabricLine}
+use Rattle.tunnel_fabric.specs.declared.fabric_scripts.FabricScript.{FabricScript}
 use Rattle.tunnel_fabric.specs.Sending.{AreReplies, CanRun, IsShortReply, DidAllSent, HasOnePass, IsReply, IsFabricRun, IsReplyBy, Sent, fits_fabric_line, journal_in, sent, sent_by, sent_through, sent_of, tunnel_of}
 use Rattle.tunnel_fabric.specs.Stepping.{DidFront, DoesAll, IsSoundDevice, LineDone, RanFront, Reached, StepsOne, fits_device, fresh_devices, front_of, line_fits}
 use Rattle.tunnel_fabric.specs.Tunnels.{inner_of, tunnel_refused, target_of, tunnel_rule, tunnel_wrapped}

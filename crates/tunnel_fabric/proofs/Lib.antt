@@ -1,5 +1,9 @@
 pub mod Answering
+pub mod FabricDevices
 pub mod FabricEndings
+pub mod FabricLaws
+pub mod FabricLineLaws
+pub mod FabricLists
 pub mod Fronts
 pub mod NoWords
 pub mod Printed

@@ -8,11 +8,11 @@ use Rattle.journal_core.specs.declared.outcome.Effect.{Effect}
 use Rattle.journal_core.specs.declared.entries.Entry.{Entry}
 use Rattle.journal_core.specs.Entries.{EachFrom}
 use Rattle.region_config.specs.Configurations.{Configuration}
-use Rattle.report.specs.device_rules.specs.Legal.{Meets, right_answer}
+use Rattle.device_plain.specs.device_rules.specs.Legal.{Meets, right_answer}
 use Rattle.device_plain.specs.Devices.{Plain}
 use Rattle.device_plain.specs.Numbering.{IsCounted, stamp_behind}
-use Rattle.fabric_codec.specs.script_codec.specs.Covering.{pass_of}
-use Rattle.fabric_codec.specs.declared.fabric_scripts.FabricScript.{FabricScript}
+use Rattle.report.specs.script_codec.specs.Covering.{pass_of}
+use Rattle.tunnel_fabric.specs.declared.fabric_scripts.FabricScript.{FabricScript}
 use Rattle.tunnel_fabric.specs.Sending.{DidAllSent, HasOnePass, Sent, sent, sent_of}
 use Rattle.tunnel_fabric.specs.Worlds.{SameJournals}
 

@@ -1,3 +1,7 @@
+pub mod FabricFaults
+pub mod FabricLayout
+pub mod FabricLines
+pub mod FabricReading
 pub mod Planning
 pub mod Printing
 pub mod Sending

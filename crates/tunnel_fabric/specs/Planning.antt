@@ -2,10 +2,10 @@
 use Rattle.std.specs.Prelude.{◌≡◌, ◌≢◌, ℕ, ◌<◌, ◌≤◌, List, [], length, take, Option, Some, Err}
 use Rattle.std.specs.Option.{IfSome}
 use Rattle.dcd_base.specs.Streams.{HasRisen, IsAtEnd, Passes}
-use Rattle.fabric_codec.specs.declared.fabric_scripts.FabricScript.{FabricScript}
-use Rattle.fabric_codec.specs.declared.faults.FabricFault.{FabricFault}
-use Rattle.fabric_codec.specs.FabricLayout.{ReadsFabric}
-use Rattle.fabric_codec.specs.FabricReading.{fabric_in}
+use Rattle.tunnel_fabric.specs.declared.fabric_scripts.FabricScript.{FabricScript}
+use Rattle.tunnel_fabric.specs.declared.faults.FabricFault.{FabricFault}
+use Rattle.tunnel_fabric.specs.FabricLayout.{ReadsFabric}
+use Rattle.tunnel_fabric.specs.FabricReading.{fabric_in}
 use Rattle.tunnel_fabric.specs.declared.status.FabricStatus.{FabricStatus}
 use Rattle.tunnel_fabric.specs.Printing.{fabric_refusal, fabric_text, fabric_usage_line}
 use Rattle.tunnel_fabric.specs.Sending.{IsFabricRun, RanFabric}

@@ -5,7 +5,7 @@ use Rattle.hex.specs.Hex.{encode_lower}
 use Rattle.cci_codec.specs.Messages.{response_bytes}
 use Rattle.device_plain.specs.Devices.{Plain}
 use Rattle.report.specs.Texts.{line_of, text}
-use Rattle.fabric_codec.specs.declared.faults.FabricFault.{FabricFault}
+use Rattle.tunnel_fabric.specs.declared.faults.FabricFault.{FabricFault}
 use Rattle.tunnel_fabric.specs.declared.replies.Replied.{Replied}
 use Rattle.tunnel_fabric.specs.Sending.{RanFabric}
 

@@ -9,15 +9,15 @@ use Rattle.journal_core.specs.declared.acts.Reply.{Reply}
 use Rattle.journal_core.specs.declared.entries.Entry.{Entry}
 use Rattle.journal_core.specs.Entries.{Each}
 use Rattle.journal_core.specs.Merging.{Numbered}
-use Rattle.report.specs.device_rules.specs.Legal.{Exclusive, Legal}
+use Rattle.device_plain.specs.device_rules.specs.Legal.{Exclusive, Legal}
 use Rattle.device_plain.specs.isolation_laws.specs.Solo.{Isolated}
 use Rattle.device_plain.specs.Devices.{Plain}
 use Rattle.device_plain.specs.Numbering.{IsCounted}
-use Rattle.fabric_codec.specs.script_codec.specs.Covering.{pass_of}
+use Rattle.report.specs.script_codec.specs.Covering.{pass_of}
 use Rattle.region_config.specs.Configurations.{Configuration}
-use Rattle.fabric_codec.specs.declared.fabric_lines.FabricLine.{FabricLine}
-use Rattle.fabric_codec.specs.declared.fabric_scripts.FabricScript.{FabricScript}
-use Rattle.fabric_codec.specs.FabricLayout.{fits_there}
+use Rattle.tunnel_fabric.specs.declared.fabric_lines.FabricLine.{FabricLine}
+use Rattle.tunnel_fabric.specs.declared.fabric_scripts.FabricScript.{FabricScript}
+use Rattle.tunnel_fabric.specs.FabricLayout.{fits_there}
 use Rattle.tunnel_fabric.specs.declared.replies.Replied.{Replied}
 use Rattle.tunnel_fabric.specs.declared.rules.TunnelRule.{TunnelRule}
 use Rattle.tunnel_fabric.specs.Tunnels.{inner_of, tunnel_refused, target_of, tunnel_rule, tunnel_wrapped}

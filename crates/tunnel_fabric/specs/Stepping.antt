@@ -9,14 +9,14 @@ use Rattle.journal_core.specs.declared.acts.Reply.{Reply}
 use Rattle.journal_core.specs.declared.entries.Entry.{Entry}
 use Rattle.journal_core.specs.Entries.{Each, fits}
 use Rattle.journal_core.specs.Merging.{Numbered}
-use Rattle.report.specs.device_rules.specs.Legal.{Exclusive, Legal}
+use Rattle.device_plain.specs.device_rules.specs.Legal.{Exclusive, Legal}
 use Rattle.device_plain.specs.isolation_laws.specs.Solo.{Isolated}
 use Rattle.device_plain.specs.Numbering.{IsCounted}
 use Rattle.region_config.specs.Configurations.{Configuration}
 use Rattle.device_plain.specs.Devices.{Enters, Plain}
-use Rattle.fabric_codec.specs.script_codec.specs.Covering.{pass_of}
-use Rattle.fabric_codec.specs.declared.fabric_lines.FabricLine.{FabricLine}
-use Rattle.fabric_codec.specs.declared.fabric_scripts.FabricScript.{FabricScript}
+use Rattle.report.specs.script_codec.specs.Covering.{pass_of}
+use Rattle.tunnel_fabric.specs.declared.fabric_lines.FabricLine.{FabricLine}
+use Rattle.tunnel_fabric.specs.declared.fabric_scripts.FabricScript.{FabricScript}
 use Rattle.tunnel_fabric.specs.Sending.{AreReplies, HasOnePass, IsShortReply, RanFabric, Sent, sent_by, sent_of, tunnel_of}
 use Rattle.tunnel_fabric.specs.declared.replies.Replied.{Replied}
 use Rattle.tunnel_fabric.specs.Tunnels.{inner_of, target_of, tunnel_rule, tunnel_wrapped}

@@ -1,6 +1,6 @@
 //! The law on devices behind a tunnel.
 
-ghost use Rattle.fabric_codec.specs.declared.fabric_scripts.FabricScript.{FabricScript};
+ghost use Rattle.tunnel_fabric.specs.declared.fabric_scripts.FabricScript.{FabricScript};
 ghost use Rattle.std.specs.Prelude.{ℕ};
 ghost use Rattle.tunnel_fabric.specs.Worlds.{SameJournals};
 

@@ -15,9 +15,9 @@ use crate::printing::{print_fabric, reply_lines};
 use crate::refusals::{refusal, usage};
 use crate::running::run_lines;
 use crate::status::FabricStatus;
+use crate::{FabricFault, FabricScript, read_fabric};
 use dcd_base::{Bytes, Failed, NoMemory, Sink, Source, write_all};
 use edge_io::{ReadEnd, read_all};
-use fabric_codec::{FabricFault, FabricScript, read_fabric};
 use std::alloc::Global;
 
 /// The most bytes that a fabric has.

@@ -4,9 +4,9 @@ ghost use Rattle.dcd_base.specs.Streams.{HasRisen, Passes};
 ghost use Rattle.std.specs.Prelude.{◌≡◌, ◌++◌, [], IfOk, List, OnErr, OnOk, decimal, ℕ};
 ghost use Rattle.tunnel_fabric.specs.Printing.{fabric_fault_number, fabric_fault_place, fabric_refusal, fabric_usage_line};
 
+use crate::FabricFault;
 use crate::printing::put_number;
 use dcd_base::{Bytes, Failed, NoMemory, Sink, write_all};
-use fabric_codec::FabricFault;
 use std::alloc::Global;
 
 /// The number of a fabric's fault, 0 for want of memory.

@@ -1,6 +1,6 @@
 //! The lines of a fabric, one after another.
 
-ghost use Rattle.fabric_codec.specs.declared.fabric_lines.FabricLine.{FabricLine};
+ghost use Rattle.tunnel_fabric.specs.declared.fabric_lines.FabricLine.{FabricLine};
 ghost use Rattle.std.specs.Prelude.{◌≡◌, ◌≤◌, IfOk, IsTrue, OnOk, length};
 ghost use Rattle.std.specs.List.{All};
 ghost use Rattle.tunnel_fabric.specs.Sending.{CanRun, IsFabricRun, IsShortReply};
@@ -13,10 +13,10 @@ use crate::replies::{Replied, Replies};
 use crate::replying::wrap;
 use crate::rules::refused;
 use crate::stepping::{answer_one, are_sound, enter_one, fresh};
+use crate::{FabricLine, FabricScript};
 use cci_codec::{Request, Response};
 use dcd_base::NoMemory;
 use device_plain::Device;
-use fabric_codec::{FabricLine, FabricScript};
 use std::alloc::Global;
 
 /// Takes the command to the device that its message reaches, and answers the message.

@@ -3,7 +3,7 @@
 ghost use Rattle.std.specs.Prelude.{◌≡◌};
 ghost use Rattle.tunnel_fabric.specs.Statuses.{fabric_status_number};
 
-use fabric_codec::FabricFault;
+use crate::FabricFault;
 
 /// How a run of a fabric ends.
 #[derive(Clone, Copy, Debug, PartialEq, Eq)]

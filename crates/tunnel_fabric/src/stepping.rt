@@ -5,7 +5,7 @@ ghost use Rattle.journal_core.specs.Entries.{fits};
 ghost use Rattle.journal_core.specs.declared.acts.Act.{Act};
 ghost use Rattle.journal_core.specs.declared.acts.Reply.{Reply};
 ghost use Rattle.dcd_base.specs.declared.steps.Actor.{Actor};
-ghost use Rattle.fabric_codec.specs.script_codec.specs.Covering.{pass_of as pass_number};
+ghost use Rattle.report.specs.script_codec.specs.Covering.{pass_of as pass_number};
 ghost use Rattle.std.specs.List.{AllByRecursion};
 ghost use Rattle.std.specs.Prelude.{◌≡◌, ◌<◌, ◌≤◌, IfOk, IsTrue, OnOk, length, slice_get};
 ghost use Rattle.tunnel_fabric.specs.Stepping.{AnswersCommand, IsSoundDevice, StepsOne, fits_device, fresh_devices};
@@ -14,9 +14,9 @@ use cci_codec::{Request, Response};
 use dcd_base::{Actor, NoMemory};
 use device_plain::Device;
 use device_plain::isolation_laws::law_isolated;
-use fabric_codec::script_codec::pass_of;
 use journal_core::{Act, Reply};
 use region_config::Config;
+use report::script_codec::pass_of;
 use std::alloc::Global;
 
 /// A fresh device of each configuration.

@@ -55,7 +55,7 @@ module _ (hosts lanes : ℕ) (lines : List Line) where
     head = λ i lt.
         let low : i < passes = subst (λ n. i < n) (length-replicate passes (length lines)) lt in
         let at : slice_index (replicate passes (length lines)) i ≡ length lines = get_or-replicate passes i (length lines) 0 low in
-        subst (λ n. IsNextOf hosts lanes lines (0 + i) (length lines) n) (sym at) (next_itself (0 + i) (length lines) (no_place (0 + i)));
+        subst (λ n. IsNextOf hosts lanes lines i (length lines) n) (sym at) (next_itself i (length lines) (no_place i));
     link = λ i pass d from lt own. absurd (omega (arith, from, lt));
     passes = length-replicate passes (length lines) ∙ is;
     links = length-replicate (length lines) (length lines);
@@ -87,7 +87,7 @@ module _ (hosts lanes : ℕ) (lines : List Line) where
   pub mark_linked : (place : ℕ) (heads next : List ℕ) → place < length lines → Line.Mark ≡ get_or lines place Line.Mark
       → ArePartedFrom hosts lanes lines (suc place) heads next → ArePartedFrom hosts lanes lines place heads next
   mark_linked place heads next lt is parted = record {
-    head = λ i low. earlier (0 + i) place Line.Mark lt is refl (slice_index heads i) (parted.head i low);
+    head = λ i low. earlier i place Line.Mark lt is refl (slice_index heads i) (parted.head i low);
     link = λ i pass d from inside own. linked i pass d from inside own (cases_eq i place);
     passes = parted.passes;
     links = parted.links;
@@ -115,32 +115,31 @@ module _ (hosts lanes : ℕ) (lines : List Line) where
       read : (i : ℕ) → i ≡ place → (d : Line) → get_or lines i d ≡ Line.Do actor lane act
       read i same d = ap (λ n. get_or lines n d) same ∙ (get_or_default lines place d (Line.Do actor lane act) lt ∙ sym is)
 
-      here : (i : ℕ) → i ≡ pass → IsNextOf hosts lanes lines (0 + i) place place
-      here i same = next_itself (0 + i) place (record {
+      here : (i : ℕ) → i ≡ pass → IsNextOf hosts lanes lines i place place
+      here i same = next_itself i place (record {
         within = omega (arith, lt);
-        own = λ d inside. ap (λ x. is_line_of hosts lanes (0 + i) x) (read place refl d) ∙ eq-eqb (pass_of hosts lanes actor lane) (0 + i) (omega (arith, same, number));
+        own = λ d inside. ap (λ x. is_line_of hosts lanes i x) (read place refl d) ∙ eq-eqb (pass_of hosts lanes actor lane) i (omega (arith, same, number));
       })
 
-      other : (i : ℕ) → (i ≡ pass → ⊥) → is_line_of hosts lanes (0 + i) (Line.Do actor lane act) ≡ false
-      other i apart = ne_eqb (pass_of hosts lanes actor lane) (0 + i) (λ e. apart (omega (arith, e, number)))
+      other : (i : ℕ) → (i ≡ pass → ⊥) → is_line_of hosts lanes i (Line.Do actor lane act) ≡ false
+      other i apart = ne_eqb (pass_of hosts lanes actor lane) i (λ e. apart (omega (arith, e, number)))
 
-      headed : (i : ℕ) → i < length (set heads pass place) → (i ≡ pass) ⊎ (i ≡ pass → ⊥) → IsNextOf hosts lanes lines (0 + i) place (slice_index (set heads pass place) i)
+      headed : (i : ℕ) → i < length (set heads pass place) → (i ≡ pass) ⊎ (i ≡ pass → ⊥) → IsNextOf hosts lanes lines i place (slice_index (set heads pass place) i)
       headed i inside (inl same) =
           let at : slice_index (set heads pass place) i ≡ place = ap (λ m. get_or (set heads pass place) m 0) same ∙ get_or-set_same heads pass place 0 low in
-          subst (λ n. IsNextOf hosts lanes lines (0 + i) place n) (sym at) (here i same)
+          subst (λ n. IsNextOf hosts lanes lines i place n) (sym at) (here i same)
       headed i inside (inr apart) =
           let old : i < length heads = subst (λ n. i < n) (length-set heads pass place) inside in
           let at : slice_index (set heads pass place) i ≡ slice_index heads i = get_or-set_other heads pass i place 0 apart in
-          subst (λ n. IsNextOf hosts lanes lines (0 + i) place n) (sym at) (earlier (0 + i) place (Line.Do actor lane act) lt is (other i apart) (slice_index heads i) (parted.head i old))
+          subst (λ n. IsNextOf hosts lanes lines i place n) (sym at) (earlier i place (Line.Do actor lane act) lt is (other i apart) (slice_index heads i) (parted.head i old))
 
       linked : (i p : ℕ) (d : Line) → place ≤ i → i < length lines → IsTrue (is_line_of hosts lanes p (get_or lines i d)) → (i ≡ place) ⊎ (i ≡ place → ⊥)
           → IsNextOf hosts lanes lines p (suc i) (slice_index (set next place (slice_index heads pass)) i)
       linked i p d from inside own (inl same) =
           let mine : p ≡ pass = sym (eqb-true (pass_of hosts lanes actor lane) p (sym (ap (λ x. is_line_of hosts lanes p x) (read i same d)) ∙ own)) ∙ sym number in
-          let number : 0 + pass ≡ p = omega (arith, mine) in
           let at : slice_index (set next place (slice_index heads pass)) i ≡ slice_index heads pass = ap (λ m. get_or (set next place (slice_index heads pass)) m 0) same ∙ get_or-set_same next place (slice_index heads pass) 0 room in
           subst (λ n. IsNextOf hosts lanes lines p (suc i) n) (sym at)
-          (subst (λ m. IsNextOf hosts lanes lines p (suc m) (slice_index heads pass)) (sym same) (subst (λ m. IsNextOf hosts lanes lines m (suc place) (slice_index heads pass)) number (parted.head pass low)))
+          (subst (λ m. IsNextOf hosts lanes lines p (suc m) (slice_index heads pass)) (sym same) (subst (λ m. IsNextOf hosts lanes lines m (suc place) (slice_index heads pass)) (sym mine) (parted.head pass low)))
       linked i p d from inside own (inr apart) =
           let at : slice_index (set next place (slice_index heads pass)) i ≡ slice_index next i = get_or-set_other next place i (slice_index heads pass) 0 apart in
           subst (λ n. IsNextOf hosts lanes lines p (suc i) n) (sym at) (parted.link i p d (omega (arith, from, apart)) inside own)

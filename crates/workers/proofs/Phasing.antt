@@ -117,11 +117,3 @@ module _ {H P : Type 0} (reads : HandlerReads H P) (handler : H) (hosts lanes fi
   some_served number k rest [] (q ∷ now) to = absurd to
   some_served number k rest (p ∷ old) [] to = absurd to
   some_served number k rest (p ∷ old) (q ∷ now) to = (record { same = to.0.same; left = tasks hosts lanes k number rest; grown = to.0.grown }, some_served number (suc k) rest old now to.1)
-
-  -- the first ones of the lines
-  pub front_ready : (front back : List Line) (passes : List P) → lines ≡ front ++ back → EachReady reads handler (phase hosts lanes first lines) 0 passes → EachReady reads handler (phase hosts lanes first front) 0 passes
-  front_ready front back passes is ready = phase_ready first 0 lines front back passes passes is ready (at_first 0 passes ready)
-
-  pub front_begun : (front back : List Line) (old new : List P) → lines ≡ front ++ back → EachReady reads handler (phase hosts lanes first lines) 0 old
-      → EachServedSome reads handler (phase hosts lanes first front) 0 old new → EachServedSome reads handler (phase hosts lanes first lines) 0 old new
-  front_begun front back old new is ready begun = phase_stopped first 0 lines front back old old new is (at_first 0 old ready) begun

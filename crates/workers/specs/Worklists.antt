@@ -4,6 +4,7 @@ use Rattle.std.specs.Prelude.{◌≡◌, ℕ, suc, ◌+◌, ◌*◌, ◌≤◌, 
 use Rattle.std.specs.List.{list_all}
 use Rattle.script_codec.specs.declared.script_line.Line.{Line}
 use Rattle.script_codec.specs.Scripts.{is_sound_line}
+use Rattle.workers.specs.declared.worklists.PhaseLines.{PhaseLines}
 use Rattle.workers.specs.declared.worklists.Worklist.{Worklist}
 use Rattle.workers.specs.Handling.{HandlerReads}
 use Rattle.workers.specs.Phases.{Phase, is_line_of, phase, tasks}
@@ -21,9 +22,9 @@ module _ (hosts lanes : ℕ) (lines : List Line) where
     pub behind : from ≤ place
     pub skips : (first : ℕ) → tasks hosts lanes pass (first + from) (drop from lines) ≡ tasks hosts lanes pass (first + place) (drop place lines)
 
-  -- the heads of the passes, the first of which has this number: the first place of each from `from` on
-  abbrev pub AreHeads : ℕ → ℕ → List ℕ → Type 0
-  AreHeads from k heads = (i : ℕ) → i < length heads → IsNextOf (k + i) from (slice_index heads i)
+  -- the heads of the passes: the first place of each from `from` on
+  abbrev pub AreHeads : ℕ → List ℕ → Type 0
+  AreHeads from heads = (pass : ℕ) → pass < length heads → IsNextOf pass from (slice_index heads pass)
 
   -- each line from `from` on is linked with the next of its pass
   abbrev pub AreLinked : ℕ → List ℕ → Type 0
@@ -32,27 +33,30 @@ module _ (hosts lanes : ℕ) (lines : List Line) where
 
   -- the lines from `from` on are parted
   pub record ArePartedFrom (from : ℕ) (heads next : List ℕ) : Type 0 where
-    pub head : AreHeads from 0 heads
+    pub head : AreHeads from heads
     pub link : AreLinked from next
     pub passes : length heads ≡ hosts * lanes + 2
     pub links : length next ≡ length lines
 
--- the phase of a list of work and the lines
-abbrev pub phase_of : Worklist → List Line → Phase
-phase_of work lines = phase work.hosts work.lanes work.first lines
+-- the phase of these lines
+abbrev pub phase_of : PhaseLines → Phase
+phase_of p = phase p.hosts p.lanes p.first p.lines.now
 
 module _ {H P : Type 0} (reads : HandlerReads H P) (handler : H) where
-  -- the work is the handler's, and its lines are linked
-  pub record IsWork (work : Worklist) (lines : List Line) : Type 0 where
-    pub hosts : reads.hosts handler ≡ work.hosts
-    pub sound : IsTrue (list_all (is_sound_line work.hosts work.lanes) lines)
-    pub in_range : work.first + length lines ≤ 2 ^ 32
-    pub link : AreLinked work.hosts work.lanes lines 0 work.next.items
-    pub links : length work.next.items ≡ length lines
+  -- the lines are the handler's
+  pub record IsPhase (p : PhaseLines) : Type 0 where
+    pub hosts : reads.hosts handler ≡ p.hosts
+    pub few : p.hosts ≤ 16
+    pub narrow : p.lanes < 256
+    pub sound : IsTrue (list_all (is_sound_line p.hosts p.lanes) p.lines.now)
+    pub in_range : p.first + length p.lines.now ≤ 2 ^ 32
 
-  -- passes with their heads, the first of which has this number
-  pub record IsRow (f : Phase) (k : ℕ) (heads : List ℕ) (passes : List P) : Type 0 where
-    pub head : AreHeads f.hosts f.lanes f.lines 0 k heads
-    pub ready : EachReady reads handler f k passes
-    pub same : length heads ≡ length passes
-    pub room : k + length passes ≤ 2 ^ 32
+  -- so are those of a list of work, and they are parted
+  pub record IsWork (work : Worklist) : Type 0 where
+    pub phase : IsPhase work.phase
+    pub parted : ArePartedFrom work.phase.hosts work.phase.lanes work.phase.lines.now 0 work.heads.items work.next.items
+
+  -- passes that may do their lines of it, the first of which has this number
+  pub record IsRow (work : Worklist) (k : ℕ) (passes : List P) : Type 0 where
+    pub ready : EachReady reads handler (phase_of work.phase) k passes
+    pub within : k + length passes ≤ length work.heads.items

@@ -34,7 +34,7 @@ fn first_pass(hosts: u8, lanes: u8, lines: &[Line]) -> u32
 }
 
 /// Whether no line is another pass's. It stops at the first that is.
-pub(crate) fn are_no_others(hosts: u8, lanes: u8, pass: u32, lines: &[Line]) -> bool
+fn are_no_others(hosts: u8, lanes: u8, pass: u32, lines: &[Line]) -> bool
     ensures { result ≡ list_all (is_no_others hosts lanes pass) lines.now }
 {
     lines

@@ -5,13 +5,13 @@ ghost use Rattle.std.specs.Prelude.{◌≡◌, ◌<◌, ◌≤◌, ◌+◌, ◌*
 ghost use Rattle.script_codec.specs.Scripts.{is_sound_line};
 ghost use Rattle.workers.specs.Phases.{is_no_others, phase};
 ghost use Rattle.workers.specs.Serving.{EachReady, EachServed, EachServedSome};
+ghost use Rattle.workers.specs.Worklists.{IsPhase, phase_of};
 
 use crate::alone::lone_pass;
 use crate::handler::Handler;
-use crate::pace::Pace;
 use crate::serving::serve_lines;
 use crate::workers::serve_all;
-use crate::worklists::{Worklist, parted};
+use crate::worklists::{PhaseLines, parted};
 use dcd_base::{Gate, NoMemory};
 use script_codec::Line;
 use std::alloc::AllocGlobal;
@@ -20,7 +20,7 @@ use std::thread::Threads;
 
 /// How many hosts there are, by how many passes there are.
 #[tactic(auto, using(crate::proofs::Rows::hosts_by))]
-pub(crate) fn hosts_of(passes: usize, lanes: u8) -> u8
+fn hosts_of(passes: usize, lanes: u8) -> u8
     requires { (hosts : ℕ) × (hosts ≤ 16) × (0 < lanes) × (passes ≡ hosts * lanes + 2) }
     ensures { (hosts : ℕ) → passes ≡ hosts * lanes + 2 → result ≡ hosts }
 {
@@ -55,37 +55,15 @@ pub fn run_phase<R: Threads + Wait + Sync + AllocGlobal, H: Handler, G: Gate>(
     ensures served { OnOk result (EachServed H.reads handler.now (phase (H.reads.hosts handler.now) lanes first_line lines.now) 0 passes.old passes.new) }
     ensures begun { EachServedSome H.reads handler.now (phase (H.reads.hosts handler.now) lanes first_line lines.now) 0 passes.old passes.new }
 {
-    let hosts = hosts_of(passes.len(), lanes);
-    serve_phase(rt, handler, gate, hosts, lanes, first_line, lines, passes)
-}
-
-/// Does the lines of a phase of so many hosts: those of one pass alone by the caller, else those of each pass by a worker.
-pub(crate) fn serve_phase<
-    R: Threads + Wait + Sync + AllocGlobal,
-    P: Send,
-    H: Handler<Pass = P>,
-    G: Gate,
->(
-    rt: &R,
-    handler: &H,
-    gate: &G,
-    hosts: u8,
-    lanes: u8,
-    first: u32,
-    lines: &[Line],
-    passes: &mut [P],
-) -> Result<(), NoMemory>
-    requires hosts { (H.reads.hosts handler.now ≡ hosts) × (hosts ≤ 16) }
-    requires count { length passes.old ≡ hosts * lanes + 2 }
-    requires sound { IsTrue (list_all (is_sound_line hosts lanes) lines.now) }
-    requires in_range { first + length lines.now ≤ 2 ^ 32 }
-    requires ready { EachReady H.reads handler.now (phase hosts lanes first lines.now) 0 passes.old }
-    ensures served { OnOk result (EachServed H.reads handler.now (phase hosts lanes first lines.now) 0 passes.old passes.new) }
-    ensures begun { EachServedSome H.reads handler.now (phase hosts lanes first lines.now) 0 passes.old passes.new }
-{
-    match lone_pass(hosts, lanes, lines) {
-        Some(k) => serve_alone(rt, handler, gate, hosts, lanes, first, lines, k, passes),
-        None => serve_parted(rt, handler, gate, hosts, lanes, first, lines, passes),
+    let of = PhaseLines {
+        hosts: hosts_of(passes.len(), lanes),
+        lanes,
+        first: first_line,
+        lines,
+    };
+    match lone_pass(of.hosts, lanes, lines) {
+        Some(k) => serve_alone(rt, handler, gate, &of, k, passes),
+        None => serve_parted(rt, handler, gate, &of, passes),
     }
 }
 
@@ -94,33 +72,18 @@ fn serve_alone<R: Wait, P: Send, H: Handler<Pass = P>, G: Gate>(
     rt: &R,
     handler: &H,
     gate: &G,
-    hosts: u8,
-    lanes: u8,
-    first: u32,
-    lines: &[Line],
+    of: &PhaseLines<'_>,
     k: u32,
     passes: &mut [P],
 ) -> Result<(), NoMemory>
-    requires hosts { H.reads.hosts handler.now ≡ hosts }
     requires pass { k < length passes.old }
-    requires sound { IsTrue (list_all (is_sound_line hosts lanes) lines.now) }
-    requires in_range { first + length lines.now ≤ 2 ^ 32 }
-    requires own { IsTrue (list_all (is_no_others hosts lanes k) lines.now) }
-    requires ready { EachReady H.reads handler.now (phase hosts lanes first lines.now) 0 passes.old }
-    ensures served { OnOk result (EachServed H.reads handler.now (phase hosts lanes first lines.now) 0 passes.old passes.new) }
-    ensures begun { EachServedSome H.reads handler.now (phase hosts lanes first lines.now) 0 passes.old passes.new }
+    requires phase { IsPhase H.reads handler.now of.now }
+    requires own { IsTrue (list_all (is_no_others of.now.hosts of.now.lanes k) of.now.lines.now) }
+    requires ready { EachReady H.reads handler.now (phase_of of.now) 0 passes.old }
+    ensures served { OnOk result (EachServed H.reads handler.now (phase_of of.now) 0 passes.old passes.new) }
+    ensures begun { EachServedSome H.reads handler.now (phase_of of.now) 0 passes.old passes.new }
 {
-    serve_lines(
-        rt,
-        handler,
-        gate,
-        hosts,
-        lanes,
-        first,
-        lines,
-        k,
-        &mut passes[k as usize],
-    )
+    serve_lines(rt, handler, gate, of, k, &mut passes[k as usize])
 }
 
 /// Does the lines of a phase that several passes have.
@@ -129,30 +92,15 @@ fn serve_parted<R: Threads + Wait + Sync + AllocGlobal, P: Send, H: Handler<Pass
     rt: &R,
     handler: &H,
     gate: &G,
-    hosts: u8,
-    lanes: u8,
-    first: u32,
-    lines: &[Line],
+    of: &PhaseLines<'_>,
     passes: &mut [P],
 ) -> Result<(), NoMemory>
-    requires hosts { (H.reads.hosts handler.now ≡ hosts) × (hosts ≤ 16) }
-    requires count { length passes.old ≡ hosts * lanes + 2 }
-    requires sound { IsTrue (list_all (is_sound_line hosts lanes) lines.now) }
-    requires in_range { first + length lines.now ≤ 2 ^ 32 }
-    requires ready { EachReady H.reads handler.now (phase hosts lanes first lines.now) 0 passes.old }
-    ensures served { OnOk result (EachServed H.reads handler.now (phase hosts lanes first lines.now) 0 passes.old passes.new) }
-    ensures begun { EachServedSome H.reads handler.now (phase hosts lanes first lines.now) 0 passes.old passes.new }
+    requires count { length passes.old ≡ of.now.hosts * of.now.lanes + 2 }
+    requires phase { IsPhase H.reads handler.now of.now }
+    requires ready { EachReady H.reads handler.now (phase_of of.now) 0 passes.old }
+    ensures served { OnOk result (EachServed H.reads handler.now (phase_of of.now) 0 passes.old passes.new) }
+    ensures begun { EachServedSome H.reads handler.now (phase_of of.now) 0 passes.old passes.new }
 {
-    let (heads, next) = parted(rt.alloc(), hosts, lanes, passes.len(), lines)?;
-    let work = Worklist {
-        hosts,
-        lanes,
-        first,
-        next,
-        pace: Pace::free(rt.alloc()),
-    };
-    match serve_all(rt, handler, gate, &work, lines, 0, heads.as_slice(), passes) {
-        Ok(()) => Ok(()),
-        Err(_) => Err(NoMemory),
-    }
+    let work = parted(rt.alloc(), of, passes.len())?;
+    serve_all(rt, handler, gate, &work, 0, passes)
 }

@@ -13,11 +13,11 @@ ghost use lib.ListN.{get_elem?};
 
 use crate::cells::{ControlCell, ShardCell};
 use crate::command::planning::{change, entered, prepared};
+use block_shard::journal_core::{Act, Reply};
 use block_shard::ruled_cells::{Cells, Seat};
 use block_shard::touches;
 use control_core::Plan;
 use dcd_base::{Actor, NoMemory, Stamp};
-use journal_core::{Act, Reply};
 use std::sync::Wait;
 
 /// Enters the step of the plan and notes its entry. It takes no memory.

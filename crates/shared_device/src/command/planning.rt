@@ -1,8 +1,8 @@
 //! A plan of the control, and what it makes of the control and of a shard.
 
 ghost use Rattle.control_core.specs.Steps.{MayStep};
-ghost use Rattle.block_shard.specs.device_rules.specs.ChangedRuns.{LiesIn};
-ghost use Rattle.journal_core.specs.declared.entries.Entry.{Entry};
+ghost use Rattle.control_core.specs.device_rules.specs.ChangedRuns.{LiesIn};
+ghost use Rattle.block_shard.specs.journal_core.specs.declared.entries.Entry.{Entry};
 ghost use Rattle.region_config.specs.Granules.{granule_total};
 ghost use Rattle.block_shard.specs.shard_laws.specs.Changing.{MakesChanges};
 ghost use Rattle.block_shard.specs.shard_laws.specs.Owed.{FollowsEffects};
@@ -10,10 +10,10 @@ ghost use Rattle.shared_device.specs.Entering.{HasOneMore, IsNextStep, IsOfCall,
 ghost use Rattle.std.specs.Prelude.{◌≡◌, ℕ, All, IfOk, List};
 
 use crate::cells::{ControlCell, ShardCell};
+use block_shard::journal_core::{Act, Reply};
 use block_shard::shard_laws::law_changed;
 use control_core::Plan;
 use dcd_base::{Actor, NoMemory};
-use journal_core::{Act, Reply};
 
 /// Decides a step, and copies its reply. Without memory the control has other room at most.
 pub(crate) fn prepared(

@@ -1,5 +1,5 @@
 use Rattle.std.proofs.Common.{◌≡◌, ◌∙◌, ap, refl, subst, sym}
-use Rattle.dcd_codes.specs.declared.codes.Code.{Code}
+use Rattle.list_rules.specs.dcd_codes.specs.declared.codes.Code.{Code}
 use Rattle.device_commands.specs.DraftContents.{draft_in}
 use Rattle.device_commands.specs.device_state.specs.ListsUpdates.{lists_alone, lists_for}
 use Rattle.device_commands.specs.declared.draft.DraftedStep.{DraftedStep}

@@ -1,5 +1,5 @@
 use Rattle.std.proofs.Common.{◌∙◌, Option, refl, subst, sym}
-use Rattle.dcd_codes.specs.declared.codes.Code.{Code}
+use Rattle.list_rules.specs.dcd_codes.specs.declared.codes.Code.{Code}
 use Rattle.device_commands.specs.DraftContents.{draft_in}
 use Rattle.device_commands.specs.device_rules.specs.Answers.{response}
 use Rattle.device_commands.specs.device_state.specs.declared.updates.NewLists.{NewLists}

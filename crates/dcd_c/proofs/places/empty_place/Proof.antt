@@ -17,7 +17,7 @@ use denote.Steps.{nothing}
 use denote.Triple.Walked.{Stays, walk_of}
 use Rattle.std.proofs.raw_atomic.Walks.{proved_at, leaves}
 use Rattle.dcd_c.proofs.PlaceValues.{single, place_in}
-use Rattle.live_device.specs.Lives.{Living}
+use Rattle.device_plain.specs.Lives.{Living}
 use Rattle.std.specs.Prelude.{Option}
 use Rattle.dcd_c.specs.contracts.places.empty_place.{ended, clauses}
 use Rattle.dcd_c.specs.contracts.places.empty_place.Key.{name as #self}

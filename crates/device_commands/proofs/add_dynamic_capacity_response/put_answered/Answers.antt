@@ -1,6 +1,6 @@
 use Rattle.std.proofs.Common.{◌∙◌, ap, refl}
 use Rattle.std.proofs.lemmas.Result.{on_ok_weaker}
-use Rattle.extent_list.specs.ExtentLists.{tags_of}
+use Rattle.list_rules.specs.extent_list.specs.ExtentLists.{tags_of}
 use Rattle.device_state.specs.ListsUpdates.{left_by}
 use Rattle.device_commands.specs.AddDynamicCapacityResponse.{answer_changes}
 use Rattle.device_commands.specs.declared.draft.DraftParts.{DraftParts}

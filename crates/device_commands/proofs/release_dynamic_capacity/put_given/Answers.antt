@@ -4,9 +4,9 @@ use Rattle.device_state.specs.device_rules.specs.ResponseOutcomes.{hold}
 use Rattle.device_state.specs.ListsUpdates.{left_by, lists_alone}
 use Rattle.device_state.specs.host_lists.proofs.Departures.{gives-back}
 use Rattle.device_state.specs.host_lists.specs.Answers.{GivesUp}
-use Rattle.extent_list.specs.ExtentLists.{count_in}
+use Rattle.list_rules.specs.extent_list.specs.ExtentLists.{count_in}
 use Rattle.journal_core.specs.declared.outcome.HeldKind.{HeldKind}
-use Rattle.region_config.specs.Configurations.{Configuration}
+use Rattle.list_rules.specs.media_map.specs.region_config.specs.Configurations.{Configuration}
 use Rattle.release_core.specs.declared.releases.GivenBack.{GivenBack}
 use Rattle.device_commands.specs.declared.draft.DraftParts.{DraftParts}
 use Rattle.device_commands.proofs.ReleaseDynamicCapacity.{given_drafts, held_release, leaving_granular, whole_granular}

@@ -3,7 +3,7 @@ use Rattle.std.specs.Prelude.{count_by}
 use Rattle.std.specs.List.{range_with_len}
 use Rattle.std.proofs.Math.Facts.{Fits-of_lt}
 use Rattle.std.proofs.lemmas.List.Sums.{sum_by-append}
-use Rattle.granule_map.specs.StateLists.{is_free_at}
+use Rattle.selection.specs.granule_map.specs.StateLists.{is_free_at}
 use Rattle.device_commands.proofs.ListPages.{range_more}
 use Rattle.device_commands.proofs.set_dc_region_configuration.used_from.Goals as goal
 

@@ -1,7 +1,7 @@
 use Rattle.std.proofs.Common.{◌≡◌, ◌≤◌, not}
 use Rattle.std.specs.Prelude.{count_by}
 use Rattle.std.specs.List.{range_with_len}
-use Rattle.granule_map.specs.StateLists.{is_free_at}
+use Rattle.selection.specs.granule_map.specs.StateLists.{is_free_at}
 use Rattle.device_commands.proofs.set_dc_region_configuration.used_from.Given as goal
 
 abbrev pub invariant-loop-offset : goal.invariant-loop-offset

@@ -1,5 +1,5 @@
 use Rattle.std.proofs.Common.{◌≡◌, map, take}
-use Rattle.media_map.specs.Places.{run_of}
+use Rattle.list_rules.specs.media_map.specs.Places.{run_of}
 use Rattle.device_commands.proofs.tag_changes.runs_of.Given as goal
 
 -- The runs so far.

@@ -1,8 +1,8 @@
 use Rattle.std.proofs.Common.{◌≡◌, Some, sym, ap, subst, ◌∙◌}
 use Rattle.std.specs.Option.{option_copied}
 use Rattle.std.specs.Prelude.{IsTrue, slice_get}
-use Rattle.text_printing.specs.script_codec.specs.Scripts.{are_lanes, is_sound_line}
-use Rattle.text_printing.specs.script_codec.specs.Writing.{has_short_message}
+use Rattle.script_text.specs.script_codec.specs.Scripts.{are_lanes, is_sound_line}
+use Rattle.script_text.specs.script_codec.specs.Writing.{has_short_message}
 use Rattle.explainer.proofs.Lists.{member_has}
 use Rattle.explainer.proofs.entries.put_line_of.Goals as goal
 

@@ -1,5 +1,5 @@
 use Rattle.std.proofs.Common.{◌++◌, replicate, rules, [], ◌∷◌, append_assoc, ◌∙◌}
-use Rattle.dcd_base.specs.Words.{flag_of}
+use Rattle.field_bytes.specs.dcd_base.specs.Words.{flag_of}
 use Rattle.field_bytes.specs.Layouts.{u16_bytes}
 use Rattle.field_bytes.proofs.Filling.{around, filled}
 use Rattle.fm_payloads.specs.ManagerPayloads.{tag_bytes}

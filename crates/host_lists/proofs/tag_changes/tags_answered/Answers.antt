@@ -1,7 +1,7 @@
 use Rattle.std.proofs.Common.{[], ◌≡◌, ◌++◌, List, append-nil, append_assoc, ap, arith, drop, length, refl, sym, take, ◌∙◌}
 use Rattle.std.proofs.lemmas.List.{take-append-drop, take_all}
 use Rattle.std.specs.Prelude.{flat_map}
-use Rattle.dcd_base.specs.declared.capacity.Extent.{Extent}
+use Rattle.list_rules.specs.dcd_codes.specs.dcd_base.specs.declared.capacity.Extent.{Extent}
 use Rattle.offer_core.specs.Offerings.{lists_of, oldest_of}
 use Rattle.host_lists.specs.Tags.{capped, tag_count, tags_in_order}
 use Rattle.host_lists.proofs.Offered.{oldest_first}

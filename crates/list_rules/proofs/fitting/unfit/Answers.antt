@@ -1,6 +1,6 @@
 use Rattle.std.proofs.Common.{◌≡◌, ◌&&◌, List, length, get_or, not, sym, ap, ◌∙◌}
 use Rattle.std.specs.Prelude.{◌==◌}
-use Rattle.dcd_base.specs.declared.capacity.Extent.{Extent}
+use Rattle.dcd_codes.specs.dcd_base.specs.declared.capacity.Extent.{Extent}
 use Rattle.dcd_codes.specs.Rules.{◌breaks◌}
 use Rattle.dcd_codes.specs.declared.rules.Rule.{Rule}
 use Rattle.extent_list.specs.ExtentLists.{owner_of}

@@ -1,6 +1,6 @@
 use Rattle.std.proofs.Common.{◌≡◌, ◌&&◌, List, get_or, sym, ap, ◌∙◌, refl}
 use Rattle.std.specs.Prelude.{◌==◌}
-use Rattle.dcd_base.specs.declared.capacity.Extent.{Extent}
+use Rattle.dcd_codes.specs.dcd_base.specs.declared.capacity.Extent.{Extent}
 use Rattle.extent_list.specs.ExtentLists.{is_whole, owner_of}
 use Rattle.list_rules.proofs.FirstOwner.{no_extent, owner_at}
 use Rattle.list_rules.proofs.Apart.{in_at, in_none}

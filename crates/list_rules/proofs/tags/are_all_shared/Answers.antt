@@ -1,6 +1,6 @@
 use Rattle.std.proofs.Common.{◌≡◌, List, length, get_or, sym, ap, ◌∙◌, arith, rules}
-use Rattle.dcd_base.specs.Words.{same_tag}
-use Rattle.dcd_base.specs.declared.capacity.Extent.{Extent}
+use Rattle.dcd_codes.specs.dcd_base.specs.Words.{same_tag}
+use Rattle.dcd_codes.specs.dcd_base.specs.declared.capacity.Extent.{Extent}
 use Rattle.extent_list.specs.ExtentLists.{marked}
 use Rattle.list_rules.proofs.FirstOwner.{no_extent}
 use Rattle.list_rules.proofs.Shares.{all_so_far, none_so_far, shared_more}

@@ -1,10 +1,10 @@
 use Rattle.std.proofs.Common.{◌≡◌, Ok, Err, sym, subst, ◌∙◌, rules}
 use Rattle.std.specs.Prelude.{IfOk}
 use Rattle.journal_core.specs.Entries.{effects}
-use Rattle.plan_maker.specs.plan_rules.specs.Holding.{stepped}
-use Rattle.plan_maker.specs.plan_rules.specs.Meeting.{MeetsDemands}
-use Rattle.plan_maker.specs.plan_rules.specs.PlanAlike.{PlanAlike}
-use Rattle.plan_maker.specs.plan_rules.specs.Planning.{IsPlan}
+use Rattle.plan_rules.specs.Holding.{stepped}
+use Rattle.plan_rules.specs.Meeting.{MeetsDemands}
+use Rattle.plan_rules.specs.PlanAlike.{PlanAlike}
+use Rattle.plan_rules.specs.Planning.{IsPlan}
 use Rattle.pool_planner.specs.PlanPrinting.{plan_text}
 use Rattle.pool_planner.proofs.PlanEndings.{fault_end, list_end}
 use Rattle.pool_planner.proofs.PlanRunning.{commands_alike}

@@ -1,7 +1,7 @@
 use Rattle.std.proofs.Common.{sym, ◌∙◌, take, get_or, ◌≡◌, ◌≤◌, length, arith, subst, None}
 use Rattle.std.proofs.lemmas.List.{take_all}
-use Rattle.dcd_codes.proofs.RuleSteps.{each_in_found, each_in_more}
-use Rattle.dcd_codes.specs.Rules.{each_in}
+use Rattle.list_rules.specs.dcd_codes.proofs.RuleSteps.{each_in_found, each_in_more}
+use Rattle.list_rules.specs.dcd_codes.specs.Rules.{each_in}
 use Rattle.list_rules.proofs.FitFront.{each_fits}
 use Rattle.release_core.proofs.Members.{no_extent}
 use Rattle.release_core.proofs.Rows.{fit_keeps}

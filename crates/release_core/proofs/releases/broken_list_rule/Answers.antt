@@ -1,6 +1,6 @@
 use Rattle.std.proofs.Common.{List, ◌≡◌, IfOk, None, false, ap, refl, rules, subst, sym, ◌∙◌}
-use Rattle.dcd_base.specs.declared.capacity.Extent.{Extent}
-use Rattle.dcd_codes.specs.Rules.{each_in}
+use Rattle.list_rules.specs.dcd_codes.specs.dcd_base.specs.declared.capacity.Extent.{Extent}
+use Rattle.list_rules.specs.dcd_codes.specs.Rules.{each_in}
 use Rattle.list_rules.specs.Listing.{incomplete, too_many_listed}
 use Rattle.release_core.specs.Leaving.{leaving_rule}
 use Rattle.release_core.specs.declared.leaving.Within.{Within}

@@ -1,10 +1,10 @@
-use Rattle.std.proofs.Common.{◌≡◌, ◌+◌, [], ◌∷◌, ◌++◌, length, sym, ap, ◌∙◌, arith}
+use Rattle.std.proofs.Common.{◌++◌, ◌+◌, [], ◌∷◌, sym, ap, ◌∙◌, arith}
 use Rattle.std.specs.List.{enumerate_from}
 use Rattle.std.proofs.lemmas.List.{length_push}
 use Rattle.control_core.specs.Deciding.{IsShort}
 use Rattle.journal_core.specs.declared.entries.Entry.{Entry}
 use Rattle.journal_core.specs.Lending.{lent, lent_entry}
-use Rattle.journal_core.proofs.Lists.{next_has, next_within, one_more_done}
+use Rattle.journal_core.proofs.Lists.{next_has, one_more_done}
 use Rattle.report.specs.Texts.{entry_line}
 use Rattle.report.proofs.Parts.{entries_push, prints_each}
 use Rattle.report.proofs.entry_lines.put_entries.Goals as goal
@@ -15,15 +15,12 @@ loop-entry-preserved g c =
     let rest = g.J.Lender.rest c.loop-entry.journal in
     let e : Entry = lent_entry c.in-Some.entry in
     let first = ap lent (sym c.in-Some.is) ∙ c.peek.ensures in
-    let within = next_within done rest (g.J.Lender.rest c.args.journal.now) e first c.loop-entry.invariant.parts in
-    let here : c.loop-entry.number ≡ length done + 1 = omega (arith, c.loop-entry.invariant.number, within, c.requires.few) in
     record {
       done = done ++ e ∷ [];
       count = omega (arith, c.loop-entry.invariant.count, length_push done e);
-      number = omega (arith, c.count_up.ensures, c.loop-entry.invariant.number, length_push done e);
       parts = one_more_done done rest (g.J.Lender.rest c.skip.new.self) (g.J.Lender.rest c.args.journal.now) e first c.skip.ensures c.loop-entry.invariant.parts;
-      puts = prints_each entry_line (enumerate_from 1 done) (c.loop-entry.number, e) c.loop-entry.invariant.puts c.put_entry.ensures
-          (entries_push done e ∙ ap (λ n. enumerate_from 1 done ++ (n, e) ∷ []) (sym here));
+      puts = prints_each entry_line (enumerate_from 1 done) (c.loop-entry.count + 1, e) c.loop-entry.invariant.puts c.put_entry.ensures
+          (entries_push done e ∙ ap (λ n. enumerate_from 1 done ++ (n + 1, e) ∷ []) (sym c.loop-entry.invariant.count));
     }
 
 pub put_entry-requires : goal.put_entry-requires

@@ -1,16 +1,15 @@
-use Rattle.std.proofs.Common.{◌≡◌, ◌+◌, ◌%◌, ◌^◌, ◌++◌, List, flat_map, length}
+use Rattle.std.proofs.Common.{◌≡◌, ◌++◌, List, flat_map, length}
 use Rattle.std.specs.List.{enumerate_from}
 use Rattle.journal_core.specs.declared.entries.Entry.{Entry}
 use Rattle.report.specs.Texts.{entry_line}
 use Rattle.report.specs.Printing.{Prints}
 use Rattle.report.proofs.entry_lines.put_entries.Given as goal
 
--- The lines of the entries so far are put; they stand before those that are left. The number is that of the next line.
+-- The lines of the entries so far are put; they stand before those that are left.
 abbrev pub invariant-loop-entry : goal.invariant-loop-entry
 invariant-loop-entry g l = record {
   done : List Entry;
   count : l.count ≡ length done;
-  number : l.number ≡ (length done + 1) % 2 ^ 64;
   parts : done ++ g.J.Lender.rest l.journal ≡ g.J.Lender.rest l.fn.journal;
   puts : Prints (g.K.Sink.taken l.fn.sink) (g.K.Sink.faults l.fn.sink) l.fn.printer
       (g.K.Sink.taken l.sink) (g.K.Sink.faults l.sink) l.printer (flat_map entry_line (enumerate_from 1 done));

@@ -7,5 +7,5 @@ pub returns : goal.returns
 returns g c =
     let digits = response_digits (seen_response c.args.response.now) c.as_slice.result.now c.args.response.now.payload.now (10 ∷ [])
     (c.as_slice.ensures ∙ c.response_head-head.ensures) refl in
-    prints_as (prints_then c.put_byte.ensures (prints_then c.put_hex.ensures (prints_then c.put_hex-2.ensures c.end_line.ensures)))
+    prints_as (prints_then c.put.ensures (prints_then c.put_hex.ensures (prints_then c.put_hex-2.ensures c.end_line.ensures)))
     (ap (λ ys. 32 ∷ ys) digits)

@@ -1,6 +1,6 @@
 use Rattle.std.proofs.Common.{◌≡◌, ◌∙◌, ℕ, ap, sym, subst, List, true}
-use Rattle.dcd_base.specs.Words.{has_in_runs}
-use Rattle.dcd_base.specs.declared.media.Run.{Run}
+use Rattle.region_config.specs.dcd_base.specs.Words.{has_in_runs}
+use Rattle.region_config.specs.dcd_base.specs.declared.media.Run.{Run}
 use Rattle.granule_map.specs.StateLists.{is_dirty_at}
 use Rattle.sanitizer.specs.Turns.{granules_of_runs, lowest_dirty}
 use Rattle.region_config.specs.Granules.{same_region}

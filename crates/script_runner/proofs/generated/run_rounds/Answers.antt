@@ -1,6 +1,6 @@
 use Rattle.std.proofs.Common.{◌≡◌, ◌++◌, [], List, None, length, append-nil, append_assoc, ap, arith, length-append, refl, subst, sym, ◌∙◌}
 use Rattle.region_config.specs.Configurations.{Configuration}
-use Rattle.script_source.specs.script_codec.specs.declared.script_line.Line.{Line}
+use Rattle.script_gen.specs.script_codec.specs.declared.script_line.Line.{Line}
 use Rattle.script_gen.specs.Drawing.{IsNextRound, IsRound}
 use Rattle.script_gen.specs.Generated.{generated, generated_config, generated_lines}
 use Rattle.script_runner.specs.Fronts.{RanLines, RunsLines}

@@ -1,9 +1,9 @@
 use Rattle.std.proofs.Common.{◌≡◌, ◌+◌, ◌∷◌, [], ◌++◌, Ok, ap, arith, subst, sym, ◌∙◌}
 use Rattle.std.proofs.lemmas.List.{length_push}
 use Rattle.region_config.specs.Configurations.{Configuration}
-use Rattle.script_source.specs.script_codec.specs.LineByLine.{IsRead, TakesLine}
-use Rattle.script_source.specs.script_codec.specs.declared.script_line.Line.{Line}
-use Rattle.script_source.specs.script_codec.proofs.Lists.{lines_go_on, with_lines}
+use Rattle.script_gen.specs.script_codec.specs.LineByLine.{IsRead, TakesLine}
+use Rattle.script_gen.specs.script_codec.specs.declared.script_line.Line.{Line}
+use Rattle.script_gen.specs.script_codec.proofs.Lists.{lines_go_on, with_lines}
 use Rattle.script_runner.specs.Fronts.{RunsLine}
 use Rattle.script_runner.proofs.Fronts.{ran_one_more}
 use Rattle.script_runner.proofs.script.run_rest.Goals as goal

@@ -6,7 +6,7 @@ use Rattle.script_runner.proofs.Inputs.{planned_fault}
 use Rattle.script_runner.proofs.texts.text_serially.Goals as goal
 
 -- The line is that on the first fault of the input.
-pub returns-in-Err : goal.returns-in-Err
-returns-in-Err g c =
+pub returns : goal.returns
+returns g c =
     ends_so (IsFaultPlan c.in-Err.fault) ⊥ g.K.Sink.taken g.K.Sink.faults c.args.sink.now c.refused.new.sink (IsPlannedFor Mode.Serial c.args.input) ⊥
     (planned_fault Mode.Serial c.args.input c.in-Err.fault (search rules)) (λ missed. missed) c.refused.result c.refused.ensures

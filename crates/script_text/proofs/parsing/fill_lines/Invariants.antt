@@ -1,16 +1,12 @@
-use Rattle.std.proofs.Common.{◌≡◌, length, min}
-use Rattle.std.specs.Prelude.{flat_map}
-use Rattle.field_bytes.specs.Layouts.{spelling}
-use Rattle.text_printing.specs.script_codec.specs.Scripts.{line_fields}
+use Rattle.std.proofs.Common.{◌≡◌, length}
 use Rattle.script_text.specs.Texts.{lines_at, lines_behind}
 use Rattle.script_text.proofs.parsing.fill_lines.Given as goal
 
-abbrev pub invariant-loop-accesses : goal.invariant-loop-accesses
-invariant-loop-accesses l = record {
+abbrev pub invariant-loop-words : goal.invariant-loop-words
+invariant-loop-words l = record {
   end : l.lines.end ≡ l.fn.lines.end;
-  size : l.size ≡ min (length (spelling (flat_map line_fields l.out))) 18446744073709551615;
   read : lines_behind l.out (lines_at l.left l.frame l.lines.lines) ≡ lines_at l.most l.frame l.fn.lines.lines;
 }
 
-abbrev pub decreases-loop-accesses : goal.decreases-loop-accesses
-decreases-loop-accesses l = l.left
+abbrev pub decreases-loop-words : goal.decreases-loop-words
+decreases-loop-words l = length l.lines.lines

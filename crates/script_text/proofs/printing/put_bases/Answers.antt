@@ -1,8 +1,8 @@
 use Rattle.std.proofs.Common.{◌<◌, [], ◌∷◌, arith, length, subst, sym, ◌∙◌}
 use Rattle.script_text.specs.Layouts.{bases_of_host}
-use Rattle.text_printing.specs.text_lines.specs.Layouts.{most_64}
-use Rattle.text_printing.specs.text_lines.specs.Parts.{Form, Part}
-use Rattle.text_printing.specs.Printing.{AddsParts}
+use Rattle.text_lines.specs.Layouts.{most_64}
+use Rattle.text_lines.specs.Parts.{Form, Part}
+use Rattle.script_text.specs.LinePrinting.{AddsParts}
 use Rattle.script_text.proofs.PrintedScripts.{base_is, base_within, bases_more}
 use Rattle.script_text.proofs.printing.put_bases.Goals as goal
 

@@ -1,6 +1,6 @@
 use Rattle.std.proofs.Common.{take}
 use Rattle.script_text.specs.Layouts.{base_parts, bases_of_host}
-use Rattle.text_printing.specs.Printing.{AddsParts}
+use Rattle.script_text.specs.LinePrinting.{AddsParts}
 use Rattle.script_text.proofs.printing.put_bases.Given as goal
 
 abbrev pub invariant-loop-region : goal.invariant-loop-region

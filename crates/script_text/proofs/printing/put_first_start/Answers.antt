@@ -1,4 +1,4 @@
-use Rattle.text_printing.proofs.PrintLaws.{starts_then}
+use Rattle.script_text.proofs.PrintLaws.{starts_then}
 use Rattle.script_text.proofs.printing.put_first_start.Goals as goal
 
 pub returns : goal.returns

@@ -1,4 +1,4 @@
-use Rattle.text_printing.proofs.PrintLaws.{adds_then, starts_then}
+use Rattle.script_text.proofs.PrintLaws.{adds_then, starts_then}
 use Rattle.script_text.proofs.printing.put_host.Goals as goal
 
 pub returns : goal.returns

@@ -1,5 +1,5 @@
 use Rattle.std.proofs.Common.{subst}
-use Rattle.text_printing.specs.Printing.{PrintsLine}
+use Rattle.script_text.specs.LinePrinting.{PrintsLine}
 use Rattle.script_text.proofs.PrintedScripts.{script_lines_more}
 use Rattle.script_text.proofs.printing.put_lines.Goals as goal
 

@@ -1,6 +1,6 @@
 use Rattle.std.proofs.Common.{arith, length-append}
 use Rattle.std.specs.Prelude.{flat_map}
-use Rattle.journal_core.proofs.Merges.{merged-length}
+use Rattle.block_shard.specs.journal_core.proofs.Merges.{merged-length}
 use Rattle.shared_device.proofs.lending.count_entries.Goals as goal
 
 pub returns : goal.returns

@@ -1,5 +1,5 @@
 use Rattle.std.proofs.Common.{◌≡◌, drop}
-use Rattle.text_words.specs.Characters.{passed_from, is_plain}
+use Rattle.explainer.specs.text_lines.specs.Characters.{passed_from, is_plain}
 use Rattle.text_converter.proofs.columns.plain.Given as goal
 
 abbrev pub invariant-loop-i : goal.invariant-loop-i

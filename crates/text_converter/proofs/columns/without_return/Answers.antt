@@ -1,6 +1,6 @@
 use Rattle.std.proofs.Common.{arith, ◌∙◌, sym}
 use Rattle.std.proofs.lemmas.Bool.{eqb-false}
-use Rattle.text_words.proofs.WordLaws.{ended_return, ended_other}
+use Rattle.explainer.specs.text_lines.proofs.WordLaws.{ended_return, ended_other}
 use Rattle.text_converter.proofs.columns.without_return.Goals as goal
 
 pub returns-then-line-ne13 : goal.returns-then-line-ne13

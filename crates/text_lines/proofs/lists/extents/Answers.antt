@@ -1,18 +1,22 @@
-use Rattle.std.proofs.Common.{ap, sym, ◌∙◌}
+use Rattle.std.proofs.Common.{sym, ◌∙◌}
 use Rattle.std.proofs.lemmas.Result.{err_from_is_err_and}
-use Rattle.text_lines.specs.Fields.{extent_of_word, extents_ahead, list_behind, list_ahead}
+use Rattle.text_lines.specs.Fields.{extent_of_word, extents_ahead, list_ahead}
 use Rattle.text_lines.proofs.LoopLaws.{nothing_behind}
+use Rattle.text_lines.proofs.PartLaws.{extents_read}
 use Rattle.text_lines.proofs.lists.extents.Goals as goal
 
-pub returns-in_err-fill_extents-clause-value : goal.returns-in_err-fill_extents-clause-value
+pub returns-in_err-fill-clause-value : goal.returns-in_err-fill-clause-value
 unfolding extents_ahead
-returns-in_err-fill_extents-clause-value c =
-    let p = err_from_is_err_and c.from_residual-in_err-fill_extents.result c.from_residual-in_err-fill_extents.ensures.1 in
-    let whole = c.in_ok-left.ensures.value ∙ ap (λ xs. list_behind xs (list_ahead extent_of_word c.args.most c.args.words.now)) c.in_ok-extents.ensures ∙ nothing_behind extent_of_word (list_ahead extent_of_word c.args.most c.args.words.now) in
-    rw (p.1, p.2) (λ real. sym whole ∙ c.in_err-fill_extents.ensures.value real)
+returns-in_err-fill-clause-value c =
+    let p = err_from_is_err_and c.from_residual.result c.from_residual.ensures.1 in
+    rw (p.1, p.2) (λ real. sym (nothing_behind extent_of_word _ (list_ahead extent_of_word c.args.most c.args.words.now) c.new-extents.ensures) ∙ c.in_err-fill.ensures real)
 
 pub returns-clause-value : goal.returns-clause-value
 unfolding extents_ahead
-returns-clause-value c =
-    let whole = c.in_ok-left.ensures.value ∙ ap (λ xs. list_behind xs (list_ahead extent_of_word c.args.most c.args.words.now)) c.in_ok-extents.ensures ∙ nothing_behind extent_of_word (list_ahead extent_of_word c.args.most c.args.words.now) in
-    sym whole ∙ c.in_ok-fill_extents.ensures.value
+returns-clause-value c = sym (nothing_behind extent_of_word _ (list_ahead extent_of_word c.args.most c.args.words.now) c.new-extents.ensures) ∙ c.in_ok-fill.ensures
+
+pub returns-clause-few : goal.returns-clause-few
+returns-clause-few c = (extents_read c.args.most c.args.words.now (c.fill.new.items, c.fill.new.words) (returns-clause-value c)).0
+
+pub returns-clause-untagged : goal.returns-clause-untagged
+returns-clause-untagged c = (extents_read c.args.most c.args.words.now (c.fill.new.items, c.fill.new.words) (returns-clause-value c)).1

@@ -1,5 +1,5 @@
 use Rattle.std.proofs.Common.{◌≤◌, Err, length, arith, ap, sym, ◌∙◌}
-use Rattle.text_words.specs.Pairs.{pairs_said}
+use Rattle.text_lines.specs.Pairs.{pairs_said}
 use Rattle.text_lines.proofs.LoopLaws.{bytes_bad, bytes_end, bytes_go_on, bytes_long}
 use Rattle.text_lines.proofs.messages.fill_bytes.Goals as goal
 

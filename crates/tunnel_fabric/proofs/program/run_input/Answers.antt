@@ -1,6 +1,6 @@
 use Rattle.std.proofs.Common.{rules, ap, subst, sym, ◌∙◌}
-use Rattle.fabric_codec.specs.FabricLayout.{ReadsFabric}
-use Rattle.fabric_codec.specs.FabricReading.{fabric_in}
+use Rattle.tunnel_fabric.specs.FabricLayout.{ReadsFabric}
+use Rattle.tunnel_fabric.specs.FabricReading.{fabric_in}
 use Rattle.tunnel_fabric.proofs.FabricEndings.{can_run, on_fabric, refused_ends}
 use Rattle.tunnel_fabric.proofs.program.run_input.Goals as goal
 

@@ -1,18 +1,30 @@
-use Rattle.workers.proofs.Standing.{begins, ended, goes_on, next_there}
+use Rattle.std.proofs.Common.{[], ◌∷◌, ◌+◌, subst, sym}
+use Rattle.workers.specs.Phases.{Grown, tasks}
+use Rattle.workers.specs.Worklists.{IsNextOf}
+use Rattle.workers.proofs.Standing.{begins, goes_on, next_there}
 use Rattle.workers.proofs.serving.serve.Goals as goal
 
-pub loop-place-preserved : goal.loop-place-preserved
-loop-place-preserved g c = record {
-  there =
-      next_there g.H.Handler.reads c.args.handler.now c.args.work.now.hosts c.args.work.now.lanes c.args.work.now.first c.args.lines.now c.args.k c.loop-place.place c.next_after-place.result
-      c.index-lines-place.result c.args.work.now.next.items c.next_after-place.ensures c.loop-place.invariant.there c.loop-place-test.true c.requires.work.link;
-  stands =
-      goes_on g.H.Handler.reads c.args.handler.now c.args.work.now.hosts c.args.work.now.lanes c.args.work.now.first c.args.lines.now c.args.k c.loop-place.place c.next_after-place.result c.args.pass.now
-      c.loop-place.pass c.serve_line.new.pass c.index-lines-place.result c.args.work.now.next.items c.next_after-place.ensures c.loop-place.invariant.there c.loop-place.invariant.stands
-      c.loop-place-test.true c.index-lines-place.is c.requires.work.link c.serve_line.ensures.same c.in_ok-serve_line.ensures.grown;
-}
+pub loop-place-init : goal.loop-place-init
+loop-place-init g c =
+    let phase = c.args.work.now.phase in
+    let next = subst (λ n. IsNextOf phase.hosts phase.lanes phase.lines.now c.args.k 0 n) (sym c.head_of-place.ensures) (c.requires.work.parted.head c.args.k c.requires.pass) in
+    record {
+      there = next.there;
+      stands = begins g.H.Handler.reads c.args.handler.now phase.hosts phase.lanes phase.first phase.lines.now c.args.k c.head_of-place.result c.args.pass.now next c.requires.ready;
+    }
 
-pub returns-then-not-meet-clause-begun : goal.returns-then-not-meet-clause-begun
-returns-then-not-meet-clause-begun g c =
-    ended g.H.Handler.reads c.args.handler.now c.args.work.now.hosts c.args.work.now.lanes c.args.work.now.first c.args.lines.now c.args.k c.args.head c.args.pass.now c.args.pass.now
-    (begins g.H.Handler.reads c.args.handler.now c.args.work.now.hosts c.args.work.now.lanes c.args.work.now.first c.args.lines.now c.args.k c.args.head c.args.pass.now c.requires.head c.requires.ready)
+pub loop-place-preserved : goal.loop-place-preserved
+loop-place-preserved g c =
+    let phase = c.args.work.now.phase in
+    let grown =
+    subst (λ line. Grown (tasks phase.hosts phase.lanes c.args.k (phase.first + c.loop-place.place) (line ∷ [])) (g.H.Handler.reads.calls c.loop-place.pass) (g.H.Handler.reads.calls c.serve_line.new.pass))
+    (sym c.index-of-place.is) c.in_ok-serve_line.ensures.grown in
+    record {
+      there =
+          next_there g.H.Handler.reads c.args.handler.now phase.hosts phase.lanes phase.first phase.lines.now c.args.k c.loop-place.place c.next_after-place.result
+          c.index-of-place.result c.args.work.now.next.items c.next_after-place.ensures c.loop-place.invariant.there c.loop-place-test.true c.requires.work.parted.link;
+      stands =
+          goes_on g.H.Handler.reads c.args.handler.now phase.hosts phase.lanes phase.first phase.lines.now c.args.k c.loop-place.place c.next_after-place.result c.args.pass.now
+          c.loop-place.pass c.serve_line.new.pass c.index-of-place.result c.args.work.now.next.items c.next_after-place.ensures c.loop-place.invariant.there c.loop-place.invariant.stands
+          c.loop-place-test.true c.index-of-place.is c.requires.work.parted.link c.serve_line.ensures.same grown;
+    }

@@ -1,5 +1,5 @@
 use Rattle.std.proofs.Common.{◌≡◌, ◌<◌, ap, arith, length, subst, sym, ◌∙◌}
-use Rattle.granule_map.specs.Blocks.{free_block_count}
+use Rattle.selection.specs.granule_map.specs.Blocks.{free_block_count}
 use Rattle.journal_core.specs.Entries.{effects}
 use Rattle.device_commands.proofs.Reached.{regions_kept, total_kept}
 use Rattle.device_commands.specs.device_rules.specs.Adding.{area_of, is_free_now, present, region_free_blocks}

@@ -7,9 +7,9 @@ use denote.RawPtr.{Ptr}
 use Rattle.std.specs.Prelude.{Option, Some, None}
 use Rattle.std.proofs.Crossing.{frees}
 use Rattle.std_alloc.proofs.SendSync as any
-use Rattle.live_device.specs.Lives.{Living}
-use Rattle.live_device.specs.contracts.device.LiveDevice as device
-use Rattle.live_device.proofs.device.LiveDevice.TheSendSync.{the_send}
+use Rattle.device_plain.specs.Lives.{Living}
+use Rattle.device_plain.specs.contracts.live.LiveDevice as device
+use Rattle.device_plain.proofs.live.LiveDevice.TheSendSync.{the_send}
 use Rattle.dcd_c.specs.Places.{place_owns, the_heap}
 use Rattle.dcd_c.specs.contracts.places.Place.{the_row, the_type}
 

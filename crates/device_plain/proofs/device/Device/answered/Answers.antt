@@ -3,9 +3,9 @@ use Rattle.journal_core.specs.declared.acts.Act.{Act}
 use Rattle.journal_core.specs.declared.entries.Entry.{Entry}
 use Rattle.journal_core.specs.Merging.{merged}
 use Rattle.region_config.specs.Configurations.{Configuration}
-use Rattle.live_device.specs.control_core.specs.Deciding.{IsShort}
-use Rattle.live_device.specs.control_core.specs.Steps.{MayStep, journal_entry}
-use Rattle.live_device.specs.Accesses.{AreZeroed}
+use Rattle.control_core.specs.Deciding.{IsShort}
+use Rattle.control_core.specs.Steps.{MayStep, journal_entry}
+use Rattle.device_plain.specs.Accesses.{AreZeroed}
 use Rattle.device_plain.specs.Devices.{Plain}
 use Rattle.device_plain.specs.Keeping.{KeepsBoth}
 use Rattle.device_plain.proofs.Merged.{both_command, grown_command}

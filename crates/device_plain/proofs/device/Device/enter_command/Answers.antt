@@ -2,8 +2,8 @@ use Rattle.std.proofs.Common.{◌∷◌, ◌++◌, [], List, sym, subst, ap, ref
 use Rattle.journal_core.specs.declared.entries.Entry.{Entry}
 use Rattle.journal_core.specs.Merging.{merged}
 use Rattle.region_config.specs.Configurations.{Configuration}
-use Rattle.live_device.specs.control_core.specs.Steps.{Controlled, MayStep, journal_entry}
-use Rattle.live_device.specs.Accesses.{AreZeroed}
+use Rattle.control_core.specs.Steps.{Controlled, MayStep, journal_entry}
+use Rattle.device_plain.specs.Accesses.{AreZeroed}
 use Rattle.device_plain.specs.Devices.{Plain}
 use Rattle.device_plain.specs.Keeping.{KeepsBoth}
 use Rattle.device_plain.proofs.Merged.{both_command, grown_command}

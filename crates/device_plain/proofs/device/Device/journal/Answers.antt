@@ -1,5 +1,5 @@
 use Rattle.std.proofs.Common.{[], ◌∷◌, sym, subst}
-use Rattle.live_device.specs.device_rules.specs.Legal.{Exclusive}
+use Rattle.control_core.specs.device_rules.specs.Legal.{Exclusive}
 use Rattle.journal_core.specs.Merging.{Rising, merged}
 use Rattle.device_plain.specs.Devices.{Plain}
 use Rattle.device_plain.proofs.Merged.{accesses_rise, control_rises}

@@ -9,8 +9,8 @@ use Rattle.journal_core.specs.Merging.{merged}
 use Rattle.media_map.specs.Places.{locate}
 use Rattle.region_config.specs.Configurations.{Configuration}
 use Rattle.region_config.specs.Granules.{granule_total}
-use Rattle.live_device.specs.control_core.specs.Pasts.{IsPast}
-use Rattle.live_device.specs.Accesses.{granted_place, word_from}
+use Rattle.control_core.specs.Pasts.{IsPast}
+use Rattle.device_plain.specs.Accesses.{granted_place, word_from}
 use Rattle.device_plain.specs.Devices.{Plain}
 use Rattle.device_plain.specs.Keeping.{KeepsBoth}
 use Rattle.device_plain.proofs.Merged.{both_load, few_since, grown_access}

@@ -8,8 +8,8 @@ use Rattle.journal_core.specs.Accesses.{access_entry}
 use Rattle.journal_core.specs.Entries.{effects, is_control}
 use Rattle.journal_core.specs.Merging.{merged}
 use Rattle.region_config.specs.Configurations.{Configuration}
-use Rattle.live_device.specs.control_core.specs.Pasts.{IsPast}
-use Rattle.live_device.specs.Accesses.{StoresAt, granted_place, store_said}
+use Rattle.control_core.specs.Pasts.{IsPast}
+use Rattle.device_plain.specs.Accesses.{StoresAt, granted_place, store_said}
 use Rattle.device_plain.specs.Devices.{Plain}
 use Rattle.device_plain.specs.Keeping.{KeepsBoth}
 use Rattle.device_plain.proofs.Merged.{both_store, few_since, grown_access}

@@ -1,7 +1,7 @@
 use Rattle.std.proofs.Common.{sym, subst}
 use Rattle.std.specs.Prelude.{All}
-use Rattle.region_config.specs.Configurations.{Configuration}
-use Rattle.region_config.specs.Granules.{region_spec}
+use Rattle.list_rules.specs.media_map.specs.region_config.specs.Configurations.{Configuration}
+use Rattle.list_rules.specs.media_map.specs.region_config.specs.Granules.{region_spec}
 use Rattle.device_state.specs.Updates.{IsOfDevice}
 use Rattle.device_state.proofs.OfDevice.{all_alike, alike-blocks}
 use Rattle.device_state.proofs.state.State.enter.Goals as goal

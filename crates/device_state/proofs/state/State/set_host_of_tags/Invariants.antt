@@ -1,7 +1,7 @@
 use Rattle.std.proofs.Common.{◌≡◌, ◌≤◌, take}
 use Rattle.std.specs.List.{list_any}
-use Rattle.extent_list.specs.ExtentLists.{has_extent_of}
-use Rattle.table_laws.specs.TagTable.{host_of_tags_set}
+use Rattle.list_rules.specs.extent_list.specs.ExtentLists.{has_extent_of}
+use Rattle.device_laws.specs.TagTable.{host_of_tags_set}
 use Rattle.device_state.specs.StateAfter.{part_of}
 use Rattle.device_state.proofs.state.State.set_host_of_tags.Given as goal
 

@@ -1,6 +1,6 @@
 use Rattle.std.proofs.Common.{◌∙◌, ap, Bool}
 use Rattle.std.specs.List.{list_any}
-use Rattle.extent_list.specs.ExtentLists.{has_extent_of}
+use Rattle.list_rules.specs.extent_list.specs.ExtentLists.{has_extent_of}
 use Rattle.tag_refs.specs.Tables.{entries_changed, set_by, still_used}
 use Rattle.device_state.specs.StateAfter.{part_of}
 use Rattle.device_state.specs.declared.parts.HostPart.{HostPart}

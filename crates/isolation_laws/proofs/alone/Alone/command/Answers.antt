@@ -1,7 +1,7 @@
 use Rattle.std.proofs.Common.{◌≡◌, ◌∙◌, [], Err, ap, subst, sym}
-use Rattle.dcd_codes.specs.Rules.{code_of}
-use Rattle.dcd_codes.specs.declared.refusals.Refusal.{Refusal}
-use Rattle.dcd_codes.specs.declared.rules.Rule.{Rule}
+use Rattle.list_rules.specs.dcd_codes.specs.Rules.{code_of}
+use Rattle.list_rules.specs.dcd_codes.specs.declared.refusals.Refusal.{Refusal}
+use Rattle.list_rules.specs.dcd_codes.specs.declared.rules.Rule.{Rule}
 use Rattle.device_commands.specs.device_rules.specs.Answers.{response}
 use Rattle.isolation_laws.specs.Alone.{DoesAlone}
 use Rattle.isolation_laws.specs.declared.items.SoloReply.{SoloReply}

@@ -1,7 +1,7 @@
 use Rattle.std.proofs.Common.{◌<◌, ◌≤◌, length, refl, sym, ap, subst, arith}
 use Rattle.device_commands.specs.device_rules.specs.Views.{View}
-use Rattle.region_config.specs.Configurations.{Configuration}
-use Rattle.region_config.specs.declared.region_spec.RegionSpec.{RegionSpec}
+use Rattle.list_rules.specs.media_map.specs.region_config.specs.Configurations.{Configuration}
+use Rattle.list_rules.specs.media_map.specs.region_config.specs.declared.region_spec.RegionSpec.{RegionSpec}
 use Rattle.isolation_laws.specs.Alone.{IsAlone}
 use Rattle.isolation_laws.specs.Solo.{block_set}
 use Rattle.isolation_laws.specs.Telling.{resized}

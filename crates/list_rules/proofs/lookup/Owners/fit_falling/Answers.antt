@@ -1,9 +1,9 @@
 use Rattle.std.proofs.Common.{◌≡◌, true, sym, ap, ◌∙◌, arith, rules, subst, ◌≤◌, ◌<◌, ◌-◌, ◌+◌, length, get_or, List}
-use Rattle.dcd_base.specs.declared.capacity.Extent.{Extent}
+use Rattle.dcd_codes.specs.dcd_base.specs.declared.capacity.Extent.{Extent}
 use Rattle.extent_list.specs.Apart.{StandApart}
 use Rattle.list_rules.specs.Fitting.{IsOwned, area_of, fits_area}
 use Rattle.list_rules.specs.declared.placing.Area.{Area}
-use Rattle.region_config.specs.Granules.{region_spec}
+use Rattle.media_map.specs.region_config.specs.Granules.{region_spec}
 use Rattle.list_rules.proofs.FirstOwner.{no_extent}
 use Rattle.list_rules.proofs.FitFront.{falls_more, fits_placed, front_fits}
 use Rattle.list_rules.proofs.lookup.Owners.fit_falling.Goals as goal

@@ -1,5 +1,5 @@
 use Rattle.std.proofs.Common.{List, get_or, sym, ap, ◌∙◌}
-use Rattle.dcd_base.specs.declared.capacity.Extent.{Extent}
+use Rattle.dcd_codes.specs.dcd_base.specs.declared.capacity.Extent.{Extent}
 use Rattle.list_rules.proofs.FirstOwner.{no_extent, owner_at, owner_none}
 use Rattle.list_rules.proofs.lookup.Owners.owner_of.Goals as goal
 

@@ -1,6 +1,6 @@
 use Rattle.std.proofs.Common.{suc, ◌∙◌}
 use Rattle.dcd_base.specs.declared.steps.Stamp.{Stamp}
-use Rattle.journal_core.specs.declared.acts.Reply.{Reply}
+use Rattle.block_shard.specs.journal_core.specs.declared.acts.Reply.{Reply}
 use Rattle.block_shard.specs.ruled_cells.specs.Seats.{turns_of}
 use Rattle.shared_device.proofs.Rests.{rests_after, rests_again}
 use Rattle.shared_device.proofs.Turns.{given_again, same_twice}

@@ -1,7 +1,7 @@
 use Rattle.std.proofs.Common.{◌∙◌, ap, length, map, refl, sym}
 use lib.ListN.{get_elem?}
 use Rattle.atomic_table.proofs.Lists.{at_index}
-use Rattle.journal_core.specs.Merging.{call_of}
+use Rattle.block_shard.specs.journal_core.specs.Merging.{call_of}
 use Rattle.shared_device.proofs.shared.Shared.pass.Goals as goal
 
 pub invariant_of-result-clause-resting : goal.invariant_of-result-clause-resting

@@ -1,8 +1,0 @@
-use Rattle.std.proofs.Common.{◌≤◌}
-use Rattle.extent_list.specs.ExtentLists.{count_in}
-use Rattle.offer_core.specs.Offerings.{lists_of}
-use Rattle.decisions_tests.proofs.offers.see_rows.Given as goal
-
--- The host has few extents.
-abbrev pub invariant-loop-row : goal.invariant-loop-row
-invariant-loop-row g l = count_in (lists_of l.offers.offers) ≤ 64

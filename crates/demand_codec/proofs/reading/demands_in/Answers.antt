@@ -1,6 +1,0 @@
-use Rattle.demand_codec.specs.DemandTexts.{StatesDemand}
-use Rattle.demand_codec.proofs.Telling.{array_told}
-use Rattle.demand_codec.proofs.reading.demands_in.Goals as goal
-
-pub returns-in-Some : goal.returns-in-Some
-returns-in-Some c = array_told StatesDemand _ _ _ c.in-Some.ensures (rw c.as_slice.ensures.value at c.each_demand.ensures)

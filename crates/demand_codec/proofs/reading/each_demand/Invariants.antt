@@ -1,8 +1,0 @@
-use Rattle.std.specs.Prelude.{map, take}
-use Rattle.std.specs.List.{AllZip}
-use Rattle.serde_json.specs.View.{view}
-use Rattle.demand_codec.specs.DemandTexts.{StatesDemand}
-use Rattle.demand_codec.proofs.reading.each_demand.Given as goal
-
-abbrev pub invariant-loop-value : goal.invariant-loop-value
-invariant-loop-value l = AllZip StatesDemand (map view (take l.value-index l.values)) l.demands

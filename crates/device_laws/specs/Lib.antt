@@ -1,0 +1,17 @@
+pub mod BlockSizes
+pub mod GranuleCells
+pub mod GranuleStates
+pub mod GranuleTable
+pub mod InOrderResponses
+pub mod Logs
+pub mod OpenTags
+pub mod Pictures
+pub mod QuietRequests
+pub mod Refusals
+pub mod ShownTags
+pub mod Standing
+pub mod Steps
+pub mod Tabled
+pub mod TagTable
+pub mod TagTableSteps
+pub use Rattle.device_rules

@@ -1,4 +1,0 @@
-pub mod FabricDevices
-pub mod FabricLaws
-pub mod FabricLineLaws
-pub mod FabricLists

@@ -1,3 +1,0 @@
-mod Counting
-mod Flags
-mod Ranges

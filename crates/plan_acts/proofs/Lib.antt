@@ -1,2 +1,0 @@
-pub mod LastBytes
-pub mod Untagged

@@ -1,5 +1,0 @@
-use Rattle.plan_acts.proofs.Untagged.{listed_untagged}
-use Rattle.plan_acts.proofs.gaining.accept_step.Goals as goal
-
-pub by_host-requires-clause-untagged : goal.by_host-requires-clause-untagged
-by_host-requires-clause-untagged c = rw c.in_ok-all_listed.ensures.listed (listed_untagged c.args.offer.now)

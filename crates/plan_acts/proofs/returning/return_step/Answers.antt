@@ -1,6 +1,0 @@
-use Rattle.std.specs.Prelude.{reverse}
-use Rattle.plan_acts.proofs.Untagged.{last_untagged}
-use Rattle.plan_acts.proofs.returning.return_step.Goals as goal
-
-pub by_host-requires-clause-untagged : goal.by_host-requires-clause-untagged
-by_host-requires-clause-untagged c = rw c.in_ok-last_bytes.ensures.those (last_untagged c.args.bytes (reverse c.args.extents.now))

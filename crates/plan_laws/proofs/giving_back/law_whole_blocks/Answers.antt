@@ -1,5 +1,0 @@
-use Rattle.plan_laws.proofs.GivingBack.{made_of_blocks}
-use Rattle.plan_laws.proofs.giving_back.law_whole_blocks.Goals as goal
-
-pub returns : goal.returns
-returns c = made_of_blocks

@@ -1,5 +1,0 @@
-use Rattle.plan_laws.proofs.Emptying.{empties_regions}
-use Rattle.plan_laws.proofs.letting_go.law_region_emptied.Goals as goal
-
-pub returns : goal.returns
-returns c = empties_regions

@@ -1,5 +1,0 @@
-use Rattle.plan_laws.proofs.FreeOffers.{offers_free_blocks}
-use Rattle.plan_laws.proofs.taking.law_free_offered.Goals as goal
-
-pub returns : goal.returns
-returns c = offers_free_blocks

@@ -1,5 +1,0 @@
-use Rattle.plan_laws.proofs.WholeOffers.{takes_whole_offers}
-use Rattle.plan_laws.proofs.taking.law_offer_taken.Goals as goal
-
-pub returns : goal.returns
-returns c = takes_whole_offers

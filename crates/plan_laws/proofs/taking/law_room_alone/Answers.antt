@@ -1,5 +1,0 @@
-use Rattle.plan_laws.proofs.RoomAlone.{only_room_is_wanting}
-use Rattle.plan_laws.proofs.taking.law_room_alone.Goals as goal
-
-pub returns : goal.returns
-returns c = only_room_is_wanting

@@ -1,8 +1,0 @@
-use Rattle.std.proofs.Common.{◌∷◌, [], List, ap, subst}
-use Rattle.std.specs.Prelude.{OnOk}
-use Rattle.plan_acts.specs.plan_rules.specs.Holding.{Step}
-use Rattle.plan_maker.specs.Trials.{TriesMore}
-use Rattle.plan_maker.proofs.gaining.take_offer.Goals as goal
-
-pub returns : goal.returns
-returns c = subst (λ (more : List Step). OnOk c.take.result (TriesMore c.args.trial.now c.take.new.self more)) (ap (λ (s : Step). s ∷ []) c.in_ok-step.ensures) c.take.ensures

@@ -1,0 +1,98 @@
+-- Extents that may leave their host break none of the rules of a list of such extents.
+use Rattle.std.proofs.Common.{◌≡◌, ℕ, ◌+◌, Bool, true, false, not, ◌&&◌, ◌||◌, List, [], ◌∷◌, ◌++◌, length, None, refl, ap, ◌∙◌, arith, eqb, leb, ltb}
+use Rattle.std.specs.Prelude.{Option}
+use Rattle.std.specs.List.{AllByRecursion, list_any, position, position_from}
+use Rattle.std.proofs.lemmas.Bool.{ne_eqb, or_from, or_parts}
+use Rattle.std.proofs.lemmas.List.Folds.{list_any-append}
+use Rattle.std.proofs.lemmas.Iterator.Adapters.{position_from-zero}
+use Rattle.dcd_base.specs.declared.capacity.Extent.{Extent}
+use Rattle.dcd_base.specs.declared.ids.HostId.{HostId}
+use Rattle.dcd_codes.specs.Rules.{each_in, first_by}
+use Rattle.dcd_codes.specs.declared.rules.Rule.{Rule}
+use Rattle.extent_list.specs.ExtentLists.{is_in, is_whole, overlaps}
+use Rattle.list_rules.specs.Listing.{is_shareable_at, lies_in_region, misplaced}
+use Rattle.media_map.specs.Places.{region_at}
+use Rattle.region_config.specs.Configurations.{Configuration}
+use Rattle.region_config.specs.Granules.{region_spec, with_blocks}
+use Rattle.isolation_laws.specs.device_rules.proofs.ListSteps.{each-both}
+use Rattle.isolation_laws.specs.device_laws.specs.Pictures.{Picture}
+use Rattle.isolation_laws.specs.device_laws.specs.Standing.{IsMade}
+use Rattle.isolation_laws.specs.device_laws.proofs.AllLeave.{Behind}
+use Rattle.isolation_laws.specs.device_laws.proofs.Going.{IsGoing}
+use Rattle.isolation_laws.specs.device_laws.proofs.Holding.{made_aligned, made_lies}
+use Rattle.isolation_laws.specs.device_laws.proofs.Homes.{base_same, length_same, region_at_same, regions_same, shareable_same}
+use Rattle.isolation_laws.specs.device_laws.proofs.LeftStanding.{going_rule}
+use Rattle.isolation_laws.specs.device_laws.proofs.Overlaps.{Spread}
+
+-- ---- a row over a list that is spread out
+
+position_from-none : (p : Extent → Bool) (n : ℕ) (xs : List Extent) → list_any p xs ≡ false → position_from p n xs ≡ None
+position_from-none p n [] e = refl
+position_from-none p n (x ∷ xs) e = let parts = or_parts (p x) (list_any p xs) e in rw parts.0 (position_from-none p (n + 1) xs parts.1)
+
+position-none : (p : Extent → Bool) (xs : List Extent) → list_any p xs ≡ false → position p xs ≡ None
+position-none p xs e = position_from-zero p xs ∙ position_from-none p 0 xs e
+
+spread_from : (before xs : List Extent) → AllByRecursion (λ y. list_any (overlaps y) before ≡ false) xs → Behind xs → Spread before xs
+spread_from before [] apart behind = tt
+spread_from before (x ∷ xs) apart behind = (
+  apart.0,
+  spread_from (before ++ x ∷ []) xs
+      (each-both (λ y. list_any (overlaps y) before ≡ false) (λ y. overlaps y x ≡ false) (λ y. list_any (overlaps y) (before ++ x ∷ []) ≡ false)
+      (λ y a b. list_any-append (overlaps y) before (x ∷ []) ∙ or_from (list_any (overlaps y) before) (overlaps y x || false) a (or_from (overlaps y x) false b refl)) xs apart.1 behind.0)
+      behind.1,
+)
+
+none_before : (xs : List Extent) → AllByRecursion (λ y. list_any (overlaps y) [] ≡ false) xs
+none_before [] = tt
+none_before (x ∷ xs) = (refl, none_before xs)
+
+first_none : (check : List Extent → Extent → Option Rule) (P : Extent → Type 0) → ((before : List Extent) (x : Extent) → list_any (overlaps x) before ≡ false → P x → check before x ≡ None)
+    → (before xs : List Extent) → Spread before xs → AllByRecursion P xs → first_by check before xs ≡ None
+first_none check P step before [] spread each = refl
+first_none check P step before (x ∷ xs) spread each = rw (step before x spread.0 each.0) (first_none check P step (before ++ x ∷ []) xs spread.1 each.1)
+
+-- ---- the extents of the list
+
+module _ (c : Configuration) (p : Picture) (h : HostId) where
+  lies_same : (r : ℕ) (x : Extent) → lies_in_region (with_blocks c p.block) h r x ≡ lies_in_region c h r x
+  lies_same r x = λ i. ltb r (regions_same c p.block i) && leb (base_same c p.block h r i) x.start && leb (x.start + x.length) (base_same c p.block h r i + length_same c p.block r i)
+
+  pub well_placed : (r i : ℕ) (x : Extent) → IsMade c (p.block r) h r x → misplaced (with_blocks c p.block) h r i x ≡ None
+  well_placed r i x m =
+      let some : eqb x.length 0 ≡ false = ne_eqb x.length 0 (λ e. absurd (omega (arith, e, m.some))) in
+      rw (some, lies_same r x ∙ made_lies c (p.block r) h r x m, made_aligned c p.block h r x m) refl
+
+  pub share_same : (x : Extent) → is_shareable_at (with_blocks c p.block) h x ≡ (region_spec c (region_at c h x.start)).shareable
+  share_same x = shareable_same c p.block (region_at (with_blocks c p.block) h x.start) ∙ ap (λ r. (region_spec c r).shareable) (region_at_same c p.block h x.start)
+
+  -- what a rule asks of an extent beside those before it
+  record MayGo (region : Extent → ℕ) (x : Extent) : Type 0 where
+    place : region x ≡ region_at c h x.start
+    made : IsMade c (p.block (region_at c h x.start)) h (region_at c h x.start) x
+    inside : is_in (p.accepted h) x ≡ true
+    whole : (region_spec c (region_at c h x.start)).shareable ≡ true → is_whole (p.accepted h) x ≡ true
+
+  one_none : (region : Extent → ℕ) (before : List Extent) (x : Extent) → list_any (overlaps x) before ≡ false → MayGo region x → going_rule (with_blocks c p.block) h (p.accepted h) region before x ≡ None
+  one_none region before x apart m =
+      let w : Configuration = with_blocks c p.block in
+      let placed : misplaced (with_blocks c p.block) h (region x) (length before) x ≡ None =
+      ap (λ r. misplaced w h r (length before) x) m.place ∙ well_placed (region_at c h x.start) (length before) x m.made in
+      let whole : (is_shareable_at (with_blocks c p.block) h x && not (is_whole (p.accepted h) x)) ≡ false = ap (λ b. b && not (is_whole (p.accepted h) x)) (share_same x) ∙ both (region_spec c (region_at c h x.start)).shareable refl in
+      rw (placed, m.inside, position-none (overlaps x) before apart, whole) refl
+    where
+      both : (b : Bool) → (region_spec c (region_at c h x.start)).shareable ≡ b → (b && not (is_whole (p.accepted h) x)) ≡ false
+      both true shared = ap not (m.whole shared)
+      both false private = refl
+
+  pub each_may_go : (region : Extent → ℕ) (ys : List Extent) → IsGoing c p h ys → AllByRecursion (λ y. region y ≡ region_at c h y.start) ys
+      → each_in ys (going_rule (with_blocks c p.block) h (p.accepted h) region) ≡ None
+  each_may_go region ys g places =
+      let R : Extent → ℕ = λ y. region_at c h y.start in
+      let first = each-both (λ y. IsMade c (p.block (R y)) h (R y) y) (λ y. is_in (p.accepted h) y ≡ true) (λ y. IsMade c (p.block (R y)) h (R y) y × (is_in (p.accepted h) y ≡ true)) (λ y a b. (a, b)) ys g.made g.inside in
+      let second = each-both (λ y. region y ≡ R y) (λ y. (region_spec c (R y)).shareable ≡ true → is_whole (p.accepted h) y ≡ true)
+      (λ y. (region y ≡ R y) × ((region_spec c (R y)).shareable ≡ true → is_whole (p.accepted h) y ≡ true)) (λ y a b. (a, b)) ys places g.whole in
+      let all = each-both (λ y. IsMade c (p.block (R y)) h (R y) y × (is_in (p.accepted h) y ≡ true))
+      (λ y. (region y ≡ R y) × ((region_spec c (R y)).shareable ≡ true → is_whole (p.accepted h) y ≡ true)) (MayGo region)
+      (λ y a b. record { place = b.0; made = a.0; inside = a.1; whole = b.1 }) ys first second in
+      first_none (going_rule (with_blocks c p.block) h (p.accepted h) region) (MayGo region) (one_none region) [] ys (spread_from [] ys (none_before ys) g.behind) all

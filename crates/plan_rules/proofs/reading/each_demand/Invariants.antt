@@ -1,0 +1,8 @@
+use Rattle.std.specs.Prelude.{map, take}
+use Rattle.std.specs.List.{AllZip}
+use Rattle.serde_json.specs.View.{view}
+use Rattle.plan_rules.specs.DemandTexts.{StatesDemand}
+use Rattle.plan_rules.proofs.reading.each_demand.Given as goal
+
+abbrev pub invariant-loop-value : goal.invariant-loop-value
+invariant-loop-value l = AllZip StatesDemand (map view (take l.value-index l.values)) l.demands

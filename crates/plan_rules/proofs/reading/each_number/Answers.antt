@@ -1,0 +1,16 @@
+use Rattle.std.proofs.Common.{add-one}
+use Rattle.std.proofs.lemmas.Result.{err_from_is_err_and}
+use Rattle.plan_rules.specs.DemandTexts.{IsWhole}
+use Rattle.plan_rules.proofs.Telling.{passed_on}
+use Rattle.plan_rules.proofs.Zipped.{zipped_at, zipped_more}
+use Rattle.plan_rules.proofs.reading.each_number.Goals as goal
+
+pub returns-in_err-number_in : goal.returns-in_err-number_in
+returns-in_err-number_in c =
+    let p = err_from_is_err_and c.from_residual.result c.from_residual.ensures.1 in
+    rw (p.1, p.2) (passed_on _ _ _ c.in_err-number_in.ensures (zipped_at IsWhole c.args.values.now c.loop-value.value-index _ c.value-item.is c.loop-value-test.true))
+
+pub loop-value-preserved : goal.loop-value-preserved
+loop-value-preserved c =
+    rw (c.in_ok-push.ensures.pushed, add-one)
+    (zipped_more IsWhole c.args.values.now c.loop-value.value-index _ c.value-item.is c.loop-value-test.true c.loop-value.numbers _ c.loop-value.invariant c.in_ok-number_in.ensures)

@@ -1,0 +1,6 @@
+use Rattle.plan_rules.specs.DemandTexts.{IsWhole}
+use Rattle.plan_rules.proofs.Telling.{array_told}
+use Rattle.plan_rules.proofs.reading.numbers_in.Goals as goal
+
+pub returns-in-Some : goal.returns-in-Some
+returns-in-Some c = array_told IsWhole _ _ _ c.in-Some.ensures (rw c.as_slice.ensures.value at c.each_number.ensures)

@@ -1,0 +1,47 @@
+-- What a host's 4803h leaves that gives back the last bytes of its extents in a region.
+use Rattle.std.specs.Prelude.{◌≡◌, ◌≢◌, ℕ, ◌<◌, ◌%◌, false, IsFalse, IsTrue, List, [], filter, length, reverse, ◌-◌}
+use Rattle.std.specs.declared.result.Result.TheVariants.{Ok}
+use Rattle.cci_codec.specs.declared.messages.Request.{Request}
+use Rattle.dcd_base.specs.declared.ids.HostId.{HostId}
+use Rattle.dcd_base.specs.declared.steps.Actor.{Actor}
+use Rattle.dcd_base.specs.declared.steps.LogId.{LogId}
+use Rattle.host_payloads.specs.HostPayloads.{host_request}
+use Rattle.host_payloads.specs.declared.requests.HostRequest.{HostRequest}
+use Rattle.region_config.specs.Configurations.{Configuration}
+use Rattle.region_config.specs.Granules.{region_spec}
+use Rattle.journal_core.specs.Entries.{effects}
+use Rattle.journal_core.specs.Holders.{holds}
+use Rattle.journal_core.specs.declared.entries.Entry.{Entry}
+use Rattle.journal_core.specs.declared.outcome.HeldKind.{HeldKind}
+use Rattle.isolation_laws.specs.device_rules.specs.Hosts.{accepted_of, block_of, held_of, offers_of}
+use Rattle.isolation_laws.specs.device_rules.specs.Logs.{log_of}
+use Rattle.plan_rules.specs.Kept.{KeepsOthers, Succeeds, begins_in, behind_host, bytes_in}
+use Rattle.plan_rules.specs.Listing.{last_bytes}
+use Rattle.plan_rules.specs.LastBytes.{without_last_bytes}
+
+-- The host's extents in the region lack so many bytes at the end of the list, and those elsewhere are as they were. Nobody
+-- holds a granule that it did not hold before.
+pub record IsGivenBack (c : Configuration) (journal : List Entry) (h : HostId) (r n : ℕ) (q : Request) : Type 0 where
+  pub succeeds : Succeeds c journal (Actor.Host h) q
+  pub keeps : KeepsOthers c h (effects journal) (behind_host c journal h q)
+  pub offers : offers_of h (behind_host c journal h q) ≡ offers_of h (effects journal)
+  pub logs : (k : HostId) → log_of (LogId.Host k) (behind_host c journal h q) ≡ log_of (LogId.Host k) (effects journal)
+  pub holders : (k : HostId) (g : ℕ) → IsTrue (holds k g (behind_host c journal h q)) → IsTrue (holds k g (effects journal))
+  pub there : reverse (filter (begins_in c h r) (accepted_of c h (behind_host c journal h q)))
+      ≡ without_last_bytes n (reverse (filter (begins_in c h r) (accepted_of c h (effects journal))))
+  pub long : bytes_in c h r (behind_host c journal h q) ≡ bytes_in c h r (effects journal) - n
+  pub elsewhere : (s : ℕ) → s ≢ r → filter (begins_in c h s) (accepted_of c h (behind_host c journal h q))
+      ≡ filter (begins_in c h s) (accepted_of c h (effects journal))
+
+-- Where the region is not shareable, the bytes are whole blocks and the host holds nothing of earlier releases, it succeeds.
+abbrev pub GivesLastBytesBack : Configuration → List Entry → Type 0
+GivesLastBytesBack c journal = (h : HostId) (r n : ℕ) (q : Request) → h < c.hosts → r < length c.regions → IsFalse (region_spec c r).shareable →
+    held_of h HeldKind.Releases (effects journal) ≡ [] → n % block_of c r (effects journal) ≡ 0 →
+    host_request q.opcode q.payload ≡ Ok (HostRequest.GiveBack false (last_bytes n (reverse (filter (begins_in c h r) (accepted_of c h (effects journal)))))) →
+    IsGivenBack c journal h r n q
+
+-- ---- whole blocks
+
+-- What a host has accepted in a region is whole blocks of the present size.
+abbrev pub MadeOfBlocks : Configuration → List Entry → Type 0
+MadeOfBlocks c journal = (h : HostId) (r : ℕ) → bytes_in c h r (effects journal) % block_of c r (effects journal) ≡ 0

@@ -1,0 +1,6 @@
+use Rattle.std.proofs.Common.{◌≡◌, ℕ, ◌<◌, false}
+use Rattle.plan_rules.specs.Planning.{is_bad_dead}
+use Rattle.pool_planner.proofs.bad_names.bad_dead.Given as goal
+
+abbrev pub invariant-loop-index : goal.invariant-loop-index
+invariant-loop-index l = (k : ℕ) → k < l.index → is_bad_dead l.config l.demands k ≡ false

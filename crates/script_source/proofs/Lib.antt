@@ -1,4 +1,0 @@
-mod Ahead
-mod FrontLines
-mod Handing
-pub mod Standing

@@ -1,4 +1,0 @@
-pub mod AllRan
-pub mod LineActors
-pub mod LinesRan
-pub mod NewPassesReady

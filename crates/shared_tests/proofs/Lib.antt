@@ -1,2 +1,0 @@
-mod Leavings
-mod Passes

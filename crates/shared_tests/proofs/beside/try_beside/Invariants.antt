@@ -1,5 +1,0 @@
-use Rattle.shared_device.specs.Passing.{IsSamePass}
-use Rattle.shared_tests.proofs.beside.try_beside.Given as goal
-
-abbrev pub invariant-loop-what : goal.invariant-loop-what
-invariant-loop-what g l = IsSamePass l.shared l.fn.pass l.pass

@@ -1,4 +1,0 @@
-pub mod GranuleStates
-pub mod Logs
-pub mod Refusals
-pub mod Steps

@@ -1,6 +1,0 @@
-use Rattle.std.proofs.Common.{List, ℕ, sym, subst, ◌∙◌}
-use Rattle.text_lines.specs.PlainParts.{CutsPlacing}
-use Rattle.text_lines.proofs.plain_messages.placing_payload.Goals as goal
-
-pub returns : goal.returns
-returns c = subst (λ (payload : List ℕ). CutsPlacing c.args.spot.host c.args.choice c.args.spot.region c.args.text.now payload c.in_ok-size.rest.now) (sym (c.in_ok-payload.ensures ∙ c.split_at.ensures.front)) c.in_ok-size.ensures.cuts

@@ -1,5 +1,0 @@
-use Rattle.text_lines.proofs.PartCuts.{cuts_page}
-use Rattle.text_lines.proofs.plain_parts.cut_count.Goals as goal
-
-pub returns : goal.returns
-returns c = cuts_page 4294967295 c.args.text.now c.in_ok-text.text.now c.in_ok-count.rest.now c.in_ok-count.count c.in_ok-text.ensures c.in_ok-count.ensures.cuts

@@ -1,5 +1,0 @@
-use Rattle.text_printing.proofs.PrintedActors.{actor_starts}
-use Rattle.text_printing.proofs.actors.begin_actor.Goals as goal
-
-pub returns : goal.returns
-returns c = actor_starts c.args.frame c.args.actor.now c.args.lane c.requires.lanes c.requires.word c.law_seat.ensures c.in_ok-put_name.ensures

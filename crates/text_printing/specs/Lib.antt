@@ -1,3 +1,0 @@
-pub mod Printing
-pub use Rattle.text_lines.specs.script_codec
-pub use Rattle.text_lines

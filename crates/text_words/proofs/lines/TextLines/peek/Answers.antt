@@ -1,8 +1,0 @@
-use Rattle.std.proofs.Common.{sym, ◌∙◌}
-use Rattle.text_words.proofs.AheadLaws.{no_next}
-use Rattle.text_words.proofs.lines.TextLines.peek.Goals as goal
-
-pub returns-then-is_done : goal.returns-then-is_done
-returns-then-is_done c =
-    let done = sym c.is_done.ensures ∙ c.if-is_done.true in
-    no_next c.first_line-words.result.0 c.first_line-words.result.1 c.first_line-words.result.2.now c.args.self.now done (c.first_line-words.ensures.done done) (c.first_line-words.ensures.ahead ∙ c.self.view_is)

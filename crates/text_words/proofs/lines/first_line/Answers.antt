@@ -1,8 +1,0 @@
-use Rattle.std.proofs.Common.{arith, ap, ◌∙◌}
-use Rattle.text_words.specs.Unread.{UnreadWords}
-use Rattle.text_words.specs.Words.{words_in}
-use Rattle.text_words.proofs.AheadLaws.{nothing_ahead}
-use Rattle.text_words.proofs.lines.first_line.Goals as goal
-
-pub loop-words-init : goal.loop-words-init
-loop-words-init c = record { ahead = nothing_ahead c.of-words.result _ (ap (λ (u : UnreadWords). u.words) c.of-words.ensures ∙ ap words_in c.as_slice.ensures); within = omega arith }

@@ -1,0 +1,4 @@
+mod DeskSteps
+mod Leavings
+mod Passes
+mod TallySteps

@@ -1,0 +1,10 @@
+use Rattle.std.proofs.Common.{◌≤◌, ◌*◌, length, IsTrue}
+use Rattle.std.specs.List.{list_all}
+use Rattle.workers.specs.script_codec.specs.Scripts.{is_sound_line}
+use Rattle.threads_tests.proofs.desks.marked_lines.Given as goal
+
+abbrev pub invariant-loop-index : goal.invariant-loop-index
+invariant-loop-index l = record {
+  sound : IsTrue (list_all (is_sound_line 2 2) l.lines.items);
+  count : length l.lines.items ≤ 2 * l.index;
+}

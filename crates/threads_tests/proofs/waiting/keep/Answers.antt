@@ -1,0 +1,6 @@
+use Rattle.threads_tests.proofs.TallySteps.{given_again, same_twice}
+use Rattle.threads_tests.proofs.waiting.keep.Goals as goal
+
+pub returns : goal.returns
+returns g c =
+    (same_twice _ _ _ c.take-counter.ensures.seat c.put_back.ensures.seat, given_again _ _ _ 2 _ c.requires.idle.0 c.take-counter.ensures.turn.0 c.put_back.ensures.turn)

@@ -1,9 +1,0 @@
-use Rattle.std.proofs.Common.{arith}
-use Rattle.workers_tests.proofs.DeskSteps.{desks_ready}
-use Rattle.workers_tests.specs.declared.keeper.Keeper.{Keeper}
-use Rattle.workers_tests.proofs.marked.run_script.Goals as goal
-
-pub run_script_lines-requires-clause-ready : goal.run_script_lines-requires-clause-ready
-run_script_lines-requires-clause-ready g c κs within =
-    let few = c.requires.few in
-    desks_ready (λ (keeper : Keeper). keeper.hosts) c.args.keeper.now 0 1 c.args.lines c.args.desks.now c.requires.hosts (omega (arith, few)) c.requires.desks
