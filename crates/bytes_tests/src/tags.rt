@@ -131,11 +131,23 @@ fn a_tag_ends_with_its_last_use(rt: HostRuntime) -> Result<(), Fail> {
     Ok(())
 }
 
+/// Opens the tag as `open` does, in memory that is taken before.
+fn open_within(tags: &mut Tags, tag: Tag) -> Result<(), NoMemory> {
+    let block = Run {
+        first: Granule(16),
+        count: 1,
+    };
+    tags.make_room()?;
+    if !tags.is_live(&tag) {
+        tags.open(tag, RegionId(1), FIRST, &[block]);
+    }
+    Ok(())
+}
+
 /// Opens the tags of the bytes 1, 2 and 3.
 fn open_three(alloc: Global, tags: &mut Tags) -> Result<(), NoMemory> {
-    tags.reserve(3)?;
     open(alloc, tags, other(1))?;
-    open(alloc, tags, other(2))?;
+    open_within(tags, other(2))?;
     open(alloc, tags, other(3))
 }
 
@@ -213,12 +225,16 @@ fn ends(tags: &Tags) -> [bool; 3] {
     ]
 }
 
-/// Whether no tag is left once the second host has nothing of it, and once a host is set of no tag.
-fn ended(tags: &mut Tags) -> [bool; 2] {
+/// Whether no tag is left once the second host has nothing of it, once it is ended, and once a host and a reference are set
+/// of no tag.
+fn ended(tags: &mut Tags) -> [bool; 3] {
     tags.set_host(&TAG, SECOND, false, false);
-    let is_empty = tags.is_empty();
+    let unused = tags.is_empty();
+    tags.end(&TAG);
+    let ended = tags.is_empty();
     tags.set_host(&TAG, SECOND, true, true);
-    [is_empty, tags.is_empty()]
+    tags.set_reference(&TAG, true);
+    [unused, ended, tags.is_empty()]
 }
 
 /// Sees the tag soiled, the hosts of it set, and its end.
@@ -226,12 +242,12 @@ fn see_soiled(rt: &impl Abort, tags: &mut Tags) {
     see(rt, &soiled(tags), &[false, true]);
     see(rt, &set(tags), &[true, false, false]);
     see(rt, &ends(tags), &[false, false, true]);
-    see(rt, &ended(tags), &[true, true]);
+    see(rt, &ended(tags), &[false, true, true]);
     see(rt, &tags.ends(&TAG, SECOND, false, false), &false);
 }
 
 #[test]
-fn a_soiled_tag_ends_with_the_last_host_that_is_set(rt: HostRuntime) -> Result<(), Fail> {
+fn a_soiled_tag_ends_when_it_is_ended(rt: HostRuntime) -> Result<(), Fail> {
     see_soiled(&rt, &mut opened(rt.alloc())?);
     Ok(())
 }

@@ -1,9 +1,8 @@
 -- What a host's message comes to is the answer to it.
-use Rattle.std.proofs.Common.{◌≡◌, ℕ, ◌≤◌, Bool, true, false, ◌&&◌, List, [], ◌∷◌, ◌++◌, length, map, fold, None, inl, inr, refl, sym, ap, ◌∙◌, subst, arith}
-use Rattle.std.specs.Prelude.{◌==◌, All, if◌then◌else◌}
+use Rattle.std.proofs.Common.{◌≡◌, ℕ, ◌≤◌, true, false, List, [], ◌∷◌, ◌++◌, length, map, None, sym, ap, ◌∙◌, subst, arith}
+use Rattle.std.specs.Prelude.{All}
 use Rattle.std.specs.List.{AllByRecursion}
 use Rattle.std.specs.declared.result.Result.TheVariants.{Ok, Err}
-use Rattle.std.proofs.lemmas.Bool.{cases_eq}
 use Rattle.std.proofs.lemmas.List.Elements.{All-from_recursion}
 use Rattle.cci_codec.specs.declared.messages.Request.{Request}
 use Rattle.cci_codec.specs.field_bytes.specs.dcd_base.specs.declared.capacity.Extent.{Extent}
@@ -21,23 +20,16 @@ use Rattle.journal_core.specs.declared.acts.Act.{Act}
 use Rattle.journal_core.specs.declared.acts.Reply.{Reply}
 use Rattle.journal_core.specs.declared.entries.Entry.{Entry}
 use Rattle.journal_core.specs.declared.outcome.Effect.{Effect}
-use Rattle.journal_core.specs.declared.outcome.HeldKind.{HeldKind}
-use Rattle.device_commands.specs.device_state.specs.StateAfter.{lists_in}
 use Rattle.device_commands.specs.Drafts.{as_records}
 use Rattle.device_commands.specs.declared.log_records.LogRecords.{LogRecords}
 use Rattle.device_commands.specs.device_rules.specs.Answers.{dropped, effects_with, host_outcome, host_result, host_result_in, host_rule, reply_with, response, unless}
 use Rattle.device_commands.specs.device_rules.specs.Outcomes.{Outcome}
-use Rattle.device_commands.specs.device_rules.specs.ResponseOutcomes.{response_records, respond_changes, unhold}
+use Rattle.device_commands.specs.device_rules.specs.ResponseOutcomes.{response_records, respond_changes}
 use Rattle.device_commands.specs.device_rules.specs.Views.{View, view_after, view_of}
-use Rattle.device_commands.specs.device_laws.proofs.ViewOthers.{dropped-leaves}
-use Rattle.device_commands.specs.device_laws.proofs.QuietSteps.{table-refused}
 use Rattle.control_core.specs.Deciding.{IsDecidedBy, IsShort}
 use Rattle.control_core.specs.Doing.{IsDone}
-use Rattle.device_commands.specs.device_state.specs.Entered.{lists_by, unheld}
-use Rattle.device_commands.specs.device_state.specs.Updates.{IsOfLog, IsUpdate, lists_after}
+use Rattle.device_commands.specs.device_state.specs.Updates.{IsOfLog}
 use Rattle.control_core.specs.declared.decided.Decided.{Decided}
-use Rattle.device_commands.specs.device_state.specs.declared.updates.TagChange.{TagChange}
-use Rattle.control_core.proofs.Doing.{others_stay}
 
 -- ---- the logs that are told are of the device
 
@@ -77,61 +69,15 @@ module _ (c : Configuration) (before : List Entry) (h : HostId) (q : Request) wh
       let is : host_result_in c h (view_of c h before) q ≡ Ok (host_outcome c h (view_of c h before) r) = ap (host_result c h v) asked ∙ ap (λ rule. unless rule o) row in record {
         reply = done.reply ∙ sym (ap (reply_with q) is);
         effects = done.effects ∙ sym (ap (effects_with c (effects before) (dropped h v q.opcode)) is);
-        update = done.update;
         short = subst IsShort (sym done.reply) short;
       }
 
   -- ---- a message that is refused
 
-  unhold_lists : (kind : HeldKind) (held : List Extent) → fold (lists_by h) (lists_in (view_of c h before)) (unhold h kind held) ≡ lists_after c h before (unhold h kind held)
-  unhold_lists kind [] = refl
-  unhold_lists HeldKind.Responses (x ∷ xs) = by (h == h)
-    where
-      v : View
-      v = view_of c h before
-
-      by : (b : Bool) → (if b then unheld HeldKind.Responses (lists_in v) else lists_in v) ≡ record (lists_in v) { responses = if b && true then [] else v.responses; releases = if b && false then [] else v.releases }
-      by true = refl
-      by false = refl
-  unhold_lists HeldKind.Releases (x ∷ xs) = by (h == h)
-    where
-      v : View
-      v = view_of c h before
-
-      by : (b : Bool) → (if b then unheld HeldKind.Releases (lists_in v) else lists_in v) ≡ record (lists_in v) { responses = if b && false then [] else v.responses; releases = if b && true then [] else v.releases }
-      by true = refl
-      by false = refl
-
-  dropped_lists : (opcode : ℕ) → fold (lists_by h) (lists_in (view_of c h before)) (dropped h (view_of c h before) opcode) ≡ lists_after c h before (dropped h (view_of c h before) opcode)
-  dropped_lists opcode = by (opcode == 0x4802) (opcode == 0x4803) (unhold_lists HeldKind.Responses (view_of c h before).responses) (unhold_lists HeldKind.Releases (view_of c h before).releases)
-    where
-      v : View
-      v = view_of c h before
-
-      by : (a b : Bool) → fold (lists_by h) (lists_in v) (unhold h HeldKind.Responses v.responses) ≡ lists_after c h before (unhold h HeldKind.Responses v.responses) →
-          fold (lists_by h) (lists_in v) (unhold h HeldKind.Releases v.releases) ≡ lists_after c h before (unhold h HeldKind.Releases v.releases) →
-          fold (lists_by h) (lists_in v) (if a then unhold h HeldKind.Responses v.responses else if b then unhold h HeldKind.Releases v.releases else [])
-          ≡ lists_after c h before (if a then unhold h HeldKind.Responses v.responses else if b then unhold h HeldKind.Releases v.releases else [])
-      by true b first second = first
-      by false true first second = second
-      by false false first second = refl
-
-  refused_update : (opcode : ℕ) → IsUpdate c before (dropped h (view_of c h before) opcode) (record { lists = None; tags = TagChange.Nothing })
-  refused_update opcode = record {
-    of_hosts = tt;
-    lists = λ k known. elim (cases_eq h k) [
-      | inl same ↦ subst (λ m. fold (lists_by m) (lists_in (view_of c m before)) (dropped h (view_of c h before) opcode) ≡ lists_after c m before (dropped h (view_of c h before) opcode)) same (dropped_lists opcode)
-      | inr other ↦ others_stay c k (view_of c k before) (dropped h (view_of c h before) opcode) (dropped-leaves c h k other (view_of c h before) opcode)
-    ];
-    can_change = λ entries table. tt;
-    tags = λ entries table. table-refused c (effects before) entries table h (view_of c h before) opcode;
-  }
-
   pub refused_host : (rule : Rule) → host_result_in c h (view_of c h before) q ≡ Err rule → (reply : Reply) (new : List Effect) → reply ≡ response q (code_of rule) [] → new ≡ dropped h (view_of c h before) q.opcode →
-      IsDecidedBy c before (Actor.Host h) (Act.Command q) (record { reply = reply; effects = new; update = record { lists = None; tags = TagChange.Nothing } })
+      IsDecidedBy c before (Actor.Host h) (Act.Command q) (record { reply = reply; effects = new })
   refused_host rule is reply new answers effects_are = record {
     reply = answers ∙ sym (ap (reply_with q) is);
     effects = effects_are ∙ sym (ap (effects_with c (effects before) (dropped h (view_of c h before) q.opcode)) is);
-    update = subst (λ es. IsUpdate c before es (record { lists = None; tags = TagChange.Nothing })) (sym effects_are) (refused_update q.opcode);
     short = subst IsShort (sym answers) (omega arith);
   }

@@ -11,13 +11,13 @@ use Rattle.journal_core.proofs.EachSteps.{Each-push}
 use Rattle.list_rules.specs.media_map.specs.region_config.specs.Configurations.{Configuration}
 use Rattle.device_commands.specs.device_rules.specs.Legal.{Meets}
 use Rattle.device_commands.specs.device_state.specs.Entered.{IsEntered}
+use Rattle.device_commands.specs.device_state.specs.EnteredLists.{Fits, lists_of}
 use Rattle.device_commands.specs.device_state.specs.StateAfter.{IsReached}
-use Rattle.device_commands.specs.device_state.specs.Updates.{IsOfDevice, IsUpdate}
+use Rattle.device_commands.specs.device_state.specs.Updates.{IsOfDevice}
 use Rattle.device_commands.specs.device_state.specs.declared.state.State.{State}
-use Rattle.device_commands.specs.device_state.specs.declared.updates.Update.{Update}
-use Rattle.device_commands.specs.device_state.proofs.EnteredSteps.{kept-entered, of_device}
+use Rattle.device_commands.specs.device_state.proofs.EnteredSteps.{fits as legal_fits, kept-entered, of_device}
 use Rattle.control_core.specs.Deciding.{Holds, IsShort}
-use Rattle.control_core.specs.Pasts.{CanEnter, EntersStep, IsOfStep, IsPast, LiveControlled}
+use Rattle.control_core.specs.Pasts.{EntersStep, IsOfStep, IsPast, LiveControlled}
 use Rattle.control_core.specs.PutChanges.{AreOfOneHost}
 use Rattle.control_core.proofs.Stamped.{stamped_next}
 use Rattle.control_core.proofs.OneHost.{of_one_host}
@@ -49,26 +49,29 @@ step_of_one d new step = subst AreOfOneHost step.effects_are (of_one_host d.conf
 pub step_of_device : (d : LiveControlled) (new : List Effect) → IsOfStep d new → All (IsOfDevice d.config) new
 step_of_device d new step = subst (All (IsOfDevice d.config)) step.effects_are (of_device d.config step.leads.sound step.past step.leads.legal step.entry step.meets)
 
+-- and there is a place for all that they add
+pub step_fits : (d : LiveControlled) (new : List Effect) → IsOfStep d new → Fits d.config (lists_of d.state) 1 new
+step_fits d new step =
+    subst (Fits d.config (lists_of d.state) 1) step.effects_are (legal_fits d.config step.leads.sound step.past step.leads.legal step.entry step.meets d.state step.leads.kept)
+
 -- the entry behind a past leads to what is kept once it is entered
 pub past_entered : (c : Configuration) (past : List Entry) (old now : State) → IsPast c past old → (e : Entry) → Meets c past e → (new : List Effect) → e.effects ≡ new →
-    (u : Update) → IsUpdate c past new u → IsEntered c new u old now → IsPast c (past ++ e ∷ []) now
-past_entered c past old now leads e meets new are u update entered = record {
+    IsEntered c new old now → IsPast c (past ++ e ∷ []) now
+past_entered c past old now leads e meets new are entered = record {
   sound = leads.sound;
   legal = Each-push (Meets c) past e leads.legal meets;
-  kept = kept-entered c leads.sound past leads.legal e meets u old now leads.kept
-      (subst (λ es. IsUpdate c past es u) (sym are) update) (subst (λ es. IsEntered c es u old now) (sym are) entered);
+  kept = kept-entered c leads.sound past leads.legal e meets old now leads.kept (subst (λ es. IsEntered c es old now) (sym are) entered);
 }
 
-pub reached_entered : (d : LiveControlled) (now : State) (new : List Effect) (u : Update) → CanEnter d new u → IsEntered d.config new u d.state now → IsReached d.config now
-reached_entered d now new u can entered =
-    reached_past d.config (can.step.past ++ can.step.entry ∷ []) now
-    (past_entered d.config can.step.past d.state now can.step.leads can.step.entry can.step.meets new can.step.effects_are u can.update entered)
+pub reached_entered : (d : LiveControlled) (now : State) (new : List Effect) → IsOfStep d new → IsEntered d.config new d.state now → IsReached d.config now
+reached_entered d now new step entered =
+    reached_past d.config (step.past ++ step.entry ∷ []) now (past_entered d.config step.past d.state now step.leads step.entry step.meets new step.effects_are entered)
 
 -- so what every control keeps is kept
 pub holds_next : (old now : LiveControlled) (before : List Entry) → Holds old.config before old.state → (e : Entry) → Meets old.config before e → e.stamp ≡ next_stamp before → IsShort e.reply →
-    (new : List Effect) → e.effects ≡ new → (u : Update) → IsUpdate old.config before new u → EntersStep old now new u → Holds now.config (before ++ e ∷ []) now.state
-holds_next old now before holds e meets stamp short new are u update enters =
-    let leads = enters before (past_held old.config before old.state holds) update e meets are in record {
+    (new : List Effect) → e.effects ≡ new → EntersStep old now new → Holds now.config (before ++ e ∷ []) now.state
+holds_next old now before holds e meets stamp short new are enters =
+    let leads = enters before (past_held old.config before old.state holds) e meets are in record {
       sound = leads.sound;
       legal = leads.legal;
       stamped = stamped_next before e holds.stamped stamp;

@@ -8,7 +8,6 @@ pub mod HostOutcomes
 pub mod Managed
 pub mod ManagerOutcomes
 pub mod NextEntry
-pub mod Offers
 pub mod OneHost
 pub mod Reading
 pub mod Recorded

@@ -1,5 +1,5 @@
 -- The entry that comes next meets what the entries before it ask.
-use Rattle.std.proofs.Common.{◌≡◌, ℕ, ◌<◌, false, List, [], ◌∷◌, ◌++◌, length, None, ◌+◌, refl, sym, subst, arith}
+use Rattle.std.proofs.Common.{◌≡◌, ℕ, ◌<◌, false, List, [], ◌∷◌, ◌++◌, length, ◌+◌, refl, sym, subst, arith}
 use Rattle.std.specs.Prelude.{IsTrue}
 use Rattle.std.proofs.lemmas.Bool.{ltb-true}
 use Rattle.cci_codec.specs.field_bytes.specs.dcd_base.specs.declared.ids.HostId.{HostId}
@@ -12,9 +12,8 @@ use Rattle.journal_core.proofs.Lists.{rising_none}
 use Rattle.device_commands.specs.device_rules.specs.Answers.{answer}
 use Rattle.device_commands.specs.device_rules.specs.Legal.{Meets}
 use Rattle.control_core.specs.Deciding.{AreStamped, Holds, IsDecidedBy, IsShort}
-use Rattle.control_core.specs.Pasts.{CanEnter, EntersStep, IsOfStep, IsPast, LiveControlled}
+use Rattle.control_core.specs.Pasts.{EntersStep, IsOfStep, IsPast, LiveControlled}
 use Rattle.control_core.specs.declared.decided.Decided.{Decided}
-use Rattle.device_commands.specs.device_state.specs.declared.updates.TagChange.{TagChange}
 use Rattle.journal_core.specs.Keeping.{next_entry}
 use Rattle.control_core.specs.Steps.{Controlled, IsNextEntry, MayStep, journal_entry}
 use Rattle.control_core.proofs.Entering.{holds_next, past_entered, past_held}
@@ -75,25 +74,19 @@ next_is c before pass line actor act d is = λ i. record {
   stamp = record { number = length before + 1; count = 0 };
 }
 
--- It can be entered.
-pub can_enter : (k : LiveControlled) (before : List Entry) → Holds k.config before k.state → (actor : Actor) (act : Act) → MayStep k.config actor act →
-    (d : Decided) → IsDecidedBy k.config before actor act d → CanEnter k d.effects d.update
-unfolding is_of_step
-can_enter k before holds actor act may d is = record { step = is_of_step k before holds actor act may d.effects is.effects; update = is.update }
-
 -- With it the control has what every control keeps, where its state is entered.
 pub holds_decided : (old now : LiveControlled) (before : List Entry) → Holds old.config before old.state → (pass line : ℕ) (actor : Actor) (act : Act) → MayStep old.config actor act →
-    (d : Decided) → IsDecidedBy old.config before actor act d → EntersStep old now d.effects d.update →
+    (d : Decided) → IsDecidedBy old.config before actor act d → EntersStep old now d.effects →
     Holds now.config (before ++ next_entry before pass line actor act (d.reply, d.effects) ∷ []) now.state
 holds_decided old now before holds pass line actor act may d is enters =
     subst (λ (e : Entry). Holds now.config (before ++ e ∷ []) now.state) (sym (next_is old.config before pass line actor act d is))
     (holds_next old now before holds (journal_entry old.config before pass line actor act) (next_meets old.config before pass line actor act may) refl
-    (subst IsShort is.reply is.short) d.effects (sym is.effects) d.update is.update enters)
+    (subst IsShort is.reply is.short) d.effects (sym is.effects) enters)
 
--- A step without effects, beside which nothing is put in place, leaves what is kept.
-pub enters_nothing : (d : LiveControlled) → EntersStep d d [] (record { lists = None; tags = TagChange.Nothing })
-enters_nothing d = λ past leads update e meets are.
-    past_entered d.config past d.state d.state leads e meets [] are (record { lists = None; tags = TagChange.Nothing }) update (record {
+-- A step without effects leaves what is kept.
+pub enters_nothing : (d : LiveControlled) → EntersStep d d []
+enters_nothing d = λ past leads e meets are.
+    past_entered d.config past d.state d.state leads e meets [] are (record {
       present_is = refl;
       host_count = refl;
       granule_count = refl;

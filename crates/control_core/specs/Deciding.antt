@@ -10,7 +10,6 @@ use Rattle.journal_core.specs.Merging.{Rising}
 use Rattle.device_commands.specs.device_rules.specs.Answers.{answer}
 use Rattle.device_commands.specs.device_rules.specs.Legal.{Legal}
 use Rattle.device_commands.specs.device_state.specs.StateAfter.{IsStateAfter}
-use Rattle.device_commands.specs.device_state.specs.Updates.{IsUpdate}
 use Rattle.control_core.specs.declared.decided.Decided.{Decided}
 use Rattle.device_commands.specs.device_state.specs.declared.state.State.{State}
 
@@ -26,11 +25,10 @@ IsShort (Reply.Scrubbed n) = Unit {0}
 abbrev pub AreShort : List Entry → Type 0
 AreShort journal = All (λ (e : Entry). IsShort e.reply) journal
 
--- It is the answer to the act, and what has to be put in place for it.
+-- It is the answer to the act, and short.
 pub record IsDecidedBy (c : Configuration) (before : List Entry) (actor : Actor) (act : Act) (d : Decided) : Type 0 where
   pub reply : d.reply ≡ (answer c before actor act).0
   pub effects : d.effects ≡ (answer c before actor act).1
-  pub update : IsUpdate c before d.effects d.update
   pub short : IsShort d.reply
 
 -- So it is by every legal journal that leads to what is kept.

@@ -1,6 +1,5 @@
 -- What a command comes to that breaks no rule, and how its message is read.
-use Rattle.std.specs.Prelude.{◌≡◌, ◌≢◌, ◌<◌, true, List, fold}
-use Rattle.std.specs.List.{list_all}
+use Rattle.std.specs.Prelude.{◌≡◌, ◌<◌, List, ◌++◌}
 use Rattle.std.specs.declared.result.Result.{Result}
 use Rattle.std.specs.declared.result.Result.TheVariants.{Err}
 use Rattle.cci_codec.specs.declared.messages.Request.{Request}
@@ -16,35 +15,28 @@ use Rattle.journal_core.specs.Entries.{effects}
 use Rattle.journal_core.specs.declared.entries.Entry.{Entry}
 use Rattle.device_commands.specs.HostMessages.{IsDrafted}
 use Rattle.device_commands.specs.Drafts.{Drafts}
-use Rattle.device_commands.specs.device_state.specs.StateAfter.{IsStateAfter, lists_in}
+use Rattle.device_commands.specs.device_state.specs.StateAfter.{IsStateAfter}
 use Rattle.device_commands.specs.declared.draft.DraftParts.{DraftParts}
 use Rattle.device_commands.specs.device_rules.specs.Answers.{host_result_in, response}
+use Rattle.device_commands.specs.device_rules.specs.Hosts.{accepted_of, offers_of}
 use Rattle.device_commands.specs.device_rules.specs.Legal.{Legal}
-use Rattle.device_commands.specs.device_rules.specs.Outcomes.{Outcome, effects_of}
-use Rattle.device_commands.specs.device_rules.specs.Views.{view_after, view_of}
-use Rattle.device_commands.specs.device_laws.proofs.ViewsLeft.{leaves_view}
-use Rattle.device_commands.specs.device_laws.specs.TagTableSteps.{IsHostOfTagsSet}
-use Rattle.device_commands.specs.device_laws.specs.TagTable.{IsTable}
+use Rattle.device_commands.specs.device_rules.specs.Outcomes.{Outcome, effects_of, ended}
+use Rattle.device_commands.specs.device_rules.specs.Views.{view_of}
+use Rattle.device_commands.specs.device_laws.specs.TagTable.{IsTable, among, among_offers, ending}
 use Rattle.tag_refs.specs.declared.entries.TagEntry.{TagEntry}
-use Rattle.device_commands.specs.device_state.specs.Entered.{lists_by}
-use Rattle.device_commands.specs.device_state.specs.Updates.{IsUpdate}
 use Rattle.control_core.specs.declared.decided.Decided.{Decided}
 use Rattle.device_commands.specs.device_state.specs.declared.state.State.{State}
 
--- It answers the outcome, has its effects, and puts in place what they make of lists and tags.
+-- It answers the outcome, and has its effects.
 pub record IsDone (c : Configuration) (before : List Entry) (q : Request) (o : Outcome) (d : Decided) : Type 0 where
   pub reply : d.reply ≡ response q Code.Success o.payload
   pub effects : d.effects ≡ effects_of c (effects before) o
-  pub update : IsUpdate c before d.effects d.update
 
--- The outcome changes lists of this host alone, and lets none of them go that it does not empty; what the host has of
--- the tags that may end by it is set anew.
+-- Of the tags that may end by the outcome, those end that neither others nor the lists of this host after its changes keep.
 pub record IsOfHost (c : Configuration) (before : List Entry) (h : HostId) (o : Outcome) : Type 0 where
   pub host : h < c.hosts
-  pub others : (k : HostId) → h ≢ k → list_all (leaves_view k) (effects_of c (effects before) o) ≡ true
-  pub own : lists_in (view_after c h (view_of c h before) o.changes) ≡ lists_in (view_of c h before) →
-      fold (lists_by h) (lists_in (view_of c h before)) o.changes ≡ lists_in (view_of c h before)
-  pub told : (entries : List TagEntry) → IsTable c (effects before) entries → IsHostOfTagsSet c (effects before) h o entries
+  pub ended_are : (entries : List TagEntry) → IsTable c (effects before) entries → ended c (effects before) o.changes o.tags
+      ≡ ending h (among (accepted_of c h (effects before ++ o.changes))) (among_offers (offers_of h (effects before ++ o.changes))) entries o.tags
 
 -- The draft is done: for each outcome of the host that it is, by every journal that leads to what is kept.
 abbrev pub Does : State → HostId → Request → DraftParts → Decided → Type 0

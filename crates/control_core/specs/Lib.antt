@@ -5,7 +5,6 @@ pub mod Doing
 pub mod Fitting
 pub mod HeldExtents
 pub mod Managing
-pub mod Offers
 pub mod Pasts
 pub mod PutChanges
 pub mod Recording

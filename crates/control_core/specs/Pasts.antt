@@ -6,9 +6,7 @@ use Rattle.journal_core.specs.declared.entries.Entry.{Entry}
 use Rattle.journal_core.specs.declared.outcome.Effect.{Effect}
 use Rattle.device_commands.specs.device_rules.specs.Legal.{Legal, Meets}
 use Rattle.device_commands.specs.device_state.specs.StateAfter.{IsStateAfter}
-use Rattle.device_commands.specs.device_state.specs.Updates.{IsUpdate}
 use Rattle.device_commands.specs.device_state.specs.declared.state.State.{State}
-use Rattle.device_commands.specs.device_state.specs.declared.updates.Update.{Update}
 
 -- The configuration that the control was made with, and what it keeps.
 pub record LiveControlled : Type 0 where
@@ -37,12 +35,6 @@ pub record IsOfStep (d : LiveControlled) (new : List Effect) : Type 0 where
   pub meets : Meets d.config past entry
   pub effects_are : entry.effects ≡ new
 
--- So are they, and this has to be put in place for them.
-pub record CanEnter (d : LiveControlled) (new : List Effect) (u : Update) : Type 0 where
-  pub step : IsOfStep d new
-  pub update : IsUpdate d.config step.past new u
-
--- The entry behind this past leads to what is kept now, where the past asks for it and for what was put in place.
-abbrev pub EntersStep : LiveControlled → LiveControlled → List Effect → Update → Type 0
-EntersStep old now new u = (past : List Entry) → IsPast old.config past old.state → IsUpdate old.config past new u →
-    (e : Entry) → Meets old.config past e → e.effects ≡ new → IsPast now.config (past ++ e ∷ []) now.state
+-- The entry behind this past leads to what is kept now, where the past asks for it.
+abbrev pub EntersStep : LiveControlled → LiveControlled → List Effect → Type 0
+EntersStep old now new = (past : List Entry) → IsPast old.config past old.state → (e : Entry) → Meets old.config past e → e.effects ≡ new → IsPast now.config (past ++ e ∷ []) now.state

@@ -1,5 +1,5 @@
 -- The records of a step, by the logs that are kept.
-use Rattle.std.specs.Prelude.{ℕ, ◌-◌, ◌==◌, List, [], ◌∷◌, flat_map, if◌then◌else◌, ◌≡◌, ◌++◌, Bool, Option, Some, None, map, not}
+use Rattle.std.specs.Prelude.{ℕ, ◌-◌, ◌==◌, List, [], ◌∷◌, flat_map, if◌then◌else◌, ◌≡◌, ◌++◌, Bool, map, not}
 use Rattle.cci_codec.specs.field_bytes.specs.dcd_base.specs.declared.steps.LogId.{LogId}
 use Rattle.event_log.specs.LogStates.{handle_after}
 use Rattle.event_records.specs.declared.events.Event.{Event}
@@ -11,7 +11,6 @@ use Rattle.std.specs.List.{list_any}
 use Rattle.cci_codec.specs.field_bytes.specs.dcd_base.specs.declared.capacity.Tag.{Tag}
 use Rattle.cci_codec.specs.field_bytes.specs.dcd_base.specs.declared.ids.HostId.{HostId}
 use Rattle.list_rules.specs.extent_list.specs.ExtentLists.{has_extent_of}
-use Rattle.device_commands.specs.host_lists.specs.Changes.{changed_by}
 use Rattle.device_commands.specs.host_lists.specs.Lists.{Lists}
 use Rattle.journal_core.specs.Entries.{effects}
 use Rattle.journal_core.specs.declared.entries.Entry.{Entry}
@@ -21,9 +20,6 @@ use Rattle.tag_refs.specs.Tables.{is_used, passes, set_by}
 use Rattle.tag_refs.specs.declared.entries.TagEntry.{TagEntry}
 use Rattle.device_commands.specs.device_state.specs.StateAfter.{IsStateAfter}
 use Rattle.device_commands.specs.device_state.specs.declared.state.State.{State}
-use Rattle.device_commands.specs.TagChanges.{told_change}
-use Rattle.device_commands.specs.device_state.specs.declared.updates.NewLists.{NewLists}
-use Rattle.device_commands.specs.device_state.specs.declared.updates.TagChange.{TagChange}
 
 -- one record, by the next handle and the room of its log, and the next handle after it
 abbrev pub record_by : LogId → ℕ → ℕ → Event → Effect
@@ -47,16 +43,6 @@ ends_by_lists h l entries t = passes t (λ e. not (is_used (set_by h (has_extent
 
 abbrev pub ending_with : HostId → Lists → List TagEntry → List Tag → List Tag
 ending_with h l entries tags = ending h (λ t. has_extent_of t l.accepted) (λ t. list_any (has_extent_of t) l.offers) entries tags
-
--- the lists of a host by an update, where it changes them, or those that it had
-abbrev pub lists_or_had : Lists → Option NewLists → Lists
-lists_or_had had None = had
-lists_or_had had (Some new) = changed_by new.change had
-
--- what a host has of some tags is set anew, where a tag is open
-abbrev pub told_now : List TagEntry → HostId → List Tag → TagChange
-told_now [] h tags = TagChange.Nothing
-told_now (e ∷ entries) h tags = told_change h tags
 
 -- ---- by each journal that leads to what is kept
 

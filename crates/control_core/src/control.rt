@@ -6,7 +6,6 @@ ghost use Rattle.control_core.specs.Deciding.{AreShort, IsDecidedBy, IsShort};
 ghost use Rattle.control_core.specs.Decisions.{decided_by, only_replied};
 ghost use Rattle.device_commands.specs.device_rules.specs.Answers.{answer as answer_to};
 ghost use Rattle.device_commands.specs.device_rules.specs.Legal.{Legal};
-ghost use Rattle.device_commands.specs.device_state.specs.Updates.{IsUpdate};
 ghost use Rattle.journal_core.specs.Entries.{effects};
 ghost use Rattle.journal_core.specs.Merging.{Rising};
 ghost use Rattle.list_rules.specs.media_map.specs.region_config.specs.Granules.{granule_total};
@@ -18,7 +17,6 @@ use crate::plan::Plan;
 use crate::planned::PlannedEntry;
 use crate::step_effects::{StepEffects, TakenStep};
 use cci_codec::field_bytes::dcd_base::{Actor, Boxed, Changes, NoMemory, Stamp};
-use device_commands::device_state::Update;
 use device_commands::{DraftedStep, Room};
 use journal_core::{Act, Effects, Entry, EntryEffects, KeptEntries, Reply};
 use list_rules::media_map::region_config::Config;
@@ -102,7 +100,6 @@ impl Control {
         ensures short { IfOk result (λ plan. IsShort plan.entry.reply) }
         ensures changes { IfOk result (λ plan. AreChanges self.old.config (effects self.old.entries) plan.entry.effects plan.changes) }
         ensures inside { IfOk result (λ plan. All (LiesIn (granule_total self.old.config)) plan.changes) }
-        ensures update { IfOk result (λ plan. IsUpdate self.old.config self.old.entries plan.entry.effects plan.update) }
     {
         let plan = self.planned(pass, line, actor, act)?;
         self.make_room_for(plan.entry())?;
@@ -116,17 +113,12 @@ impl Control {
         requires room { 0 < self.old.spare }
         requires next { IsNextEntry self.old plan.entry }
         requires short { IsShort plan.entry.reply }
-        requires update { IsUpdate self.old.config self.old.entries plan.entry.effects plan.update }
         ensures config { self.new.config ≡ self.old.config }
         ensures entered { self.new.entries ≡ self.old.entries ++ plan.entry ∷ [] }
         ensures room_left { self.old.spare ≤ self.new.spare + 1 }
     {
-        let Plan {
-            entry,
-            changes: _,
-            update,
-        } = plan;
-        self.take(entry, update);
+        let Plan { entry, changes: _ } = plan;
+        self.take(entry);
     }
 
     /// Takes a step at once, as `apply` does with a plan that `prepare` made, and answers its effects. Without memory the
@@ -218,8 +210,7 @@ impl Control {
         ensures effects { IfOk result (λ effects. effects ≡ (answer_to self.old.config self.old.entries actor act.now).1) }
     {
         self.make_room()?;
-        let mut step = step;
-        self.append(pass, line, actor, act, step.as_mut())?;
+        self.append(pass, line, actor, act, step.as_ref())?;
         Ok(StepEffects::of(step))
     }
 
@@ -231,19 +222,18 @@ impl Control {
         line: u32,
         actor: Actor,
         act: &Act,
-        step: &mut DraftedStep,
+        step: &DraftedStep,
     ) -> Result<(), NoMemory>
         requires room { 0 < self.old.spare }
         requires may { MayStep self.old.config actor act.now }
-        requires decided { IsDecidedBy self.old.config self.old.entries actor act.now (decided_by step.old) }
+        requires decided { IsDecidedBy self.old.config self.old.entries actor act.now (decided_by step.now) }
         ensures config { self.new.config ≡ self.old.config }
-        ensures effects { step.new.effects ≡ step.old.effects }
         ensures entered { OnOk result (self.new.entries ≡ self.old.entries ++ journal_entry self.old.config self.old.entries pass line actor act.now ∷ []) }
         ensures kept { OnErr result (self.new.entries ≡ self.old.entries) }
     {
         self.entries
             .append(pass, line, actor, act, &step.reply, &step.effects)?;
-        self.live.enter(step.effects.as_slice(), &mut step.update);
+        self.live.enter(step.effects.as_slice());
         Ok(())
     }
 
@@ -279,20 +269,18 @@ impl Control {
         })
     }
 
-    /// Enters the next entry, and puts its update in place.
+    /// Enters the next entry.
     #[inline(always)]
-    fn take(&mut self, entry: PlannedEntry, update: Update)
+    fn take(&mut self, entry: PlannedEntry)
         requires room { 0 < self.old.spare }
         requires next { IsNextEntry self.old entry }
         requires short { IsShort entry.reply }
-        requires update { IsUpdate self.old.config self.old.entries entry.effects update }
         ensures config { self.new.config ≡ self.old.config }
         ensures entered { self.new.entries ≡ self.old.entries ++ entry ∷ [] }
         ensures room_left { self.old.spare ≤ self.new.spare + 1 }
     {
         let PlannedEntry { entry, effects } = entry;
-        let mut update = update;
-        self.live.enter(effects.as_slice(), &mut update);
+        self.live.enter(effects.as_slice());
         self.entries.push_reserved(entry);
     }
 
@@ -323,7 +311,6 @@ impl Control {
         ensures short { IfOk result (λ plan. IsShort plan.entry.reply) }
         ensures changes { IfOk result (λ plan. AreChanges self.now.config (effects self.now.entries) plan.entry.effects plan.changes) }
         ensures inside { IfOk result (λ plan. All (LiesIn (granule_total self.now.config)) plan.changes) }
-        ensures update { IfOk result (λ plan. IsUpdate self.now.config self.now.entries plan.entry.effects plan.update) }
     {
         let alloc = self.live.alloc;
         let mut room = Room::new(alloc);
@@ -366,19 +353,10 @@ impl Control {
         ensures short { IfOk result (λ plan. IsShort plan.entry.reply) }
         ensures changes { IfOk result (λ plan. AreChanges self.now.config (effects self.now.entries) plan.entry.effects plan.changes) }
         ensures inside { IfOk result (λ plan. All (LiesIn (granule_total self.now.config)) plan.changes) }
-        ensures update { IfOk result (λ plan. IsUpdate self.now.config self.now.entries plan.entry.effects plan.update) }
     {
-        let Decided {
-            reply,
-            effects,
-            update,
-        } = decided;
+        let Decided { reply, effects } = decided;
         let changes = self.changes_by(&actor, &act, &effects)?;
         let entry = self.next_entry(pass, line, actor, act, reply, effects)?;
-        Ok(Plan {
-            entry,
-            changes,
-            update,
-        })
+        Ok(Plan { entry, changes })
     }
 }

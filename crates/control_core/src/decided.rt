@@ -3,28 +3,24 @@
 ghost use Rattle.control_core.specs.Decisions.{decided_by, decided_where, only_replied};
 ghost use Rattle.list_rules.specs.dcd_codes.specs.declared.codes.Code.{Code};
 ghost use Rattle.device_commands.specs.device_rules.specs.Answers.{response};
-ghost use Rattle.device_commands.specs.device_state.specs.declared.updates.TagChange.{TagChange};
-ghost use Rattle.std.specs.Prelude.{◌≡◌, [], IfOk, None};
+ghost use Rattle.std.specs.Prelude.{◌≡◌, IfOk};
 
 use cci_codec::Request;
 use cci_codec::field_bytes::dcd_base::{Bytes, NoMemory, Seq};
-use device_commands::device_state::Update;
-use device_commands::{DraftedStep, Room, ShortList, answer};
+use device_commands::{DraftedStep, ListsUpdate, Room, ShortList, answer};
 use journal_core::{Effects, Reply};
 use list_rules::dcd_codes::Code;
 use std::alloc::Global;
 use std::marker::Model;
 use std::mem::replace;
 
-/// The reply to a step, its effects, and what is put in place beside them.
+/// The reply to a step, and its effects.
 #[derive(Drop)]
 pub struct Decided {
     /// What is replied.
     pub reply: Reply,
     /// What changes.
     pub effects: Effects,
-    /// What is put in place beside the effects.
-    pub update: Update,
 }
 
 /// What a step comes to.
@@ -60,14 +56,14 @@ impl Decision {
         })
     }
 
-    /// A reply and effects, beside which nothing is put in place.
+    /// A reply and effects.
     #[inline(always)]
     pub(crate) fn changing(
         room: &mut Room,
         reply: Reply,
         effects: Effects,
     ) -> Result<Decision, NoMemory>
-        ensures { IfOk result (λ decision. decision ≡ record { reply = reply; effects = effects; update = record { lists = None; tags = TagChange.Nothing } }) }
+        ensures { IfOk result (λ decision. decision ≡ record { reply = reply; effects = effects }) }
     {
         if effects.is_empty() {
             return Decision::only(room, reply);
@@ -76,7 +72,7 @@ impl Decision {
         Ok(Decision::step(step))
     }
 
-    /// What a draft comes to beside which the step has put its parts.
+    /// What the parts of a step come to.
     #[inline(always)]
     pub(crate) fn step(step: Box<DraftedStep>) -> Decision
         ensures { result ≡ decided_by step.value }
@@ -120,7 +116,7 @@ fn changing_step(
     reply: Reply,
     effects: Effects,
 ) -> Result<Box<DraftedStep>, NoMemory>
-    ensures { IfOk result (λ step. decided_by step.value ≡ record { reply = reply; effects = effects; update = record { lists = None; tags = TagChange.Nothing } }) }
+    ensures { IfOk result (λ step. decided_by step.value ≡ record { reply = reply; effects = effects }) }
 {
     let alloc = room.allocator();
     let step = DraftedStep {
@@ -128,8 +124,8 @@ fn changing_step(
         effects,
         tags: Seq::new(alloc),
         log_records: ShortList::new(),
+        lists: ListsUpdate::nothing(),
         reply,
-        update: Update::nothing(),
     };
     room.put(step)
 }
@@ -141,7 +137,6 @@ fn replied_of(step: &mut DraftedStep, alloc: Global) -> Decided
     Decided {
         reply: replace(&mut step.reply, Reply::Stored),
         effects: Effects::new(alloc),
-        update: Update::nothing(),
     }
 }
 
@@ -152,7 +147,6 @@ fn decided_of(step: &mut DraftedStep, alloc: Global) -> Decided
     Decided {
         reply: replace(&mut step.reply, Reply::Stored),
         effects: replace(&mut step.effects, Effects::new(alloc)),
-        update: replace(&mut step.update, Update::nothing()),
     }
 }
 

@@ -1,10 +1,11 @@
 //! What a message of a host comes to: its draft, recorded, or the refusal.
 
-ghost use Rattle.control_core.specs.Recording.{AreRecorded, ending_with, lists_or_had, told_now};
+ghost use Rattle.control_core.specs.Recording.{AreRecorded, ending_with};
 ghost use Rattle.control_core.specs.Deciding.{IsDecided};
 ghost use Rattle.control_core.specs.Doing.{Does, Drafted, Refuses};
 ghost use Rattle.control_core.specs.Decisions.{decided_by};
 ghost use Rattle.device_commands.specs.DraftContents.{draft_in};
+ghost use Rattle.device_commands.specs.ListsUpdates.{left_by};
 ghost use Rattle.list_rules.specs.dcd_codes.specs.declared.codes.Code.{Code};
 ghost use Rattle.device_commands.specs.device_rules.specs.Answers.{response};
 ghost use Rattle.device_commands.specs.device_state.specs.StateAfter.{IsReached, part_of};
@@ -22,11 +23,10 @@ use crate::fitting::part_fits;
 use crate::recording::{put_ends, put_records_of_logs};
 use cci_codec::Request;
 use cci_codec::field_bytes::dcd_base::{Bytes, HostId, NoMemory, Seq, Tag};
-use device_commands::device_state::{ListsUpdate, State, TagChange};
+use device_commands::device_state::State;
 use device_commands::host_lists::{Changed, HostLists, ListsChange};
 use device_commands::{
-    Content, Draft, DraftedStep, Room, answer, dropped, host_draft, put_no_change, refused,
-    told_change,
+    Content, Draft, DraftedStep, ListsUpdate, Room, answer, dropped, host_draft, refused,
 };
 use journal_core::{Effects, Reply};
 use list_rules::dcd_codes::{Code, Refusal, Rule, number_of};
@@ -143,8 +143,6 @@ fn put_recorded(
     ensures { OnOk result (Does state.now host request.now (draft_in step.old) (decided_by step.new)) }
 {
     put_effects(alloc, state, host, step)?;
-    step.update.lists.set_host(host);
-    put_told_now(state, host, &mut step.tags, &mut step.update.tags);
     put_success(alloc, request, step);
     Ok(())
 }
@@ -169,18 +167,6 @@ pub(crate) fn put_success(alloc: Global, request: &Request, step: &mut DraftedSt
     }
 }
 
-/// Puts in place of another change that what the host has of the tags is set anew, where there are any and a tag is open.
-#[inline(always)]
-fn put_told_now(state: &State, host: HostId, tags: &mut Seq<Tag>, change: &mut TagChange)
-    ensures { change.new ≡ told_now state.now.tags.entries host tags.old }
-{
-    if state.tags.is_empty() {
-        put_no_change(change);
-    } else {
-        *change = told_change(host, tags);
-    }
-}
-
 /// Puts behind the changes the ends of those of the tags that end once the host has the lists after it,
 /// and the records.
 fn put_effects(
@@ -192,11 +178,11 @@ fn put_effects(
     requires host { host < length state.now.hosts.items }
     requires few { host < 16 }
     requires known { All (λ (n : LogRecords). IsOfLog (length state.now.hosts.items) n.log) step.old.log_records }
-    ensures effects { OnOk result (AreRecorded state.now host (lists_or_had (part_of state.now host).lists step.old.update.lists)
+    ensures effects { OnOk result (AreRecorded state.now host (left_by step.old.lists (part_of state.now host).lists)
         step.old.effects step.old.tags step.old.log_records step.new.effects) }
     ensures kept { OnOk result (step.new ≡ record step.old { effects = step.new.effects }) }
 {
-    let (lists, tags) = (&step.update.lists, step.tags.as_slice());
+    let (lists, tags) = (&step.lists, step.tags.as_slice());
     put_ended(alloc, state, host, lists, tags, &mut step.effects)?;
     put_records_of_logs(state, &step.log_records, &mut step.effects)
 }
@@ -214,7 +200,7 @@ fn put_ended(
     requires host { host < length state.now.hosts.items }
     requires few { host < 16 }
     ensures { OnOk result (effects.new ≡ effects.old ++
-        map Effect.TagEnd (ending_with host (lists_or_had (part_of state.now host).lists lists.now) state.now.tags.entries tags.now)) }
+        map Effect.TagEnd (ending_with host (left_by lists.now (part_of state.now host).lists) state.now.tags.entries tags.now)) }
 {
     if state.tags.is_empty() {
         return Ok(());
@@ -234,23 +220,23 @@ fn ended_by(
 ) -> Result<Seq<Tag>, NoMemory>
     requires host { host < length state.now.hosts.items }
     requires few { host < 16 }
-    ensures { IfOk result (λ ended. ended ≡ ending_with host (lists_or_had (part_of state.now host).lists lists.now) state.now.tags.entries tags.now) }
+    ensures { IfOk result (λ ended. ended ≡ ending_with host (left_by lists.now (part_of state.now host).lists) state.now.tags.entries tags.now) }
 {
     let had = &state.part(host).lists;
     let same = had.unchanged();
-    let lists = lists_or_had(had, &same, lists);
+    let lists = changed_or_same(had, &same, lists);
     let ended = ending(alloc, state, host, &lists, tags)?;
     Ok(ended)
 }
 
 /// The lists as they are once they are changed so, or as the host had them, which `same` leaves.
-fn lists_or_had<'a>(
+fn changed_or_same<'a>(
     had: &'a HostLists,
     same: &'a ListsChange,
     lists: &'a ListsUpdate,
 ) -> Changed<'a>
     requires { changed_by same.now had.now ≡ had.now }
-    ensures { result ≡ lists_or_had had.now lists.now }
+    ensures { result ≡ left_by lists.now had.now }
 {
     match lists.change() {
         Some(change) => Changed::of(had, change),

@@ -1,7 +1,7 @@
 //! The control without entries: a configuration, and what the device keeps.
 
 ghost use Rattle.control_core.specs.Deciding.{IsDecidedBy};
-ghost use Rattle.control_core.specs.Pasts.{ByEveryPast, CanEnter, EntersStep, IsOfStep, IsPast};
+ghost use Rattle.control_core.specs.Pasts.{ByEveryPast, EntersStep, IsOfStep, IsPast};
 ghost use Rattle.control_core.specs.Steps.{MayStep};
 ghost use Rattle.device_commands.specs.device_rules.specs.ChangedRuns.{AreChanges, LiesIn};
 ghost use Rattle.journal_core.specs.Entries.{effects};
@@ -15,7 +15,7 @@ use crate::manager_steps::manager_step;
 use crate::scrub_steps::scrub_step;
 use cci_codec::field_bytes::dcd_base::{Actor, Changes, NoMemory};
 use device_commands::Room;
-use device_commands::device_state::{State, Update};
+use device_commands::device_state::State;
 use journal_core::{Act, Effect, Effects};
 use list_rules::media_map::region_config::Config;
 use std::alloc::Global;
@@ -116,30 +116,20 @@ impl LiveControl {
         ensures tags { self.new.state.tags.entries ≡ self.old.state.tags.entries }
         ensures kept { self.new.state ≡ record self.old.state { tags = self.new.state.tags } }
     {
-        reserve_tag(&mut self.state)
+        self.state.make_room()
     }
 
-    /// Enters the effects of a step and what has to be put in place beside them, of which nothing of use is left. It takes no
-    /// memory.
+    /// Enters the effects of a step. It takes no memory.
     ///
     /// There is room for a tag, which it may use.
     #[inline(always)]
-    pub fn enter(&mut self, new: &[Effect], update: &mut Update)
+    pub fn enter(&mut self, new: &[Effect])
         requires room { 0 < self.old.state.tags.spare }
-        requires step { CanEnter self.old new.now update.old }
+        requires step { IsOfStep self.old new.now }
         ensures config { self.new.config ≡ self.old.config }
-        ensures entered { EntersStep self.old self.new new.now update.old }
+        ensures entered { EntersStep self.old self.new new.now }
         ensures room_left { self.old.state.tags.spare ≤ self.new.state.tags.spare + 1 }
     {
-        self.state.enter(&self.config, new, update);
+        self.state.enter(&self.config, new);
     }
-}
-
-/// Makes room for one more tag.
-fn reserve_tag(state: &mut State) -> Result<(), NoMemory>
-    ensures room { OnOk result (0 < state.new.tags.spare) }
-    ensures entries { state.new.tags.entries ≡ state.old.tags.entries }
-    ensures kept { state.new ≡ record state.old { tags = state.new.tags } }
-{
-    state.tags.reserve(1)
 }

@@ -6,10 +6,7 @@ ghost use Rattle.control_core.specs.Decisions.{decided_by};
 ghost use Rattle.device_commands.specs.DraftContents.{draft_in};
 ghost use Rattle.control_core.specs.Managing.{EntersDraft, Manages};
 ghost use Rattle.device_commands.specs.ManagerMessages.{FewCleared};
-ghost use Rattle.device_commands.specs.TagChanges.{OffersGranular};
-ghost use Rattle.control_core.specs.Offers.{Offers};
 ghost use Rattle.device_commands.specs.device_state.specs.Updates.{IsOfLog};
-ghost use Rattle.device_commands.specs.device_state.specs.declared.updates.TagChange.{TagChange};
 ghost use Rattle.cci_codec.specs.field_bytes.specs.dcd_base.specs.declared.steps.Actor.{Actor};
 ghost use Rattle.fm_payloads.specs.ManagerPayloads.{manager_request};
 ghost use Rattle.fm_payloads.specs.declared.requests.FmRequest.{FmRequest};
@@ -25,11 +22,11 @@ use crate::fitting::request_fits;
 use crate::host_steps::{put_success, recorded};
 use crate::recording::{put_ends, put_records_of_logs};
 use cci_codec::Request;
-use cci_codec::field_bytes::dcd_base::{Extents, HostId, NoMemory, RegionId, Seq, Tag};
-use device_commands::device_state::{State, TagChange};
+use cci_codec::field_bytes::dcd_base::{Extents, HostId, NoMemory, Seq, Tag};
+use device_commands::device_state::State;
 use device_commands::{
-    AddRequest, Content, Draft, DraftedStep, RemoveRequest, Room, add, add_reference,
-    put_offer_change, quiet_draft, refused, remove, remove_reference,
+    AddRequest, Content, Draft, DraftedStep, RemoveRequest, Room, add, add_reference, quiet_draft,
+    refused, remove, remove_reference,
 };
 use fm_payloads::{FmRequest, PayloadFault, decode};
 use list_rules::dcd_codes::{Refusal, Rule};
@@ -201,7 +198,7 @@ fn decide_add(
     match add(alloc, config, state, offer, extents, room) {
         Ok(draft) => {
             let step = draft.into_step(room)?;
-            Ok(added(alloc, config, state, request, offer, step)?)
+            Ok(entered(alloc, state, request, step, &[])?)
         }
         Err(refusal) => Err(refusal),
     }
@@ -264,7 +261,7 @@ fn read(
     room: &mut Room,
 ) -> Result<Decision, NoMemory>
     requires known { All (λ (n : LogRecords). IsOfLog (length state.now.hosts.items) n.log) draft.log_records }
-    ensures { IfOk result (EntersDraft state.now request.now draft [] TagChange.Nothing) }
+    ensures { IfOk result (EntersDraft state.now request.now draft []) }
 {
     match draft.into_content() {
         Content::Reply(payload) => replied(room, request, payload),
@@ -282,9 +279,9 @@ fn entered_boxed(
     parts: Box<DraftedStep>,
 ) -> Result<Decision, NoMemory>
     requires known { All (λ (n : LogRecords). IsOfLog (length state.now.hosts.items) n.log) parts.value.log_records }
-    ensures { IfOk result (EntersDraft state.now request.now (draft_in parts.value) [] TagChange.Nothing) }
+    ensures { IfOk result (EntersDraft state.now request.now (draft_in parts.value) []) }
 {
-    entered(alloc, state, request, parts, &[], TagChange::Nothing)
+    entered(alloc, state, request, parts, &[])
 }
 
 /// What a 5606h comes to.
@@ -304,7 +301,7 @@ fn decide_add_reference(
     match add_reference(config, state, tag, room) {
         Ok(draft) => {
             let step = draft.into_step(room)?;
-            Ok(entered(alloc, state, request, step, &[], TagChange::Refer(*tag))?)
+            Ok(entered(alloc, state, request, step, &[])?)
         }
         Err(refusal) => Err(refusal),
     }
@@ -329,7 +326,7 @@ fn decide_remove_reference(
         Ok(draft) => {
             let step = draft.into_step(room)?;
             let ended = ended.as_slice();
-            Ok(entered(alloc, state, request, step, ended, TagChange::Unrefer(*tag))?)
+            Ok(entered(alloc, state, request, step, ended)?)
         }
         Err(refusal) => Err(refusal),
     }
@@ -346,88 +343,36 @@ fn ended_unreferenced(alloc: Global, state: &State, tag: &Tag) -> Result<Seq<Tag
     Ok(tags)
 }
 
-/// An offer is entered.
-fn added(
-    alloc: Global,
-    config: &Config,
-    state: &State,
-    request: &Request,
-    asked: &AddRequest,
-    step: Box<DraftedStep>,
-) -> Result<Decision, NoMemory>
-    requires host { asked.now.host < config.now.hosts }
-    requires byte { asked.now.host < 256 }
-    requires region { asked.now.region < length config.now.regions }
-    requires granular { OffersGranular config.now asked.now.host step.value.effects }
-    requires known { All (λ (n : LogRecords). IsOfLog (length state.now.hosts.items) n.log) step.value.log_records }
-    ensures { IfOk result (Offers config.now state.now asked.now.host asked.now.region asked.now.tag request.now (draft_in step.value)) }
-{
-    let mut step = step;
-    put_added(alloc, config, state, request, asked, step.as_mut())?;
-    Ok(Decision::step(step))
-}
-
-/// Beside the draft of an offer stands what the step adds, and its changes are all effects of the step.
-fn put_added(
-    alloc: Global,
-    config: &Config,
-    state: &State,
-    request: &Request,
-    asked: &AddRequest,
-    step: &mut DraftedStep,
-) -> Result<(), NoMemory>
-    requires host { asked.now.host < config.now.hosts }
-    requires byte { asked.now.host < 256 }
-    requires region { asked.now.region < length config.now.regions }
-    requires granular { OffersGranular config.now asked.now.host step.old.effects }
-    requires known { All (λ (n : LogRecords). IsOfLog (length state.now.hosts.items) n.log) step.old.log_records }
-    ensures { OnOk result (Offers config.now state.now asked.now.host asked.now.region asked.now.tag request.now (draft_in step.old) (decided_by step.new)) }
-{
-    let host = HostId(asked.host as u8);
-    let region = RegionId(asked.region);
-    let change = &mut step.update.tags;
-    let (tag, changes) = (&asked.tag, &step.effects);
-    put_offer_change(alloc, config, state, host, region, tag, changes, change)?;
-    put_records_of_logs(state, &step.log_records, &mut step.effects)?;
-    step.update.lists.set_host(host);
-    put_success(alloc, request, step);
-    Ok(())
-}
-
-/// A command that changes no lists is entered, by which these tags end.
+/// An offer, or a command that changes no lists, is entered, by which these tags end.
 fn entered(
     alloc: Global,
     state: &State,
     request: &Request,
     step: Box<DraftedStep>,
     ended: &[Tag],
-    change: TagChange,
 ) -> Result<Decision, NoMemory>
     requires known { All (λ (n : LogRecords). IsOfLog (length state.now.hosts.items) n.log) step.value.log_records }
-    ensures { IfOk result (EntersDraft state.now request.now (draft_in step.value) ended.now change) }
+    ensures { IfOk result (EntersDraft state.now request.now (draft_in step.value) ended.now) }
 {
     let mut step = step;
-    put_entered(alloc, state, request, step.as_mut(), ended, change)?;
+    put_entered(alloc, state, request, step.as_mut(), ended)?;
     Ok(Decision::step(step))
 }
 
-/// Beside the draft of a command that changes no lists stands what the step adds, by which these tags end, and its changes
-/// are all effects of the step.
+/// Beside the draft of such a command stands what the step adds, by which these tags end, and its changes are all effects of the
+/// step.
 fn put_entered(
     alloc: Global,
     state: &State,
     request: &Request,
     step: &mut DraftedStep,
     ended: &[Tag],
-    change: TagChange,
 ) -> Result<(), NoMemory>
     requires known { All (λ (n : LogRecords). IsOfLog (length state.now.hosts.items) n.log) step.old.log_records }
-    ensures { OnOk result (EntersDraft state.now request.now (draft_in step.old) ended.now change (decided_by step.new)) }
+    ensures { OnOk result (EntersDraft state.now request.now (draft_in step.old) ended.now (decided_by step.new)) }
 {
     put_ends(ended, &mut step.effects)?;
     put_records_of_logs(state, &step.log_records, &mut step.effects)?;
-    step.update.lists.clear();
-    step.update.tags = change;
     put_success(alloc, request, step);
     Ok(())
 }

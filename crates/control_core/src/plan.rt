@@ -4,7 +4,6 @@ ghost use Rattle.std.specs.Prelude.{◌≡◌};
 
 use crate::planned::PlannedEntry;
 use cci_codec::field_bytes::dcd_base::Changes;
-use device_commands::device_state::Update;
 use journal_core::{Effects, Entry};
 
 /// A step of the control with all the memory that it needs: `Control::apply` takes it.
@@ -12,7 +11,6 @@ use journal_core::{Effects, Entry};
 pub struct Plan {
     pub(crate) entry: PlannedEntry,
     pub(crate) changes: Changes,
-    pub(crate) update: Update,
 }
 
 impl Plan {

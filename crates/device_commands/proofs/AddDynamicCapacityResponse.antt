@@ -19,20 +19,19 @@ use Rattle.offer_core.specs.Offerings.{oldest_of}
 use Rattle.offer_core.specs.Responses.{respond_rule}
 use Rattle.device_state.specs.host_lists.specs.Answers.{IsAccepted, generation_after}
 use Rattle.device_state.specs.host_lists.specs.Lists.{Lists, extent_total}
-use Rattle.device_state.specs.ListsUpdates.{left_by, lists_alone}
-use Rattle.device_state.specs.declared.updates.NewLists.{NewLists}
+use Rattle.device_state.specs.host_lists.specs.declared.lists_change.ListsChange.{ListsChange}
 use Rattle.device_state.specs.device_rules.specs.Hosts.{accepted_after, held_after, moves, offers_after}
 use Rattle.device_state.specs.device_rules.specs.ResponseOutcomes.{answered, hold, respond_changes, respond_outcome, response_records, unhold}
 use Rattle.device_state.specs.device_rules.specs.Views.{View, generation_in, view_after}
 use Rattle.device_state.specs.device_laws.proofs.Homes.{run_same}
 use Rattle.device_commands.specs.declared.draft.DraftParts.{DraftParts}
-use Rattle.device_commands.specs.Drafts.{Drafts, LeadsTo}
-use Rattle.device_state.specs.Entered.{lists_by}
+use Rattle.device_commands.specs.Drafts.{Drafts}
+use Rattle.device_commands.specs.ListsUpdates.{left_by}
 use Rattle.device_state.specs.StateAfter.{lists_in}
 use Rattle.device_commands.specs.ListDrafts.{Tells, lists_changed}
 use Rattle.device_commands.specs.AddDynamicCapacityResponse.{takes, told_of}
 use Rattle.device_commands.proofs.ListedExtents.{Granular, marked_granular, response_few, response_granular}
-use Rattle.device_commands.proofs.ListsAfter.{empty_front, hold_changes, hold_joins, hold_moves, leads_by, none_changes, none_moves, once_more, other_joins, other_stays, lets_responses_go, unhold_changes, unhold_empties, unhold_moves}
+use Rattle.device_commands.proofs.ListsAfter.{empty_front, hold_changes, hold_joins, hold_moves, none_changes, none_moves, once_more, other_joins, other_stays, unhold_changes, unhold_empties, unhold_moves}
 
 -- the same runs are taken
 takes_same : (c : Configuration) (b : ℕ → ℕ) (h : HostId) (offer xs : List Extent) → takes (with_blocks c b) h (map (marked offer) xs) ≡ map (λ x. Effect.Take h (run_of c h x)) xs
@@ -112,7 +111,7 @@ module _ (c : Configuration) (h : HostId) (v : View) where
         releases = v.releases;
         generation = generation_after (map (marked offer) (v.responses ++ list)) (generation_in v);
       }
-      → Tells h (unhold h HeldKind.Responses v.responses ++ Effect.Answer h (map (marked offer) (v.responses ++ list)) ∷ takes (with_blocks c v.block) h (map (marked offer) (v.responses ++ list)))
+      → Tells (unhold h HeldKind.Responses v.responses ++ Effect.Answer h (map (marked offer) (v.responses ++ list)) ∷ takes (with_blocks c v.block) h (map (marked offer) (v.responses ++ list)))
       (tags_of offer) (λ w. told_of h w (map (marked offer) (v.responses ++ list))) (lists_in (record v { offers = offer ∷ later })) after d
       → Drafts c h (record v { offers = offer ∷ later }) (respond_outcome c h (record v { offers = offer ∷ later }) false list) d
   answers offer later list after d is t =
@@ -125,13 +124,13 @@ module _ (c : Configuration) (h : HostId) (v : View) where
         changes = t.changes_are ∙ same;
         tags = t.tags_are;
         log_records = t.log_records w after_is ∙ told_same c h w offer later all;
-        lists = subst (λ (x : List Effect × Lists). LeadsTo h x.0 (lists_in (record v { offers = offer ∷ later })) x.1 d.lists) (λ i. (same i, after_is i)) t.lists_are;
+        lists = t.lists_are ∙ after_is;
       }
 
 -- the oldest offer is answered
 pub answered_drafts : (c p : Configuration) (h : HostId) (v : View) (lists after : Lists) (list accepted : List Extent) (more : Bool) (d : DraftParts)
     → p ≡ with_blocks c v.block → lists ≡ lists_in v → more ≡ false → IsAccepted lists list after accepted
-    → Tells h (unhold h HeldKind.Responses lists.responses ++ Effect.Answer h accepted ∷ takes p h accepted) (tags_of (oldest_of lists.offers)) (λ w. told_of h w accepted) lists after d
+    → Tells (unhold h HeldKind.Responses lists.responses ++ Effect.Answer h accepted ∷ takes p h accepted) (tags_of (oldest_of lists.offers)) (λ w. told_of h w accepted) lists after d
     → Drafts c h v (respond_outcome c h v more list) d
 answered_drafts c p h v lists after list accepted more d present shows last a tells =
     let offer : List Extent = a.offer in
@@ -144,13 +143,13 @@ answered_drafts c p h v lists after list accepted more d present shows last a te
     a.is ∙ (λ i. record { accepted = (shows i).accepted ++ marks i; offers = later; responses = []; releases = (shows i).releases; generation = generation_after (marks i) (shows i).generation }) in
     let at_offer : View = record v { offers = a.offer ∷ a.later } in
     let same : v ≡ record v { offers = a.offer ∷ a.later } = λ i. record v { offers = offers i } in
-    let told = subst (λ (q : Configuration × (List Extent × (List Extent × (List Extent × Lists)))). Tells h (unhold h HeldKind.Responses q.1.0 ++ Effect.Answer h q.1.1.0 ∷ takes q.0 h q.1.1.0) (tags_of q.1.1.1.0) (λ w. told_of h w q.1.1.0) q.1.1.1.1 after d)
+    let told = subst (λ (q : Configuration × (List Extent × (List Extent × (List Extent × Lists)))). Tells (unhold h HeldKind.Responses q.1.0 ++ Effect.Answer h q.1.1.0 ∷ takes q.0 h q.1.1.0) (tags_of q.1.1.1.0) (λ w. told_of h w q.1.1.0) q.1.1.1.1 after d)
     (λ i. (present i, (held i, (marks i, (oldest_of ((ap (λ (ls : Lists). ls.offers) shows ∙ offers) i), (shows ∙ ap lists_in same) i))))) tells in
     subst (λ (b : Bool). Drafts c h v (respond_outcome c h v b list) d) (sym last)
     (subst (λ (u : View). Drafts c h u (respond_outcome c h u false list) d) (sym same) (answers c h v offer later list after d left told))
 
 -- more is to come
-pub held_response : (c : Configuration) (h : HostId) (v : View) (lists : Lists) (its : Option NewLists) (list : List Extent) (more : Bool) (d : DraftParts)
+pub held_response : (c : Configuration) (h : HostId) (v : View) (lists : Lists) (its : Option ListsChange) (list : List Extent) (more : Bool) (d : DraftParts)
     → lists ≡ lists_in v → more ≡ true → left_by its lists ≡ record lists { responses = lists.responses ++ list } → d ≡ lists_changed (hold h HeldKind.Responses list) its
     → Drafts c h v (respond_outcome c h v more list) d
 held_response c h v lists its list more d shows goes_on is drafts =
@@ -165,10 +164,10 @@ held_response c h v lists its list more d shows goes_on is drafts =
     }) in
     subst (λ (b : Bool). Drafts c h v (respond_outcome c h v b list) d) (sym goes_on)
     (subst (λ (e : DraftParts). Drafts c h v (respond_outcome c h v true list) e) (sym drafts)
-    (record { payload = refl; changes = refl; tags = refl; log_records = refl; lists = leads_by its h (hold h HeldKind.Responses list) (lists_in v) (lists_in (view_after c h v (hold h HeldKind.Responses list))) left (ap (left_by its) (hold_changes (lists_by h) h HeldKind.Responses (λ y xs. refl) list (lists_in v)) ∙ left) }))
+    (record { payload = refl; changes = refl; tags = refl; log_records = refl; lists = left }))
 
 -- there is no offer, and nothing is listed
-pub nothing_response : (c : Configuration) (h : HostId) (v : View) (lists : Lists) (its : Option NewLists) (list : List Extent) (more : Bool) (d : DraftParts)
+pub nothing_response : (c : Configuration) (h : HostId) (v : View) (lists : Lists) (its : Option ListsChange) (list : List Extent) (more : Bool) (d : DraftParts)
     → lists ≡ lists_in v → more ≡ false → lists.offers ≡ [] → lists.responses ++ list ≡ [] → left_by its lists ≡ record lists { responses = [] }
     → d ≡ lists_changed (unhold h HeldKind.Responses lists.responses) its → Drafts c h v (respond_outcome c h v more list) d
 nothing_response c h v lists its list more d shows last none empty is drafts =
@@ -177,7 +176,7 @@ nothing_response c h v lists its list more d shows last none empty is drafts =
     let held : v.responses ≡ [] = ap (λ (ls : Lists). ls.responses) (sym shows) ∙ no_held in
     let es : respond_changes c h v.offers v.responses false list ≡ [] = λ i. unhold h HeldKind.Responses (held i) ++ answered c h (offers i) (v.responses ++ list) in
     let same : left_by its (lists_in v) ≡ lists_in v = ap (left_by its) (sym shows) ∙ is ∙ (λ i. record lists { responses = sym no_held i }) ∙ shows in
-    let leads = subst (λ (changes : List Effect). LeadsTo h changes (lists_in v) (lists_in (view_after c h v changes)) (lists_alone its)) (sym es) (leads_by its h [] (lists_in v) (lists_in v) same same) in
+    let leads : left_by its (lists_in v) ≡ lists_in (view_after c h v (respond_changes c h v.offers v.responses false list)) = same ∙ sym (ap (λ (changes : List Effect). lists_in (view_after c h v changes)) es) in
     subst (λ (b : Bool). Drafts c h v (respond_outcome c h v b list) d) (sym last)
     (subst (λ (e : DraftParts). Drafts c h v (respond_outcome c h v false list) e) (sym drafts) (record {
       payload = refl;
@@ -186,11 +185,6 @@ nothing_response c h v lists its list more d shows last none empty is drafts =
       log_records = sym (ap (λ (os : List (List Extent)). response_records c h (view_after c h v (respond_changes c h v.offers v.responses false list)) os (v.responses ++ list)) offers);
       lists = leads;
     }))
-
--- what is held of responses goes, and nothing else, before the answer
-pub answer_lets_go : (p : Configuration) (h : HostId) (lists : Lists) (accepted : List Extent) → fold (lists_by h) lists (unhold h HeldKind.Responses lists.responses ++ Effect.Answer h accepted ∷ takes p h accepted) ≡ record lists { responses = [] }
-answer_lets_go p h lists accepted =
-    lets_responses_go h lists (Effect.Answer h accepted ∷ takes p h accepted) (none_changes (lists_by h) (λ x. Effect.Take h (run_of p h x)) (λ y x. refl) accepted) lists.responses refl
 
 -- ---- what the lists' answer gives
 

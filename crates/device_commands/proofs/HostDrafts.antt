@@ -32,7 +32,7 @@ outcome_drafts c h v o stay d is = record {
   changes = is.changes;
   tags = is.tags;
   log_records = is.log_records;
-  lists = subst (AreAfter c h v o) (sym is.lists) stay;
+  lists = subst (AreAfter c h v o) (sym is.lists) (sym stay);
 }
 
 -- a reply alone

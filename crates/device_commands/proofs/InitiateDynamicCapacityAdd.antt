@@ -19,7 +19,8 @@ use Rattle.list_rules.specs.dcd_codes.specs.Rules.{◌breaks◌}
 use Rattle.list_rules.specs.dcd_codes.specs.declared.rules.Rule.{Rule}
 use Rattle.list_rules.specs.extent_list.specs.ExtentLists.{has_extent_of, real_tags}
 use Rattle.selection.specs.granule_map.specs.StateLists.{is_free_at}
-use Rattle.device_commands.specs.Drafts.{Drafts, LeadsTo}
+use Rattle.device_commands.specs.Drafts.{Drafts}
+use Rattle.device_commands.specs.ListsUpdates.{left_by}
 use Rattle.device_state.specs.StateAfter.{lists_in, IsStateAfter, part_of}
 use Rattle.device_commands.specs.declared.draft.DraftParts.{DraftParts}
 use Rattle.device_state.specs.host_lists.specs.Lists.{Lists, extent_total}
@@ -334,5 +335,5 @@ module _ (c : Configuration) (sound : IsSound c) (journal : List Entry) (legal :
               changes = is.changes_are;
               tags = is.tags;
               log_records = is.log_records (view_after c h (view_of c h journal) (Effect.Offer h xs ∷ [])) after;
-              lists = subst (λ (x : Lists × Lists). LeadsTo h (Effect.Offer h xs ∷ []) x.0 x.1 d.lists) (λ i. ((kept.parts h are.host).lists_are i, after i)) is.lists_are;
+              lists = ap (left_by d.lists) (sym (kept.parts h are.host).lists_are) ∙ is.lists_are ∙ after;
             })

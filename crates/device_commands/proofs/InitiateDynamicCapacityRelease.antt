@@ -50,7 +50,8 @@ use Rattle.device_state.specs.StateAfter.{IsStateAfter, IsReached, part_of, list
 use Rattle.device_commands.specs.InitiateDynamicCapacityRelease.{Departs, IsDrafted, flags_rule, meant_rule, removal_outcome, removed_lists}
 use Rattle.device_state.specs.declared.state.State.{State}
 use Rattle.device_commands.specs.declared.draft.DraftParts.{DraftParts}
-use Rattle.device_commands.specs.Drafts.{Drafts, LeadsTo}
+use Rattle.device_commands.specs.Drafts.{Drafts}
+use Rattle.device_commands.specs.ListsUpdates.{left_by}
 
 each_at : (P : Extent → Type 0) (xs : List Extent) → AllByRecursion P xs → All P xs
 each_at P [] each i d known = absurd (omega (arith, known))
@@ -248,7 +249,7 @@ drafts_taken c h v flags leaving l d own forced departs is =
       tags = is.tags;
       log_records = is.log_records (view_after c h v (if is_forced flags then removals c h (is_cleaning flags) leaving else [])) after
           ∙ ap (λ b. (LogId.Host h, records_of_extents h (view_after c h v (if is_forced flags then removals c h (is_cleaning flags) leaving else [])) (if b then EventKind.Forced else EventKind.Release) leaving) ∷ []) (sym forced);
-      lists = subst (λ (x : List Effect × (Lists × Lists)). LeadsTo h x.0 x.1.0 x.1.1 d.lists) (λ i. (sym changes i, (own i, after i))) is.lists_are;
+      lists = ap (left_by d.lists) (sym own) ∙ is.lists_are ∙ after;
     }
 
 -- ---- the row

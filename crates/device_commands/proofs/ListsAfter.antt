@@ -10,23 +10,15 @@ use Rattle.journal_core.specs.declared.outcome.Effect.{Effect}
 use Rattle.journal_core.specs.declared.outcome.HeldKind.{HeldKind}
 use Rattle.device_state.specs.device_rules.specs.Hosts.{held_after, moves, same_kind}
 use Rattle.device_state.specs.device_rules.specs.ResponseOutcomes.{hold, unhold}
-use Rattle.device_state.specs.Entered.{lists_by}
 use Rattle.device_state.specs.host_lists.specs.Changes.{changed_by}
 use Rattle.device_state.specs.host_lists.specs.Lists.{Lists, extent_total, next_generation}
-use Rattle.device_state.specs.ListsUpdates.{left_by, lists_alone}
-use Rattle.device_state.specs.declared.updates.NewLists.{NewLists}
-use Rattle.device_commands.specs.Drafts.{LeadsTo}
+use Rattle.device_state.specs.host_lists.specs.declared.lists_change.ListsChange.{ListsChange}
+use Rattle.device_commands.specs.ListsUpdates.{left_by}
 
--- an update that leaves these lists, also where what was held has gone before
-pub leads_by : (its : Option NewLists) (h : HostId) (changes : List Effect) (had lists : Lists) → left_by its had ≡ lists → left_by its (fold (lists_by h) had changes) ≡ lists
-    → LeadsTo h changes had lists (lists_alone its)
-leads_by None h changes had lists left later = sym left
-leads_by (Some new) h changes had lists left later = (left, later)
-
--- and that leaves few extents
-pub few_by : (its : Option NewLists) (l : Lists) → extent_total (left_by its l) ≤ 64 → IfSome (lists_alone its) (λ change. extent_total (changed_by change l) ≤ 64)
+-- a change that leaves few extents
+pub few_by : (its : Option ListsChange) (l : Lists) → extent_total (left_by its l) ≤ 64 → IfSome its (λ change. extent_total (changed_by change l) ≤ 64)
 few_by None l few = tt
-few_by (Some new) l few = few
+few_by (Some change) l few = few
 
 -- effects that change nothing
 pub none_changes : {X Y : Type 0} (f : Y → Effect → Y) (g : X → Effect) → ((y : Y) (x : X) → f y (g x) ≡ y) → (xs : List X) (y : Y) → fold f y (map g xs) ≡ y
@@ -81,15 +73,3 @@ once_more n = sym (mod-add-mod n (2 ^ 32) 1)
 pub empty_front : (xs ys : List Extent) → xs ++ ys ≡ [] → xs ≡ []
 empty_front [] ys none = refl
 empty_front (x ∷ xs) ys none = absurd (cc)
-
--- ---- what a step lets go of the lists that are kept, before effects that let nothing go
-
-pub lets_responses_go : (h : HostId) (l : Lists) (es : List Effect) → ((y : Lists) → fold (lists_by h) y es ≡ y) → (held : List Extent) → l.responses ≡ held
-    → fold (lists_by h) l (unhold h HeldKind.Responses held ++ es) ≡ record l { responses = [] }
-lets_responses_go h l es stays [] none = stays l ∙ (λ i. record l { responses = none i })
-lets_responses_go h l es stays (x ∷ xs) some = rw (eq-eqb h h refl) (stays (record l { responses = [] }))
-
-pub lets_releases_go : (h : HostId) (l : Lists) (es : List Effect) → ((y : Lists) → fold (lists_by h) y es ≡ y) → (held : List Extent) → l.releases ≡ held
-    → fold (lists_by h) l (unhold h HeldKind.Releases held ++ es) ≡ record l { releases = [] }
-lets_releases_go h l es stays [] none = stays l ∙ (λ i. record l { releases = none i })
-lets_releases_go h l es stays (x ∷ xs) some = rw (eq-eqb h h refl) (stays (record l { releases = [] }))

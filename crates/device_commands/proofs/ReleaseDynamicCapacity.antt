@@ -18,8 +18,7 @@ use Rattle.selection.proofs.Placed.{granular_run}
 use Rattle.list_rules.specs.extent_list.specs.ExtentLists.{count_in, cut, cut_all, marked, tags_of}
 use Rattle.device_state.specs.host_lists.specs.Answers.{given_up}
 use Rattle.device_state.specs.host_lists.specs.Lists.{Lists}
-use Rattle.device_state.specs.ListsUpdates.{left_by}
-use Rattle.device_state.specs.declared.updates.NewLists.{NewLists}
+use Rattle.device_state.specs.host_lists.specs.declared.lists_change.ListsChange.{ListsChange}
 use Rattle.release_core.specs.Releases.{give_back_rule}
 use Rattle.device_state.specs.device_rules.specs.Hosts.{accepted_after, held_after, moves, offers_after}
 use Rattle.device_state.specs.device_rules.specs.Outcomes.{records_of_extents}
@@ -28,12 +27,12 @@ use Rattle.device_state.specs.device_rules.specs.ResponseOutcomes.{hold, unhold}
 use Rattle.device_state.specs.device_rules.specs.Views.{View, view_after}
 use Rattle.device_state.specs.device_laws.proofs.Homes.{bytes_same, run_same, start_same}
 use Rattle.device_commands.specs.declared.draft.DraftParts.{DraftParts}
-use Rattle.device_commands.specs.Drafts.{Drafts, LeadsTo}
-use Rattle.device_state.specs.Entered.{lists_by}
+use Rattle.device_commands.specs.Drafts.{Drafts}
+use Rattle.device_commands.specs.ListsUpdates.{left_by}
 use Rattle.device_state.specs.StateAfter.{lists_in}
 use Rattle.device_commands.specs.ListDrafts.{Tells, lists_changed}
 use Rattle.device_commands.proofs.ListedExtents.{Granular, marked_granular, release_granular}
-use Rattle.device_commands.proofs.ListsAfter.{empty_front, hold_changes, hold_joins, hold_moves, leads_by, none_changes, once_more, other_joins, other_stays, lets_releases_go, unhold_changes, unhold_empties, unhold_moves}
+use Rattle.device_commands.proofs.ListsAfter.{empty_front, hold_changes, hold_joins, hold_moves, none_changes, once_more, other_joins, other_stays, unhold_changes, unhold_empties, unhold_moves}
 
 -- the same runs leave
 removals_same : (c : Configuration) (b : ℕ → ℕ) (h : HostId) (owners xs : List Extent) → removals (with_blocks c b) h false (map (marked owners) xs) ≡ leaves c h xs
@@ -80,7 +79,7 @@ pub given_drafts : (c p : Configuration) (h : HostId) (v : View) (lists after : 
     → p ≡ with_blocks c v.block → lists ≡ lists_in v → more ≡ false → IsSound p → h < c.hosts
     → lists.releases ++ list ≢ [] → AllByRecursion (Granular p h) (lists.releases ++ list)
     → leaving ≡ map (marked lists.accepted) (lists.releases ++ list) → after ≡ given_up lists (lists.releases ++ list)
-    → Tells h (unhold h HeldKind.Releases lists.releases ++ removals p h false leaving) (tags_of leaving) (λ w. records_of_extents h w EventKind.Released leaving) lists after d
+    → Tells (unhold h HeldKind.Releases lists.releases ++ removals p h false leaving) (tags_of leaving) (λ w. records_of_extents h w EventKind.Released leaving) lists after d
     → Drafts c h v (give_back_outcome c h v more list) d
 given_drafts c p h v lists after list leaving more d present shows last sound host some made marks is tells =
     let sound_now : IsSound (with_blocks c v.block) = subst (λ q. IsSound q) present sound in
@@ -91,7 +90,7 @@ given_drafts c p h v lists after list leaving more d present shows last sound ho
     let marks_now : leaving ≡ map (marked v.accepted) (v.releases ++ list) = marks ∙ ap (λ (ls : Lists). map (marked ls.accepted) (ls.releases ++ list)) shows in
     let w : View = view_after c h v (unhold h HeldKind.Releases v.releases ++ leaves c h (v.releases ++ list)) in
     let left : after ≡ lists_in w = is ∙ ap (λ (ls : Lists). given_up ls (ls.releases ++ list)) shows ∙ sym (given_lists c h v sound_now host (v.releases ++ list) some_now made_now) in
-    let t = subst (λ (q : Configuration × (Lists × List Extent)). Tells h (unhold h HeldKind.Releases q.1.0.releases ++ removals q.0 h false q.1.1) (tags_of q.1.1) (λ u. records_of_extents h u EventKind.Released q.1.1) q.1.0 after d)
+    let t = subst (λ (q : Configuration × (Lists × List Extent)). Tells (unhold h HeldKind.Releases q.1.0.releases ++ removals q.0 h false q.1.1) (tags_of q.1.1) (λ u. records_of_extents h u EventKind.Released q.1.1) q.1.0 after d)
     (λ i. (present i, (shows i, marks_now i))) tells in
     let same = ap (λ es. unhold h HeldKind.Releases v.releases ++ es) (removals_same c v.block h v.accepted (v.releases ++ list)) in
     subst (λ (m : Bool). Drafts c h v (give_back_outcome c h v m list) d) (sym last) (record {
@@ -99,11 +98,11 @@ given_drafts c p h v lists after list leaving more d present shows last sound ho
       changes = t.changes_are ∙ same;
       tags = t.tags_are;
       log_records = t.log_records w left;
-      lists = subst (λ (x : List Effect × Lists). LeadsTo h x.0 (lists_in v) x.1 d.lists) (λ i. (same i, left i)) t.lists_are;
+      lists = t.lists_are ∙ left;
     })
 
 -- more is to come
-pub held_release : (c : Configuration) (h : HostId) (v : View) (lists : Lists) (its : Option NewLists) (list : List Extent) (more : Bool) (d : DraftParts)
+pub held_release : (c : Configuration) (h : HostId) (v : View) (lists : Lists) (its : Option ListsChange) (list : List Extent) (more : Bool) (d : DraftParts)
     → lists ≡ lists_in v → more ≡ true → left_by its lists ≡ record lists { releases = lists.releases ++ list } → d ≡ lists_changed (hold h HeldKind.Releases list) its
     → Drafts c h v (give_back_outcome c h v more list) d
 held_release c h v lists its list more d shows goes_on is drafts =
@@ -118,12 +117,12 @@ held_release c h v lists its list more d shows goes_on is drafts =
     }) in
     subst (λ (b : Bool). Drafts c h v (give_back_outcome c h v b list) d) (sym goes_on)
     (subst (λ (e : DraftParts). Drafts c h v (give_back_outcome c h v true list) e) (sym drafts)
-    (record { payload = refl; changes = refl; tags = refl; log_records = refl; lists = leads_by its h (hold h HeldKind.Releases list) (lists_in v) (lists_in (view_after c h v (hold h HeldKind.Releases list))) left (ap (left_by its) (hold_changes (lists_by h) h HeldKind.Releases (λ y xs. refl) list (lists_in v)) ∙ left) }))
+    (record { payload = refl; changes = refl; tags = refl; log_records = refl; lists = left }))
 
 -- nothing is given back
 pub nothing_given : (c p : Configuration) (h : HostId) (v : View) (lists after : Lists) (list leaving : List Extent) (more : Bool) (d : DraftParts)
     → lists ≡ lists_in v → more ≡ false → lists.releases ++ list ≡ [] → leaving ≡ [] → after ≡ record lists { releases = [] }
-    → Tells h (unhold h HeldKind.Releases lists.releases ++ removals p h false leaving) (tags_of leaving) (λ w. records_of_extents h w EventKind.Released leaving) lists after d
+    → Tells (unhold h HeldKind.Releases lists.releases ++ removals p h false leaving) (tags_of leaving) (λ w. records_of_extents h w EventKind.Released leaving) lists after d
     → Drafts c h v (give_back_outcome c h v more list) d
 nothing_given c p h v lists after list leaving more d shows last empty gone is t =
     let no_held : lists.releases ≡ [] = empty_front lists.releases list empty in
@@ -139,18 +138,8 @@ nothing_given c p h v lists after list leaving more d shows last empty gone is t
       changes = t.changes_are ∙ drafted ∙ sym es;
       tags = t.tags_are ∙ ap tags_of (gone ∙ sym going);
       log_records = t.log_records w left ∙ ap (λ (xs : List Extent). (LogId.Manager, records_of_extents h w EventKind.Released xs) ∷ []) (gone ∙ sym going);
-      lists = subst (λ (x : List Effect × (Lists × Lists)). LeadsTo h x.0 x.1.0 x.1.1 d.lists) (λ i. ((drafted ∙ sym es) i, (shows i, left i))) t.lists_are;
+      lists = ap (left_by d.lists) (sym shows) ∙ t.lists_are ∙ left;
     })
-
--- removals let nothing go that is held
-pub removals_stay : (c : Configuration) (h : HostId) (clean : Bool) (xs : List Extent) (y : Lists) → fold (lists_by h) y (removals c h clean xs) ≡ y
-removals_stay c h clean [] y = refl
-removals_stay c h true (x ∷ xs) y = removals_stay c h true xs y
-removals_stay c h false (x ∷ xs) y = removals_stay c h false xs y
-
--- what is held of releases goes, and nothing else, before the extents leave
-pub release_lets_go : (p : Configuration) (h : HostId) (lists : Lists) (leaving : List Extent) → fold (lists_by h) lists (unhold h HeldKind.Releases lists.releases ++ removals p h false leaving) ≡ record lists { releases = [] }
-release_lets_go p h lists leaving = lets_releases_go h lists (removals p h false leaving) (removals_stay p h false leaving) lists.releases refl
 
 -- ---- what the lists' answer gives
 

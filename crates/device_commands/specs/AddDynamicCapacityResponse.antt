@@ -36,7 +36,7 @@ answer_changes p h l accepted = unhold h HeldKind.Responses l.responses ++ Effec
 -- The oldest offer of the lists is answered with these extents, and these are the lists after it.
 abbrev pub IsAnswered : Configuration → HostId → Lists → List Extent → Lists → DraftParts → Type 0
 IsAnswered p h before accepted after d =
-    Tells h (answer_changes p h before accepted) (tags_of (oldest_of before.offers)) (λ w. told_of h w accepted) before after d
+    Tells (answer_changes p h before accepted) (tags_of (oldest_of before.offers)) (λ w. told_of h w accepted) before after d
 
 -- By each view that shows these present blocks and lists, the draft is what the response does, where it breaks no rule.
 abbrev pub Responds : Configuration → HostId → Lists → Bool → List Extent → DraftParts → Type 0

@@ -1,16 +1,13 @@
 -- What a draft is: the outcome of a command, and what it changes of the lists of its host.
-use Rattle.std.specs.Prelude.{◌≡◌, List, fold, map, Option, Some, None}
+use Rattle.std.specs.Prelude.{◌≡◌, List, map, Option, None}
 use Rattle.cci_codec.specs.field_bytes.specs.dcd_base.specs.declared.ids.HostId.{HostId}
 use Rattle.cci_codec.specs.field_bytes.specs.dcd_base.specs.declared.steps.LogId.{LogId}
 use Rattle.event_records.specs.declared.events.Event.{Event}
 use Rattle.list_rules.specs.media_map.specs.region_config.specs.Configurations.{Configuration}
-use Rattle.device_state.specs.host_lists.specs.Changes.{changed_by}
-use Rattle.device_state.specs.host_lists.specs.Lists.{Lists}
 use Rattle.device_state.specs.host_lists.specs.declared.lists_change.ListsChange.{ListsChange}
-use Rattle.journal_core.specs.declared.outcome.Effect.{Effect}
 use Rattle.device_state.specs.device_rules.specs.Outcomes.{Outcome}
 use Rattle.device_state.specs.device_rules.specs.Views.{View, view_after}
-use Rattle.device_state.specs.Entered.{lists_by}
+use Rattle.device_commands.specs.ListsUpdates.{left_by}
 use Rattle.device_state.specs.StateAfter.{lists_in}
 use Rattle.device_commands.specs.declared.draft.DraftParts.{DraftParts}
 use Rattle.device_commands.specs.declared.log_records.LogRecords.{LogRecords}
@@ -19,15 +16,9 @@ use Rattle.device_commands.specs.declared.log_records.LogRecords.{LogRecords}
 abbrev pub as_records : LogRecords → LogId × List Event
 as_records n = (n.log, n.events)
 
--- The change leads from the lists that a host had to these, also where what it held has gone by these effects before; where
--- there is none, the lists are the same.
-abbrev pub LeadsTo : HostId → List Effect → Lists → Lists → Option ListsChange → Type 0
-LeadsTo h changes had lists None = lists ≡ had
-LeadsTo h changes had lists (Some change) = (changed_by change had ≡ lists) × (changed_by change (fold (lists_by h) had changes) ≡ lists)
-
 -- The change leads to the lists after the command's changes.
 abbrev pub AreAfter : Configuration → HostId → View → Outcome → Option ListsChange → Type 0
-AreAfter c h v o change = LeadsTo h o.changes (lists_in v) (lists_in (view_after c h v o.changes)) change
+AreAfter c h v o change = left_by change (lists_in v) ≡ lists_in (view_after c h v o.changes)
 
 -- The draft is this outcome, and what it changes of the lists of this host leads to those after it.
 pub record Drafts (c : Configuration) (h : HostId) (v : View) (o : Outcome) (d : DraftParts) : Type 0 where

@@ -14,7 +14,8 @@ use Rattle.event_records.specs.declared.events.EventKind.{EventKind}
 use Rattle.list_rules.specs.extent_list.specs.ExtentLists.{has_extent_of, real_tags}
 use Rattle.selection.specs.granule_map.specs.StateLists.{is_free_at}
 use Rattle.device_state.specs.StateAfter.{lists_in, part_of, IsLogOf}
-use Rattle.device_commands.specs.Drafts.{LeadsTo, as_records}
+use Rattle.device_commands.specs.Drafts.{as_records}
+use Rattle.device_commands.specs.ListsUpdates.{left_by}
 use Rattle.device_commands.specs.declared.draft.DraftParts.{DraftParts}
 use Rattle.device_state.specs.host_lists.specs.Lists.{Lists, extent_total, extents_of_lists}
 use Rattle.journal_core.specs.declared.outcome.Effect.{Effect}
@@ -103,7 +104,7 @@ pub record DraftOffers (h : HostId) (old : Lists) (new : List Extent) (d : Draft
   pub payload : d.payload ≡ []
   pub changes_are : d.changes ≡ Effect.Offer h new ∷ []
   pub tags : d.tags ≡ []
-  pub lists_are : LeadsTo h (Effect.Offer h new ∷ []) old (offered_lists old new) d.lists
+  pub lists_are : left_by d.lists old ≡ offered_lists old new
   pub log_records : (v : View) → offered_lists old new ≡ lists_in v → map as_records d.log_records ≡ (LogId.Host h, records_of_extents h v EventKind.Add new) ∷ []
 
 -- ---- by the fields of a request

@@ -10,7 +10,8 @@ use Rattle.list_rules.specs.dcd_codes.specs.declared.rules.Rule.{Rule}
 use Rattle.event_records.specs.declared.events.EventKind.{EventKind}
 use Rattle.list_rules.specs.extent_list.specs.ExtentLists.{count_in, cut_all, tags_of}
 use Rattle.device_state.specs.StateAfter.{lists_in, IsStateAfter, part_of}
-use Rattle.device_commands.specs.Drafts.{Drafts, LeadsTo, as_records}
+use Rattle.device_commands.specs.Drafts.{Drafts, as_records}
+use Rattle.device_commands.specs.ListsUpdates.{left_by}
 use Rattle.device_commands.specs.declared.draft.DraftParts.{DraftParts}
 use Rattle.device_state.specs.host_lists.specs.Answers.{generation_after}
 use Rattle.device_state.specs.host_lists.specs.Lists.{Lists}
@@ -61,7 +62,7 @@ pub record IsDrafted (h : HostId) (kind : EventKind) (changes : List Effect) (ha
   pub payload : d.payload ≡ []
   pub changes_are : d.changes ≡ changes
   pub tags : d.tags ≡ tags_of leaving
-  pub lists_are : LeadsTo h changes had new d.lists
+  pub lists_are : left_by d.lists had ≡ new
   pub log_records : (v : View) → new ≡ lists_in v → map as_records d.log_records ≡ (LogId.Host h, records_of_extents h v kind leaving) ∷ []
 
 -- what a removal of these does

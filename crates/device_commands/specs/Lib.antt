@@ -12,12 +12,12 @@ pub mod HostMessages
 pub mod InitiateDynamicCapacityAdd
 pub mod InitiateDynamicCapacityRelease
 pub mod ListDrafts
+pub mod ListsUpdates
 pub mod ManagerMessages
 pub mod ReleaseDynamicCapacity
 pub mod Scrub
 pub mod SetDcRegionConfiguration
 pub mod ShownFlags
-pub mod TagChanges
 pub use Rattle.device_state.specs.device_rules
 pub use Rattle.device_state.specs.device_laws
 pub use Rattle.device_state.specs.host_lists

@@ -10,25 +10,25 @@ use Rattle.cci_codec.specs.field_bytes.specs.dcd_base.specs.declared.steps.LogId
 use Rattle.event_records.specs.declared.events.Event.{Event}
 use Rattle.journal_core.specs.declared.outcome.Effect.{Effect}
 use Rattle.device_state.specs.host_lists.specs.Lists.{Lists}
-use Rattle.device_state.specs.ListsUpdates.{lists_alone}
-use Rattle.device_state.specs.declared.updates.NewLists.{NewLists}
+use Rattle.device_state.specs.host_lists.specs.declared.lists_change.ListsChange.{ListsChange}
 use Rattle.device_state.specs.device_rules.specs.Views.{View}
 use Rattle.device_commands.specs.declared.draft.DraftParts.{DraftParts}
 use Rattle.device_state.specs.StateAfter.{lists_in}
-use Rattle.device_commands.specs.Drafts.{LeadsTo, as_records}
+use Rattle.device_commands.specs.Drafts.{as_records}
+use Rattle.device_commands.specs.ListsUpdates.{left_by}
 
 -- changes, and what they change of lists
-abbrev pub lists_changed : List Effect → Option NewLists → DraftParts
-lists_changed changes its = record { payload = []; changes = changes; tags = []; log_records = []; lists = lists_alone its }
+abbrev pub lists_changed : List Effect → Option ListsChange → DraftParts
+lists_changed changes its = record { payload = []; changes = changes; tags = []; log_records = []; lists = its }
 
 -- The draft has these changes, these tags that may end, what leads from the lists that the host had to these, and for the
 -- manager these events of a view with these lists.
-pub record Tells (h : HostId) (changes : List Effect) (tags : List Tag) (events : View → List Event) (had lists : Lists) (d : DraftParts) : Type 0 where
+pub record Tells (changes : List Effect) (tags : List Tag) (events : View → List Event) (had lists : Lists) (d : DraftParts) : Type 0 where
   pub payload : d.payload ≡ []
   pub changes_are : d.changes ≡ changes
   pub tags_are : d.tags ≡ tags
   pub log_records : (w : View) → lists ≡ lists_in w → map as_records d.log_records ≡ (LogId.Manager, events w) ∷ []
-  pub lists_are : LeadsTo h changes had lists d.lists
+  pub lists_are : left_by d.lists had ≡ lists
 
 -- The records tell the log of a host of each extent, by a view with these lists.
 abbrev pub TellOf : HostId → EventKind → Lists → List Extent → List LogRecords → Type 0

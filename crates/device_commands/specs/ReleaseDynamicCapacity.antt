@@ -25,7 +25,7 @@ release_changes p h l leaving = unhold h HeldKind.Releases l.releases ++ removal
 -- The extents leave the host, which had these lists, and these are its lists after it.
 abbrev pub IsReleased : Configuration → HostId → Lists → List Extent → Lists → DraftParts → Type 0
 IsReleased p h before leaving after d =
-    Tells h (release_changes p h before leaving) (tags_of leaving) (λ w. records_of_extents h w EventKind.Released leaving) before after d
+    Tells (release_changes p h before leaving) (tags_of leaving) (λ w. records_of_extents h w EventKind.Released leaving) before after d
 
 -- By each view that shows these present blocks and lists, the draft is what the release does, where it breaks no rule.
 abbrev pub GivesBack : Configuration → HostId → Lists → Bool → List Extent → DraftParts → Type 0

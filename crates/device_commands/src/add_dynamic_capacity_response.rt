@@ -13,7 +13,7 @@ ghost use Rattle.cci_codec.specs.field_bytes.specs.dcd_base.specs.declared.steps
 ghost use Rattle.device_commands.specs.Drafts.{as_records};
 ghost use Rattle.device_state.specs.StateAfter.{lists_in};
 ghost use Rattle.device_commands.specs.DraftContents.{IsBlank, draft_in};
-ghost use Rattle.device_state.specs.ListsUpdates.{left_by};
+ghost use Rattle.device_commands.specs.ListsUpdates.{left_by};
 ghost use Rattle.device_state.specs.host_lists.specs.Changes.{changed_by};
 ghost use Rattle.device_state.specs.host_lists.specs.Lists.{extent_total};
 ghost use Rattle.journal_core.specs.declared.outcome.Effect.{Effect};
@@ -89,7 +89,7 @@ fn put_response(
 {
     // What is made of present blocks is made of granules, in every configuration.
     let _regions = present.regions();
-    match step.update.lists.answer(lists, list, more)? {
+    match step.lists.answer(lists, list, more)? {
         Responded::Held => {
             step.log_records = ShortList::new();
             put_hold(host, HeldKind::Responses, list, &mut step.effects)
@@ -114,15 +114,14 @@ fn put_answered(
 ) -> Result<(), NoMemory>
     requires host { host < present.now.hosts }
     requires granular { All (λ x. IsTrue (is_granular present.now host x.start x.length)) accepted }
-    requires there { IsSome step.old.update.lists }
-    requires few { extent_total (left_by step.old.update.lists lists.now) ≤ 64 }
-    requires held { left_by step.old.update.lists (record lists.now { responses = [] }) ≡ left_by step.old.update.lists lists.now }
+    requires there { IsSome step.old.lists }
+    requires few { extent_total (left_by step.old.lists lists.now) ≤ 64 }
     requires blank { IsBlank step.old }
-    ensures drafts { OnOk result (IsAnswered present.now host lists.now accepted (left_by step.old.update.lists lists.now) (draft_in step.new)) }
-    ensures lists { OnOk result (step.new.update.lists ≡ step.old.update.lists) }
+    ensures drafts { OnOk result (IsAnswered present.now host lists.now accepted (left_by step.old.lists lists.now) (draft_in step.new)) }
+    ensures lists { OnOk result (step.new.lists ≡ step.old.lists) }
 {
     put_tags_of(lists.oldest(), &mut step.tags)?;
-    let after = step.update.lists.over(lists);
+    let after = step.lists.over(lists);
     step.log_records = records_to_manager(alloc, host, &after, accepted.as_slice())?;
     put_answer(alloc, present, host, lists, accepted, &mut step.effects)
 }

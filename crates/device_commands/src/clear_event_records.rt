@@ -120,7 +120,7 @@ fn put_listed(id: &LogId, count: usize, step: &mut DraftedStep) -> Result<(), No
     ensures { OnOk result (draft_in step.new ≡ record no_draft { changes = cleared id.now count }) }
 {
     step.log_records = ShortList::new();
-    step.update.lists.clear();
+    step.lists.clear();
     put_cleared(id, count, &mut step.effects)
 }
 

@@ -1,14 +1,13 @@
 //! What a command does that breaks no rule.
 
 ghost use Rattle.device_commands.specs.DraftContents.{draft_in, parts_of_content};
-ghost use Rattle.device_state.specs.ListsUpdates.{lists_alone};
 ghost use Rattle.std.specs.Prelude.{◌≡◌, [], IfOk, None};
 
+use crate::lists_update::ListsUpdate;
 use crate::log_records::LogRecords;
 use crate::rooms::Room;
-use cci_codec::field_bytes::dcd_base::{Bytes, HostId, NoMemory, Seq, ShortList, Tag};
+use cci_codec::field_bytes::dcd_base::{Bytes, NoMemory, Seq, ShortList, Tag};
 use device_state::host_lists::ListsChange;
-use device_state::{ListsUpdate, NewLists, TagChange, Update};
 use journal_core::{Effects, Reply};
 use std::alloc::Global;
 use std::marker::Model;
@@ -35,14 +34,15 @@ pub struct DraftedStep {
     pub payload: Bytes,
     /// What a draft changes, and then all that the step does.
     pub effects: Effects,
-    /// The tags that may end by it, which the step moves into its update.
+    /// The tags that may end by it.
     pub tags: Seq<Tag>,
     /// What it tells, log by log.
     pub log_records: ShortList<LogRecords>,
+    /// What it changes of the lists of the host, where it changes them: what it tells, and which tags end, is read from the lists
+    /// after it.
+    pub lists: ListsUpdate,
     /// What the step replies.
     pub reply: Reply,
-    /// What it changes of lists, under any host before the step names it, and of the open tags.
-    pub update: Update,
 }
 
 /// What a draft has.
@@ -88,11 +88,8 @@ impl DraftedStep {
             effects: changes,
             tags,
             log_records,
+            lists: ListsUpdate::of(lists),
             reply: Reply::Stored,
-            update: Update {
-                lists: ListsUpdate::of(under_a_host(lists)),
-                tags: TagChange::Nothing,
-            },
         }
     }
 
@@ -105,8 +102,8 @@ impl DraftedStep {
             effects: changes,
             tags: Seq::new(alloc),
             log_records: ShortList::new(),
+            lists: ListsUpdate::nothing(),
             reply: Reply::Stored,
-            update: Update::nothing(),
         }
     }
 
@@ -119,39 +116,16 @@ impl DraftedStep {
             effects,
             tags,
             log_records,
+            lists,
             reply: _,
-            update,
         } = self;
         DraftParts {
             payload,
             changes: effects,
             tags,
             log_records,
-            lists: lists_alone(update.lists.into_new()),
+            lists: lists.into_change(),
         }
-    }
-}
-
-/// The change of lists under some host.
-fn under_a_host(lists: Option<ListsChange>) -> Option<NewLists>
-    ensures { lists_alone result ≡ lists }
-{
-    match lists {
-        Some(change) => Some(NewLists {
-            host: HostId(0),
-            change,
-        }),
-        None => None,
-    }
-}
-
-/// The change of lists without their host.
-fn lists_alone(lists: Option<NewLists>) -> Option<ListsChange>
-    ensures { result ≡ lists_alone lists }
-{
-    match lists {
-        Some(new) => Some(new.change),
-        None => None,
     }
 }
 

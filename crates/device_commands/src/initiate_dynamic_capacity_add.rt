@@ -298,8 +298,8 @@ fn put_offer(
     ensures { OnOk result (DraftOffers asked.now.host (part_of state.now asked.now.host).lists extents (draft_in step.new)) }
 {
     let lists = &state.part(asked.host).lists;
-    step.update.lists.offer(lists, extents.as_slice())?;
-    let after = step.update.lists.over(lists);
+    step.lists.offer(lists, extents.as_slice())?;
+    let after = step.lists.over(lists);
     let tags_available = TAGS.saturating_sub(tags);
     let records = &mut step.log_records;
     put_offer_records(

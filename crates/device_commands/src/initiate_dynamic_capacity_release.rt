@@ -208,7 +208,7 @@ fn put_removal(
     ensures { OnOk result (IsTakenByForce config.now host cleaning (part_of state.now host).lists leaving.now (draft_in step.new)) }
 {
     let lists = &state.part(host).lists;
-    step.update.lists.remove(lists, leaving)?;
+    step.lists.remove(lists, leaving)?;
     put_leaves(
         config,
         host,
@@ -217,7 +217,7 @@ fn put_removal(
         &mut step.effects,
     )?;
     put_tags_of(leaving.as_slice(), &mut step.tags)?;
-    let after = step.update.lists.over(lists);
+    let after = step.lists.over(lists);
     step.log_records = removal_records(alloc, host, &after, EventKind::Forced, leaving)?;
     Ok(())
 }

@@ -3,8 +3,8 @@
 //! Each command has a room, a file of its own by the specification's name. It answers a draft, or the first rule of its
 //! row that the command breaks; nothing that the device keeps is changed. In each room come, in this order, what is
 //! read, the first broken rule, the reply and the changes. `host_messages` and `manager_messages` say which command a
-//! message is. Beside the rooms stand what several share: `draft`, `log_records`, `held_lists`, `leaves`, `pages`,
-//! `putting`, `rooms`, `runs`, `tags`, `tag_changes` and `responses`.
+//! message is. Beside the rooms stand what several share: `draft`, `lists_update`, `log_records`, `held_lists`, `leaves`, `pages`,
+//! `putting`, `rooms`, `runs`, `tags` and `responses`.
 #![tactic(auto)]
 
 mod add_dynamic_capacity_response;
@@ -26,6 +26,7 @@ mod host_messages;
 mod initiate_dynamic_capacity_add;
 mod initiate_dynamic_capacity_release;
 mod leaves;
+mod lists_update;
 mod log_records;
 mod manager_messages;
 mod pages;
@@ -36,7 +37,6 @@ mod rooms;
 mod runs;
 mod scrub;
 mod set_dc_region_configuration;
-mod tag_changes;
 mod tags;
 
 pub use cci_codec::field_bytes::dcd_base::ShortList;
@@ -49,10 +49,10 @@ pub use held_lists::dropped;
 pub use host_messages::host_draft;
 pub use initiate_dynamic_capacity_add::{AddRequest, add};
 pub use initiate_dynamic_capacity_release::{RemoveRequest, remove};
+pub use lists_update::ListsUpdate;
 pub use log_records::{LogRecords, event_for, no_extent, records_of_extents};
 pub use manager_messages::quiet_draft;
 pub use responses::{answer, refused};
 pub use rooms::Room;
 pub use runs::run_of;
 pub use scrub::{Zeroed, zero_dirty};
-pub use tag_changes::{put_no_change, put_offer_change, told_change};

@@ -10,7 +10,7 @@ ghost use Rattle.event_records.specs.declared.events.EventKind.{EventKind};
 ghost use Rattle.list_rules.specs.extent_list.specs.ExtentLists.{count_in};
 ghost use Rattle.release_core.specs.Releases.{give_back_rule};
 ghost use Rattle.device_commands.specs.DraftContents.{IsBlank, draft_in};
-ghost use Rattle.device_state.specs.ListsUpdates.{left_by};
+ghost use Rattle.device_commands.specs.ListsUpdates.{left_by};
 ghost use Rattle.device_state.specs.host_lists.specs.Changes.{changed_by};
 ghost use Rattle.device_state.specs.host_lists.specs.Lists.{extent_total};
 ghost use Rattle.journal_core.specs.declared.outcome.HeldKind.{HeldKind};
@@ -82,7 +82,7 @@ fn put_given(
 {
     // What is made of present blocks is made of granules, in every configuration.
     let _regions = present.regions();
-    match step.update.lists.release(lists, list, more)? {
+    match step.lists.release(lists, list, more)? {
         GivenBack::Held => {
             step.log_records = ShortList::new();
             put_hold(host, HeldKind::Releases, list, &mut step.effects)
@@ -105,18 +105,17 @@ fn put_released(
 ) -> Result<(), NoMemory>
     requires host { host < present.now.hosts }
     requires granular { All (λ x. IsTrue (is_granular present.now host x.start x.length)) leaving.now }
-    requires there { IsSome step.old.update.lists }
-    requires few { extent_total (left_by step.old.update.lists lists.now) ≤ 64 }
-    requires held { left_by step.old.update.lists (record lists.now { releases = [] }) ≡ left_by step.old.update.lists lists.now }
+    requires there { IsSome step.old.lists }
+    requires few { extent_total (left_by step.old.lists lists.now) ≤ 64 }
     requires blank { IsBlank step.old }
-    ensures drafts { OnOk result (IsReleased present.now host lists.now leaving.now (left_by step.old.update.lists lists.now) (draft_in step.new)) }
-    ensures lists { OnOk result (step.new.update.lists ≡ step.old.update.lists) }
+    ensures drafts { OnOk result (IsReleased present.now host lists.now leaving.now (left_by step.old.lists lists.now) (draft_in step.new)) }
+    ensures lists { OnOk result (step.new.lists ≡ step.old.lists) }
 {
     let held = lists.releases();
     put_unhold(host, HeldKind::Releases, held, &mut step.effects)?;
     put_leaves(present, host, false, leaving, &mut step.effects)?;
     put_tags_of(leaving, &mut step.tags)?;
-    let after = step.update.lists.over(lists);
+    let after = step.lists.over(lists);
     let (to, kind) = (LogId::Manager, EventKind::Released);
     step.log_records = records_to(alloc, to, host, &after, kind, leaving)?;
     Ok(())

@@ -4,8 +4,7 @@ ghost use Rattle.device_commands.specs.DraftContents.{IsBlank, draft_in, no_draf
 ghost use Rattle.std.specs.Prelude.{◌≡◌, ◌≤◌, [], IfOk, OnOk, vec_capacity, vec_len};
 
 use crate::draft::DraftedStep;
-use cci_codec::field_bytes::dcd_base::{Bytes, Extent, Extents, NoMemory, Runs, Seq, Tag};
-use device_state::TagChange;
+use cci_codec::field_bytes::dcd_base::{Bytes, Extent, Extents, NoMemory, Runs};
 use journal_core::{Effect, Effects, Reply};
 use std::alloc::Global;
 use std::mem::{ManuallyDrop, replace, swap};
@@ -168,7 +167,6 @@ fn empty(step: &mut DraftedStep, extents: &mut Extents)
 {
     step.payload.clear();
     clear(&mut step.effects, extents);
-    take_back_tags(step);
     step.tags.clear();
 }
 
@@ -198,14 +196,4 @@ fn clear_for(effects: &mut Effects, most: usize) -> Result<(), NoMemory>
     items.reserve(most)?;
     *effects = Effects::from_vec(alloc, items);
     Ok(())
-}
-
-/// Takes the memory of the tags back that the step has moved into its update.
-#[inline(always)]
-fn take_back_tags(step: &mut DraftedStep)
-    ensures { draft_in step.new ≡ record (draft_in step.old) { tags = step.new.tags } }
-{
-    if let TagChange::OfHost { host: _, tags } = &mut step.update.tags {
-        swap(&mut step.tags, tags);
-    }
 }

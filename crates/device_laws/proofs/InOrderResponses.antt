@@ -66,7 +66,7 @@ module _ (c : Configuration) (sound : IsSound c) (p : Picture) (s : Stands c p) 
 
   made : AllByRecursion (IsMade c (p.block r) h r) offer
   made = each-both (IsHome c p h) (λ x. region_at c h x.start ≡ r) (IsMade c (p.block r) h r)
-      (λ x a at. subst (λ k. IsMade c (p.block k) h k x) at (home_made c sound p s h x host a)) offer (of_offer (IsHome c p h) (s.home h)) in_one
+      (λ x a at. subst (λ k. IsMade c (p.block k) h k x) at (home_made c sound p s h x host a)) offer (of_offer (IsHome c p h) (s.home h)) in_one.1
 
   pub made_there : AllByRecursion IsMadeThere offer
   made_there = each-change (IsHome c p h) IsMadeThere (λ x a. home_made c sound p s h x host a) offer (of_offer (IsHome c p h) (s.home h))

@@ -308,7 +308,7 @@ module _ (c : Configuration) (sound : IsSound c) (p : Picture) (before : Sound c
       }) (x ∷ xs) new_ones (each_reached (run_of c h) (x ∷ xs))
 
   new_together : IsTogether c h (x ∷ xs)
-  new_together = each-change (IsMade c (p.block r) h r) (λ y. region_at c h y.start ≡ region_of_offer c h (x ∷ xs)) (λ y m. here_is y m ∙ sym (here_is x o.made.0)) (x ∷ xs) o.made
+  new_together = (omega arith, each-change (IsMade c (p.block r) h r) (λ y. region_at c h y.start ≡ region_of_offer c h (x ∷ xs)) (λ y m. here_is y m ∙ sym (here_is x o.made.0)) (x ∷ xs) o.made)
 
   all_together : (k : HostId) → AllByRecursion (IsTogether c k) (q.offers k)
   all_together k = by (h == k) refl

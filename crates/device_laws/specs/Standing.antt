@@ -35,9 +35,9 @@ pub record IsUnderTag (c : Configuration) (p : Picture) (h : HostId) (x : Extent
 abbrev pub IsUnder : Configuration → Picture → HostId → Extent → Type 0
 IsUnder c p h x = (region_spec c (region_at c h x.start)).shareable ≡ true → IsUnderTag c p h x
 
--- All extents of an offer begin in one region.
+-- An offer has an extent, and all its extents begin in one region.
 abbrev pub IsTogether : Configuration → HostId → List Extent → Type 0
-IsTogether c h offer = AllByRecursion (λ x. region_at c h x.start ≡ region_of_offer c h offer) offer
+IsTogether c h offer = (0 < length offer) × AllByRecursion (λ x. region_at c h x.start ≡ region_of_offer c h offer) offer
 
 -- An open tag is not zero. It stands for the extents of its last offer: one at least, made of present blocks of one
 -- shareable region, of which no two share a granule.
@@ -72,7 +72,7 @@ pub record Stands (c : Configuration) (p : Picture) : Type 0 where
   -- each extent is made of present blocks, and under a tag where it is shared
   pub home : (h : HostId) → AllByRecursion (IsHome c p h) (extents_at p h)
   pub under : (h : HostId) → AllByRecursion (IsUnder c p h) (extents_at p h)
-  -- each offer lies in one region
+  -- each offer has an extent, and lies in one region
   pub together : (h : HostId) → AllByRecursion (IsTogether c h) (p.offers h)
   -- open tags stand for something
   pub opened : (t : Tag) → has_tag p.tags t ≡ true → IsOpen c p t

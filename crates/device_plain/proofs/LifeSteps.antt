@@ -20,11 +20,9 @@ use Rattle.control_core.specs.device_rules.specs.Views.{view_of}
 use Rattle.std.specs.declared.result.Result.{Result}
 use Rattle.std.specs.declared.result.Result.TheVariants.{Ok, Err}
 use Rattle.control_core.specs.device_rules.specs.Legal.{Meets, right_answer, word_by}
-use Rattle.control_core.specs.device_state.specs.Updates.{IsUpdate}
 use Rattle.control_core.specs.device_state.specs.declared.state.State.{State}
-use Rattle.control_core.specs.device_state.specs.declared.updates.Update.{Update}
 use Rattle.control_core.specs.Deciding.{IsDecidedBy}
-use Rattle.control_core.specs.Pasts.{CanEnter, EntersStep, IsOfStep, IsPast, LiveControlled}
+use Rattle.control_core.specs.Pasts.{EntersStep, IsOfStep, IsPast, LiveControlled}
 use Rattle.control_core.specs.Steps.{MayStep, journal_entry}
 use Rattle.control_core.specs.declared.decided.Decided.{Decided}
 use Rattle.control_core.proofs.NextEntry.{next_meets}
@@ -88,7 +86,7 @@ right_is c life Actor.Manager act may = refl
 right_is c life Actor.Sanitizer act may = refl
 
 -- what is decided may be entered
-pub can_take : (d : Living) (life : List Entry) → IsLife life d → (actor : Actor) (act : Act) → MayStep d.config actor act → (x : Decided) → IsDecidedBy d.config life actor act x → CanTake d x.effects x.update
+pub can_take : (d : Living) (life : List Entry) → IsLife life d → (actor : Actor) (act : Act) → MayStep d.config actor act → (x : Decided) → IsDecidedBy d.config life actor act x → CanTake d x.effects
 can_take d life leads actor act may x decided = record {
   life = life;
   entry = journal_entry d.config life 0 0 actor act;
@@ -96,22 +94,17 @@ can_take d life leads actor act may x decided = record {
   control = may.control;
   meets = next_meets d.config life 0 0 actor act may;
   effects_are = sym decided.effects;
-  update = decided.update;
 }
 
-pub can_inside : (c : Configuration) (s : State) (m : Stored) (new : List Effect) (u : Update) → CanTake (living c (without_spare s) m) new u → CanTake (living c s m) new u
-can_inside c s m new u can = record {
+pub can_inside : (c : Configuration) (s : State) (m : Stored) (new : List Effect) → CanTake (living c (without_spare s) m) new → CanTake (living c s m) new
+can_inside c s m new can = record {
   life = can.life;
   entry = can.entry;
   leads = life_inside c s m can.life can.leads;
   control = can.control;
   meets = can.meets;
   effects_are = can.effects_are;
-  update = can.update;
 }
-
-pub step_of : (c : Configuration) (s : State) (m : Stored) (new : List Effect) (u : Update) → CanTake (living c s m) new u → IsOfStep (record { config = c; state = s }) new
-step_of c s m new u can = record { past = can.life; entry = can.entry; leads = past_of can.life (living c s m) can.leads; meets = can.meets; effects_are = can.effects_are }
 
 -- the entry that is asked for has what is decided
 pub effects_decided : (c : Configuration) (life : List Entry) (actor : Actor) (act : Act) → MayStep c actor act → (d : Decided) → IsDecidedBy c life actor act d →
@@ -120,26 +113,23 @@ effects_decided c life actor act may d decided e by does meets =
     meets.effects ∙ (λ i. (right_answer c life (by i) (does i)).1) ∙ ap (λ r. r.1) (right_is c life actor act may) ∙ sym decided.effects
 
 -- it may be entered with more room for tags
-pub can_with_room : (c : Configuration) (s : State) (m : Stored) (d : LiveControlled) (new : List Effect) (u : Update) → d.config ≡ c → d.state ≡ record s { tags = d.state.tags } → d.state.tags.entries ≡ s.tags.entries →
-    CanTake (living c s m) new u → CanEnter d new u
-can_with_room c s m d new u same kept tags can = subst (λ k. CanEnter (record { config = k; state = d.state }) new u) (sym same) (record {
-  step = record {
-    past = can.life;
-    entry = can.entry;
-    leads = record { sound = can.leads.sound; legal = can.leads.legal; kept = state_with_room c can.life s d.state kept tags can.leads.kept };
-    meets = can.meets;
-    effects_are = can.effects_are;
-  };
-  update = can.update;
+pub can_with_room : (c : Configuration) (s : State) (m : Stored) (d : LiveControlled) (new : List Effect) → d.config ≡ c → d.state ≡ record s { tags = d.state.tags } → d.state.tags.entries ≡ s.tags.entries →
+    CanTake (living c s m) new → IsOfStep d new
+can_with_room c s m d new same kept tags can = subst (λ k. IsOfStep (record { config = k; state = d.state }) new) (sym same) (record {
+  past = can.life;
+  entry = can.entry;
+  leads = record { sound = can.leads.sound; legal = can.leads.legal; kept = state_with_room c can.life s d.state kept tags can.leads.kept };
+  meets = can.meets;
+  effects_are = can.effects_are;
 })
 
 -- it is entered
-module _ (c : Configuration) (s : State) (m made : Stored) (room now : LiveControlled) (new : List Effect) (u : Update)
+module _ (c : Configuration) (s : State) (m made : Stored) (room now : LiveControlled) (new : List Effect)
     (same : room.config ≡ c) (kept : room.state ≡ record s { tags = room.state.tags }) (tags : room.state.tags.entries ≡ s.tags.entries)
-    (is : AreZeroed m made new) (stays : now.config ≡ room.config) (enters : EntersStep room now new u) where
-  pub life_taken : (life : List Entry) → IsLife life (living c s m) → IsUpdate c life new u → (e : Entry) → IsTrue (is_control e.act) →
+    (is : AreZeroed m made new) (stays : now.config ≡ room.config) (enters : EntersStep room now new) where
+  pub life_taken : (life : List Entry) → IsLife life (living c s m) → (e : Entry) → IsTrue (is_control e.act) →
       Meets c life e → e.effects ≡ new → IsLife (life ++ e ∷ []) (living now.config now.state made)
-  life_taken life leads update e control meets has =
+  life_taken life leads e control meets has =
       subst (λ k. IsLife (life ++ e ∷ []) (living k now.state made)) (sym now_is)
       (life_of c now.state made (life ++ e ∷ []) on (words_zeroed c life m made e (subst (AreZeroed m made) (sym has) is) control leads.words))
     where
@@ -151,11 +141,11 @@ module _ (c : Configuration) (s : State) (m made : Stored) (room now : LiveContr
 
       on : IsPast c (life ++ e ∷ []) now.state
       on = subst (λ k. IsPast k (life ++ e ∷ []) now.state) now_is
-          (enters life before (subst (λ k. IsUpdate k life new u) (sym same) update) e (subst (λ k. Meets k life e) (sym same) meets) has)
+          (enters life before e (subst (λ k. Meets k life e) (sym same) meets) has)
 
-  pub whole_taken : length m ≡ granule_total c → length made ≡ length m → CanTake (living c s m) new u → IsWhole (living now.config now.state made)
+  pub whole_taken : length m ≡ granule_total c → length made ≡ length m → CanTake (living c s m) new → IsWhole (living now.config now.state made)
   whole_taken all stay can = record {
-    alive = record { life = can.life ++ can.entry ∷ []; leads = life_taken can.life can.leads can.update can.entry can.control can.meets can.effects_are };
+    alive = record { life = can.life ++ can.entry ∷ []; leads = life_taken can.life can.leads can.entry can.control can.meets can.effects_are };
     granules = stay ∙ all ∙ ap granule_total (sym (stays ∙ same));
   }
 

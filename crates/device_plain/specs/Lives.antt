@@ -13,9 +13,7 @@ use Rattle.journal_core.specs.declared.outcome.Effect.{Effect}
 use Rattle.control_core.specs.device_rules.specs.ChangedRuns.{AreHolders}
 use Rattle.control_core.specs.device_rules.specs.Legal.{Exclusive, Legal, Meets, right_answer, word_of}
 use Rattle.control_core.specs.device_state.specs.StateAfter.{IsStateAfter}
-use Rattle.control_core.specs.device_state.specs.Updates.{IsUpdate}
 use Rattle.control_core.specs.device_state.specs.declared.state.State.{State}
-use Rattle.control_core.specs.device_state.specs.declared.updates.Update.{Update}
 use Rattle.isolation_laws.specs.Laws.{Clean}
 use Rattle.isolation_laws.specs.Solo.{Isolated}
 use Rattle.device_plain.specs.Accesses.{Stored}
@@ -89,20 +87,18 @@ abbrev pub IsTooLong : Living → Actor → Act → ℕ → StepFault → Type 0
 IsTooLong d actor act most (StepFault.TooLong n) = (most < n) × (n ≤ 2048) × ByEveryLife d (λ life. payload_length (right_answer d.config life actor act).0 ≡ n)
 IsTooLong d actor act most StepFault.NoMemory = Unit {0}
 
--- The effects and the update are those of a command or a scrub, by some journal that leads here.
-pub record CanTake (d : Living) (new : List Effect) (u : Update) : Type 0 where
+-- The effects are those of a command or a scrub, by some journal that leads here.
+pub record CanTake (d : Living) (new : List Effect) : Type 0 where
   pub life : List Entry
   pub entry : Entry
   pub leads : IsLife life d
   pub control : IsTrue (is_control entry.act)
   pub meets : Meets d.config life entry
   pub effects_are : entry.effects ≡ new
-  pub update : IsUpdate d.config life new u
 
 -- They are entered: with the entry of a command or a scrub that has them, each journal leads to the device after it.
-abbrev pub TakesUpdate : Living → Living → List Effect → Update → Type 0
-TakesUpdate old now new u = (life : List Entry) → IsLife life old → IsUpdate old.config life new u → (e : Entry) → IsTrue (is_control e.act) →
-    Meets old.config life e → e.effects ≡ new → IsLife (life ++ e ∷ []) now
+abbrev pub TakesEffects : Living → Living → List Effect → Type 0
+TakesEffects old now new = (life : List Entry) → IsLife life old → (e : Entry) → IsTrue (is_control e.act) → Meets old.config life e → e.effects ≡ new → IsLife (life ++ e ∷ []) now
 
 -- ---- a life
 

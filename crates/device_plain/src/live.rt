@@ -6,14 +6,13 @@ ghost use Rattle.control_core.specs.Steps.{MayStep};
 ghost use Rattle.dcd_base.specs.declared.steps.Actor.{Actor};
 ghost use Rattle.journal_core.specs.Entries.{fits};
 ghost use Rattle.journal_core.specs.declared.acts.Act.{Act};
-ghost use Rattle.device_plain.specs.Lives.{ByEveryLife, CanTake, IsAlive, IsLife, IsReplyTo, IsRightReply, IsTooLong, LivesOn, TakesUpdate, payload_length};
+ghost use Rattle.device_plain.specs.Lives.{ByEveryLife, CanTake, IsAlive, IsLife, IsReplyTo, IsRightReply, IsTooLong, LivesOn, TakesEffects, payload_length};
 ghost use Rattle.std.specs.Prelude.{◌≡◌, ◌<◌, ◌≤◌, [], IfErr, IfOk, IsTrue, OnErr, OnOk};
 
 use crate::faults::StepFault;
 use crate::live_accesses::{granted, loaded, refused_by, store_at, stored, word_at};
 use crate::zeroing::zero_all;
 use control_core::device_commands::Room;
-use control_core::device_state::Update;
 use control_core::{Decided, LiveControl};
 use dcd_base::{Actor, HostId, NoMemory};
 use granule_mem::GranuleWords;
@@ -138,30 +137,25 @@ impl LiveDevice {
     {
         let mut room = Room::new(self.control.allocator());
         let decision = self.control.decide(&actor, act, &mut room)?;
-        let Decided {
-            reply,
-            effects,
-            update,
-        } = decision.into_parts(&mut room);
+        let Decided { reply, effects } = decision.into_parts(&mut room);
         let length = length_of(&reply);
         if length > most {
             return Err(StepFault::TooLong(length));
         }
-        self.take(&effects, update)?;
+        self.take(&effects)?;
         Ok(reply)
     }
 
-    /// Enters the effects of a step and what has to be put in place beside them.
-    fn take(&mut self, new: &Effects, update: Update) -> Result<(), NoMemory>
-        requires { CanTake self.old new.now update }
+    /// Enters the effects of a step.
+    fn take(&mut self, new: &Effects) -> Result<(), NoMemory>
+        requires { CanTake self.old new.now }
         ensures config { self.new.config ≡ self.old.config }
-        ensures taken { OnOk result (TakesUpdate self.old self.new new.now update) }
+        ensures taken { OnOk result (TakesEffects self.old self.new new.now) }
         ensures kept { OnErr result (self.new ≡ self.old) }
     {
         self.control.make_room()?;
         zero_all(&mut self.words, new.as_slice());
-        let mut update = update;
-        self.control.enter(new.as_slice(), &mut update);
+        self.control.enter(new.as_slice());
         Ok(())
     }
 

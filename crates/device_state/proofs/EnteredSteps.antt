@@ -8,16 +8,20 @@ use Rattle.device_laws.proofs.GranuleCommands.{granules_kept}
 use Rattle.device_laws.specs.device_rules.specs.Legal.{Legal, Meets}
 use Rattle.device_state.specs.Entered.{IsEntered}
 use Rattle.device_state.specs.StateAfter.{IsStateAfter}
-use Rattle.device_state.specs.Updates.{IsOfDevice, IsUpdate}
+use Rattle.device_state.specs.Updates.{IsOfDevice}
 use Rattle.device_state.specs.declared.state.State.{State}
-use Rattle.device_state.specs.declared.updates.Update.{Update}
 use Rattle.device_state.proofs.DeviceEffects.{of_device as legal_of_device}
+use Rattle.device_state.specs.EnteredLists.{Fits, lists_of}
+use Rattle.device_state.proofs.Fitting.{room_for_all}
 use Rattle.device_state.proofs.Keeping.{kept-entered as step_kept}
 
 pub of_device : (c : Configuration) → IsSound c → (before : List Entry) → Legal c before → (e : Entry) → Meets c before e → All (IsOfDevice c) e.effects
 of_device c sound before legal e meets = legal_of_device c before e legal meets
 
-pub kept-entered : (c : Configuration) → IsSound c → (before : List Entry) → Legal c before → (e : Entry) → Meets c before e → (u : Update) → (old now : State) →
-    IsStateAfter c before old → IsUpdate c before e.effects u → IsEntered c e.effects u old now → IsStateAfter c (before ++ e ∷ []) now
-kept-entered c sound before legal e meets u old now kept update entered =
-    step_kept c sound before legal e meets old now u kept update entered (granules_kept c sound before legal e meets)
+pub kept-entered : (c : Configuration) → IsSound c → (before : List Entry) → Legal c before → (e : Entry) → Meets c before e → (old now : State) →
+    IsStateAfter c before old → IsEntered c e.effects old now → IsStateAfter c (before ++ e ∷ []) now
+kept-entered c sound before legal e meets old now kept entered =
+    step_kept c sound before legal e meets old now kept entered (granules_kept c sound before legal e meets)
+
+pub fits : (c : Configuration) → IsSound c → (before : List Entry) → Legal c before → (e : Entry) → Meets c before e → (s : State) → IsStateAfter c before s → Fits c (lists_of s) 1 e.effects
+fits c sound before legal e meets s kept = room_for_all c sound before legal e meets s kept

@@ -1,8 +1,9 @@
 -- What is kept is what the entries so far say, also once one more legal entry is entered.
-use Rattle.std.proofs.Common.{◌≡◌, ℕ, ◌<◌, ◌≤◌, Bool, true, false, ◌==◌, List, [], ◌∷◌, ◌++◌, length, get_or, inl, inr, refl, ap, sym, subst, ◌∙◌, arith}
+use Rattle.std.proofs.Common.{◌≡◌, ℕ, ◌+◌, ◌%◌, ◌^◌, ◌<◌, ◌≤◌, Bool, true, false, ◌==◌, List, [], ◌∷◌, ◌++◌, length, get_or, inl, inr, refl, ap, sym, subst, ◌∙◌, arith}
 use Rattle.std.specs.Prelude.{fold, map, Some, if◌then◌else◌}
 use Rattle.std.specs.Cmp.Lexicographic.{same_text}
-use Rattle.std.specs.List.{AllByRecursion}
+use Rattle.std.specs.List.{AllByRecursion, list_any}
+use Rattle.std.proofs.Math.Nat.{mod-add-mod}
 use Rattle.std.proofs.lemmas.Bool.{cases_eq, cases_lt, eq-eqb, false≢true, ne_eqb}
 use Rattle.std.proofs.lemmas.List.{get_or_past}
 use Rattle.cci_codec.specs.field_bytes.specs.dcd_base.specs.Words.{has_tag, same_tag}
@@ -15,13 +16,14 @@ use Rattle.device_laws.specs.GranuleCells.{IsCell}
 use Rattle.device_laws.specs.GranuleTable.{AreKnown, StaysRight}
 use Rattle.granule_map.specs.Tables.{cell_at}
 use Rattle.device_state.specs.StateAfter.{IsLogOf, lists_in, IsStateAfter, IsPart, no_part, part_of}
-use Rattle.host_lists.specs.Lists.{Lists}
+use Rattle.host_lists.specs.Lists.{Lists, next_generation}
 use Rattle.journal_core.proofs.EachSteps.{Each-push}
 use Rattle.journal_core.proofs.JournalSteps.{effects-push, over-push}
 use Rattle.journal_core.specs.Entries.{effects}
 use Rattle.journal_core.specs.Holders.{holding_after, holds}
 use Rattle.journal_core.specs.declared.entries.Entry.{Entry}
 use Rattle.journal_core.specs.declared.outcome.Effect.{Effect}
+use Rattle.journal_core.specs.declared.outcome.HeldKind.{HeldKind}
 use Rattle.offer_core.specs.Offerings.{oldest_of}
 use Rattle.list_rules.specs.media_map.specs.region_config.proofs.PresentBlocks.{with_block-with_blocks}
 use Rattle.list_rules.specs.media_map.specs.region_config.specs.Configurations.{Configuration}
@@ -34,22 +36,23 @@ use Rattle.tag_refs.specs.declared.entries.TagEntry.{TagEntry}
 use Rattle.device_laws.proofs.LegalSound.{legal_is_sound}
 use Rattle.device_laws.specs.device_rules.proofs.ViewSteps.{view_of-push}
 use Rattle.device_laws.specs.device_rules.specs.Adding.{present}
-use Rattle.device_laws.specs.device_rules.specs.Hosts.{block_after, block_of, offers_of}
+use Rattle.device_laws.specs.device_rules.specs.Hosts.{accepted_after, block_after, block_of, held_after, moves, offers_after, offers_of}
 use Rattle.device_laws.specs.device_rules.specs.Legal.{Legal, Meets}
 use Rattle.device_laws.specs.device_rules.specs.Logs.{log_after, log_of}
 use Rattle.device_laws.specs.device_rules.specs.Tags.{last_offer, open_tags, tag_runs}
-use Rattle.device_laws.specs.device_rules.specs.Views.{view_of}
+use Rattle.device_laws.specs.device_rules.specs.Views.{View, view_after, view_of}
 use Rattle.device_laws.proofs.LegalLogs.{legal_logs}
 use Rattle.device_state.proofs.DeviceEffects.{each_of_device}
 use Rattle.device_state.proofs.HolderBits.{holding_over, length-over, none_over}
 use Rattle.device_state.proofs.RecordSteps.{log_all}
 use Rattle.device_state.proofs.Rooms.{room_for}
-use Rattle.device_state.specs.Entered.{IsEntered, lists_by, lists_put, log_by, oldest_in, present_by, runs_found, runs_in, tags_put}
-use Rattle.device_state.specs.Updates.{CanChange, IsOfDevice, IsUpdate, lists_after}
+use Rattle.device_state.proofs.OffersEntered.{table_follows}
+use Rattle.device_state.proofs.TablesEntered.{Agree}
+use Rattle.device_state.specs.Entered.{IsEntered, log_by, oldest_in, present_by, runs_found, runs_in}
+use Rattle.device_state.specs.EnteredLists.{counted, lists_by, lists_of}
+use Rattle.device_state.specs.Updates.{IsOfDevice, lists_after}
 use Rattle.device_state.specs.declared.parts.HostPart.{HostPart}
 use Rattle.device_state.specs.declared.state.State.{State}
-use Rattle.device_state.specs.declared.updates.TagChange.{TagChange}
-use Rattle.device_state.specs.declared.updates.Update.{Update}
 
 -- ---- the present configuration
 
@@ -90,18 +93,39 @@ table_runs : (c : Configuration) (past : List Effect) (entries : List TagEntry) 
     runs_found (entry_with t entries) ≡ tag_runs c (last_offer t past)
 table_runs c past entries table t open_tag = found_runs c past t entries table.each (ap (λ tags. has_tag tags t) table.tags_are ∙ open_tag)
 
-put_alike : (hosts : ℕ) (change : TagChange) (f g : HostId → Lists) (entries : List TagEntry) → CanChange hosts change entries → ((h : HostId) → h < hosts → f h ≡ g h) →
-    tags_put change f entries ≡ tags_put change g entries
-put_alike hosts TagChange.Nothing f g entries can same = refl
-put_alike hosts (TagChange.Begin tag region runs host) f g entries can same = refl
-put_alike hosts (TagChange.OfHost host tags) f g entries can same = ap (λ (l : Lists). tags_put (TagChange.OfHost host tags) (λ h. l) entries) (same host can)
-put_alike hosts (TagChange.Refer tag) f g entries can same = refl
-put_alike hosts (TagChange.Unrefer tag) f g entries can same = refl
+-- ---- lists
+
+-- each list is the fold of its own
+lists_fields : (c : Configuration) (h : HostId) (l : Lists) (new : List Effect) → fold (lists_by c h) l new ≡ record {
+  accepted = fold (accepted_after c h) l.accepted new;
+  offers = fold (offers_after h) l.offers new;
+  responses = fold (held_after h HeldKind.Responses) l.responses new;
+  releases = fold (held_after h HeldKind.Releases) l.releases new;
+  generation = l.generation;
+}
+lists_fields c h l [] = refl
+lists_fields c h l (e ∷ new) = lists_fields c h (lists_by c h l e) new
+
+lists_right : (c : Configuration) (h : HostId) (v : View) (new : List Effect) → counted h new (fold (lists_by c h) (lists_in v) new) ≡ lists_in (view_after c h v new)
+lists_right c h v new = ap (counted h new) (lists_fields c h (lists_in v) new) ∙ by (list_any (moves h) new)
+  where
+    l : Lists
+    l = record {
+      accepted = fold (accepted_after c h) v.accepted new;
+      offers = fold (offers_after h) v.offers new;
+      responses = fold (held_after h HeldKind.Responses) v.responses new;
+      releases = fold (held_after h HeldKind.Releases) v.releases new;
+      generation = v.changes % 2 ^ 32;
+    }
+
+    by : (moved : Bool) → (if moved then record l { generation = next_generation l.generation } else l) ≡ record l { generation = (if moved then v.changes + 1 else v.changes) % 2 ^ 32 }
+    by true = λ i. record l { generation = mod-add-mod v.changes (2 ^ 32) 1 i }
+    by false = refl
 
 -- ---- one more entry
 
 module _ (c : Configuration) (sound : IsSound c) (before : List Entry) (legal : Legal c before) (e : Entry) (meets : Meets c before e)
-    (old now : State) (u : Update) (kept : IsStateAfter c before old) (update : IsUpdate c before e.effects u) (step : IsEntered c e.effects u old now) where
+    (old now : State) (kept : IsStateAfter c before old) (step : IsEntered c e.effects old now) where
   past : List Effect
   past = effects before
 
@@ -136,8 +160,8 @@ module _ (c : Configuration) (sound : IsSound c) (before : List Entry) (legal : 
   lists_now : (h : HostId) → h < c.hosts → (part_of now h).lists ≡ lists_after c h before e.effects
   lists_now h host =
       step.lists h (omega (arith, host, kept.host_count))
-      ∙ ap (λ (l : Lists). lists_put u.lists h (fold (lists_by h) l e.effects)) (kept.parts h host).lists_are
-      ∙ update.lists h host
+      ∙ ap (λ (l : Lists). counted h e.effects (fold (lists_by c h) l e.effects)) (kept.parts h host).lists_are
+      ∙ lists_right c h (view_of c h before) e.effects
 
   part_now : (h : HostId) → h < c.hosts → IsPart h (view_of c h (before ++ e ∷ [])) (part_of now h)
   part_now h host = record {
@@ -157,12 +181,17 @@ module _ (c : Configuration) (sound : IsSound c) (before : List Entry) (legal : 
       ap (λ (bits : List ℕ). has_host (get_or bits g 0) h) step.holders_are
       ∙ none_over c sound.hosts h g old.holders e.effects (omega (arith, granule, kept.holder_count)) each other (kept.no_others g h granule other)
 
+  agree : Agree c (effects before) (lists_of old)
+  agree = record {
+    accepted = λ h host. ap (λ (l : Lists). l.accepted) (kept.parts h host).lists_are;
+    offers = λ h host. ap (λ (l : Lists). l.offers) (kept.parts h host).lists_are;
+  }
+
   tags_now : IsTable c (effects (before ++ e ∷ [])) now.tags.entries
   tags_now =
-      let is : now.tags.entries ≡ tags_put u.tags (λ h. lists_after c h before e.effects) old.tags.entries =
-      step.tags_are ∙ put_alike c.hosts u.tags (λ h. (part_of now h).lists) (λ h. lists_after c h before e.effects) old.tags.entries (update.can_change old.tags.entries kept.tags_are) lists_now in
       subst (λ new. IsTable c new now.tags.entries) (sym (effects-push before e))
-      (subst (IsTable c (effects before ++ e.effects)) (sym is) (update.tags old.tags.entries kept.tags_are))
+      (subst (IsTable c (effects before ++ e.effects)) (sym step.tags_are)
+      (table_follows c sound before legal e meets (lists_of old) old.tags.entries agree kept.tags_are each))
 
   -- Where the granules stay right, everything that is kept is what the entries say, also the new one.
   pub kept-entered : StaysRight c before e → IsStateAfter c (before ++ e ∷ []) now

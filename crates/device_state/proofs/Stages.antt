@@ -1,6 +1,6 @@
 -- What is kept after one more effect.
-use Rattle.std.proofs.Common.{◌≡◌, ℕ, ◌+◌, ◌<◌, Bool, true, false, List, [], ◌∷◌, length, get_or, take, refl, sym, ap, ◌∙◌, arith}
-use Rattle.std.specs.Prelude.{fold, if◌then◌else◌, ◌==◌}
+use Rattle.std.proofs.Common.{◌≡◌, ℕ, ◌+◌, ◌<◌, List, length, get_or, take, refl, sym, ap, ◌∙◌, arith}
+use Rattle.std.specs.Prelude.{fold}
 use Rattle.std.proofs.lemmas.List.Sums.{fold_more}
 use Rattle.cci_codec.specs.field_bytes.specs.dcd_base.specs.declared.ids.HostId.{HostId}
 use Rattle.cci_codec.specs.field_bytes.specs.dcd_base.specs.declared.steps.LogId.{LogId}
@@ -8,11 +8,10 @@ use Rattle.event_log.specs.LogStates.{LogState}
 use Rattle.granule_map.specs.Tables.{Cell, cell_at}
 use Rattle.host_lists.specs.Lists.{Lists}
 use Rattle.journal_core.specs.declared.outcome.Effect.{Effect}
-use Rattle.journal_core.specs.declared.outcome.HeldKind.{HeldKind}
 use Rattle.offer_core.specs.Offerings.{oldest_of}
 use Rattle.list_rules.specs.media_map.specs.region_config.specs.Configurations.{Configuration}
 use Rattle.device_laws.specs.GranuleCells.{cell_after, cell_over, ended_run, unoffered_extent}
-use Rattle.device_state.specs.Entered.{lists_by, log_by, oldest_in, runs_found, runs_in, unheld}
+use Rattle.device_state.specs.Entered.{log_by, oldest_in, runs_found, runs_in}
 use Rattle.tag_refs.specs.Tables.{TagTable, entry_with}
 use Rattle.device_state.specs.Granules.{CellsAfter, CellsOver}
 use Rattle.device_state.specs.StateAfter.{part_of}
@@ -30,40 +29,10 @@ parts_more old mid new es i e below is so_far one = record {
       ∙ ap (λ (l : LogState). log_by LogId.Manager l (get_or es i e)) so_far.manager ∙ sym (fold_more (log_by LogId.Manager) old.manager es i e below);
   logs = λ h host. one.logs h (omega (arith, host, so_far.hosts)) ∙ ap (log_by (LogId.Host h) (part_of mid h).log) is
       ∙ ap (λ (l : LogState). log_by (LogId.Host h) l (get_or es i e)) (so_far.logs h host) ∙ sym (fold_more (log_by (LogId.Host h)) (part_of old h).log es i e below);
-  lists = λ h host. one.lists h (omega (arith, host, so_far.hosts)) ∙ ap (lists_by h (part_of mid h).lists) is
-      ∙ ap (λ (l : Lists). lists_by h l (get_or es i e)) (so_far.lists h host) ∙ sym (fold_more (lists_by h) (part_of old h).lists es i e below);
+  lists = λ h host. one.lists h (omega (arith, host, so_far.hosts)) ∙ so_far.lists h host;
 }
 
--- ---- no effect changes the offers
-
-unheld_offers : (kind : HeldKind) (l : Lists) (own : Bool) → (if own then unheld kind l else l).offers ≡ l.offers
-unheld_offers HeldKind.Responses l true = refl
-unheld_offers HeldKind.Releases l true = refl
-unheld_offers HeldKind.Responses l false = refl
-unheld_offers HeldKind.Releases l false = refl
-
-offers_by : (h : HostId) (l : Lists) (e : Effect) → (lists_by h l e).offers ≡ l.offers
-offers_by h l (Effect.Unhold k kind) = unheld_offers kind l (k == h)
-offers_by h l (Effect.Offer k xs) = refl
-offers_by h l (Effect.Answer k xs) = refl
-offers_by h l (Effect.Take k run) = refl
-offers_by h l (Effect.Leave k run) = refl
-offers_by h l (Effect.Zero run) = refl
-offers_by h l (Effect.Soil run) = refl
-offers_by h l (Effect.Hold k kind xs) = refl
-offers_by h l (Effect.Logged k event) = refl
-offers_by h l (Effect.Missed k) = refl
-offers_by h l (Effect.Cleared k n) = refl
-offers_by h l (Effect.Reset k) = refl
-offers_by h l (Effect.Ref t on) = refl
-offers_by h l (Effect.TagEnd t) = refl
-offers_by h l (Effect.Block r size) = refl
-
-offers_kept : (h : HostId) (l : Lists) (es : List Effect) → (fold (lists_by h) l es).offers ≡ l.offers
-offers_kept h l [] = refl
-offers_kept h l (e ∷ es) = offers_kept h (lists_by h l e) es ∙ offers_by h l e
-
--- ---- so an effect makes of a granule what it would have made of it at first
+-- ---- no effect changes offers or tags here, so it makes of a granule what it would have made of it at first
 
 as_at_first : (c : Configuration) (old mid : State) → ((h : HostId) → h < c.hosts → oldest_in mid h ≡ oldest_in old h) → mid.tags ≡ old.tags →
     (e : Effect) → IsOfDevice c e → (g : ℕ) (cell : Cell) → cell_after c (oldest_in mid) (runs_in mid) g cell e ≡ cell_after c (oldest_in old) (runs_in old) g cell e
@@ -98,4 +67,3 @@ cells_more c old mid new es i e below is hosts of_device parts tags so_far one =
   where
     offers : (h : HostId) → h < c.hosts → oldest_in mid h ≡ oldest_in old h
     offers h host = ap (λ (l : Lists). oldest_of l.offers) (parts.lists h (omega (arith, host, hosts)))
-        ∙ ap oldest_of (offers_kept h (part_of old h).lists (take i es))

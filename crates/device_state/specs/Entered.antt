@@ -1,6 +1,6 @@
 -- What entering a step makes of what is kept, part by part.
-use Rattle.std.specs.Prelude.{◌≡◌, ℕ, ◌<◌, true, false, ◌==◌, nat_lt, List, [], ◌∷◌, ◌++◌, fold, length, map, Option, Some, None, if◌then◌else◌, Bool, ◌&&◌, nat_le, slice_index_or, slice_set}
-use Rattle.std.specs.List.{enumerate_from, list_any}
+use Rattle.std.specs.Prelude.{◌≡◌, ℕ, ◌<◌, nat_lt, List, [], fold, length, map, Option, Some, None, if◌then◌else◌, Bool, ◌&&◌, nat_le, slice_index_or, slice_set}
+use Rattle.std.specs.List.{enumerate_from}
 use Rattle.cci_codec.specs.field_bytes.specs.dcd_base.specs.Words.{has_granule}
 use Rattle.cci_codec.specs.field_bytes.specs.dcd_base.specs.declared.capacity.Extent.{Extent}
 use Rattle.cci_codec.specs.field_bytes.specs.dcd_base.specs.declared.capacity.Tag.{Tag}
@@ -9,27 +9,21 @@ use Rattle.cci_codec.specs.field_bytes.specs.dcd_base.specs.declared.media.Run.{
 use Rattle.cci_codec.specs.field_bytes.specs.dcd_base.specs.declared.steps.LogId.{LogId}
 use Rattle.event_log.specs.LogStates.{LogState, with_missed, with_record, without_oldest}
 use Rattle.event_records.specs.declared.events.Event.{Event}
-use Rattle.list_rules.specs.extent_list.specs.ExtentLists.{has_extent_of}
 use Rattle.device_laws.specs.GranuleCells.{cell_over}
 use Rattle.granule_map.specs.Tables.{cell_at}
-use Rattle.host_lists.specs.Changes.{changed_by}
 use Rattle.host_lists.specs.Lists.{Lists}
 use Rattle.journal_core.specs.declared.outcome.Effect.{Effect}
-use Rattle.journal_core.specs.declared.outcome.HeldKind.{HeldKind}
 use Rattle.offer_core.specs.Offerings.{oldest_of}
 use Rattle.list_rules.specs.media_map.specs.region_config.specs.Blocks.{with_block}
 use Rattle.list_rules.specs.media_map.specs.region_config.specs.Configurations.{Configuration}
 use Rattle.device_laws.specs.device_rules.specs.Logs.{same_log}
-use Rattle.device_laws.specs.TagTable.{host_of_tags_set}
 use Rattle.cci_codec.specs.field_bytes.specs.dcd_base.specs.Hosts.{with_host, without_host}
-use Rattle.tag_refs.specs.Tables.{entries_changed, entry_with, opened, still_used, with_reference, set_by}
+use Rattle.tag_refs.specs.Tables.{entry_with}
 use Rattle.tag_refs.specs.declared.entries.TagEntry.{TagEntry}
+use Rattle.device_state.specs.EnteredLists.{counted, lists_by, lists_of, tags_over}
 use Rattle.device_state.specs.StateAfter.{part_of}
 use Rattle.device_state.specs.declared.parts.HostPart.{HostPart}
 use Rattle.device_state.specs.declared.state.State.{State}
-use Rattle.device_state.specs.declared.updates.NewLists.{NewLists}
-use Rattle.device_state.specs.declared.updates.TagChange.{TagChange}
-use Rattle.device_state.specs.declared.updates.Update.{Update}
 
 -- each host's oldest offer, and the runs of the open tags
 abbrev pub oldest_in : State → HostId → List Extent
@@ -58,15 +52,6 @@ abbrev pub present_by : Configuration → Effect → Configuration
 present_by c (Effect.Block r size) = with_block c r size
 present_by c e = c
 
--- the lists of a host after one effect: what it held is let go
-abbrev pub unheld : HeldKind → Lists → Lists
-unheld HeldKind.Responses l = record l { responses = [] }
-unheld HeldKind.Releases l = record l { releases = [] }
-
-abbrev pub lists_by : HostId → Lists → Effect → Lists
-lists_by h l (Effect.Unhold k kind) = if k == h then unheld kind l else l
-lists_by h l e = l
-
 -- the holders of the granules after one effect, by number
 abbrev pub held_in : (ℕ → ℕ) → Run → List ℕ → List ℕ
 held_in change run bits = map (λ b. if has_granule run b.0 then change b.1 else b.1) (enumerate_from 0 bits)
@@ -76,22 +61,8 @@ holders_by bits (Effect.Take h run) = held_in (λ b. with_host b h) run bits
 holders_by bits (Effect.Leave h run) = held_in (λ b. without_host b h) run bits
 holders_by bits e = bits
 
--- the lists of a host, where they change by what is put in place
-abbrev pub lists_put : Option NewLists → HostId → Lists → Lists
-lists_put None h l = l
-lists_put (Some new) h l = if new.host == h then changed_by new.change l else l
-
--- the open tags after their change, by the lists then
-abbrev pub tags_put : TagChange → (HostId → Lists) → List TagEntry → List TagEntry
-tags_put TagChange.Nothing lists entries = entries
-tags_put (TagChange.Begin tag region runs host) lists entries = entries ++ opened tag region runs host ∷ []
-tags_put (TagChange.OfHost host tags) lists entries =
-    host_of_tags_set host (λ t. has_extent_of t (lists host).accepted) (λ t. list_any (has_extent_of t) (lists host).offers) tags entries
-tags_put (TagChange.Refer tag) lists entries = entries_changed tag (with_reference true) entries
-tags_put (TagChange.Unrefer tag) lists entries = still_used (entries_changed tag (with_reference false) entries)
-
--- Each part is changed by the effects, and by what is put in place.
-pub record IsEntered (c : Configuration) (new : List Effect) (u : Update) (old now : State) : Type 0 where
+-- Each part is changed by the effects.
+pub record IsEntered (c : Configuration) (new : List Effect) (old now : State) : Type 0 where
   pub present_is : now.present ≡ fold present_by old.present new
   pub host_count : length now.hosts.items ≡ length old.hosts.items
   pub granule_count : length now.granules.states ≡ length old.granules.states
@@ -99,17 +70,10 @@ pub record IsEntered (c : Configuration) (new : List Effect) (u : Update) (old n
   pub holders_are : now.holders ≡ fold holders_by old.holders new
   pub manager_is : now.manager ≡ fold (log_by LogId.Manager) old.manager new
   pub logs : (h : HostId) → h < length old.hosts.items → (part_of now h).log ≡ fold (log_by (LogId.Host h)) (part_of old h).log new
-  pub lists : (h : HostId) → h < length old.hosts.items → (part_of now h).lists ≡ lists_put u.lists h (fold (lists_by h) (part_of old h).lists new)
-  pub tags_are : now.tags.entries ≡ tags_put u.tags (λ h. (part_of now h).lists) old.tags.entries
+  pub lists : (h : HostId) → h < length old.hosts.items → (part_of now h).lists ≡ counted h new (fold (lists_by c h) (part_of old h).lists new)
+  pub tags_are : now.tags.entries ≡ tags_over c (lists_of old) old.tags.entries new
 
 -- ---- one host's part
-
--- the open tags once what a host has of one tag, or of some, is told by these lists
-abbrev pub one_told : HostId → Lists → Tag → List TagEntry → List TagEntry
-one_told h l t entries = still_used (entries_changed t (set_by h (has_extent_of t l.accepted) (list_any (has_extent_of t) l.offers)) entries)
-
-abbrev pub tags_told : HostId → Lists → List Tag → List TagEntry → List TagEntry
-tags_told h l tags entries = host_of_tags_set h (λ t. has_extent_of t l.accepted) (λ t. list_any (has_extent_of t) l.offers) tags entries
 
 -- the parts of the hosts with another log of one, or other lists
 abbrev pub with_log : State → HostId → LogState → List HostPart

@@ -1,7 +1,7 @@
 pub mod Changes
 pub mod Entered
+pub mod EnteredLists
 pub mod Granules
-pub mod ListsUpdates
 pub mod Rooms
 pub mod Stages
 pub mod StateAfter

@@ -1,28 +1,45 @@
--- What the effects of a step make of the hosts' parts, and what changed lists make of them.
-use Rattle.std.specs.Prelude.{◌≡◌, ◌<◌, List, fold, length, Option}
+-- What the effects of a step make of the hosts' parts: first of the logs, and then of lists and tags.
+use Rattle.std.specs.Prelude.{◌≡◌, ◌<◌, List, fold, length}
 use Rattle.cci_codec.specs.field_bytes.specs.dcd_base.specs.declared.ids.HostId.{HostId}
 use Rattle.cci_codec.specs.field_bytes.specs.dcd_base.specs.declared.steps.LogId.{LogId}
+use Rattle.host_lists.specs.Lists.{Lists}
 use Rattle.journal_core.specs.declared.outcome.Effect.{Effect}
-use Rattle.device_state.specs.Entered.{lists_by, lists_put, log_by}
+use Rattle.list_rules.specs.media_map.specs.region_config.specs.Configurations.{Configuration}
+use Rattle.device_state.specs.Entered.{log_by}
+use Rattle.device_state.specs.EnteredLists.{all_lists_by, all_lists_over, counted, lists_of, table_by, tags_over}
 use Rattle.device_state.specs.StateAfter.{part_of}
 use Rattle.device_state.specs.declared.state.State.{State}
-use Rattle.device_state.specs.declared.updates.NewLists.{NewLists}
 
--- The logs and the hosts' lists are changed by an effect, or by more of them.
+-- The logs are changed by an effect, or by more of them, and no lists.
 pub record ArePartsAfter (e : Effect) (old now : State) : Type 0 where
   pub hosts : length now.hosts.items ≡ length old.hosts.items
   pub manager : now.manager ≡ log_by LogId.Manager old.manager e
   pub logs : (h : HostId) → h < length old.hosts.items → (part_of now h).log ≡ log_by (LogId.Host h) (part_of old h).log e
-  pub lists : (h : HostId) → h < length old.hosts.items → (part_of now h).lists ≡ lists_by h (part_of old h).lists e
+  pub lists : (h : HostId) → h < length old.hosts.items → (part_of now h).lists ≡ (part_of old h).lists
 
 pub record PartsOver (new : List Effect) (old now : State) : Type 0 where
   pub hosts : length now.hosts.items ≡ length old.hosts.items
   pub manager : now.manager ≡ fold (log_by LogId.Manager) old.manager new
   pub logs : (h : HostId) → h < length old.hosts.items → (part_of now h).log ≡ fold (log_by (LogId.Host h)) (part_of old h).log new
-  pub lists : (h : HostId) → h < length old.hosts.items → (part_of now h).lists ≡ fold (lists_by h) (part_of old h).lists new
+  pub lists : (h : HostId) → h < length old.hosts.items → (part_of now h).lists ≡ (part_of old h).lists
 
--- What changes of a host's lists is in place, and nothing else of any host is changed.
-pub record ListsPut (new : Option NewLists) (old now : State) : Type 0 where
+-- Each host's lists are these, and nothing else of any host is changed.
+pub record AreListed (lists : HostId → Lists) (old now : State) : Type 0 where
   pub hosts : length now.hosts.items ≡ length old.hosts.items
-  pub lists : (h : HostId) → h < length old.hosts.items → (part_of now h).lists ≡ lists_put new h (part_of old h).lists
-  pub logs : (h : HostId) → h < length old.hosts.items → (part_of now h).log ≡ (part_of old h).log
+  pub lists_are : lists_of now ≡ lists
+  pub logs : (h : HostId) → (part_of now h).log ≡ (part_of old h).log
+
+-- Lists and tags are changed by an effect, or by more of them.
+pub record IsListedAfter (c : Configuration) (e : Effect) (old now : State) : Type 0 where
+  pub listed : AreListed (all_lists_by c (lists_of old) e) old now
+  pub tags : now.tags.entries ≡ table_by c (lists_of old) old.tags.entries e
+
+pub record IsListedOver (c : Configuration) (new : List Effect) (old now : State) : Type 0 where
+  pub listed : AreListed (all_lists_over c (lists_of old) new) old now
+  pub tags : now.tags.entries ≡ tags_over c (lists_of old) old.tags.entries new
+
+-- It is counted of each host where the effects changed its accepted list, and nothing else of any host is changed.
+pub record AreCounted (new : List Effect) (old now : State) : Type 0 where
+  pub hosts : length now.hosts.items ≡ length old.hosts.items
+  pub lists : (h : HostId) → h < length old.hosts.items → lists_of now h ≡ counted h new (lists_of old h)
+  pub logs : (h : HostId) → (part_of now h).log ≡ (part_of old h).log

@@ -1,5 +1,5 @@
--- What a step has to put in place, beside what its effects change.
-use Rattle.std.specs.Prelude.{◌≡◌, ℕ, ◌<◌, true, false, List, ◌++◌, fold, length, Option, Some, None, ◌∷◌, []}
+-- What a step asks of what is kept, and what entering it keeps.
+use Rattle.std.specs.Prelude.{◌≡◌, ℕ, ◌<◌, true, List, ◌++◌, length, ◌∷◌, []}
 use Rattle.cci_codec.specs.field_bytes.specs.dcd_base.specs.declared.ids.HostId.{HostId}
 use Rattle.cci_codec.specs.field_bytes.specs.dcd_base.specs.declared.steps.LogId.{LogId}
 use Rattle.list_rules.specs.media_map.specs.region_config.specs.Configurations.{Configuration}
@@ -10,38 +10,14 @@ use Rattle.journal_core.specs.declared.outcome.Effect.{Effect}
 use Rattle.device_state.specs.StateAfter.{lists_in, part_of, IsStateAfter}
 use Rattle.host_lists.specs.Lists.{Lists}
 use Rattle.device_laws.specs.device_rules.specs.Views.{view_after, view_of}
-use Rattle.device_laws.specs.TagTable.{IsTable}
-use Rattle.tag_refs.specs.Tables.{has_entry}
-use Rattle.tag_refs.specs.declared.entries.TagEntry.{TagEntry}
-use Rattle.device_state.specs.Entered.{lists_by, lists_put, tags_put, IsEntered}
+use Rattle.device_state.specs.Entered.{IsEntered}
+use Rattle.device_state.specs.EnteredLists.{Fits, lists_of}
 use Rattle.event_log.specs.LogStates.{LogState}
 use Rattle.device_state.specs.declared.state.State.{State}
-use Rattle.device_state.specs.declared.updates.NewLists.{NewLists}
-use Rattle.device_state.specs.declared.updates.TagChange.{TagChange}
-use Rattle.device_state.specs.declared.updates.Update.{Update}
 
 -- the lists of a host after more effects
 abbrev pub lists_after : Configuration → HostId → List Entry → List Effect → Lists
 lists_after c h before new = lists_in (view_after c h (view_of c h before) new)
-
--- The host of changed lists, and the host of which tags are told, are of the device.
-abbrev pub IsOfHosts : ℕ → Option NewLists → Type 0
-IsOfHosts hosts None = Unit {0}
-IsOfHosts hosts (Some new) = new.host < hosts
-
--- A tag is opened that is not open, for a host of the device.
-abbrev pub CanChange : ℕ → TagChange → List TagEntry → Type 0
-CanChange hosts (TagChange.Begin tag region runs host) entries = (host < hosts) × (has_entry tag entries ≡ false)
-CanChange hosts (TagChange.OfHost host tags) entries = host < hosts
-CanChange hosts change entries = Unit {0}
-
--- What is put in place is what the effects make of each host's lists and of the open tags.
-pub record IsUpdate (c : Configuration) (before : List Entry) (new : List Effect) (u : Update) : Type 0 where
-  pub of_hosts : IsOfHosts c.hosts u.lists
-  pub lists : (h : HostId) → h < c.hosts → lists_put u.lists h (fold (lists_by h) (lists_in (view_of c h before)) new) ≡ lists_after c h before new
-  pub can_change : (entries : List TagEntry) → IsTable c (effects before) entries → CanChange c.hosts u.tags entries
-  pub tags : (entries : List TagEntry) → IsTable c (effects before) entries →
-      IsTable c (effects before ++ new) (tags_put u.tags (λ h. lists_after c h before new) entries)
 
 -- An effect names hosts and regions of the device alone, and a block size that the region supports.
 abbrev pub IsOfLog : ℕ → LogId → Type 0
@@ -67,7 +43,10 @@ abbrev pub log_in : State → LogId → LogState
 log_in s (LogId.Host h) = (part_of s h).log
 log_in s LogId.Manager = s.manager
 
--- Where what is kept is what the entries say, and one more is entered with the update that its effects ask for, it is so after it.
+-- Where what is kept is what the entries say, there is a place for all that one more adds.
+abbrev pub HasRoomFor : Configuration → List Entry → Entry → Type 0
+HasRoomFor c before e = (s : State) → IsStateAfter c before s → Fits c (lists_of s) 1 e.effects
+
+-- Where what is kept is what the entries say, and the effects of one more are entered, it is so after it.
 abbrev pub KeepsEntered : Configuration → List Entry → Entry → Type 0
-KeepsEntered c before e = (u : Update) → (old now : State) → IsStateAfter c before old → IsUpdate c before e.effects u →
-    IsEntered c e.effects u old now → IsStateAfter c (before ++ e ∷ []) now
+KeepsEntered c before e = (old now : State) → IsStateAfter c before old → IsEntered c e.effects old now → IsStateAfter c (before ++ e ∷ []) now

@@ -1,4 +1,4 @@
-//! What the effects of a step make of what the device keeps.
+//! What the effects of a step make of the granules, the holders, the logs and the block sizes.
 
 ghost use Rattle.device_state.specs.Entered.{holders_by, present_by};
 ghost use Rattle.device_state.specs.Granules.{CellsAfter, CellsOver, IsLastRegion};
@@ -14,7 +14,8 @@ use journal_core::Effect;
 use list_rules::media_map::region_config::Config;
 
 impl State {
-    /// Changes everything that the effects change, by each in turn.
+    /// Changes all but lists and tags, by each effect in turn. What an answer or the end of a tag makes of granules is told by the
+    /// offers and the tags before the step.
     pub(crate) fn change_all(&mut self, config: &Config, effects: &[Effect])
         requires hosts { length self.old.hosts.items ≡ config.now.hosts }
         requires granules { length self.old.granules.states ≡ granule_total config.now }
@@ -32,7 +33,7 @@ impl State {
         }
     }
 
-    /// Changes everything that the effect changes.
+    /// Changes all but lists and tags by the effect.
     fn change(&mut self, config: &Config, last: &mut LastRegion, effect: &Effect)
         requires hosts { length self.old.hosts.items ≡ config.now.hosts }
         requires granules { length self.old.granules.states ≡ granule_total config.now }
@@ -63,14 +64,14 @@ impl State {
             }
             Effect::Zero(run) => self.granules.zero(*run),
             Effect::Soil(run) => soil(&mut self.granules, config, last, run),
-            Effect::Unhold(host, kind) => self.unhold(*host, *kind),
             Effect::Logged(log, event) => self.put_record(*log, event),
             Effect::Missed(log) => self.count_missed(*log),
             Effect::Cleared(log, _) => self.change_log_of(*log, effect),
             Effect::Reset(log) => self.change_log_of(*log, effect),
             Effect::TagEnd(tag) => self.settle_tag(tag),
             Effect::Block(region, size) => self.set_block(*region, *size),
-            _ => (),
+            // These change lists and tags alone.
+            Effect::Hold(..) | Effect::Unhold(..) | Effect::Ref(..) => (),
         }
     }
 }

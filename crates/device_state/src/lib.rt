@@ -1,30 +1,28 @@
 //! What the device keeps at a time, and how a step changes it.
 //!
 //! Each part of the state is a fold of the effects so far: the present block sizes, each host's lists and log, the manager's
-//! log, the states of the granules, who holds them, and the open tags. `State::enter` goes through the effects of a step
-//! and puts its update in place, without memory.
+//! log, the states of the granules, who holds them, and the open tags. `State::enter` goes through the effects of a step, and
+//! takes no memory.
 #![tactic(auto)]
 
 mod alike;
 mod changing;
+mod counting;
 mod entering;
 mod granules;
 mod holders;
 mod laws;
-mod lists_update;
+mod listing;
 mod parts;
 mod records;
 mod regions;
 mod state;
-mod updates;
 
 pub use device_laws;
 pub use device_laws::device_rules;
 pub use holders::Holders;
 pub use host_lists;
 pub use laws::law_kept_entered;
-pub use lists_update::ListsUpdate;
 pub use parts::HostPart;
 pub use records::change_log_named;
 pub use state::State;
-pub use updates::{NewLists, TagChange, Update};

@@ -1,6 +1,6 @@
-//! What effects make of the logs, the block sizes and the held lists.
+//! What effects make of the logs and the block sizes.
 
-ghost use Rattle.device_state.specs.Entered.{with_lists, with_log, log_by, put_in, unheld};
+ghost use Rattle.device_state.specs.Entered.{with_log, log_by, put_in};
 ghost use Rattle.device_laws.specs.device_rules.specs.Logs.{same_log};
 ghost use Rattle.device_state.specs.Changes.{AreLogged, log_changed, log_told};
 ghost use Rattle.device_state.specs.StateAfter.{part_of};
@@ -14,8 +14,7 @@ use crate::state::State;
 use cci_codec::field_bytes::dcd_base::{HostId, LogId, RegionId};
 use event_log::EventLog;
 use event_records::Event;
-use host_lists::HostLists;
-use journal_core::{Effect, HeldKind};
+use journal_core::Effect;
 
 impl State {
     /// The log gets the record, unless it is full.
@@ -91,15 +90,6 @@ impl State {
         let sanitize = self.present.region(region).sanitize;
         let _ = self.present.set_block_size(region, size, sanitize, 0);
     }
-
-    /// What the host holds of this kind is let go.
-    pub(crate) fn unhold(&mut self, host: HostId, kind: HeldKind)
-        requires { host < length self.old.hosts.items }
-        ensures hosts { self.new.hosts.items ≡ with_lists self.old host (unheld kind (part_of self.old host).lists) }
-        ensures kept { self.new ≡ record self.old { hosts = self.new.hosts } }
-    {
-        drop_held(&mut self.hosts[usize::from(host.0)].lists, kind);
-    }
 }
 
 /// The log that the effect changes.
@@ -158,14 +148,4 @@ fn put(log: &mut EventLog, event: Event)
     ensures { log.new ≡ put_in log.old event }
 {
     let _ = log.put(event);
-}
-
-/// What is held of this kind is let go.
-fn drop_held(lists: &mut HostLists, kind: HeldKind)
-    ensures { lists.new ≡ unheld kind lists.old }
-{
-    match kind {
-        HeldKind::Responses => lists.drop_responses(),
-        HeldKind::Releases => lists.drop_releases(),
-    }
 }

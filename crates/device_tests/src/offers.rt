@@ -354,7 +354,8 @@ fn later_copied(offers: &Offers) -> Result<Option<usize>, NoMemory> {
     if offers.len() < 2 {
         return Ok(None);
     }
-    Ok(Some(offers.at(1).copy()?.extents.len()))
+    let copy = offers.copy()?;
+    Ok(Some(copy.at(1).len()))
 }
 
 #[test]

@@ -56,6 +56,17 @@ impl ExtentList {
         }
     }
 
+    /// An empty list with its memory for so many extents.
+    pub fn with_room(alloc: Global, room: usize) -> Result<ExtentList, NoMemory>
+        ensures extents { IfOk result (λ new. new.extents ≡ []) }
+        ensures spare { IfOk result (λ new. room ≤ new.spare) }
+    {
+        Ok(ExtentList {
+            alloc,
+            kept: Vec::with_capacity(alloc, room)?,
+        })
+    }
+
     /// An equal list of its own.
     pub fn copy(&self) -> Result<ExtentList, NoMemory>
         ensures { IfOk result (λ copy. copy.extents ≡ self.now.extents) }
@@ -122,6 +133,7 @@ impl ExtentList {
         requires { 0 < self.old.spare }
         ensures added { self.new.extents ≡ self.old.extents ++ extent ∷ [] }
         ensures spare { self.old.spare ≤ self.new.spare + 1 }
+        ensures room { length self.old.extents + self.old.spare ≤ length self.new.extents + self.new.spare }
     {
         self.kept.push_reserved(extent);
     }
@@ -167,6 +179,23 @@ impl ExtentList {
         match self.holder_of(start, bytes) {
             Some(index) => replace_at(&mut self.kept, index, start, bytes, most),
             None => unreachable!(),
+        }
+    }
+
+    /// Puts in place of the first extent in which the range lies what remains of it, as `cut` does, however many extents
+    /// there are then. Where the range lies in none nothing changes.
+    pub fn leave(&mut self, start: u64, bytes: u64)
+        requires spare { 0 < self.old.spare }
+        requires in_addresses { IsCutInAddresses start bytes self.old.extents }
+        ensures cut { self.new.extents ≡ cut start bytes self.old.extents }
+        ensures room { length self.old.extents + self.old.spare ≤ length self.new.extents + self.new.spare }
+    {
+        match self.holder_of(start, bytes) {
+            None => (),
+            Some(index) => match replace_at(&mut self.kept, index, start, bytes, usize::MAX) {
+                Ok(()) => (),
+                Err(_) => unreachable!(),
+            },
         }
     }
 
@@ -432,6 +461,7 @@ fn replace_at(
     ensures above { IfErr result (λ fault. most < fault.0) }
     ensures unchanged { OnErr result (kept.new ≡ kept.old) }
     ensures spare { vec_capacity kept.old + vec_len kept.new ≤ vec_capacity kept.new + vec_len kept.old + 1 }
+    ensures capacity { vec_capacity kept.old ≤ vec_capacity kept.new }
 {
     let extent = kept[index];
     let lower = lower_piece(&extent, start);

@@ -1,4 +1,3 @@
 pub mod Departures
 pub mod Offered
 pub mod TagCounting
-pub mod TagMoves

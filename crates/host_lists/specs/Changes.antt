@@ -1,7 +1,7 @@
 -- What a step changes of a host's lists.
-use Rattle.std.specs.Prelude.{◌+◌, if◌then◌else◌, nat_le, nat_lt, List, [], ◌∷◌, ◌++◌, Option, Some, None, drop, length}
+use Rattle.std.specs.Prelude.{◌+◌, ◌&&◌, Bool, if◌then◌else◌, nat_le, nat_lt, List, [], ◌∷◌, ◌++◌, Option, Some, None, drop, length}
 use Rattle.list_rules.specs.dcd_codes.specs.dcd_base.specs.declared.capacity.Extent.{Extent}
-use Rattle.list_rules.specs.extent_list.specs.Rooms.{Room}
+use Rattle.list_rules.specs.extent_list.specs.ExtentLists.{count_in}
 use Rattle.offer_core.specs.Offerings.{lists_of}
 use Rattle.host_lists.specs.Lists.{Lists}
 use Rattle.host_lists.specs.declared.lists_change.ListsChange.{ListsChange}
@@ -9,13 +9,17 @@ use Rattle.host_lists.specs.declared.lists_change.OffersChange.{OffersChange}
 use Rattle.host_lists.specs.declared.lists_change.ReleasesChange.{ReleasesChange}
 
 -- the accepted extents after a change
-abbrev pub accepted_with : Option Room → List Extent → List Extent
+abbrev pub accepted_with : Option (List Extent) → List Extent → List Extent
 accepted_with None accepted = accepted
-accepted_with (Some new) accepted = new.extents
+accepted_with (Some new) accepted = new
 
--- one offer more behind the others, where fewer than 64 wait
+-- whether an offer of these extents fits behind the others: fewer than 64 wait, and have 64 extents at most together with it
+abbrev pub fits_behind : List Extent → List (List Extent) → Bool
+fits_behind extents offers = nat_lt (length offers) 64 && nat_le (count_in offers + length extents) 64
+
+-- one offer more behind the others, where it fits
 abbrev pub with_offer : List Extent → List (List Extent) → List (List Extent)
-with_offer extents offers = if nat_lt (length offers) 64 then offers ++ extents ∷ [] else offers
+with_offer extents offers = if fits_behind extents offers then offers ++ extents ∷ [] else offers
 
 -- extents behind those that are held, where they are 64 at most together
 abbrev pub with_more : List Extent → List Extent → List Extent

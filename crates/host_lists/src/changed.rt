@@ -4,15 +4,15 @@ ghost use Rattle.list_rules.specs.dcd_codes.specs.dcd_base.specs.Limits.{extents
 ghost use Rattle.list_rules.specs.extent_list.specs.ExtentLists.{count_in, has_extent_of, real_tags};
 ghost use Rattle.host_lists.specs.Changes.{changed_by, with_offer};
 ghost use Rattle.host_lists.specs.Lists.{extent_total, extents_of_lists};
+ghost use Rattle.host_lists.specs.Tags.{capped, tag_count};
 ghost use Rattle.offer_core.specs.Offerings.{lists_of};
 ghost use Rattle.std.specs.List.{list_any};
-ghost use Rattle.std.specs.Prelude.{◌≡◌, ◌-◌, ◌≤◌, length};
+ghost use Rattle.std.specs.Prelude.{◌≡◌, ◌++◌, ◌-◌, ◌≤◌, flat_map, length};
 
 use crate::lists::HostLists;
 use crate::lists_change::{ListsChange, OffersChange};
-use crate::offer_lists::OfferLists;
-use crate::tag_counts::has_in_offers;
-use crate::tags_after::tags_after;
+use crate::offer_lists::{OfferLists, fits_behind};
+use crate::tag_counts::{all_tags, has_in_offers, more_tags};
 use list_rules::dcd_codes::dcd_base::limits::{EXTENTS, TAGS};
 use list_rules::dcd_codes::dcd_base::{Extent, Tag};
 use list_rules::extent_list::has_extent_of;
@@ -48,7 +48,7 @@ impl<'a> Changed<'a> {
         ensures { result.now ≡ self.now.accepted }
     {
         match &self.change.accepted {
-            Some(accepted) => accepted.as_slice(),
+            Some(accepted) => accepted.list().as_slice(),
             None => self.lists.accepted().as_slice(),
         }
     }
@@ -100,7 +100,21 @@ impl<'a> Changed<'a> {
     pub fn tags_available(&self) -> u32
         ensures { result ≡ tags_supported - length (real_tags (extents_of_lists self.now)) }
     {
-        TAGS.saturating_sub(tags_after(self.lists, self.change))
+        TAGS.saturating_sub(self.tags())
+    }
+
+    /// How many tags the extents have that the host has accepted or is offered then, up to the end of 32 bits.
+    fn tags(&self) -> u32
+        ensures { result ≡ capped (tag_count (extents_of_lists self.now)) }
+    {
+        let (accepted, had) = (self.accepted(), self.lists.offers());
+        match &self.change.offers {
+            OffersChange::Nothing => all_tags(accepted, &OfferLists::all(had)),
+            OffersChange::Behind(offer) => tags_behind(accepted, had, offer.extents.as_slice()),
+            OffersChange::More(_) => all_tags(accepted, &OfferLists::all(had)),
+            OffersChange::Next => all_tags(accepted, &OfferLists::behind_oldest(had)),
+            OffersChange::Whole(offers) => all_tags(accepted, &OfferLists::all(offers)),
+        }
     }
 }
 
@@ -111,23 +125,35 @@ fn has_in(tag: &Tag, offers: &OfferLists) -> bool
     has_in_offers(tag, offers, offers.len())
 }
 
-/// Whether an extent of the offers has the tag, with one more behind them where fewer than 64 wait.
+/// Whether an extent of the offers has the tag, with one more behind them where it fits.
 fn has_behind(tag: &Tag, lists: &HostLists, extents: &[Extent]) -> bool
     ensures { result ≡ list_any (has_extent_of tag.now) (with_offer extents.now lists.now.offers) }
 {
-    if lists.offers().len() < EXTENTS {
+    if fits_behind(lists.offers(), extents) {
         return has_extent_of(tag, extents) || lists.has_offered(tag);
     }
     lists.has_offered(tag)
 }
 
-/// How many extents the offers have together, with one more behind them where fewer than 64 wait.
+/// How many extents the offers have together, with one more behind them where it fits.
 fn offered_behind(offers: &Offers, extents: &[Extent]) -> usize
     requires few { count_in (with_offer extents.now (lists_of offers.now.offers)) ≤ 64 }
     ensures { result ≡ count_in (with_offer extents.now (lists_of offers.now.offers)) }
 {
-    if offers.len() < EXTENTS {
+    if fits_behind(offers, extents) {
         return offers.extents() + extents.len();
     }
     offers.extents()
+}
+
+/// How many tags these extents have and those of the offers, with one more behind them where it fits.
+fn tags_behind(accepted: &[Extent], offers: &Offers, extents: &[Extent]) -> u32
+    ensures { result ≡ capped (tag_count (accepted.now ++ flat_map (λ xs. xs) (with_offer extents.now (lists_of offers.now.offers)))) }
+{
+    let all = OfferLists::all(offers);
+    let tags = all_tags(accepted, &all);
+    if fits_behind(offers, extents) {
+        return more_tags(tags, accepted, &all, offers.len(), extents);
+    }
+    tags
 }

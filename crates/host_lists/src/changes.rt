@@ -2,7 +2,7 @@
 
 ghost use Rattle.host_lists.specs.Answers.{generation_after};
 ghost use Rattle.host_lists.specs.Lists.{next_generation};
-ghost use Rattle.std.specs.Prelude.{◌≡◌, ◌++◌, ◌≤◌, length};
+ghost use Rattle.std.specs.Prelude.{◌≡◌, ◌++◌, ◌+◌, ◌≤◌, length};
 
 use list_rules::dcd_codes::dcd_base::Extent;
 use list_rules::extent_list::ExtentList;
@@ -27,7 +27,8 @@ pub(crate) fn generation_after(changed: &[Extent], generation: u32) -> u32
 /// Puts the extents behind the accepted ones. It takes no memory.
 pub(crate) fn add_all(accepted: &mut ExtentList, extents: &[Extent])
     requires { length extents.now ≤ accepted.old.spare }
-    ensures { accepted.new.extents ≡ accepted.old.extents ++ extents.now }
+    ensures added { accepted.new.extents ≡ accepted.old.extents ++ extents.now }
+    ensures room { length accepted.old.extents + accepted.old.spare ≤ length accepted.new.extents + accepted.new.spare }
 {
     for extent in extents {
         accepted.add(*extent);

@@ -7,20 +7,21 @@ ghost use Rattle.host_lists.specs.Changes.{accepted_with, changed_by, offers_wit
 ghost use Rattle.release_core.specs.Leaving.{AllCanLeave};
 ghost use Rattle.std.specs.Prelude.{◌≡◌, ◌++◌, ◌∷◌, ◌+◌, ◌^◌, ◌<◌, List, [], All, IfOk, OnOk, drop, false};
 
+use crate::accepted::AcceptedList;
 use crate::changes::{add_all, generation_after, next_generation};
 use crate::lists::HostLists;
 use crate::lists_change::{ListsChange, OffersChange, ReleasesChange};
+use crate::offer_lists::fits_behind;
 use crate::responded::Responded;
-use list_rules::dcd_codes::dcd_base::limits::{EXTENTS, LISTED_EXTENTS};
+use list_rules::dcd_codes::dcd_base::limits::LISTED_EXTENTS;
 use list_rules::dcd_codes::dcd_base::{Extent, Extents, NoMemory};
-use list_rules::extent_list::ExtentList;
 use offer_core::Offer;
 use release_core::GivenBack;
 use std::alloc::Global;
 
 impl HostLists {
-    /// Makes the change one by an offer of these extents, behind all other offers, of which none is copied where fewer than 64
-    /// wait.
+    /// Makes the change one by an offer of these extents, behind all other offers, of which none is copied where it fits behind
+    /// them.
     ///
     /// An offer that it finds in the change gives its memory for the new one.
     pub fn put_offering(&self, extents: &[Extent], change: &mut ListsChange) -> Result<(), NoMemory>
@@ -79,7 +80,7 @@ impl HostLists {
             self.put_held_releases(list.as_slice(), change)?;
             return Ok(GivenBack::Held);
         }
-        let leaving = self.releases.leaving_of(self.accepted.as_slice(), list)?;
+        let leaving = self.releases.leaving_of(self.accepted().as_slice(), list)?;
         if leaving.is_empty() {
             self.put_no_releases(change);
             return Ok(GivenBack::Nothing);
@@ -107,7 +108,7 @@ impl HostLists {
         ensures held { OnOk result (responses_with change.new self.now.responses ≡ self.now.responses) }
     {
         let alloc = self.offers.allocator();
-        if self.offers.len() < EXTENTS {
+        if fits_behind(&self.offers, extents) {
             return put_behind(extents, alloc, change);
         }
         let mut offers = self.offers.copy()?;
@@ -218,31 +219,31 @@ impl HostLists {
     }
 
     /// The accepted extents with these behind them; none where there are none of these.
-    fn accepted_and(&self, extents: &[Extent]) -> Result<Option<ExtentList>, NoMemory>
+    fn accepted_and(&self, extents: &[Extent]) -> Result<Option<AcceptedList>, NoMemory>
         ensures { IfOk result (λ new. accepted_with new self.now.accepted ≡ self.now.accepted ++ extents.now) }
     {
         if extents.is_empty() {
             return Ok(None);
         }
-        let mut accepted = self.accepted.copy_with_room(extents.len())?;
+        let mut accepted = self.accepted().copy_with_room(extents.len())?;
         accepted.reserve(extents.len())?;
         add_all(&mut accepted, extents);
-        Ok(Some(accepted))
+        Ok(Some(AcceptedList::of(accepted)?))
     }
 
     /// The accepted extents without these, each of which ends below 2^64.
-    fn accepted_less(&self, leaving: &[Extent]) -> Result<ExtentList, NoMemory>
+    pub(crate) fn accepted_less(&self, leaving: &[Extent]) -> Result<AcceptedList, NoMemory>
         requires ends { All (λ x. x.start + x.length < 2 ^ 64) leaving.now }
-        ensures { IfOk result (λ accepted. accepted.extents ≡ cut_all leaving.now self.now.accepted) }
+        ensures { IfOk result (λ accepted. accepted ≡ cut_all leaving.now self.now.accepted) }
     {
-        let mut accepted = self.accepted.copy_with_room(leaving.len())?;
+        let mut accepted = self.accepted().copy_with_room(leaving.len())?;
         accepted.reserve(leaving.len())?;
         accepted.cut_all(leaving);
-        Ok(accepted)
+        AcceptedList::of(accepted)
     }
 }
 
-/// The change where this offer is behind the others, of which fewer than 64 wait, in the memory of one that is in it.
+/// The change where this offer is behind the others, where it fits there, in the memory of one that is in it.
 fn put_behind(extents: &[Extent], alloc: Global, change: &mut OffersChange) -> Result<(), NoMemory>
     ensures offers { OnOk result ((had : List (List Extent)) → offers_with change.new had ≡ with_offer extents.now had) }
     ensures held { OnOk result ((had : List Extent) → responses_with change.new had ≡ had) }

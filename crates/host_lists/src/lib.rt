@@ -5,19 +5,20 @@
 //! would change of them: a change has no more than what it changes, and is put in place without memory.
 #![tactic(auto)]
 
+mod accepted;
 mod changed;
 mod changes;
 mod drafting;
+mod entering;
 mod lists;
 mod lists_change;
 mod offer_lists;
 mod offering;
 mod releasing;
 mod responded;
-mod tag_changes;
 mod tag_counts;
-mod tags_after;
 
+pub use accepted::AcceptedList;
 pub use changed::Changed;
 pub use lists::HostLists;
 pub use lists_change::{ListsChange, OffersChange, ReleasesChange};

@@ -6,10 +6,11 @@ ghost use Rattle.host_lists.specs.Lists.{extent_total, extents_of_lists, no_list
 ghost use Rattle.host_lists.specs.Tags.{capped, tag_count};
 ghost use Rattle.offer_core.specs.Offerings.{lists_of, oldest_of};
 ghost use Rattle.std.specs.List.{list_any};
-ghost use Rattle.std.specs.Prelude.{◌≡◌, ◌++◌, ◌+◌, ◌-◌, ◌^◌, ◌<◌, ◌≤◌, [], IfOk, Some, length, slice_get};
+ghost use Rattle.std.specs.Prelude.{◌≡◌, ◌++◌, ◌+◌, ◌-◌, ◌^◌, ◌<◌, ◌≤◌, [], IfOk, Some, drop, length, slice_get};
 
+use crate::accepted::AcceptedList;
 use crate::offer_lists::OfferLists;
-use crate::tag_counts::{has_in_offers, more_tags};
+use crate::tag_counts::{all_tags, has_in_offers, more_tags};
 use list_rules::dcd_codes::dcd_base::limits::{EXTENTS, TAGS};
 use list_rules::dcd_codes::dcd_base::{Extent, NoMemory, Tag};
 use list_rules::extent_list::{ExtentList, has_extent_of};
@@ -19,33 +20,30 @@ use std::alloc::Global;
 use std::marker::Model;
 
 /// What the device keeps of a host's extents.
+///
+/// It has its memory from the start: for 128 accepted extents, for 64 offers of 64 extents together, and for 64 held ones of
+/// responses and of releases.
 #[derive(Debug, Drop)]
 pub struct HostLists {
-    pub(crate) accepted: ExtentList,
+    pub(crate) accepted: AcceptedList,
     pub(crate) offers: Offers,
     pub(crate) releases: Releases,
     pub(crate) generation: u32,
-    /// How many tags the extents have that the host has accepted or is offered, up to the end of 32 bits.
-    pub(crate) tags: u32,
 }
 
 impl Model for HostLists {
     ghost use Rattle.host_lists.specs.Lists.{Lists};
-    ghost use Rattle.host_lists.specs.Tags.{capped, tag_count};
     ghost use Rattle.offer_core.specs.Offerings.{lists_of};
-    ghost use Rattle.std.specs.Prelude.{◌≡◌, ◌++◌, flat_map};
 
     ghost Value = { Lists };
 
     ghost view = { λ l. record {
-      accepted = l.accepted.extents;
+      accepted = l.accepted;
       offers = lists_of l.offers.offers;
       responses = l.offers.held;
       releases = l.releases;
       generation = l.generation;
     } };
-
-    ghost invariant = { λ l. l.tags ≡ capped (tag_count (l.accepted.extents ++ flat_map (λ xs. xs) (lists_of l.offers.offers))) };
 }
 
 impl HostLists {
@@ -54,11 +52,10 @@ impl HostLists {
         ensures { IfOk result (λ new. new ≡ no_lists) }
     {
         Ok(HostLists {
-            accepted: ExtentList::new(alloc),
+            accepted: AcceptedList::new(alloc)?,
             offers: Offers::new(alloc)?,
             releases: Releases::new(alloc)?,
             generation: 0,
-            tags: 0,
         })
     }
 
@@ -66,7 +63,7 @@ impl HostLists {
     pub fn accepted(&self) -> &ExtentList
         ensures { result.now.extents ≡ self.now.accepted }
     {
-        &self.accepted
+        self.accepted.list()
     }
 
     /// The extents of the oldest unanswered offer; none where there is no offer.
@@ -118,7 +115,7 @@ impl HostLists {
         requires { index < length self.now.offers }
         ensures { slice_get self.now.offers index ≡ Some result.now }
     {
-        self.offers.at(index).extents.as_slice()
+        self.offers.at(index)
     }
 
     /// How often the accepted list changed, modulo 2^32 (CXL 3.1, 8.2.9.9.9.2).
@@ -132,7 +129,7 @@ impl HostLists {
     pub fn has_accepted(&self, tag: &Tag) -> bool
         ensures { result ≡ has_extent_of tag.now self.now.accepted }
     {
-        has_extent_of(tag, self.accepted.as_slice())
+        has_extent_of(tag, self.accepted.list().as_slice())
     }
 
     /// Whether an extent of an unanswered offer has the tag.
@@ -142,19 +139,30 @@ impl HostLists {
         has_in_offers(tag, &OfferLists::all(&self.offers), self.offers.len())
     }
 
+    /// Whether an extent of an unanswered offer has the tag, of those from the index `first` on; the oldest has the index 0.
+    pub fn has_offered_from(&self, first: usize, tag: &Tag) -> bool
+        ensures { result ≡ list_any (has_extent_of tag.now) (drop first self.now.offers) }
+    {
+        let offers = OfferLists::from(&self.offers, first);
+        has_in_offers(tag, &offers, offers.len())
+    }
+
     /// How many more extents the host may get.
     pub fn extents_available(&self) -> u32
         requires few { extent_total self.now ≤ 64 }
         ensures { result ≡ extents_supported - length (extents_of_lists self.now) }
     {
-        (EXTENTS - (self.accepted.len() + self.offers.extents())) as u32
+        (EXTENTS - (self.accepted.list().len() + self.offers.extents())) as u32
     }
 
     /// How many tags the extents have that the host has accepted or is offered, up to the end of 32 bits.
     pub(crate) fn tags(&self) -> u32
         ensures { result ≡ capped (tag_count (extents_of_lists self.now)) }
     {
-        self.tags
+        all_tags(
+            self.accepted.list().as_slice(),
+            &OfferLists::all(&self.offers),
+        )
     }
 
     /// How many more tags the host may get; none where it has more than it may.
@@ -169,7 +177,7 @@ impl HostLists {
         requires few { extent_total self.now + length more.now < 2 ^ 32 }
         ensures { result ≡ length (real_tags (extents_of_lists self.now ++ more.now)) }
     {
-        let accepted = self.accepted.as_slice();
+        let accepted = self.accepted.list().as_slice();
         let offers = OfferLists::all(&self.offers);
         more_tags(self.tags(), accepted, &offers, self.offers.len(), more)
     }

@@ -5,20 +5,20 @@ ghost use Rattle.host_lists.specs.Lists.{Lists};
 ghost use Rattle.offer_core.specs.Offerings.{lists_of};
 ghost use Rattle.std.specs.Prelude.{◌≡◌, [], drop};
 
+use crate::accepted::AcceptedList;
 use crate::lists::HostLists;
-use crate::tags_after::tags_after;
+use crate::offer_lists::fits_behind;
 use list_rules::dcd_codes::dcd_base::Extents;
-use list_rules::dcd_codes::dcd_base::limits::{EXTENTS, LISTED_EXTENTS};
-use list_rules::extent_list::ExtentList;
+use list_rules::dcd_codes::dcd_base::limits::LISTED_EXTENTS;
 use offer_core::{Offer, Offers};
 use release_core::Releases;
-use std::mem::{replace, swap};
+use std::mem::swap;
 
 /// What a step changes of a host's lists. What it does not change is not in it.
 #[derive(Debug, Drop)]
 pub struct ListsChange {
     /// The accepted extents after it, where it changes them.
-    pub accepted: Option<ExtentList>,
+    pub accepted: Option<AcceptedList>,
     /// What it changes of the unanswered offers, and of what responses with More hold.
     pub offers: OffersChange,
     /// What it changes of what releases with More hold.
@@ -32,7 +32,8 @@ pub struct ListsChange {
 pub enum OffersChange {
     /// Both stay.
     Nothing,
-    /// This offer is behind the others where fewer than 64 wait, and else they stay. What is held stays.
+    /// This offer is behind the others where it fits there: where fewer than 64 wait, and have 64 extents at most together with
+    /// it. Else they stay. What is held stays.
     Behind(Offer),
     /// The offers stay. These extents are behind what is held where they are 64 at most together, and else it stays.
     More(Extents),
@@ -86,7 +87,6 @@ impl HostLists {
     pub fn change(&mut self, change: &mut ListsChange)
         ensures { self.new ≡ changed_by change.old self.old }
     {
-        self.tags = tags_after(self, change);
         put_accepted(&mut self.accepted, &mut change.accepted);
         put_offers(&mut self.offers, &mut change.offers);
         put_releases(&mut self.releases, &mut change.releases);
@@ -95,15 +95,15 @@ impl HostLists {
 }
 
 /// Puts the new accepted extents in place, where there are some, and those that were there in theirs.
-fn put_accepted(accepted: &mut ExtentList, new: &mut Option<ExtentList>)
-    ensures { accepted.new.extents ≡ accepted_with new.old accepted.old.extents }
+fn put_accepted(accepted: &mut AcceptedList, new: &mut Option<AcceptedList>)
+    ensures { accepted.new ≡ accepted_with new.old accepted.old }
 {
     if let Some(new) = new {
         swap(accepted, new);
     }
 }
 
-/// Puts a change of the offers in place. An offer that goes is left in it.
+/// Puts a change of the offers in place.
 fn put_offers(offers: &mut Offers, change: &mut OffersChange)
     ensures offers { lists_of offers.new.offers ≡ offers_with change.old (lists_of offers.old.offers) }
     ensures held { offers.new.held ≡ responses_with change.old offers.old.held }
@@ -112,19 +112,19 @@ fn put_offers(offers: &mut Offers, change: &mut OffersChange)
         OffersChange::Nothing => (),
         OffersChange::Behind(offer) => put_behind(offers, offer),
         OffersChange::More(list) => put_more(offers, list),
-        OffersChange::Next => put_next(offers, change),
+        OffersChange::Next => put_next(offers),
         OffersChange::Whole(new) => swap(offers, new),
     }
 }
 
-/// Puts the offer behind the others, where fewer than 64 wait.
-fn put_behind(offers: &mut Offers, offer: &mut Offer)
-    ensures offers { lists_of offers.new.offers ≡ with_offer offer.old.extents (lists_of offers.old.offers) }
+/// Puts the offer behind the others, where it fits there.
+fn put_behind(offers: &mut Offers, offer: &Offer)
+    ensures offers { lists_of offers.new.offers ≡ with_offer offer.now.extents (lists_of offers.old.offers) }
     ensures held { offers.new.held ≡ offers.old.held }
 {
-    if offers.len() < EXTENTS {
-        let alloc = offers.allocator();
-        offers.push_within(replace(offer, Offer::nothing(alloc)));
+    let extents = offer.extents.as_slice();
+    if fits_behind(offers, extents) {
+        offers.push_within(extents);
     }
 }
 
@@ -137,15 +137,13 @@ fn put_more(offers: &mut Offers, list: &Extents)
     }
 }
 
-/// Lets what is held go, and the oldest offer, which is left in the change where there is one.
-fn put_next(offers: &mut Offers, change: &mut OffersChange)
+/// Lets what is held go, and the oldest offer.
+fn put_next(offers: &mut Offers)
     ensures offers { lists_of offers.new.offers ≡ drop 1 (lists_of offers.old.offers) }
     ensures held { offers.new.held ≡ [] }
 {
     offers.drop_held();
-    if let Some(oldest) = offers.pop() {
-        *change = OffersChange::Behind(oldest);
-    }
+    offers.drop_oldest();
 }
 
 /// Puts a change of what releases hold in place.

@@ -1,9 +1,11 @@
 //! The extents of each offer, of all offers or of those behind the oldest.
 
+ghost use Rattle.host_lists.specs.Changes.{fits_behind};
 ghost use Rattle.offer_core.specs.Offerings.{lists_of};
 ghost use Rattle.std.specs.Prelude.{◌≡◌, ◌<◌, Some, drop, length, slice_get};
 
 use list_rules::dcd_codes::dcd_base::Extent;
+use list_rules::dcd_codes::dcd_base::limits::EXTENTS;
 use offer_core::Offers;
 use std::marker::Model;
 
@@ -39,6 +41,13 @@ impl<'a> OfferLists<'a> {
         OfferLists { offers, first: 1 }
     }
 
+    /// Those of the offers from an index on.
+    pub(crate) fn from(offers: &'a Offers, first: usize) -> OfferLists<'a>
+        ensures { result ≡ drop first (lists_of offers.now.offers) }
+    {
+        OfferLists { offers, first }
+    }
+
     /// How many offers they are.
     pub(crate) fn len(&self) -> usize
         ensures { result ≡ length self.now }
@@ -53,6 +62,14 @@ impl<'a> OfferLists<'a> {
     {
         // The number of offers is below 2^64.
         let _count = self.offers.len();
-        self.offers.at(self.first + index).extents.as_slice()
+        self.offers.at(self.first + index)
     }
+}
+
+/// Whether an offer of these extents fits behind the offers: fewer than 64 wait, and have 64 extents at most together with it.
+pub(crate) fn fits_behind(offers: &Offers, extents: &[Extent]) -> bool
+    ensures { result ≡ fits_behind extents.now (lists_of offers.now.offers) }
+{
+    let had = offers.extents();
+    offers.len() < EXTENTS && had <= EXTENTS && extents.len() <= EXTENTS - had
 }

@@ -5,8 +5,6 @@ ghost use Rattle.std.specs.Prelude.{◌≡◌, ◌+◌, ◌^◌, ◌<◌, All, O
 
 use crate::changes::next_generation;
 use crate::lists::HostLists;
-use crate::offer_lists::OfferLists;
-use crate::tag_counts::all_tags;
 use list_rules::dcd_codes::dcd_base::{Extents, NoMemory};
 
 impl HostLists {
@@ -17,10 +15,8 @@ impl HostLists {
         ensures taken { OnOk result (self.new ≡ lists_less extents.now self.old) }
         ensures kept { OnErr result (self.new ≡ self.old) }
     {
-        self.accepted.reserve(extents.len())?;
-        self.accepted.cut_all(extents.as_slice());
+        self.accepted = self.accepted_less(extents.as_slice())?;
         self.generation = next_generation(self.generation);
-        self.tags = all_tags(self.accepted.as_slice(), &OfferLists::all(&self.offers));
         Ok(())
     }
 }

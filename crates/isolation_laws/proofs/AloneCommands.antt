@@ -10,8 +10,8 @@ use Rattle.list_rules.specs.dcd_codes.specs.Rules.{code_of}
 use Rattle.list_rules.specs.dcd_codes.specs.declared.codes.Code.{Code}
 use Rattle.list_rules.specs.dcd_codes.specs.declared.rules.Rule.{Rule}
 use Rattle.device_commands.specs.HostMessages.{IsDraft}
-use Rattle.device_commands.specs.Drafts.{AreAfter}
-use Rattle.device_commands.specs.device_state.specs.StateAfter.{IsLogOf, lists_in}
+use Rattle.device_commands.specs.ListsUpdates.{left_by}
+use Rattle.device_commands.specs.device_state.specs.StateAfter.{IsLogOf}
 use Rattle.device_commands.specs.declared.draft.DraftParts.{DraftParts}
 use Rattle.device_commands.specs.host_lists.specs.Changes.{changed_by}
 use Rattle.device_commands.specs.host_lists.specs.Lists.{Lists, extent_total}
@@ -25,7 +25,7 @@ use Rattle.device_commands.specs.device_rules.specs.Outcomes.{Outcome}
 use Rattle.device_commands.specs.device_rules.specs.ResponseOutcomes.{unhold}
 use Rattle.device_commands.specs.device_rules.specs.Views.{View, view_after}
 use Rattle.device_commands.specs.device_laws.proofs.ViewCommands.{after_refusal, view_after-dropped}
-use Rattle.isolation_laws.specs.Acting.{ChangesAlone, changed_lists, without_held}
+use Rattle.isolation_laws.specs.Acting.{ChangesAlone, without_held}
 use Rattle.isolation_laws.specs.Alone.{DoesAlone, IsAlone}
 use Rattle.isolation_laws.specs.Solo.{accepts_byte, changes_with}
 use Rattle.isolation_laws.specs.declared.alone.Alone.{Alone}
@@ -40,13 +40,9 @@ module _ (c : Configuration) (h : HostId) (q : Request) (old new : Alone) where
 
   -- what a command does that breaks no rule
   module _ (draft : DraftParts) (few : IfSome draft.lists (λ change. extent_total (changed_by change old.lists) ≤ 64)) (is : ChangesAlone h draft.changes draft.lists old new) where
-    few_after : (change : Option ListsChange) → IfSome change (λ ch. extent_total (changed_by ch old.lists) ≤ 64) → extent_total old.lists ≤ 64 → extent_total (changed_lists change old.lists) ≤ 64
+    few_after : (change : Option ListsChange) → IfSome change (λ ch. extent_total (changed_by ch old.lists) ≤ 64) → extent_total old.lists ≤ 64 → extent_total (left_by change old.lists) ≤ 64
     few_after None fits was = was
     few_after (Some change) fits was = fits
-
-    lists_after : (v : View) (o : Outcome) → old.lists ≡ lists_in v → (change : Option ListsChange) → AreAfter c h v o change → changed_lists change old.lists ≡ lists_in (view_after c h v o.changes)
-    lists_after v o was None same = was ∙ sym same
-    lists_after v o was (Some change) leads = ap (changed_by change) was ∙ leads.0
 
     pub command_done : ((v : View) (word : ℕ → ℕ) → IsAlone c h v word old → IsDraft c h v q draft) → DoesAlone c h (Act.Command q) old new (SoloReply.Said (response q Code.Success draft.payload))
     command_done drafted v word was =
@@ -59,7 +55,7 @@ module _ (c : Configuration) (h : HostId) (q : Request) (old new : Alone) where
           ap (λ bytes. SoloReply.Said (response q Code.Success bytes)) d.drafts.payload,
           record {
             present_is = by.present_stays ∙ was.present_is ∙ blocks_stay c h v o.changes own;
-            lists_are = by.lists_by ∙ lists_after v o was.lists_are draft.lists d.drafts.lists;
+            lists_are = by.lists_by ∙ ap (left_by draft.lists) was.lists_are ∙ d.drafts.lists;
             few = subst (λ (l : Lists). extent_total l ≤ 64) (sym by.lists_by) (few_after draft.lists few was.few);
             log_is = subst (IsLogOf (LogId.Host h) (view_after c h v o.changes).log) (sym by.log_by_all)
                 (log_stays c h v old.log o.changes was.log_is own (history_after c h v d.request d.row was.log_is.told));

@@ -1,8 +1,9 @@
 //! What the host of a device with one host alone does, and what it is replied.
 
+ghost use Rattle.device_commands.specs.ListsUpdates.{left_by};
 ghost use Rattle.device_commands.specs.device_rules.specs.Answers.{response};
 ghost use Rattle.device_commands.specs.host_lists.specs.Lists.{extent_total};
-ghost use Rattle.isolation_laws.specs.Acting.{ChangesAlone, changed_lists, without_held};
+ghost use Rattle.isolation_laws.specs.Acting.{ChangesAlone, without_held};
 ghost use Rattle.isolation_laws.specs.Alone.{DoesAlone};
 ghost use Rattle.isolation_laws.specs.Solo.{has_byte as has_byte_in};
 ghost use Rattle.std.specs.List.{list_any};
@@ -109,7 +110,7 @@ impl Alone {
 
     /// Changes the lists, where there is a change of them.
     fn change_lists(&mut self, change: Option<ListsChange>)
-        ensures { self.new ≡ record self.old { lists = changed_lists change self.old.lists } }
+        ensures { self.new ≡ record self.old { lists = left_by change self.old.lists } }
     {
         if let Some(mut change) = change {
             self.lists.change(&mut change);

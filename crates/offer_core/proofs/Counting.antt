@@ -11,9 +11,9 @@ pub count_in-cons : (xs : List Extent) (later : List (List Extent)) → count_in
 count_in-cons xs later = sum_by-cons (λ (ys : List Extent). length ys) xs later
 
 -- the oldest and the others
-pub count_in-parts : (offers : List (List Extent)) → count_in offers ≡ length (oldest_of offers) + count_in (drop 1 offers)
-count_in-parts [] = refl
-count_in-parts (xs ∷ later) = count_in-cons xs later
+pub count_in_parts : (offers : List (List Extent)) → count_in offers ≡ length (oldest_of offers) + count_in (drop 1 offers)
+count_in_parts [] = refl
+count_in_parts (xs ∷ later) = count_in-cons xs later
 
 -- the offers behind one have no more than it and they
 pub fewer_behind : (offer : Offer) (later : List Offer) → count_in (lists_of later) ≤ count_in (lists_of (offer ∷ later))

@@ -1,3 +1,4 @@
+pub mod Parts
 pub mod Completeness
 pub mod Counting
 pub mod Missing

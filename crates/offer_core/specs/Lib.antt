@@ -1,5 +1,5 @@
 pub mod Answers
 pub mod InOrder
 pub mod Offerings
-pub mod Popped
+pub mod Parting
 pub mod Responses

@@ -1,9 +1,8 @@
 //! An offer.
 
-ghost use Rattle.std.specs.Prelude.{◌≡◌, [], IfOk};
+ghost use Rattle.std.specs.Prelude.{◌≡◌, IfOk};
 
 use list_rules::dcd_codes::dcd_base::{Extents, NoMemory};
-use std::alloc::Global;
 
 /// Extents of one region that a host may accept, in the order in which they were chosen. Their region is read from their
 /// addresses.
@@ -13,15 +12,6 @@ pub struct Offer {
 }
 
 impl Offer {
-    /// An offer of no extents. It takes no memory.
-    pub fn nothing(alloc: Global) -> Offer
-        ensures { result.extents ≡ [] }
-    {
-        Offer {
-            extents: Extents::new(alloc),
-        }
-    }
-
     /// An equal offer of its own.
     pub fn copy(&self) -> Result<Offer, NoMemory>
         ensures { IfOk result (λ copy. copy ≡ self.now) }

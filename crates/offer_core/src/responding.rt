@@ -7,6 +7,7 @@ ghost use Rattle.offer_core.specs.Offerings.{lists_of, oldest_of};
 ghost use Rattle.std.specs.Prelude.{◌≡◌, ◌++◌, ◌+◌, ◌<◌, ◌≤◌, [], IfOk, OnErr, OnOk, false, map};
 
 use crate::answered::Answered;
+use crate::offer::Offer;
 use crate::offers::Offers;
 use crate::row::broken_rule;
 use list_rules::dcd_codes::Refusal;
@@ -67,12 +68,18 @@ impl Offers {
             self.hold(list.as_slice())?;
             return Ok(Answered::Held);
         }
-        let accepted = self.accepted_of(list)?;
-        self.drop_held();
-        match self.pop() {
-            Some(offer) => Ok(Answered::Done { offer, accepted }),
-            None => Ok(Answered::Nothing),
+        if self.is_empty() {
+            self.drop_held();
+            return Ok(Answered::Nothing);
         }
+        let accepted = self.accepted_of(list)?;
+        let extents = Extents::from_slice(self.allocator(), self.oldest())?;
+        self.drop_held();
+        self.drop_oldest();
+        Ok(Answered::Done {
+            offer: Offer { extents },
+            accepted,
+        })
     }
 
     /// What a response accepts of the oldest offer with this list of a message behind the held one: each extent with the

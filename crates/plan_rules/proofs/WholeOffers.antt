@@ -42,7 +42,7 @@ use Rattle.isolation_laws.specs.device_rules.proofs.Leaving.{is_quiet, map_passe
 use Rattle.isolation_laws.specs.device_rules.proofs.ListSteps.{any-map, each-at, each-back, each-both, each-front, many, many-any, many-append}
 use Rattle.isolation_laws.specs.device_rules.proofs.RunEffects.{holding-takes, in_extents, takes}
 use Rattle.isolation_laws.specs.device_laws.specs.Pictures.{Picture, extents_at, picture_of}
-use Rattle.isolation_laws.specs.device_laws.specs.Standing.{IsMade, Sound, Stands}
+use Rattle.isolation_laws.specs.device_laws.specs.Standing.{IsMade, IsTogether, Sound, Stands}
 use Rattle.isolation_laws.specs.device_laws.proofs.FreeGranules.{free_none}
 use Rattle.isolation_laws.specs.device_laws.proofs.Holding.{present_whole}
 use Rattle.isolation_laws.specs.device_laws.proofs.Homes.{made_of_region}
@@ -143,7 +143,7 @@ module _ (c : Configuration) (sound : IsSound c) (journal : List Entry) (legal :
         (subst (λ os. AllByRecursion P (flat_map (λ xs. xs) os)) oldest (each-back P (p.accepted h) (flat_map (λ xs. xs) (p.offers h)) each))
 
     in_region : AllByRecursion (λ x. region_at c h x.start ≡ region_of_offer c h offer) offer
-    in_region = (subst (AllByRecursion (λ xs. AllByRecursion (λ x. region_at c h x.start ≡ region_of_offer c h xs) xs)) oldest (s.together h)).0
+    in_region = (subst (AllByRecursion (IsTogether c h)) oldest (s.together h)).0.1
 
     made : AllByRecursion (λ x. IsMade c (p.block (region_at c h x.start)) h (region_at c h x.start) x) offer
     made = made_there c sound p s h host offer later oldest

@@ -9,7 +9,6 @@ use Rattle.dcd_base.specs.declared.steps.Actor.{Actor}
 use Rattle.dcd_base.specs.declared.steps.Stamp.{Stamp}
 use Rattle.control_core.specs.device_rules.specs.ChangedRuns.{AreChanges, LiesIn}
 use Rattle.control_core.specs.device_rules.specs.Legal.{Legal}
-use Rattle.control_core.specs.device_state.specs.Updates.{IsUpdate}
 use Rattle.block_shard.specs.journal_core.specs.declared.acts.Act.{Act}
 use Rattle.block_shard.specs.journal_core.specs.declared.acts.Reply.{Reply}
 use Rattle.block_shard.specs.journal_core.specs.declared.entries.Entry.{Entry}
@@ -34,7 +33,6 @@ pub record IsNextStep (c : Commanding) (plan : Plan) : Type 0 where
   pub short : IsShort plan.entry.reply
   pub changes : AreChanges c.config (effects c.entries) plan.entry.effects plan.changes
   pub inside : All (LiesIn (granule_total c.config)) plan.changes
-  pub update : IsUpdate c.config c.entries plan.entry.effects plan.update
 
 -- the entry is that of a call
 pub record IsOfCall (pass line : ℕ) (actor : Actor) (act : Act) (e : Entry) : Type 0 where

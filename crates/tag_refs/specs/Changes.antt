@@ -1,6 +1,6 @@
 -- What a change makes of an entry.
-use Rattle.std.specs.Prelude.{◌≡◌, ◌<◌, true}
-use Rattle.tag_refs.specs.Tables.{is_used, entry_with_offer, settled_by, left_by, set_by, with_reference, with_soil}
+use Rattle.std.specs.Prelude.{◌<◌}
+use Rattle.tag_refs.specs.Tables.{entry_with_offer, settled_by, left_by, set_by, with_reference, with_soil}
 use Rattle.tag_refs.specs.declared.changes.Change.{Change}
 use Rattle.tag_refs.specs.declared.changes.Change.TheVariants.{Offer, Settle, Leave, Host, Refer, Soil}
 use Rattle.tag_refs.specs.declared.entries.TagEntry.{TagEntry}
@@ -21,7 +21,3 @@ IsHostsChange (Leave h) = h < 16
 IsHostsChange (Host h held offered) = h < 16
 IsHostsChange (Refer on) = Unit {0}
 IsHostsChange Soil = Unit {0}
-
--- The change leaves each entry used that is.
-abbrev pub StaysUsed : Change → Type 0
-StaysUsed change = (e : TagEntry) → is_used e ≡ true → is_used (entry_changed change e) ≡ true

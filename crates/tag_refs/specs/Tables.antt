@@ -1,5 +1,5 @@
 -- The table of live tags, and what each call makes of it.
-use Rattle.std.specs.Prelude.{◌≡◌, ℕ, ◌==◌, Bool, true, false, if◌then◌else◌, not, ◌||◌, Option, Some, None, is_some, List, map, filter, All}
+use Rattle.std.specs.Prelude.{◌≡◌, ℕ, ◌==◌, Bool, true, false, if◌then◌else◌, not, ◌||◌, Option, Some, None, is_some, List, map, filter}
 use Rattle.std.specs.List.{find, IsDistinct}
 use Rattle.dcd_base.specs.Words.{same_tag}
 use Rattle.dcd_base.specs.declared.capacity.Tag.{Tag}
@@ -26,10 +26,9 @@ is_entry_of t e = same_tag t e.tag
 abbrev pub is_used : TagEntry → Bool
 is_used e = not (e.holders == 0) || not (e.offered == 0) || e.referenced
 
--- what holds of every table: each entry is used, and no two have one tag
-pub record AreTags (entries : List TagEntry) : Type 0 where
-  pub used : All (λ e. is_used e ≡ true) entries
-  pub apart : IsDistinct same_tag (map (λ e. e.tag) entries)
+-- what holds of every table: no two entries have one tag
+abbrev pub AreTags : List TagEntry → Type 0
+AreTags entries = IsDistinct same_tag (map (λ e. e.tag) entries)
 
 -- the entry of the tag
 abbrev pub entry_with : Tag → List TagEntry → Option TagEntry
@@ -103,6 +102,14 @@ entries_changed t change entries = map (λ e. if is_entry_of t e then change e e
 -- the entries that are used, in order; the others have ended
 abbrev pub still_used : List TagEntry → List TagEntry
 still_used entries = filter is_used entries
+
+-- the entries without that of the tag
+abbrev pub entries_without : Tag → List TagEntry → List TagEntry
+entries_without t entries = filter (λ e. not (is_entry_of t e)) entries
+
+-- the entries without that of the tag, where it is used no more
+abbrev pub entries_ended : Tag → List TagEntry → List TagEntry
+entries_ended t entries = if passes t is_used entries then entries else entries_without t entries
 
 -- what the Fabric Manager is shown of an entry
 abbrev pub tag_view : TagEntry → TagView

@@ -1,38 +1,47 @@
 //! The table of live tags.
 
 ghost use Rattle.std.specs.Option.{option_copied, option_map};
-ghost use Rattle.std.specs.Prelude.{◌≡◌, ◌==◌, ◌+◌, ◌<◌, ◌≤◌, ◌++◌, ◌∷◌, [], IfErr, IfOk, IsTrue, OnErr, OnOk, Some, false, length, not, slice_get, true};
-ghost use Rattle.tag_refs.specs.Changes.{IsHostsChange, StaysUsed, entry_changed};
-ghost use Rattle.tag_refs.specs.Tables.{AreTags, entries_changed, left_by, entry_with, is_held_by, has_entry, entry_offers, entry_referenced, entry_soiled, is_used, entry_with_offer, opened, passes, set_by, settled_by, still_used, tag_view, with_reference, with_soil};
+ghost use Rattle.std.specs.Prelude.{◌≡◌, ◌==◌, ◌+◌, ◌<◌, ◌≤◌, ◌++◌, ◌∷◌, [], IfErr, IfOk, IsTrue, OnErr, OnOk, Some, false, length, not, slice_get, true, vec_capacity};
+ghost use Rattle.indexmap.specs.IndexMap.{spare, values};
+ghost use Rattle.tag_refs.specs.Changes.{IsHostsChange, entry_changed};
+ghost use Rattle.tag_refs.specs.Stored.{IsStored};
+ghost use Rattle.tag_refs.specs.Tables.{AreTags, entries_changed, entries_ended, entries_without, left_by, entry_with, is_held_by, has_entry, entry_offers, entry_referenced, entry_soiled, is_used, entry_with_offer, opened, passes, set_by, settled_by, tag_view, with_reference, with_soil};
 ghost use Rattle.tag_refs.specs.declared.entries.TagEntry.{TagEntry};
 
 use crate::changes::Change;
 use crate::entries::TagEntry;
 use crate::faults::TagFault;
 use dcd_base::host_bits::with;
-use dcd_base::{HostId, NoMemory, RegionId, Runs, Tag, TagView};
+use dcd_base::{HostId, NoMemory, RegionId, Run, Runs, Tag, TagView};
 use indexmap::IndexMap;
 use std::alloc::Global;
 use std::marker::Model;
+use std::mem::replace;
 
 /// The live shareable tags, in the order of opening.
 ///
-/// Contracts see their entries and the spare: how many tags more can be opened without memory.
+/// Contracts see their entries and the spare, which is 1 where one tag more can be opened without memory, and else 0.
 #[derive(Drop)]
 pub struct Tags {
     entries: IndexMap<Tag, TagEntry>,
+    /// Memory for the runs of the next tag.
+    runs: Vec<Run>,
 }
+
+/// A tag has so many runs at most that is opened without memory: one for each extent that a host can have.
+const RUNS: usize = 64;
 
 impl Model for Tags {
     ghost use Rattle.indexmap.specs.IndexMap.{spare, values};
-    ghost use Rattle.tag_refs.specs.Stored.{IsStored};
+    ghost use Rattle.std.specs.Prelude.{◌≡◌, [], vec_capacity};
+    ghost use Rattle.tag_refs.specs.Stored.{IsStored, spare_with};
     ghost use Rattle.tag_refs.specs.Tables.{TagTable};
 
     ghost Value = { TagTable };
 
-    ghost view = { λ tags. record { entries = values tags.entries; spare = spare tags.entries } };
+    ghost view = { λ tags. record { entries = values tags.entries; spare = spare_with (vec_capacity tags.runs) (spare tags.entries) } };
 
-    ghost invariant = { λ tags. IsStored tags.entries.entries };
+    ghost invariant = { λ tags. IsStored tags.entries.entries × (tags.runs.items ≡ []) };
 }
 
 impl Tags {
@@ -42,6 +51,7 @@ impl Tags {
     {
         Tags {
             entries: IndexMap::new(alloc),
+            runs: Vec::new(alloc),
         }
     }
 
@@ -160,13 +170,15 @@ impl Tags {
         }
     }
 
-    /// Makes the spare at least `n`. The entries stay, and without memory the spare is no less than it was.
-    pub fn reserve(&mut self, n: usize) -> Result<(), NoMemory>
-        ensures room { OnOk result (n ≤ self.new.spare) }
+    /// Takes the memory for one tag more, of 64 runs at most. The entries stay, and without memory the spare is no less than it
+    /// was.
+    pub fn make_room(&mut self) -> Result<(), NoMemory>
+        ensures room { OnOk result (0 < self.new.spare) }
         ensures entries { self.new.entries ≡ self.old.entries }
         ensures spare { self.old.spare ≤ self.new.spare }
     {
-        self.entries.reserve(n)?;
+        self.runs.reserve(RUNS)?;
+        self.entries.reserve(1)?;
         Ok(())
     }
 
@@ -186,15 +198,26 @@ impl Tags {
         ensures full { OnErr result (self.old.spare ≡ 0) }
         ensures spare { self.old.spare ≤ self.new.spare + 1 }
     {
-        self.push(TagEntry {
-            tag,
-            region,
-            runs,
-            holders: 0,
-            offered: with(0, host),
-            referenced: false,
-            soiled: false,
-        })
+        self.push(opened(tag, region, runs, host))
+    }
+
+    /// Opens a tag that is not live, as the last, offered to the host, with these runs, 64 at most. It takes no memory, and uses
+    /// the spare.
+    pub fn open(&mut self, tag: Tag, region: RegionId, host: HostId, runs: &[Run])
+        requires host { host < 16 }
+        requires new { has_entry tag self.old.entries ≡ false }
+        requires room { 0 < self.old.spare }
+        requires few { length runs.now ≤ 64 }
+        ensures opened { self.new.entries ≡ self.old.entries ++ opened tag region runs.now host ∷ [] }
+        ensures spare { self.old.spare ≤ self.new.spare + 1 }
+    {
+        let alloc = *self.entries.allocator();
+        let own = filled(replace(&mut self.runs, Vec::new(alloc)), runs);
+        let entry = opened(tag, region, Runs::from_vec(alloc, own), host);
+        match put_last(&mut self.entries, entry) {
+            Ok(()) => (),
+            Err(_) => unreachable!(),
+        }
     }
 
     /// Offers a live tag to a host that neither holds it nor is offered it.
@@ -214,36 +237,57 @@ impl Tags {
     pub fn settle(&mut self, tag: &Tag, host: HostId, accepted: bool) -> bool
         requires host { host < 16 }
         requires offered { IsTrue (passes tag.now (entry_offers host) self.old.entries) }
-        ensures settled { self.new.entries ≡ still_used (entries_changed tag.now (settled_by host accepted) self.old.entries) }
+        ensures settled { self.new.entries ≡ entries_ended tag.now (entries_changed tag.now (settled_by host accepted) self.old.entries) }
         ensures ended { result ≡ not (has_entry tag.now self.new.entries) }
         ensures spare { self.old.spare ≤ self.new.spare }
     {
-        self.change(tag, Change::Settle(host, accepted))
+        self.change(tag, Change::Settle(host, accepted));
+        self.end_unused(tag)
     }
 
     /// Takes the tag from a host that holds it. Answers true exactly where the tag ended, and its entry is gone.
     pub fn drop_holder(&mut self, tag: &Tag, host: HostId) -> bool
         requires host { host < 16 }
         requires held { IsTrue (passes tag.now (is_held_by host) self.old.entries) }
-        ensures dropped { self.new.entries ≡ still_used (entries_changed tag.now (left_by host) self.old.entries) }
+        ensures dropped { self.new.entries ≡ entries_ended tag.now (entries_changed tag.now (left_by host) self.old.entries) }
         ensures ended { result ≡ not (has_entry tag.now self.new.entries) }
         ensures spare { self.old.spare ≤ self.new.spare }
     {
-        self.change(tag, Change::Leave(host))
+        self.change(tag, Change::Leave(host));
+        self.end_unused(tag)
     }
 
-    /// Makes the host a holder of a live tag or not, and offered it or not. The tag ends where no use is left, and
-    /// its entry is gone. Where the tag is not live nothing changes.
+    /// Makes the host a holder of a live tag or not, and offered it or not. The tag does not end by it, also where no use is
+    /// left. Where it is not live nothing changes.
     pub fn set_host(&mut self, tag: &Tag, host: HostId, held: bool, offered: bool)
         requires { host < 16 }
-        ensures set { self.new.entries ≡ still_used (entries_changed tag.now (set_by host held offered) self.old.entries) }
+        ensures set { self.new.entries ≡ entries_changed tag.now (set_by host held offered) self.old.entries }
         ensures spare { self.old.spare ≤ self.new.spare }
     {
-        // Each entry that is there is used, so that none ends where the tag is not live.
-        let _tags = self.len();
         if self.is_live(tag) {
             self.change(tag, Change::Host(host, held, offered));
         }
+    }
+
+    /// Gives the Fabric Manager a reference to a live tag, or takes it away. The tag does not end by it, also where no use is
+    /// left. Where it is not live nothing changes.
+    pub fn set_reference(&mut self, tag: &Tag, on: bool)
+        ensures set { self.new.entries ≡ entries_changed tag.now (with_reference on) self.old.entries }
+        ensures spare { self.old.spare ≤ self.new.spare }
+    {
+        if self.is_live(tag) {
+            self.change(tag, Change::Refer(on));
+        }
+    }
+
+    /// Ends the tag: its entry is gone. Where it is not live nothing changes.
+    pub fn end(&mut self, tag: &Tag)
+        ensures ended { self.new.entries ≡ entries_without tag.now self.old.entries }
+        ensures spare { self.old.spare ≤ self.new.spare }
+    {
+        // No two entries have one tag.
+        let _tags = self.entries.len();
+        self.entries.shift_remove(tag);
     }
 
     /// Gives the Fabric Manager a reference to the tag. Answers true exactly where it had none.
@@ -274,7 +318,7 @@ impl Tags {
     /// `NotReferenced` comes exactly where there is no reference to the tag, also where it is not live; nothing
     /// changes then.
     pub fn remove_reference(&mut self, tag: &Tag) -> Result<bool, TagFault>
-        ensures removed { OnOk result (self.new.entries ≡ still_used (entries_changed tag.now (with_reference false) self.old.entries)) }
+        ensures removed { OnOk result (self.new.entries ≡ entries_ended tag.now (entries_changed tag.now (with_reference false) self.old.entries)) }
         ensures ended { IfOk result (λ ended. ended ≡ not (has_entry tag.now self.new.entries)) }
         ensures referenced { OnOk result (passes tag.now entry_referenced self.old.entries ≡ true) }
         ensures fault { IfErr result (λ fault. fault ≡ TagFault.NotReferenced) }
@@ -283,7 +327,8 @@ impl Tags {
         ensures spare { self.old.spare ≤ self.new.spare }
     {
         if self.is_referenced(tag) {
-            Ok(self.change(tag, Change::Refer(false)))
+            self.change(tag, Change::Refer(false));
+            Ok(self.end_unused(tag))
         } else {
             Err(TagFault::NotReferenced)
         }
@@ -307,34 +352,91 @@ impl Tags {
         &self.entries[index]
     }
 
-    /// Puts an entry at the end that is used, of a tag that is not live.
+    /// Puts an entry at the end of a tag that is not live.
     fn push(&mut self, entry: TagEntry) -> Result<(), NoMemory>
-        requires new { has_entry entry.tag self.old.entries ≡ false }
-        requires used { is_used entry ≡ true }
+        requires { has_entry entry.tag self.old.entries ≡ false }
         ensures pushed { OnOk result (self.new.entries ≡ self.old.entries ++ entry ∷ []) }
         ensures kept { OnErr result (self.new.entries ≡ self.old.entries) }
         ensures full { OnErr result (self.old.spare ≡ 0) }
         ensures spare { self.old.spare ≤ self.new.spare + 1 }
     {
-        self.entries.insert(entry.tag, entry)?;
-        Ok(())
+        put_last(&mut self.entries, entry)
     }
 
-    /// Changes the entry of a live tag, and takes it out where it is no longer used, which it answers.
-    fn change(&mut self, tag: &Tag, change: Change) -> bool
+    /// Changes the entry of a live tag.
+    fn change(&mut self, tag: &Tag, change: Change)
         requires live { IsTrue (has_entry tag.now self.old.entries) }
         requires host { IsHostsChange change }
-        ensures changed { self.new.entries ≡ still_used (entries_changed tag.now (entry_changed change) self.old.entries) }
-        ensures ended { result ≡ not (has_entry tag.now self.new.entries) }
-        ensures kept { StaysUsed change → self.new.entries ≡ entries_changed tag.now (entry_changed change) self.old.entries }
+        ensures changed { self.new.entries ≡ entries_changed tag.now (entry_changed change) self.old.entries }
         ensures spare { self.old.spare ≤ self.new.spare }
     {
-        let entry = self.entries.get_mut(tag).unwrap();
-        entry.apply(change);
-        if entry.is_used() {
+        self.entries.get_mut(tag).unwrap().apply(change);
+    }
+
+    /// Ends the tag where it is used no more. Answers true exactly where it is not live then.
+    fn end_unused(&mut self, tag: &Tag) -> bool
+        ensures ended { self.new.entries ≡ entries_ended tag.now self.old.entries }
+        ensures gone { result ≡ not (has_entry tag.now self.new.entries) }
+        ensures spare { self.old.spare ≤ self.new.spare }
+    {
+        if self.is_used(tag) {
             return false;
         }
-        self.entries.shift_remove(tag);
+        self.end(tag);
         true
     }
+
+    /// Whether the tag is live, and a host holds it or is offered it, or the Fabric Manager has a reference to it.
+    fn is_used(&self, tag: &Tag) -> bool
+        ensures { result ≡ passes tag.now is_used self.now.entries }
+    {
+        match self.find(tag) {
+            Some(entry) => entry.is_used(),
+            None => false,
+        }
+    }
+}
+
+/// The entry of a tag that is opened with these runs, offered to the host.
+fn opened(tag: Tag, region: RegionId, runs: Runs, host: HostId) -> TagEntry
+    requires { host < 16 }
+    ensures { result ≡ opened tag region runs host }
+{
+    TagEntry {
+        tag,
+        region,
+        runs,
+        holders: 0,
+        offered: with(0, host),
+        referenced: false,
+        soiled: false,
+    }
+}
+
+/// These runs in memory that is there for 64.
+fn filled(empty: Vec<Run>, runs: &[Run]) -> Vec<Run>
+    requires empty { empty.items ≡ [] }
+    requires room { 64 ≤ vec_capacity empty }
+    requires few { length runs.now ≤ 64 }
+    ensures { result.items ≡ runs.now }
+{
+    let mut own = empty;
+    match own.extend_from_slice(runs) {
+        Ok(()) => own,
+        Err(_) => unreachable!(),
+    }
+}
+
+/// Puts an entry at the end of a tag that has none.
+fn put_last(entries: &mut IndexMap<Tag, TagEntry>, entry: TagEntry) -> Result<(), NoMemory>
+    requires stored { IsStored entries.old.entries }
+    requires new { has_entry entry.tag (values entries.old) ≡ false }
+    ensures stored { IsStored entries.new.entries }
+    ensures put { OnOk result (values entries.new ≡ values entries.old ++ entry ∷ []) }
+    ensures kept { OnErr result (values entries.new ≡ values entries.old) }
+    ensures full { OnErr result (spare entries.old ≡ 0) }
+    ensures spare { spare entries.old ≤ spare entries.new + 1 }
+{
+    entries.insert(entry.tag, entry)?;
+    Ok(())
 }

@@ -1,11 +1,12 @@
 use Rattle.std.proofs.Common.{◌∙◌, ap}
 use Rattle.device_commands.specs.device_state.specs.declared.parts.HostPart.{HostPart}
 use Rattle.device_commands.specs.host_lists.specs.Lists.{Lists}
-use Rattle.control_core.specs.Recording.{ending_with, lists_or_had}
+use Rattle.device_commands.specs.ListsUpdates.{left_by}
+use Rattle.control_core.specs.Recording.{ending_with}
 use Rattle.control_core.proofs.host_steps.ended_by.Goals as goal
 
 pub returns : goal.returns
 returns c =
     c.in_ok-ended.ensures
     ∙ ap (λ (l : Lists). ending_with c.args.host l c.args.state.now.tags.entries c.args.tags.now)
-    (c.lists_or_had-lists.ensures ∙ ap (λ (p : HostPart). lists_or_had p.lists c.args.lists.now) c.part.ensures)
+    (c.changed_or_same-lists.ensures ∙ ap (λ (p : HostPart). left_by c.args.lists.now p.lists) c.part.ensures)

@@ -9,7 +9,7 @@ use Rattle.list_rules.specs.extent_list.specs.ExtentLists.{has_extent_of}
 use Rattle.journal_core.specs.declared.outcome.Effect.{Effect}
 use Rattle.device_commands.specs.device_laws.specs.TagTable.{ending}
 use Rattle.tag_refs.specs.declared.entries.TagEntry.{TagEntry}
-use Rattle.control_core.specs.Recording.{lists_or_had}
+use Rattle.device_commands.specs.ListsUpdates.{left_by}
 use Rattle.control_core.proofs.host_steps.put_ended.Goals as goal
 
 -- where no tag is open none ends
@@ -20,7 +20,7 @@ none_ends h held offered (e ∷ entries) none tags = absurd (omega (arith, none)
 
 pub returns-then-is_empty : goal.returns-then-is_empty
 returns-then-is_empty c =
-    let l = lists_or_had (part_of c.args.state.now c.args.host).lists c.args.lists.now in
+    let l = left_by c.args.lists.now (part_of c.args.state.now c.args.host).lists in
     let entries = c.args.state.now.tags.entries in
     let old = c.args.effects.now in
     let none = none_ends c.args.host (λ t. has_extent_of t l.accepted) (λ t. list_any (has_extent_of t) l.offers) entries (eqb-true (length entries) 0 (sym c.is_empty.ensures ∙ c.if-is_empty.true)) c.args.tags.now in

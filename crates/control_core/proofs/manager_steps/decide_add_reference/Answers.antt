@@ -1,11 +1,11 @@
-use Rattle.std.proofs.Common.{arith, length, subst, sym}
+use Rattle.std.proofs.Common.{arith, length, refl, subst, sym}
 use Rattle.fm_payloads.specs.declared.requests.FmRequest.{FmRequest}
 use Rattle.device_commands.specs.DraftContents.{draft_in}
 use Rattle.device_commands.specs.Drafts.{IsOutcome}
 use Rattle.journal_core.specs.Entries.{effects}
 use Rattle.device_commands.specs.device_rules.specs.Answers.{manager_outcome}
 use Rattle.device_commands.specs.device_rules.specs.Views.{view_of}
-use Rattle.control_core.proofs.Managed.{decided_manager, manages_err, no_log_records, refer_of}
+use Rattle.control_core.proofs.Managed.{decided_manager, less_is, manages_err, no_log_records}
 use Rattle.control_core.proofs.manager_steps.decide_add_reference.Goals as goal
 
 pub entered-requires : goal.entered-requires
@@ -31,6 +31,7 @@ returns-in_ok-entered-in-Ok c = λ before legal kept.
     let q = FmRequest.AddReference c.args.tag.now in
     let it = c.in-Ok.ensures before legal kept in
     decided_manager cfg before c.args.request.now q c.requires.asked it.0 c.in_ok-entered-in-Ok.field-0
-    (c.in_ok-entered-in-Ok.ensures cfg before (manager_outcome cfg (effects before) (λ h. view_of cfg h before) q) kept (refer_of cfg before c.args.tag.now)
-    (subst (IsOutcome (manager_outcome cfg (effects before) (λ h. view_of cfg h before) q)) (sym c.in_ok-step-in-Ok.ensures) it.1))
+    (c.in_ok-entered-in-Ok.ensures cfg before (manager_outcome cfg (effects before) (λ h. view_of cfg h before) q) kept refl
+    (less_is (manager_outcome cfg (effects before) (λ h. view_of cfg h before) q) (draft_in c.in_ok-step-in-Ok.step.value)
+    (subst (IsOutcome (manager_outcome cfg (effects before) (λ h. view_of cfg h before) q)) (sym c.in_ok-step-in-Ok.ensures) it.1)))
     (omega arith)

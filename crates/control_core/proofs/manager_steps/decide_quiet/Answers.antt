@@ -2,7 +2,7 @@ use Rattle.device_commands.specs.Drafts.{IsOutcome}
 use Rattle.journal_core.specs.Entries.{effects}
 use Rattle.device_commands.specs.device_rules.specs.Answers.{manager_outcome}
 use Rattle.device_commands.specs.device_rules.specs.Views.{view_of}
-use Rattle.control_core.proofs.Managed.{decided_manager, manages_err, quiet_drafts, quiet_log_records, quiet_of}
+use Rattle.control_core.proofs.Managed.{decided_manager, less_is, manages_err, quiet_drafts, quiet_ended, quiet_log_records}
 use Rattle.control_core.proofs.Shortness.{short_manager}
 use Rattle.control_core.proofs.manager_steps.decide_quiet.Goals as goal
 
@@ -27,6 +27,7 @@ returns-in_ok-read-in-Ok c = λ before legal kept.
     let q = c.args.asked.now in
     let it = c.in-Ok.ensures before legal kept in
     decided_manager cfg before c.args.request.now q c.requires.asked it.0 c.in_ok-read-in-Ok.field-0
-    (c.in_ok-read-in-Ok.ensures cfg before (manager_outcome cfg (effects before) (λ h. view_of cfg h before) q) kept (quiet_of cfg before q c.requires.quiet)
-    (quiet_drafts cfg before q c.requires.quiet (manager_outcome cfg (effects before) (λ h. view_of cfg h before) q) c.in-Ok.draft it.1))
+    (c.in_ok-read-in-Ok.ensures cfg before (manager_outcome cfg (effects before) (λ h. view_of cfg h before) q) kept (quiet_ended cfg before q c.requires.quiet)
+    (less_is (manager_outcome cfg (effects before) (λ h. view_of cfg h before) q) c.in-Ok.draft
+    (quiet_drafts cfg before q c.requires.quiet (manager_outcome cfg (effects before) (λ h. view_of cfg h before) q) c.in-Ok.draft it.1)))
     (short_manager cfg before c.args.state.now kept c.requires.reached.sound.regions q c.request_fits.ensures it.0)

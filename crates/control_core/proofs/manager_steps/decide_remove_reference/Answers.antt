@@ -5,7 +5,7 @@ use Rattle.device_commands.specs.Drafts.{IsOutcome}
 use Rattle.journal_core.specs.Entries.{effects}
 use Rattle.device_commands.specs.device_rules.specs.Answers.{manager_outcome}
 use Rattle.device_commands.specs.device_rules.specs.Views.{view_of}
-use Rattle.control_core.proofs.Managed.{decided_manager, manages_err, no_log_records, unrefer_of}
+use Rattle.control_core.proofs.Managed.{decided_manager, less_is, manages_err, no_log_records, unrefer_ended}
 use Rattle.control_core.proofs.manager_steps.decide_remove_reference.Goals as goal
 
 pub entered-requires : goal.entered-requires
@@ -32,6 +32,7 @@ returns-in-Ok c = λ before legal kept.
     let it = c.in-Ok.ensures before legal kept in
     decided_manager cfg before c.args.request.now q c.requires.asked it.0 c.in_ok-entered-in-Ok.field-0
     (c.in_ok-entered-in-Ok.ensures cfg before (manager_outcome cfg (effects before) (λ h. view_of cfg h before) q) kept
-    (unrefer_of cfg before c.requires.reached.sound legal c.args.state.now kept c.args.tag.now c.as_slice-ended.result.now (c.as_slice-ended.ensures ∙ c.in_ok-ended.ensures))
-    (subst (IsOutcome (manager_outcome cfg (effects before) (λ h. view_of cfg h before) q)) (sym c.in_ok-step-in-Ok.ensures) it.1))
+    (unrefer_ended cfg before c.requires.reached.sound legal c.args.state.now kept c.args.tag.now c.as_slice-ended.result.now (c.as_slice-ended.ensures ∙ c.in_ok-ended.ensures))
+    (less_is (manager_outcome cfg (effects before) (λ h. view_of cfg h before) q) (draft_in c.in_ok-step-in-Ok.step.value)
+    (subst (IsOutcome (manager_outcome cfg (effects before) (λ h. view_of cfg h before) q)) (sym c.in_ok-step-in-Ok.ensures) it.1)))
     (omega arith)

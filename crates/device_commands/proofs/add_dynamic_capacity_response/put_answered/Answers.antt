@@ -1,24 +1,15 @@
 use Rattle.std.proofs.Common.{◌∙◌, ap, refl}
 use Rattle.std.proofs.lemmas.Result.{on_ok_weaker}
 use Rattle.list_rules.specs.extent_list.specs.ExtentLists.{tags_of}
-use Rattle.device_state.specs.ListsUpdates.{left_by}
-use Rattle.device_commands.specs.AddDynamicCapacityResponse.{answer_changes}
 use Rattle.device_commands.specs.declared.draft.DraftParts.{DraftParts}
-use Rattle.device_commands.proofs.AddDynamicCapacityResponse.{answer_lets_go}
-use Rattle.device_commands.proofs.ListsAfter.{leads_by}
 use Rattle.device_commands.proofs.add_dynamic_capacity_response.put_answered.Goals as goal
 
 pub returns-clause-drafts : goal.returns-clause-drafts
 returns-clause-drafts c =
-    let p = c.args.present.now in
-    let h = c.args.host in
-    let lists = c.args.lists.now in
-    let its = c.args.step.now.update.lists in
     on_ok_weaker c.put_answer.result (λ changes. record {
       payload = ap (λ (d : DraftParts). d.payload) c.requires.blank;
       changes_are = changes;
       tags_are = c.in_ok-put_tags_of.ensures ∙ ap tags_of c.oldest.ensures;
       log_records = λ w is. rw (c.as_slice.ensures) at (c.in_ok-step.ensures w (c.over-after.ensures ∙ is));
-      lists_are = leads_by its h (answer_changes p h lists c.args.accepted) lists (left_by its lists) refl
-          (ap (left_by its) (answer_lets_go p h lists c.args.accepted) ∙ c.requires.held);
+      lists_are = refl;
     }) c.put_answer.ensures

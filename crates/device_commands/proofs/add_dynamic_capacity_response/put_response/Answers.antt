@@ -1,7 +1,6 @@
 use Rattle.std.proofs.Common.{◌≤◌, ◌∙◌, ◌++◌, IfSome, Option, ap, length, subst, sym}
 use Rattle.std.proofs.lemmas.Result.{on_ok_weaker}
-use Rattle.device_state.specs.ListsUpdates.{left_by, lists_alone}
-use Rattle.device_state.specs.declared.updates.NewLists.{NewLists}
+use Rattle.device_state.specs.host_lists.specs.declared.lists_change.ListsChange.{ListsChange}
 use Rattle.device_state.specs.host_lists.specs.Answers.{HostResponds}
 use Rattle.device_state.specs.host_lists.specs.Changes.{changed_by}
 use Rattle.device_state.specs.host_lists.specs.Lists.{extent_total}
@@ -9,6 +8,7 @@ use Rattle.device_state.specs.host_lists.specs.declared.responded.Responded.{Res
 use Rattle.offer_core.proofs.NoOffer.{nothing_offered}
 use Rattle.device_state.specs.device_rules.specs.ResponseOutcomes.{hold}
 use Rattle.journal_core.specs.declared.outcome.HeldKind.{HeldKind}
+use Rattle.device_commands.specs.ListsUpdates.{left_by}
 use Rattle.device_commands.specs.declared.draft.DraftParts.{DraftParts}
 use Rattle.device_commands.proofs.AddDynamicCapacityResponse.{accepted_few, accepted_granular, answered_drafts, held_response}
 use Rattle.device_commands.proofs.ListsAfter.{few_by}
@@ -46,7 +46,7 @@ returns-in-Held-clause-drafts c =
       changes = (put ∙ ap (λ (d : DraftParts). d.changes ++ hold c.args.host HeldKind.Responses c.args.list.now) c.requires.blank) i;
       tags = (c.requires.blank i).tags;
       log_records = c.new.ensures i;
-      lists = lists_alone its;
+      lists = its;
     }))
     c.put_hold.ensures
 
@@ -65,5 +65,5 @@ returns-in-Done-clause-few c =
     let its = c.answer.new.self in
     let done = subst (λ (r : Responded). HostResponds lists c.args.more c.args.list.now (left_by its lists) r) c.in-Done.is c.in_ok-answer.ensures.done in
     let few = accepted_few c.args.present.now c.args.host lists (left_by its lists) c.args.list.now c.args.more c.requires.row c.in-Done.accepted done.0 done.1 in
-    on_ok_weaker c.put_answered.result (λ same. subst (λ (kept : Option NewLists). IfSome (lists_alone kept) (λ change. extent_total (changed_by change lists) ≤ 64)) (sym same) (few_by its lists few))
+    on_ok_weaker c.put_answered.result (λ same. subst (λ (kept : Option ListsChange). IfSome kept (λ change. extent_total (changed_by change lists) ≤ 64)) (sym same) (few_by its lists few))
     c.put_answered.ensures.lists

@@ -1,13 +1,12 @@
 use Rattle.std.proofs.Common.{◌≡◌, ◌∙◌, ◌∷◌, ◌++◌, [], ap, subst}
 use Rattle.std.proofs.lemmas.Result.{on_ok_weaker}
-use Rattle.device_state.specs.ListsUpdates.{left_by}
 use Rattle.device_state.specs.StateAfter.{part_of}
 use Rattle.device_state.specs.declared.parts.HostPart.{HostPart}
 use Rattle.device_state.specs.host_lists.specs.Lists.{Lists}
 use Rattle.journal_core.specs.declared.outcome.Effect.{Effect}
 use Rattle.device_commands.specs.InitiateDynamicCapacityAdd.{offered_lists}
+use Rattle.device_commands.specs.ListsUpdates.{left_by}
 use Rattle.device_commands.specs.declared.draft.DraftParts.{DraftParts}
-use Rattle.device_commands.proofs.ListsAfter.{leads_by}
 use Rattle.device_commands.proofs.initiate_dynamic_capacity_add.put_offer.Goals as goal
 
 pub returns : goal.returns
@@ -23,6 +22,6 @@ returns c =
       payload = ap (λ (d : DraftParts). d.payload) blank;
       changes_are = pushed ∙ ap (λ (d : DraftParts). d.changes ++ Effect.Offer h xs ∷ []) blank;
       tags = ap (λ (d : DraftParts). d.tags) blank;
-      lists_are = leads_by its h (Effect.Offer h xs ∷ []) l (offered_lists l xs) after after;
+      lists_are = after;
       log_records = λ v is. rw (c.as_slice-2.ensures) at (c.in_ok-put_offer_records.ensures v (c.over-after.ensures ∙ ap (left_by its) part ∙ after ∙ is));
     }) c.put_effect.ensures

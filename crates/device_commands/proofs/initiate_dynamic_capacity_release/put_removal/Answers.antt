@@ -1,14 +1,12 @@
 use Rattle.std.proofs.Common.{◌≡◌, ◌∙◌, ◌++◌, ap, subst}
 use Rattle.list_rules.specs.extent_list.specs.ExtentLists.{tags_of}
 use Rattle.device_state.specs.device_rules.specs.ReleaseOutcomes.{removals}
-use Rattle.device_state.specs.ListsUpdates.{left_by}
 use Rattle.device_state.specs.StateAfter.{part_of}
 use Rattle.device_state.specs.declared.parts.HostPart.{HostPart}
 use Rattle.device_state.specs.host_lists.specs.Lists.{Lists}
 use Rattle.device_commands.specs.InitiateDynamicCapacityRelease.{removed_lists}
+use Rattle.device_commands.specs.ListsUpdates.{left_by}
 use Rattle.device_commands.specs.declared.draft.DraftParts.{DraftParts}
-use Rattle.device_commands.proofs.ListsAfter.{leads_by}
-use Rattle.device_commands.proofs.ReleaseDynamicCapacity.{removals_stay}
 use Rattle.device_commands.proofs.initiate_dynamic_capacity_release.put_removal.Goals as goal
 
 pub returns : goal.returns
@@ -17,7 +15,6 @@ returns c =
     let l = (part_of c.args.state.now h).lists in
     let leaving = c.args.leaving.now in
     let its = c.remove.new.self in
-    let changes = removals c.args.config.now h c.args.cleaning leaving in
     let blank = c.requires.blank in
     let part = ap (λ (p : HostPart). p.lists) c.part.ensures in
     let after : left_by its l ≡ removed_lists l leaving = subst (λ (had : Lists). left_by its had ≡ removed_lists had leaving) part (c.in_ok-remove.ensures.removed) in
@@ -25,7 +22,6 @@ returns c =
       payload = ap (λ (d : DraftParts). d.payload) blank;
       changes_are = c.in_ok-put_leaves.ensures ∙ (λ i. (blank i).changes ++ removals c.args.config.now h c.args.cleaning (c.as_slice.ensures i));
       tags = c.in_ok-put_tags_of.ensures ∙ ap tags_of c.as_slice-2.ensures;
-      lists_are = leads_by its h changes l (removed_lists l leaving) after
-          (ap (left_by its) (removals_stay c.args.config.now h c.args.cleaning leaving l) ∙ after);
+      lists_are = after;
       log_records = λ v is. c.in_ok-step.ensures v (c.over-after.ensures ∙ ap (left_by its) part ∙ after ∙ is);
     }

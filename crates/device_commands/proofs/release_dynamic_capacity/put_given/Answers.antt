@@ -1,13 +1,13 @@
 use Rattle.std.proofs.Common.{◌<◌, ◌∙◌, ◌++◌, ap, subst}
 use Rattle.std.proofs.lemmas.Result.{on_ok_weaker}
 use Rattle.device_state.specs.device_rules.specs.ResponseOutcomes.{hold}
-use Rattle.device_state.specs.ListsUpdates.{left_by, lists_alone}
 use Rattle.device_state.specs.host_lists.proofs.Departures.{gives-back}
 use Rattle.device_state.specs.host_lists.specs.Answers.{GivesUp}
 use Rattle.list_rules.specs.extent_list.specs.ExtentLists.{count_in}
 use Rattle.journal_core.specs.declared.outcome.HeldKind.{HeldKind}
 use Rattle.list_rules.specs.media_map.specs.region_config.specs.Configurations.{Configuration}
 use Rattle.release_core.specs.declared.releases.GivenBack.{GivenBack}
+use Rattle.device_commands.specs.ListsUpdates.{left_by}
 use Rattle.device_commands.specs.declared.draft.DraftParts.{DraftParts}
 use Rattle.device_commands.proofs.ReleaseDynamicCapacity.{given_drafts, held_release, leaving_granular, whole_granular}
 use Rattle.device_commands.proofs.release_dynamic_capacity.put_given.Goals as goal
@@ -39,7 +39,7 @@ returns-in-Held-clause-drafts c =
       changes = (put ∙ ap (λ (d : DraftParts). d.changes ++ hold c.args.host HeldKind.Releases c.args.list.now) c.requires.blank) i;
       tags = (c.requires.blank i).tags;
       log_records = c.new.ensures i;
-      lists = lists_alone its;
+      lists = its;
     }))
     c.put_hold.ensures
 

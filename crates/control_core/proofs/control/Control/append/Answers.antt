@@ -2,11 +2,11 @@ use Rattle.std.proofs.Common.{List, sym, subst}
 use Rattle.journal_core.specs.declared.entries.Entry.{Entry}
 use Rattle.journal_core.specs.declared.outcome.Effect.{Effect}
 use Rattle.control_core.specs.Deciding.{Holds, IsDecidedBy}
-use Rattle.control_core.specs.Pasts.{CanEnter, EntersStep}
+use Rattle.control_core.specs.Pasts.{EntersStep, IsOfStep}
 use Rattle.control_core.specs.Steps.{Controlled, MayStep}
 use Rattle.control_core.specs.Decisions.{decided_by}
 use Rattle.control_core.specs.declared.decided.Decided.{Decided}
-use Rattle.control_core.proofs.NextEntry.{can_enter, holds_decided}
+use Rattle.control_core.proofs.NextEntry.{holds_decided, is_of_step}
 use Rattle.control_core.proofs.control.Control.append.Goals as goal
 
 pub enter-requires-clause-step : goal.enter-requires-clause-step
@@ -15,8 +15,8 @@ enter-requires-clause-step c =
     let d : Decided = decided_by c.args.step.now in
     let may = subst (λ (k : Controlled). MayStep k.config c.args.actor c.args.act.now) (sym c.self.view_is) c.requires.may in
     let is = subst (λ (k : Controlled). IsDecidedBy k.config k.entries c.args.actor c.args.act.now d) (sym c.self.view_is) c.requires.decided in
-    subst (λ (es : List Effect). CanEnter live es c.args.step.now.update) (sym c.as_slice.ensures)
-    (can_enter live c.self.inside.entries.entries c.self.invariant c.args.actor c.args.act.now may d is)
+    subst (λ (es : List Effect). IsOfStep live es) (sym c.as_slice.ensures)
+    (is_of_step live c.self.inside.entries.entries c.self.invariant c.args.actor c.args.act.now may d.effects is.effects)
 
 pub invariant_of-self-2 : goal.invariant_of-self-2
 invariant_of-self-2 c =
@@ -24,6 +24,6 @@ invariant_of-self-2 c =
     let d : Decided = decided_by c.args.step.now in
     let may = subst (λ (k : Controlled). MayStep k.config c.args.actor c.args.act.now) (sym c.self.view_is) c.requires.may in
     let is = subst (λ (k : Controlled). IsDecidedBy k.config k.entries c.args.actor c.args.act.now d) (sym c.self.view_is) c.requires.decided in
-    let enters = subst (λ (es : List Effect). EntersStep live c.enter.new.self es c.args.step.now.update) c.as_slice.ensures c.enter.ensures.entered in
+    let enters = subst (λ (es : List Effect). EntersStep live c.enter.new.self es) c.as_slice.ensures c.enter.ensures.entered in
     subst (λ (es : List Entry). Holds c.enter.new.self.config es c.enter.new.self.state) (sym c.in_ok-append.ensures.appended)
     (holds_decided live c.enter.new.self c.self.inside.entries.entries c.self.invariant c.args.pass c.args.line c.args.actor c.args.act.now may d is enters)

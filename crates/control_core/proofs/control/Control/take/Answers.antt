@@ -1,9 +1,7 @@
 use Rattle.std.proofs.Common.{◌≡◌, List, ap, sym, subst, ◌∙◌}
 use Rattle.journal_core.specs.Keeping.{next_stamp}
 use Rattle.journal_core.specs.declared.entries.Entry.{Entry}
-use Rattle.journal_core.specs.declared.outcome.Effect.{Effect}
 use Rattle.device_commands.specs.device_rules.specs.Legal.{Meets}
-use Rattle.device_commands.specs.device_state.specs.Updates.{IsUpdate}
 use Rattle.control_core.specs.Deciding.{Holds, IsShort}
 use Rattle.control_core.specs.Steps.{Controlled}
 use Rattle.control_core.proofs.Entering.{holds_next, past_held}
@@ -17,17 +15,12 @@ enter-requires-clause-step c =
     let e = c.entry.inside.entry in
     let meets = subst (λ (x : Entry). Meets live.config before x) (sym c.entry.view_is)
     (subst (λ (d : Controlled). Meets d.config d.entries c.args.entry) (sym c.self.view_is) (is_next_meets c.args.self.now c.args.entry c.requires.next)) in
-    let are : e.effects ≡ c.as_slice.result.now = sym (c.as_slice.ensures ∙ c.entry.invariant) in
-    let update = subst (λ (d : Controlled). IsUpdate d.config d.entries c.args.entry.effects c.args.update) (sym c.self.view_is) c.requires.update in
     record {
-      step = record {
-        past = before;
-        entry = e;
-        leads = past_held live.config before live.state c.self.invariant;
-        meets = meets;
-        effects_are = are;
-      };
-      update = subst (λ (es : List Effect). IsUpdate live.config before es c.args.update) (ap (λ (x : Entry). x.effects) (sym c.entry.view_is) ∙ are) update;
+      past = before;
+      entry = e;
+      leads = past_held live.config before live.state c.self.invariant;
+      meets = meets;
+      effects_are = sym (c.as_slice.ensures ∙ c.entry.invariant);
     }
 
 pub invariant_of-self : goal.invariant_of-self
@@ -40,11 +33,8 @@ invariant_of-self c =
     let stamp : e.stamp ≡ next_stamp before = ap (λ (x : Entry). x.stamp) (c.entry.view_is ∙ c.requires.next.is) ∙ ap (λ (d : Controlled). next_stamp d.entries) (sym c.self.view_is) in
     let short = subst (λ (x : Entry). IsShort x.reply) (sym c.entry.view_is) c.requires.short in
     let are : e.effects ≡ c.as_slice.result.now = sym (c.as_slice.ensures ∙ c.entry.invariant) in
-    let update = subst (λ (d : Controlled). IsUpdate d.config d.entries c.args.entry.effects c.args.update) (sym c.self.view_is) c.requires.update in
     subst (λ (es : List Entry). Holds c.enter.new.self.config es c.enter.new.self.state) (sym c.push_reserved.ensures.pushed)
-    (holds_next live c.enter.new.self before c.self.invariant e meets stamp short c.as_slice.result.now are c.args.update
-    (subst (λ (es : List Effect). IsUpdate live.config before es c.args.update) (ap (λ (x : Entry). x.effects) (sym c.entry.view_is) ∙ are) update)
-    c.enter.ensures.entered)
+    (holds_next live c.enter.new.self before c.self.invariant e meets stamp short c.as_slice.result.now are c.enter.ensures.entered)
 
 pub push_reserved-requires-clause-stamp : goal.push_reserved-requires-clause-stamp
 push_reserved-requires-clause-stamp c =

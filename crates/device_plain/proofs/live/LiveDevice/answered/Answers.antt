@@ -17,7 +17,7 @@ take-requires c =
     let may = subst (λ (d : Living). MayStep d.config c.args.actor c.args.act.now) (sym c.self.view_is) (record { fits = c.requires.fits; control = c.requires.control }) in
     let life = c.self.invariant.alive.life in
     let leads = c.self.invariant.alive.leads in
-    subst (λ (d : Living). CanTake d c.into_parts-reply.result.effects c.into_parts-reply.result.update) c.self.view_is
+    subst (λ (d : Living). CanTake d c.into_parts-reply.result.effects) c.self.view_is
     (can_take (living control.config (without_spare control.state) c.self.inside.words) life (life_seen control.config control.state c.self.inside.words life leads)
     c.args.actor c.args.act.now may c.into_parts-reply.result (subst (λ (d : Decided). IsDecidedBy c.self.inside.control.config life c.args.actor c.args.act.now d) (sym c.into_parts-reply.ensures) (c.in_ok-decision.ensures life (past_of life inside leads))))
 
@@ -29,7 +29,7 @@ returns-clause-led c life leads e by does meets =
     let seen = subst (IsLife life) (sym c.self.view_is) leads in
     let real = life_inside control.config control.state m life seen in
     let decided = subst (λ (d : Living). IsDecidedBy d.config life c.args.actor c.args.act.now c.into_parts-reply.result) c.self.view_is (subst (λ (d : Decided). IsDecidedBy c.self.inside.control.config life c.args.actor c.args.act.now d) (sym c.into_parts-reply.ensures) (c.in_ok-decision.ensures life (past_of life inside real))) in
-    c.in_ok-take.ensures.taken life leads decided.update e
+    c.in_ok-take.ensures.taken life leads e
     (subst (λ (a : Act). IsTrue (is_control a)) (sym does) c.requires.control) meets
     (effects_decided c.args.self.now.config life c.args.actor c.args.act.now (record { fits = c.requires.fits; control = c.requires.control }) c.into_parts-reply.result decided e by does meets)
 

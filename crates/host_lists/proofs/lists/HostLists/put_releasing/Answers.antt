@@ -8,7 +8,7 @@ use Rattle.host_lists.proofs.lists.HostLists.put_releasing.Goals as goal
 
 pub put_giving_up-requires : goal.put_giving_up-requires
 put_giving_up-requires c =
-    let accepted = c.self.inside.accepted.extents in
+    let accepted = c.self.inside.accepted in
     let owners = c.as_slice-2.result.now in
     let whole = c.self.inside.releases ++ c.args.list.now in
     let own = subst (λ (l : Lists). AllCanLeave l.accepted (l.releases ++ c.args.list.now)) (sym c.self.view_is) (c.requires.leaving c.if-more.false) in

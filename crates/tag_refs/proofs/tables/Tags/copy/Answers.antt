@@ -6,17 +6,9 @@ use Rattle.tag_refs.specs.Tables.{is_used}
 use Rattle.tag_refs.proofs.Tagged.{absent_before}
 use Rattle.tag_refs.proofs.tables.Tags.copy.Goals as goal
 
-pub push-requires-clause-new : goal.push-requires-clause-new
-push-requires-clause-new c =
-    rw (c.in_ok-copy.ensures, c.loop-i.invariant) (absent_before c.args.self.now.entries c.loop-i.i c.entry.result.now c.len-i-end.ensures.tags.apart c.entry.ensures)
-
-pub push-requires-clause-used : goal.push-requires-clause-used
-push-requires-clause-used c =
-    let within : c.loop-i.i < length c.args.self.now.entries = slice_get_within c.args.self.now.entries c.loop-i.i c.entry.result.now c.entry.ensures in
-    let e = c.entry.result.now in
-    rw c.in_ok-copy.ensures
-    (subst (λ (x : TagEntry). is_used x ≡ true) (get_or_from_slice_get c.args.self.now.entries c.loop-i.i e e c.entry.ensures)
-    (c.len-i-end.ensures.tags.used c.loop-i.i e within))
+pub push-requires : goal.push-requires
+push-requires c =
+    rw (c.in_ok-copy.ensures, c.loop-i.invariant) (absent_before c.args.self.now.entries c.loop-i.i c.entry.result.now c.len-i-end.ensures.tags c.entry.ensures)
 
 pub loop-i-preserved : goal.loop-i-preserved
 loop-i-preserved c =

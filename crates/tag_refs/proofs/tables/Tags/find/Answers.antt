@@ -10,7 +10,7 @@ use Rattle.tag_refs.proofs.tables.Tags.find.Goals as goal
 
 pub returns : goal.returns
 returns c =
-    c.get.ensures.value ∙ ap (lookup (same_tag c.args.tag.now)) c.self.invariant.under_tags
+    c.get.ensures.value ∙ ap (lookup (same_tag c.args.tag.now)) c.self.invariant.0
     ∙ rw (ap (λ (t : TagTable). t.entries) c.self.view_is) (lookup_stored c.args.tag.now _)
 
 -- where no tag is live none is found

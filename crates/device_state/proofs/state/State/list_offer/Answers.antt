@@ -1,0 +1,26 @@
+use Rattle.std.proofs.Common.{◌≡◌, ◌<◌, ◌++◌, ◌∷◌, [], ◌∙◌, ap, arith, length, sym}
+use Rattle.host_lists.specs.Lists.{Lists}
+use Rattle.journal_core.specs.declared.outcome.Effect.{Effect}
+use Rattle.tag_refs.specs.Tables.{TagTable}
+use Rattle.device_state.specs.EnteredLists.{lists_by, offered_tag}
+use Rattle.device_state.specs.StateAfter.{part_of}
+use Rattle.device_state.specs.declared.state.State.{State}
+use Rattle.device_state.proofs.Listed.{listed, of_offer, own_offer, own_part}
+use Rattle.device_state.proofs.state.State.list_offer.Goals as goal
+
+pub returns-clause-listed : goal.returns-clause-listed
+returns-clause-listed c =
+    let conf = c.args.config.now in
+    let old = c.args.self.now in
+    let h = c.args.host in
+    let xs = c.args.extents.now in
+    let l : Lists = record (part_of old h).lists { offers = (part_of old h).lists.offers ++ xs ∷ [] } in
+    let known : h < length old.hosts.items = omega (arith, c.requires.host, c.requires.hosts) in
+    let is : l ≡ lists_by conf h (part_of old h).lists (Effect.Offer h xs) = sym (own_offer conf h (part_of old h).lists xs) in
+    let mid = c.put_offer.new.self in
+    record {
+      listed = listed conf old c.tell_offer.new.self h l (Effect.Offer h xs) known (of_offer conf h xs) is (ap (λ (s : State). s.hosts.items) c.tell_offer.ensures.kept ∙ c.put_offer.ensures.hosts);
+      tags = c.tell_offer.ensures.tags
+          ∙ ap (λ (m : Lists). offered_tag conf h m xs mid.tags.entries) (own_part old mid h l known c.put_offer.ensures.hosts ∙ is)
+          ∙ ap (λ (s : State). offered_tag conf h (lists_by conf h (part_of old h).lists (Effect.Offer h xs)) xs s.tags.entries) c.put_offer.ensures.kept;
+    }

@@ -1,0 +1,408 @@
+//! What the effects of a step make of the hosts' lists and of the open tags.
+
+ghost use Rattle.device_state.specs.EnteredLists.{AreGranular, Fits, HasPlaces, each_tag, held_of, lists_of, offered_tag, room_by, tag_offered, told, with_held};
+ghost use Rattle.device_state.specs.Entered.{with_lists};
+ghost use Rattle.device_state.specs.StateAfter.{part_of};
+ghost use Rattle.device_state.specs.declared.parts.HostPart.{HostPart};
+ghost use Rattle.offer_core.specs.Offerings.{oldest_of};
+ghost use Rattle.device_state.specs.Stages.{IsListedAfter, IsListedOver};
+ghost use Rattle.device_state.specs.Updates.{IsOfDevice};
+ghost use Rattle.journal_core.specs.declared.outcome.Effect.{Effect};
+ghost use Rattle.list_rules.specs.extent_list.specs.ExtentLists.{count_in, cut, has_range};
+ghost use Rattle.list_rules.specs.media_map.specs.Places.{is_granular, run_of};
+ghost use Rattle.std.specs.Option.{option_map};
+ghost use Rattle.std.specs.Prelude.{◌≡◌, ◌++◌, ◌∷◌, ◌+◌, ◌-◌, ◌^◌, ◌<◌, ◌≤◌, [], All, IfSome, IsTrue, drop, false, find, length, map, option_to_list, slice_index_or};
+ghost use Rattle.tag_refs.specs.Tables.{has_entry, opened};
+
+use crate::parts::HostPart;
+use crate::state::State;
+use cci_codec::field_bytes::dcd_base::{Extent, Granule, HostId, RegionId, Run, Tag, no_tag};
+use host_lists::HostLists;
+use journal_core::{Effect, HeldKind};
+use list_rules::media_map::region_config::Config;
+use tag_refs::Tags;
+
+impl State {
+    /// Changes lists and tags by each effect in turn, but for the counts of changes.
+    pub(crate) fn list_all(&mut self, config: &Config, effects: &[Effect])
+        requires hosts { length self.old.hosts.items ≡ config.now.hosts }
+        requires of_device { All (IsOfDevice config.now) effects.now }
+        requires fits { Fits config.now (lists_of self.old) 1 effects.now }
+        requires spare { 0 < self.old.tags.spare }
+        ensures listed { IsListedOver config.now effects.now self.old self.new }
+        ensures spare { self.old.tags.spare ≤ self.new.tags.spare + 1 }
+        ensures kept { self.new ≡ record self.old { hosts = self.new.hosts; tags = self.new.tags } }
+    {
+        for effect in effects {
+            self.list(config, effect);
+        }
+    }
+
+    /// Changes lists and tags by the effect, but for the counts of changes.
+    fn list(&mut self, config: &Config, effect: &Effect)
+        requires hosts { length self.old.hosts.items ≡ config.now.hosts }
+        requires of_device { IsOfDevice config.now effect.now }
+        requires places { HasPlaces config.now (lists_of self.old) self.old.tags.spare effect.now }
+        ensures listed { IsListedAfter config.now effect.now self.old self.new }
+        ensures spare { room_by self.old.tags.spare effect.now ≤ self.new.tags.spare }
+        ensures kept { self.new ≡ record self.old { hosts = self.new.hosts; tags = self.new.tags } }
+    {
+        // There are 16 hosts at most.
+        let _hosts = config.hosts();
+        match effect {
+            Effect::Offer(host, extents) => self.list_offer(config, *host, extents.as_slice()),
+            Effect::Answer(host, extents) => self.list_answer(config, *host, extents.as_slice()),
+            Effect::Leave(host, run) => self.list_leave(config, *host, run),
+            Effect::Hold(host, kind, extents) => self.hold(
+                config,
+                *host,
+                *kind,
+                extents.as_slice(),
+            ),
+            Effect::Unhold(host, kind) => self.unhold(config, *host, *kind),
+            Effect::Ref(tag, on) => self.tags.set_reference(tag, *on),
+            Effect::TagEnd(tag) => self.tags.end(tag),
+            // These change neither lists nor tags.
+            Effect::Take(..)
+            | Effect::Zero(..)
+            | Effect::Soil(..)
+            | Effect::Logged(..)
+            | Effect::Missed(..)
+            | Effect::Cleared(..)
+            | Effect::Reset(..)
+            | Effect::Block(..) => (),
+        }
+    }
+
+    /// The offer is put behind the others, and its tag is told or opened.
+    fn list_offer(&mut self, config: &Config, host: HostId, extents: &[Extent])
+        requires hosts { length self.old.hosts.items ≡ config.now.hosts }
+        requires few { config.now.hosts ≤ 16 }
+        requires host { host < config.now.hosts }
+        requires places { HasPlaces config.now (lists_of self.old) self.old.tags.spare (Effect.Offer host extents.now) }
+        ensures listed { IsListedAfter config.now (Effect.Offer host extents.now) self.old self.new }
+        ensures spare { self.old.tags.spare - 1 ≤ self.new.tags.spare }
+        ensures kept { self.new ≡ record self.old { hosts = self.new.hosts; tags = self.new.tags } }
+    {
+        self.put_offer(host, extents);
+        self.tell_offer(config, host, extents);
+    }
+
+    /// The oldest offer is answered. What the host has of its tags and of those that it accepts is told.
+    fn list_answer(&mut self, config: &Config, host: HostId, extents: &[Extent])
+        requires hosts { length self.old.hosts.items ≡ config.now.hosts }
+        requires few { config.now.hosts ≤ 16 }
+        requires host { host < config.now.hosts }
+        requires places { HasPlaces config.now (lists_of self.old) self.old.tags.spare (Effect.Answer host extents.now) }
+        ensures listed { IsListedAfter config.now (Effect.Answer host extents.now) self.old self.new }
+        ensures spare { self.old.tags.spare ≤ self.new.tags.spare }
+        ensures kept { self.new ≡ record self.old { hosts = self.new.hosts; tags = self.new.tags } }
+    {
+        self.put_accepted(host, extents);
+        self.tell_answer(host, extents);
+        self.drop_oldest(host);
+    }
+
+    /// The run leaves the host, of which the tag of the extent is told in which it lay.
+    fn list_leave(&mut self, config: &Config, host: HostId, run: &Run)
+        requires hosts { length self.old.hosts.items ≡ config.now.hosts }
+        requires few { config.now.hosts ≤ 16 }
+        requires host { host < config.now.hosts }
+        requires places { HasPlaces config.now (lists_of self.old) self.old.tags.spare (Effect.Leave host run.now) }
+        ensures listed { IsListedAfter config.now (Effect.Leave host run.now) self.old self.new }
+        ensures spare { self.old.tags.spare ≤ self.new.tags.spare }
+        ensures kept { self.new ≡ record self.old { hosts = self.new.hosts; tags = self.new.tags } }
+    {
+        let range = list_rules::media_map::extent_of(config, host, run, no_tag(), 0);
+        let tag = tag_at(
+            lists_in(self.hosts.as_slice(), host),
+            range.start,
+            range.length,
+        );
+        self.put_leave(host, range.start, range.length);
+        self.tell_left(host, &tag);
+    }
+
+    /// The host holds these extents behind those that it holds of this kind.
+    fn hold(&mut self, config: &Config, host: HostId, kind: HeldKind, extents: &[Extent])
+        requires hosts { length self.old.hosts.items ≡ config.now.hosts }
+        requires host { host < config.now.hosts }
+        requires places { HasPlaces config.now (lists_of self.old) self.old.tags.spare (Effect.Hold host kind extents.now) }
+        ensures listed { IsListedAfter config.now (Effect.Hold host kind extents.now) self.old self.new }
+        ensures kept { self.new ≡ record self.old { hosts = self.new.hosts } }
+    {
+        self.put_held(host, kind, extents);
+    }
+
+    /// What the host holds of this kind is let go.
+    fn unhold(&mut self, config: &Config, host: HostId, kind: HeldKind)
+        requires hosts { length self.old.hosts.items ≡ config.now.hosts }
+        requires host { host < config.now.hosts }
+        ensures listed { IsListedAfter config.now (Effect.Unhold host kind) self.old self.new }
+        ensures kept { self.new ≡ record self.old { hosts = self.new.hosts } }
+    {
+        self.drop_held(host, kind);
+    }
+
+    /// The offer is behind the host's others.
+    fn put_offer(&mut self, host: HostId, extents: &[Extent])
+        requires host { host < length self.old.hosts.items }
+        requires offers { length (part_of self.old host).lists.offers < 64 }
+        requires extents { count_in (part_of self.old host).lists.offers + length extents.now ≤ 64 }
+        ensures hosts { self.new.hosts.items ≡ with_lists self.old host (record (part_of self.old host).lists { offers = (part_of self.old host).lists.offers ++ extents.now ∷ [] }) }
+        ensures kept { self.new ≡ record self.old { hosts = self.new.hosts } }
+    {
+        self.hosts[usize::from(host.0)].lists.enter_offer(extents);
+    }
+
+    /// The extents are accepted behind the host's others.
+    fn put_accepted(&mut self, host: HostId, extents: &[Extent])
+        requires host { host < length self.old.hosts.items }
+        requires few { length (part_of self.old host).lists.accepted + length extents.now ≤ 128 }
+        ensures hosts { self.new.hosts.items ≡ with_lists self.old host (record (part_of self.old host).lists { accepted = (part_of self.old host).lists.accepted ++ extents.now }) }
+        ensures kept { self.new ≡ record self.old { hosts = self.new.hosts } }
+    {
+        self.hosts[usize::from(host.0)]
+            .lists
+            .enter_accepted(extents);
+    }
+
+    /// The host's oldest offer is answered.
+    fn drop_oldest(&mut self, host: HostId)
+        requires host { host < length self.old.hosts.items }
+        ensures hosts { self.new.hosts.items ≡ with_lists self.old host (record (part_of self.old host).lists { offers = drop 1 (part_of self.old host).lists.offers }) }
+        ensures kept { self.new ≡ record self.old { hosts = self.new.hosts } }
+    {
+        self.hosts[usize::from(host.0)].lists.drop_oldest();
+    }
+
+    /// The range leaves the first accepted extent of the host in which it lies.
+    fn put_leave(&mut self, host: HostId, start: u64, bytes: u64)
+        requires host { host < length self.old.hosts.items }
+        requires few { length (part_of self.old host).lists.accepted < 128 }
+        requires ends { start + bytes < 2 ^ 64 }
+        ensures hosts { self.new.hosts.items ≡ with_lists self.old host (record (part_of self.old host).lists { accepted = cut start bytes (part_of self.old host).lists.accepted }) }
+        ensures kept { self.new ≡ record self.old { hosts = self.new.hosts } }
+    {
+        self.hosts[usize::from(host.0)]
+            .lists
+            .enter_leave(start, bytes);
+    }
+
+    /// The host holds these extents behind the others of this kind.
+    fn put_held(&mut self, host: HostId, kind: HeldKind, extents: &[Extent])
+        requires host { host < length self.old.hosts.items }
+        requires few { length (held_of kind (part_of self.old host).lists) + length extents.now ≤ 64 }
+        ensures hosts { self.new.hosts.items ≡ with_lists self.old host (with_held kind (held_of kind (part_of self.old host).lists ++ extents.now) (part_of self.old host).lists) }
+        ensures kept { self.new ≡ record self.old { hosts = self.new.hosts } }
+    {
+        hold_in(&mut self.hosts[usize::from(host.0)].lists, kind, extents);
+    }
+
+    /// The host holds nothing of this kind.
+    fn drop_held(&mut self, host: HostId, kind: HeldKind)
+        requires host { host < length self.old.hosts.items }
+        ensures hosts { self.new.hosts.items ≡ with_lists self.old host (with_held kind [] (part_of self.old host).lists) }
+        ensures kept { self.new ≡ record self.old { hosts = self.new.hosts } }
+    {
+        drop_held_in(&mut self.hosts[usize::from(host.0)].lists, kind);
+    }
+
+    /// The tag of an offer that the host's lists have by now is told, or opened.
+    fn tell_offer(&mut self, config: &Config, host: HostId, extents: &[Extent])
+        requires host { host < length self.old.hosts.items }
+        requires known { host < config.now.hosts }
+        requires few { config.now.hosts ≤ 16 }
+        requires room { 0 < self.old.tags.spare }
+        requires listed { length extents.now ≤ 64 }
+        requires granular { AreGranular config.now host extents.now }
+        ensures tags { self.new.tags.entries ≡ offered_tag config.now host (part_of self.old host).lists extents.now self.old.tags.entries }
+        ensures spare { self.old.tags.spare ≤ self.new.tags.spare + 1 }
+        ensures kept { self.new ≡ record self.old { tags = self.new.tags } }
+    {
+        let lists = lists_in(self.hosts.as_slice(), host);
+        tell_offer(&mut self.tags, config, host, lists, extents);
+    }
+
+    /// What the host has of the tags of its oldest offer and of these extents is told, without that offer.
+    fn tell_answer(&mut self, host: HostId, extents: &[Extent])
+        requires host { host < length self.old.hosts.items }
+        requires few { host < 16 }
+        ensures tags { self.new.tags.entries ≡ told host (record (part_of self.old host).lists { offers = drop 1 (part_of self.old host).lists.offers })
+            (each_tag (oldest_of (part_of self.old host).lists.offers) ++ each_tag extents.now) self.old.tags.entries }
+        ensures spare { self.old.tags.spare ≤ self.new.tags.spare }
+        ensures kept { self.new ≡ record self.old { tags = self.new.tags } }
+    {
+        let lists = lists_in(self.hosts.as_slice(), host);
+        tell_all(&mut self.tags, host, lists, 1, lists.oldest());
+        tell_all(&mut self.tags, host, lists, 1, extents);
+    }
+
+    /// What the host has of the tag is told, where there is one.
+    fn tell_left(&mut self, host: HostId, tag: &Option<Tag>)
+        requires host { host < length self.old.hosts.items }
+        requires few { host < 16 }
+        ensures tags { self.new.tags.entries ≡ told host (part_of self.old host).lists (option_to_list tag.now) self.old.tags.entries }
+        ensures spare { self.old.tags.spare ≤ self.new.tags.spare }
+        ensures kept { self.new ≡ record self.old { tags = self.new.tags } }
+    {
+        if let Some(tag) = tag {
+            let lists = lists_in(self.hosts.as_slice(), host);
+            tell(&mut self.tags, host, lists, 0, tag);
+        }
+    }
+}
+
+/// The lists of a host.
+fn lists_in(hosts: &[HostPart], host: HostId) -> &HostLists
+    requires { host < length hosts.now }
+    ensures { (d : HostPart) → result.now ≡ (slice_index_or hosts.now host d).lists }
+{
+    &hosts[usize::from(host.0)].lists
+}
+
+/// The extents are held behind the others of this kind.
+fn hold_in(lists: &mut HostLists, kind: HeldKind, extents: &[Extent])
+    requires { length (held_of kind lists.old) + length extents.now ≤ 64 }
+    ensures { lists.new ≡ with_held kind (held_of kind lists.old ++ extents.now) lists.old }
+{
+    match kind {
+        HeldKind::Responses => lists.hold_responses(extents),
+        HeldKind::Releases => lists.hold_releases(extents),
+    }
+}
+
+/// Nothing of this kind is held.
+fn drop_held_in(lists: &mut HostLists, kind: HeldKind)
+    ensures { lists.new ≡ with_held kind [] lists.old }
+{
+    match kind {
+        HeldKind::Responses => lists.drop_responses(),
+        HeldKind::Releases => lists.drop_releases(),
+    }
+}
+
+/// The tag of the first accepted extent in which the range lies; None where it lies in none.
+fn tag_at(lists: &HostLists, start: u64, bytes: u64) -> Option<Tag>
+    ensures { result ≡ option_map (λ (x : Extent). x.tag) (find (has_range start bytes) lists.now.accepted) }
+{
+    let accepted = lists.accepted();
+    match accepted.holder_of(start, bytes) {
+        Some(index) => Some(accepted.at(index).tag),
+        None => None,
+    }
+}
+
+/// What the host has of the tag is told by its lists, of the offers those from an index on. Where the tag is not open nothing
+/// changes.
+fn tell(tags: &mut Tags, host: HostId, lists: &HostLists, first: usize, tag: &Tag)
+    requires { host < 16 }
+    ensures told { tags.new.entries ≡ told host (record lists.now { offers = drop first lists.now.offers }) (tag.now ∷ []) tags.old.entries }
+    ensures spare { tags.old.spare ≤ tags.new.spare }
+{
+    if tags.is_live(tag) {
+        let held = lists.has_accepted(tag);
+        let offered = lists.has_offered_from(first, tag);
+        tags.set_host(tag, host, held, offered);
+    }
+}
+
+/// The same of the tag of each extent.
+fn tell_all(tags: &mut Tags, host: HostId, lists: &HostLists, first: usize, extents: &[Extent])
+    requires { host < 16 }
+    ensures told { tags.new.entries ≡ told host (record lists.now { offers = drop first lists.now.offers }) (each_tag extents.now) tags.old.entries }
+    ensures spare { tags.old.spare ≤ tags.new.spare }
+{
+    for i in 0..extents.len() {
+        tell(tags, host, lists, first, &extents[i].tag);
+    }
+}
+
+/// The tag of an offer in a shareable region is told, or opened with the runs of the offer, which the lists have by now.
+fn tell_offer(tags: &mut Tags, config: &Config, host: HostId, lists: &HostLists, extents: &[Extent])
+    requires host { host < config.now.hosts }
+    requires few { config.now.hosts ≤ 16 }
+    requires room { 0 < tags.old.spare }
+    requires listed { length extents.now ≤ 64 }
+    requires granular { AreGranular config.now host extents.now }
+    ensures told { tags.new.entries ≡ offered_tag config.now host lists.now extents.now tags.old.entries }
+    ensures spare { tags.old.spare ≤ tags.new.spare + 1 }
+{
+    if let Some(first) = extents.first() {
+        let region = list_rules::media_map::region_at(config, host, first.start);
+        tell_offer_in(tags, config, host, lists, region, &first.tag, extents);
+    }
+}
+
+/// The same in this region, where there is one.
+fn tell_offer_in(
+    tags: &mut Tags,
+    config: &Config,
+    host: HostId,
+    lists: &HostLists,
+    region: Option<RegionId>,
+    tag: &Tag,
+    extents: &[Extent],
+)
+    requires host { host < config.now.hosts }
+    requires few { config.now.hosts ≤ 16 }
+    requires region { IfSome region (λ r. r < length config.now.regions) }
+    requires room { 0 < tags.old.spare }
+    requires listed { length extents.now ≤ 64 }
+    requires granular { AreGranular config.now host extents.now }
+    ensures told { tags.new.entries ≡ tag_offered config.now host lists.now tag.now extents.now region tags.old.entries }
+    ensures spare { tags.old.spare ≤ tags.new.spare + 1 }
+{
+    match region {
+        None => (),
+        Some(region) => {
+            if config.region(region).shareable {
+                if tags.is_live(tag) {
+                    tell(tags, host, lists, 0, tag);
+                } else {
+                    open(tags, config, host, region, tag, extents);
+                }
+            }
+        }
+    }
+}
+
+/// A tag that is not open is opened with the runs of these extents.
+fn open(
+    tags: &mut Tags,
+    config: &Config,
+    host: HostId,
+    region: RegionId,
+    tag: &Tag,
+    extents: &[Extent],
+)
+    requires host { host < config.now.hosts }
+    requires few { config.now.hosts ≤ 16 }
+    requires new { has_entry tag.now tags.old.entries ≡ false }
+    requires room { 0 < tags.old.spare }
+    requires listed { length extents.now ≤ 64 }
+    requires granular { AreGranular config.now host extents.now }
+    ensures opened { tags.new.entries ≡ tags.old.entries ++ opened tag.now region (map (run_of config.now host) extents.now) host ∷ [] }
+    ensures spare { tags.old.spare ≤ tags.new.spare + 1 }
+{
+    let mut runs = [Run {
+        first: Granule(0),
+        count: 0,
+    }; 64];
+    for i in 0..extents.len() {
+        runs[i] = run_of(config, host, &extents[i]);
+    }
+    tags.open(*tag, region, host, &runs[..extents.len()]);
+}
+
+/// The run of an extent that is made of granules.
+fn run_of(config: &Config, host: HostId, extent: &Extent) -> Run
+    requires host { host < config.now.hosts }
+    requires granular { IsTrue (is_granular config.now host extent.now.start extent.now.length) }
+    ensures { result ≡ run_of config.now host extent.now }
+{
+    match list_rules::media_map::run_of(config, host, extent.start, extent.length) {
+        Some(run) => run,
+        None => unreachable!(),
+    }
+}

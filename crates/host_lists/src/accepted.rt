@@ -1,0 +1,78 @@
+//! The extents that a host has accepted, with their memory.
+
+ghost use Rattle.list_rules.specs.extent_list.specs.ExtentLists.{cut};
+ghost use Rattle.list_rules.specs.extent_list.specs.Rooms.{IsCutInAddresses};
+ghost use Rattle.std.specs.Prelude.{◌≡◌, ◌++◌, ◌+◌, ◌<◌, ◌≤◌, [], IfOk, length};
+
+use crate::changes::add_all;
+use list_rules::dcd_codes::dcd_base::{Extent, NoMemory};
+use list_rules::extent_list::ExtentList;
+use std::alloc::Global;
+use std::marker::Model;
+
+/// So many extents have their memory: 64 that a host may have, and one more for each of 64 that leave in a step.
+const PLACES: usize = 128;
+
+/// The extents that a host has accepted, in the order in which it did, with memory for 128 of them at least.
+#[derive(Debug, Drop)]
+pub struct AcceptedList {
+    list: ExtentList,
+}
+
+impl Model for AcceptedList {
+    ghost use Rattle.list_rules.specs.dcd_codes.specs.dcd_base.specs.declared.capacity.Extent.{Extent};
+    ghost use Rattle.std.specs.Prelude.{◌+◌, ◌≤◌, List, length};
+
+    ghost Value = { List Extent };
+
+    ghost view = { λ a. a.list.extents };
+
+    ghost invariant = { λ a. 128 ≤ length a.list.extents + a.list.spare };
+}
+
+impl AcceptedList {
+    /// No extents.
+    pub(crate) fn new(alloc: Global) -> Result<AcceptedList, NoMemory>
+        ensures { IfOk result (λ new. new ≡ []) }
+    {
+        Ok(AcceptedList {
+            list: ExtentList::with_room(alloc, PLACES)?,
+        })
+    }
+
+    /// The extents of this list.
+    pub(crate) fn of(list: ExtentList) -> Result<AcceptedList, NoMemory>
+        ensures { IfOk result (λ of. of ≡ list.extents) }
+    {
+        let mut list = list;
+        list.reserve(PLACES)?;
+        Ok(AcceptedList { list })
+    }
+
+    /// The list.
+    pub(crate) fn list(&self) -> &ExtentList
+        ensures { result.now.extents ≡ self.now }
+    {
+        &self.list
+    }
+
+    /// Puts the extents behind the others, 128 at most together. It takes no memory.
+    pub(crate) fn add_all(&mut self, extents: &[Extent])
+        requires { length self.old + length extents.now ≤ 128 }
+        ensures { self.new ≡ self.old ++ extents.now }
+    {
+        add_all(&mut self.list, extents);
+    }
+
+    /// The range of `bytes` bytes from `start` on leaves the first extent in which it lies; where it lies in none nothing
+    /// changes. There are fewer than 128 extents. It takes no memory.
+    ///
+    /// The range ends below 2^64, or that extent ends at 2^64 or below.
+    pub(crate) fn leave(&mut self, start: u64, bytes: u64)
+        requires few { length self.old < 128 }
+        requires in_addresses { IsCutInAddresses start bytes self.old }
+        ensures { self.new ≡ cut start bytes self.old }
+    {
+        self.list.leave(start, bytes);
+    }
+}

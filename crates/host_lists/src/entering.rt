@@ -1,0 +1,71 @@
+//! What each effect makes of a host's lists. None of these calls takes memory.
+
+ghost use Rattle.list_rules.specs.extent_list.specs.ExtentLists.{count_in, cut};
+ghost use Rattle.list_rules.specs.extent_list.specs.Rooms.{IsCutInAddresses};
+ghost use Rattle.host_lists.specs.Lists.{next_generation};
+ghost use Rattle.std.specs.Prelude.{◌≡◌, ◌++◌, ◌∷◌, ◌+◌, ◌<◌, ◌≤◌, [], drop, length};
+
+use crate::changes::next_generation;
+use crate::lists::HostLists;
+use list_rules::dcd_codes::dcd_base::Extent;
+
+impl HostLists {
+    /// These extents are offered, behind all other offers, of which there are fewer than 64, and together 64 extents at most.
+    pub fn enter_offer(&mut self, extents: &[Extent])
+        requires offers { length self.old.offers < 64 }
+        requires extents { count_in self.old.offers + length extents.now ≤ 64 }
+        ensures { self.new ≡ record self.old { offers = self.old.offers ++ extents.now ∷ [] } }
+    {
+        self.offers.push_within(extents);
+    }
+
+    /// These extents are accepted behind the others, 128 at most together.
+    pub fn enter_accepted(&mut self, extents: &[Extent])
+        requires { length self.old.accepted + length extents.now ≤ 128 }
+        ensures { self.new ≡ record self.old { accepted = self.old.accepted ++ extents.now } }
+    {
+        self.accepted.add_all(extents);
+    }
+
+    /// The oldest offer is answered, where there is one.
+    pub fn drop_oldest(&mut self)
+        ensures { self.new ≡ record self.old { offers = drop 1 self.old.offers } }
+    {
+        self.offers.drop_oldest();
+    }
+
+    /// The range of `bytes` bytes from `start` on leaves the first accepted extent in which it lies; where it lies in none
+    /// nothing changes. There are fewer than 128 accepted extents.
+    ///
+    /// The range ends below 2^64, or that extent ends at 2^64 or below.
+    pub fn enter_leave(&mut self, start: u64, bytes: u64)
+        requires few { length self.old.accepted < 128 }
+        requires in_addresses { IsCutInAddresses start bytes self.old.accepted }
+        ensures { self.new ≡ record self.old { accepted = cut start bytes self.old.accepted } }
+    {
+        self.accepted.leave(start, bytes);
+    }
+
+    /// Responses with More hold these extents behind those that they hold, 64 at most together.
+    pub fn hold_responses(&mut self, list: &[Extent])
+        requires { length self.old.responses + length list.now ≤ 64 }
+        ensures { self.new ≡ record self.old { responses = self.old.responses ++ list.now } }
+    {
+        self.offers.hold_within(list);
+    }
+
+    /// Releases with More hold these extents behind those that they hold, 64 at most together.
+    pub fn hold_releases(&mut self, list: &[Extent])
+        requires { length self.old.releases + length list.now ≤ 64 }
+        ensures { self.new ≡ record self.old { releases = self.old.releases ++ list.now } }
+    {
+        self.releases.hold_within(list);
+    }
+
+    /// Counts a change of the accepted list.
+    pub fn count_change(&mut self)
+        ensures { self.new ≡ record self.old { generation = next_generation self.old.generation } }
+    {
+        self.generation = next_generation(self.generation);
+    }
+}
