@@ -1,4 +1,3 @@
 pub mod Entered
 pub mod MadeChanges
 pub mod Places
-pub mod TouchingAlone

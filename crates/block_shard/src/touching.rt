@@ -12,11 +12,12 @@ pub fn touches(entry: &Entry, index: u32) -> bool
     requires { index < 16 }
     ensures { result ≡ touches_shard index entry.now }
 {
-    let mut effects = entry.effects.without_extents();
-    while let Some(effect) = effects.next() {
-        if touches_own(&effect, index) {
+    let mut left = entry.effects.as_slice();
+    while let Some((effect, rest)) = left.split_first() {
+        if touches_own(effect, index) {
             return true;
         }
+        left = rest;
     }
     false
 }

@@ -4,10 +4,11 @@ ghost use Rattle.std.specs.Prelude.{◌≡◌, IfOk};
 
 use crate::seeing::{see, see_list};
 use cci_codec::{Payload, Request, Response};
-use dcd_base::{AccessFault, Actor, Boxed, Bytes, Granule, HostId, NoMemory, Run, Stamp};
-use journal_core::{
-    Act, ActKind, Effect, Effects, Entry, EntryEffects, KeptEntries, Lent, Reply, ReplySeen,
+use dcd_base::{
+    AccessFault, Actor, Boxed, Bytes, Extent, Extents, Granule, HostId, NoMemory, Run, Stamp, Tag,
 };
+use journal_core::{Act, ActKind, Effect, Effects, Entry, Reply, ReplySeen};
+use kept_journal::{KeptEntries, Lent};
 use std::alloc::Global;
 use std::process::Abort;
 use std::test::Fail;
@@ -138,7 +139,7 @@ fn entry(alloc: Global, act: Act, reply: Reply) -> Result<Entry, NoMemory>
         actor: Actor::Host(HOST),
         act,
         reply,
-        effects: EntryEffects::of(&taken(alloc, 2)?)?,
+        effects: taken(alloc, 2)?,
         stamp: Stamp {
             number: 1,
             count: 0,
@@ -186,5 +187,78 @@ fn an_entry_is_kept_in_the_room_that_is_made(rt: HostRuntime) -> Result<(), Fail
         &(7, ActKind::Load, 2),
         &[],
     );
+    Ok(())
+}
+
+/// Two granules.
+fn two_granules() -> Run {
+    Run {
+        first: Granule(4),
+        count: 2,
+    }
+}
+
+/// An offer of two extents with one tag, and then the host takes and loses two granules.
+fn several(alloc: Global) -> Result<Effects, NoMemory> {
+    let tag = Tag([7; 16]);
+    let mut extents = Extents::new(alloc);
+    extents.push(Extent {
+        start: 1 << 20,
+        length: 1 << 20,
+        tag,
+        sequence: 1,
+    })?;
+    extents.push(Extent {
+        start: 3 << 20,
+        length: 1 << 20,
+        tag,
+        sequence: 2,
+    })?;
+    let mut effects = Effects::new(alloc);
+    effects.push(Effect::Offer(HOST, extents))?;
+    effects.push(Effect::Take(HOST, two_granules()))?;
+    effects.push(Effect::Leave(HOST, two_granules()))?;
+    Ok(effects)
+}
+
+/// The starts and the tags' first bytes of the extents that an effect offers.
+fn put_offered(effect: &Effect, starts: &mut Vec<(u64, u8)>) -> Result<(), NoMemory> {
+    if let Effect::Offer(_, extents) = effect {
+        for extent in extents.as_slice() {
+            starts.push((extent.start, extent.tag.0[0]))?;
+        }
+    }
+    Ok(())
+}
+
+/// How many effects there are, and what they offer.
+fn told(alloc: Global, effects: &Effects) -> Result<(usize, Vec<(u64, u8)>), NoMemory> {
+    let mut starts = Vec::new(alloc);
+    for effect in effects.as_slice() {
+        put_offered(effect, &mut starts)?;
+    }
+    Ok((effects.len(), starts))
+}
+
+#[test]
+fn kept_effects_are_those_handed_in(rt: HostRuntime) -> Result<(), Fail> {
+    let alloc = rt.alloc();
+    let mut kept = KeptEntries::new(alloc);
+    let reply = Reply::Scrubbed(4);
+    kept.append(
+        6,
+        7,
+        Actor::Sanitizer,
+        &Act::Scrub(5),
+        &reply,
+        &several(alloc)?,
+    )?;
+    see_last(&rt, &kept, &(7, ActKind::Scrub, 2), &[]);
+    if let Some(last) = kept.last() {
+        let copy = last.copy(alloc)?;
+        let (count, starts) = told(alloc, &copy.effects)?;
+        see(&rt, &count, &3);
+        see_list(&rt, starts.as_slice(), &[(1 << 20, 7), (3 << 20, 7)]);
+    }
     Ok(())
 }

@@ -8,13 +8,13 @@ use Rattle.journal_core.specs.declared.acts.Act.{Act}
 use Rattle.journal_core.specs.declared.entries.Entry.{Entry}
 use Rattle.journal_core.specs.declared.outcome.Effect.{Effect}
 use Rattle.list_rules.specs.media_map.specs.region_config.specs.Configurations.{Configuration}
-use Rattle.journal_core.proofs.Lists.{rising_none}
+use Rattle.journal_core.proofs.Rising.{rising_none}
 use Rattle.device_commands.specs.device_rules.specs.Answers.{answer}
 use Rattle.device_commands.specs.device_rules.specs.Legal.{Meets}
 use Rattle.control_core.specs.Deciding.{AreStamped, Holds, IsDecidedBy, IsShort}
 use Rattle.control_core.specs.Pasts.{EntersStep, IsOfStep, IsPast, LiveControlled}
 use Rattle.control_core.specs.declared.decided.Decided.{Decided}
-use Rattle.journal_core.specs.Keeping.{next_entry}
+use Rattle.journal_core.specs.Entries.{next_entry}
 use Rattle.control_core.specs.Steps.{Controlled, IsNextEntry, MayStep, journal_entry}
 use Rattle.control_core.proofs.Entering.{holds_next, past_entered, past_held}
 

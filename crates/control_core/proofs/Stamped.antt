@@ -6,7 +6,7 @@ use Rattle.std.proofs.lemmas.List.{length_push}
 use Rattle.std.proofs.lemmas.List.Elements.{All-push}
 use Rattle.cci_codec.specs.field_bytes.specs.dcd_base.specs.declared.steps.Stamp.{Stamp}
 use Rattle.journal_core.specs.declared.entries.Entry.{Entry}
-use Rattle.journal_core.specs.Keeping.{next_stamp}
+use Rattle.journal_core.specs.Entries.{next_stamp}
 use Rattle.journal_core.specs.Merging.{is_later}
 use Rattle.journal_core.proofs.JournalSteps.{Rising-push}
 use Rattle.control_core.specs.Deciding.{AreStamped}

@@ -13,3 +13,4 @@ pub use Rattle.device_commands.specs.device_laws
 pub use Rattle.device_commands.specs.device_state
 pub use Rattle.device_commands.specs.device_rules
 pub use Rattle.device_commands
+pub use Rattle.kept_journal

@@ -14,11 +14,11 @@ ghost use Rattle.std.specs.Prelude.{◌≡◌, ◌+◌, ◌++◌, ◌∷◌, ◌
 use crate::decided::{Decided, Decision};
 use crate::live::LiveControl;
 use crate::plan::Plan;
-use crate::planned::PlannedEntry;
 use crate::step_effects::{StepEffects, TakenStep};
 use cci_codec::field_bytes::dcd_base::{Actor, Boxed, Changes, NoMemory, Stamp};
 use device_commands::{DraftedStep, Room};
-use journal_core::{Act, Effects, Entry, EntryEffects, KeptEntries, Reply};
+use journal_core::{Act, Effects, Entry, Reply};
+use kept_journal::KeptEntries;
 use list_rules::media_map::region_config::Config;
 use std::alloc::Global;
 use std::marker::Model;
@@ -246,7 +246,7 @@ impl Control {
         act: Act,
         reply: Reply,
         effects: Effects,
-    ) -> Result<PlannedEntry, NoMemory>
+    ) -> Result<Boxed<Entry>, NoMemory>
         requires reply { reply ≡ (answer_to self.now.config self.now.entries actor act).0 }
         requires effects { effects ≡ (answer_to self.now.config self.now.entries actor act).1 }
         ensures { IfOk result (λ entry. entry ≡ journal_entry self.now.config self.now.entries pass line actor act) }
@@ -257,21 +257,18 @@ impl Control {
             actor,
             act,
             reply,
-            effects: EntryEffects::of(&effects)?,
+            effects,
             stamp: Stamp {
                 number: self.entries.len() as u64 + 1,
                 count: 0,
             },
         };
-        Ok(PlannedEntry {
-            entry: Boxed::new(self.live.alloc, entry)?,
-            effects,
-        })
+        Boxed::new(self.live.alloc, entry)
     }
 
     /// Enters the next entry.
     #[inline(always)]
-    fn take(&mut self, entry: PlannedEntry)
+    fn take(&mut self, entry: Boxed<Entry>)
         requires room { 0 < self.old.spare }
         requires next { IsNextEntry self.old entry }
         requires short { IsShort entry.reply }
@@ -279,8 +276,7 @@ impl Control {
         ensures entered { self.new.entries ≡ self.old.entries ++ entry ∷ [] }
         ensures room_left { self.old.spare ≤ self.new.spare + 1 }
     {
-        let PlannedEntry { entry, effects } = entry;
-        self.live.enter(effects.as_slice());
+        self.live.enter(entry.get().effects.as_slice());
         self.entries.push_reserved(entry);
     }
 

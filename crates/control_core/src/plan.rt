@@ -2,14 +2,13 @@
 
 ghost use Rattle.std.specs.Prelude.{◌≡◌};
 
-use crate::planned::PlannedEntry;
-use cci_codec::field_bytes::dcd_base::Changes;
+use cci_codec::field_bytes::dcd_base::{Boxed, Changes};
 use journal_core::{Effects, Entry};
 
 /// A step of the control with all the memory that it needs: `Control::apply` takes it.
 #[derive(Drop)]
 pub struct Plan {
-    pub(crate) entry: PlannedEntry,
+    pub(crate) entry: Boxed<Entry>,
     pub(crate) changes: Changes,
 }
 
@@ -25,14 +24,14 @@ impl Plan {
     pub fn entry(&self) -> &Entry
         ensures { result.now ≡ self.now.entry }
     {
-        self.entry.entry()
+        self.entry.get()
     }
 
     /// The effects that its entry will have, as a list.
     pub fn effects(&self) -> &Effects
         ensures { result.now ≡ self.now.entry.effects }
     {
-        &self.entry.effects
+        &self.entry().effects
     }
 
     /// The runs whose holders it changes or whose words it zeroes, with the holders after it.

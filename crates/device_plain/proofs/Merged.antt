@@ -12,12 +12,13 @@ use Rattle.journal_core.specs.declared.entries.Entry.{Entry}
 use Rattle.journal_core.specs.Accesses.{access_entry, load_said}
 use Rattle.journal_core.specs.Entries.{effects, is_control}
 use Rattle.journal_core.specs.Merging.{Rising, is_later, merged}
-use Rattle.journal_core.proofs.Pairs.{in_order_before_none, length_of_both}
+use Rattle.journal_core.proofs.Inserting.{in_order_before_none}
 use Rattle.journal_core.proofs.Pushing.{merged-control_last, merged-shard_last, merged_of_one}
 use Rattle.media_map.specs.Places.{locate}
 use Rattle.region_config.specs.Configurations.{Configuration}
 use Rattle.region_config.specs.Granules.{granule_total}
 use Rattle.region_config.specs.Soundness.{IsSound}
+use Rattle.control_core.specs.kept_journal.proofs.Pairs.{length_of_both}
 use Rattle.control_core.specs.Deciding.{IsShort}
 use Rattle.control_core.specs.Steps.{MayStep, journal_entry}
 use Rattle.device_plain.specs.Accesses.{AreZeroed, Stored, StoresAt, granted_place, store_said, word_from}

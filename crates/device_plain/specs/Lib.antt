@@ -7,3 +7,4 @@ pub use Rattle.control_core
 pub use Rattle.isolation_laws
 pub use Rattle.control_core.specs.device_rules
 pub use Rattle.control_core.specs.device_state
+pub use Rattle.control_core.specs.kept_journal

@@ -11,7 +11,7 @@ mod live_accesses;
 mod zeroing;
 
 pub use control_core;
-pub use control_core::{device_rules, device_state};
+pub use control_core::{device_rules, device_state, kept_journal};
 pub use device::Device;
 pub use faults::StepFault;
 pub use isolation_laws;

@@ -9,7 +9,7 @@ use dcd_base::{
 };
 use device_plain::isolation_laws::{Item, Items, SoloFault, SoloReply, own_items, solo_replies};
 use event_records::{Event, EventKind};
-use journal_core::{Act, Effect, Effects, Entry, EntryEffects, Journal, Reply};
+use journal_core::{Act, Effect, Effects, Entry, Journal, Reply};
 use region_config::{Config, ConfigFault, RegionSpec};
 use std::alloc::Global;
 use std::process::Abort;
@@ -26,7 +26,7 @@ const BLOCK: Extent = Extent {
 };
 
 /// An entry of the actor with these effects.
-fn entry(actor: Actor, act: Act, effects: EntryEffects) -> Entry {
+fn entry(actor: Actor, act: Act, effects: Effects) -> Entry {
     Entry {
         pass: 0,
         line: 1,
@@ -66,22 +66,22 @@ fn put_offers(effects: &mut Effects) -> Result<(), NoMemory> {
 }
 
 /// The effects of those offers.
-fn offers(alloc: Global) -> Result<EntryEffects, NoMemory> {
+fn offers(alloc: Global) -> Result<Effects, NoMemory> {
     let mut effects = Effects::new(alloc);
     put_offers(&mut effects)?;
-    EntryEffects::of(&effects)
+    Ok(effects)
 }
 
 /// An access of the host.
-fn access(host: u8, act: Act) -> Entry {
-    entry(Actor::Host(HostId(host)), act, EntryEffects::none())
+fn access(alloc: Global, host: u8, act: Act) -> Entry {
+    entry(Actor::Host(HostId(host)), act, Effects::new(alloc))
 }
 
 /// Enters that the manager offers and sets, host 0 stores, and host 1 loads.
 fn enter_three(alloc: Global, journal: &mut Journal) -> Result<(), NoMemory> {
     journal.push(entry(Actor::Manager, Act::Scrub(0), offers(alloc)?))?;
-    journal.push(access(0, Act::Store(2 * MIB, 7)))?;
-    journal.push(access(1, Act::Load(0)))
+    journal.push(access(alloc, 0, Act::Store(2 * MIB, 7)))?;
+    journal.push(access(alloc, 1, Act::Load(0)))
 }
 
 /// The journal of those entries.

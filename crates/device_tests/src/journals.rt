@@ -2,23 +2,21 @@
 
 use crate::seeing::{see, see_list};
 use cci_codec::{Payload, Request, Response};
-use dcd_base::{
-    AccessFault, Actor, Bytes, Extent, Extents, Granule, HostId, NoMemory, Run, Stamp, Tag,
-};
-use journal_core::{Act, Effect, Effects, Entry, EntryEffects, Journal, Reply, fits, holds, merge};
+use dcd_base::{AccessFault, Actor, Bytes, Extents, Granule, HostId, NoMemory, Run, Stamp};
+use journal_core::{Act, Effect, Effects, Entry, Journal, Reply, fits, holds, merge};
 use std::alloc::Global;
 use std::process::Abort;
 use std::test::Fail;
 
 /// A load of the host with this stamp.
-fn entry(host: u8, number: u64, count: u64) -> Entry {
+fn entry(alloc: Global, host: u8, number: u64, count: u64) -> Entry {
     Entry {
         pass: u32::from(host),
         line: 1,
         actor: Actor::Host(HostId(host)),
         act: Act::Load(0),
         reply: Reply::Refused(AccessFault::NotGranted),
-        effects: EntryEffects::none(),
+        effects: Effects::new(alloc),
         stamp: Stamp { number, count },
     }
 }
@@ -27,7 +25,7 @@ fn entry(host: u8, number: u64, count: u64) -> Entry {
 fn journal(alloc: Global, host: u8, stamps: &[(u64, u64)]) -> Result<Journal, NoMemory> {
     let mut journal = Journal::new(alloc);
     for (number, count) in stamps {
-        journal.push(entry(host, *number, *count))?;
+        journal.push(entry(alloc, host, *number, *count))?;
     }
     Ok(journal)
 }
@@ -167,10 +165,10 @@ fn response(alloc: Global) -> Result<Reply, NoMemory> {
 }
 
 /// The effects of an offer.
-fn offered(alloc: Global) -> Result<EntryEffects, NoMemory> {
+fn offered(alloc: Global) -> Result<Effects, NoMemory> {
     let mut effects = Effects::new(alloc);
     effects.push(Effect::Offer(HostId(3), Extents::new(alloc)))?;
-    EntryEffects::of(&effects)
+    Ok(effects)
 }
 
 /// An entry with a response and an effect.
@@ -178,7 +176,7 @@ fn whole(alloc: Global) -> Result<Entry, NoMemory> {
     Ok(Entry {
         reply: response(alloc)?,
         effects: offered(alloc)?,
-        ..entry(3, 1, 2)
+        ..entry(alloc, 3, 1, 2)
     })
 }
 
@@ -198,76 +196,7 @@ fn payload_of(reply: &Reply) -> &[u8] {
 #[test]
 fn a_copied_entry_has_all_parts(rt: HostRuntime) -> Result<(), Fail> {
     let copy = copied(rt.alloc())?;
-    let effects = copy.effects.list(rt.alloc())?;
-    see(&rt, &(copy.pass, effects.len()), &(3, 1));
+    see(&rt, &(copy.pass, copy.effects.len()), &(3, 1));
     see_list(&rt, payload_of(&copy.reply), &[1, 2]);
-    Ok(())
-}
-
-/// An offer of two extents with one tag, and then host 3 takes and loses two granules.
-fn several(alloc: Global) -> Result<EntryEffects, NoMemory> {
-    let tag = Tag([7; 16]);
-    let mut extents = Extents::new(alloc);
-    extents.push(Extent {
-        start: 1 << 20,
-        length: 1 << 20,
-        tag,
-        sequence: 1,
-    })?;
-    extents.push(Extent {
-        start: 3 << 20,
-        length: 1 << 20,
-        tag,
-        sequence: 2,
-    })?;
-    let mut effects = Effects::new(alloc);
-    effects.push(Effect::Offer(HostId(3), extents))?;
-    effects.push(Effect::Take(HostId(3), two_granules()))?;
-    effects.push(Effect::Leave(HostId(3), two_granules()))?;
-    EntryEffects::of(&effects)
-}
-
-/// The starts and the tags' first bytes of the extents that an effect offers.
-fn put_offered(effect: &Effect, starts: &mut Vec<(u64, u8)>) -> Result<(), NoMemory> {
-    if let Effect::Offer(_, extents) = effect {
-        for extent in extents.as_slice() {
-            starts.push((extent.start, extent.tag.0[0]))?;
-        }
-    }
-    Ok(())
-}
-
-/// How many effects there are, and what they offer.
-fn told(alloc: Global) -> Result<(usize, Vec<(u64, u8)>), NoMemory> {
-    let effects = several(alloc)?.list(alloc)?;
-    let mut starts = Vec::new(alloc);
-    for effect in effects.as_slice() {
-        put_offered(effect, &mut starts)?;
-    }
-    Ok((effects.len(), starts))
-}
-
-/// The host that an effect gives or takes granules.
-fn host_of(effect: Effect) -> u8 {
-    match effect {
-        Effect::Take(host, _) | Effect::Leave(host, _) => host.0,
-        _ => 255,
-    }
-}
-
-/// Those hosts, of the next two effects without extents, and whether there are more.
-fn alone(alloc: Global) -> Result<([Option<u8>; 2], bool), NoMemory> {
-    let effects = several(alloc)?;
-    let mut left = effects.without_extents();
-    let hosts = [left.next().map(host_of), left.next().map(host_of)];
-    Ok((hosts, left.next().is_some()))
-}
-
-#[test]
-fn kept_effects_are_those_handed_in(rt: HostRuntime) -> Result<(), Fail> {
-    let (count, starts) = told(rt.alloc())?;
-    see(&rt, &count, &3);
-    see_list(&rt, starts.as_slice(), &[(1 << 20, 7), (3 << 20, 7)]);
-    see(&rt, &alone(rt.alloc())?, &([Some(3), Some(3)], false));
     Ok(())
 }

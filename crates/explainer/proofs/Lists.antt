@@ -5,8 +5,8 @@ use Rattle.std.specs.Prelude.{slice_get}
 use Rattle.std.proofs.lemmas.Bool.{and_parts}
 use Rattle.std.proofs.lemmas.List.{flat_map_more}
 use Rattle.journal_core.specs.declared.entries.Entry.{Entry}
-use Rattle.journal_core.specs.Lending.{first_entry}
-use Rattle.journal_core.proofs.Lists.{next_and_left, nothing_left}
+use Rattle.journal_check.specs.kept_journal.specs.Lending.{first_entry}
+use Rattle.journal_check.specs.kept_journal.proofs.Lists.{next_and_left, nothing_left}
 
 -- what all members are, one of them is
 pub member_has : {X : Type 0} (p : X → Bool) (xs : List X) (i : ℕ) (x : X) → list_all p xs ≡ true → slice_get xs i ≡ Some x → p x ≡ true

@@ -2,7 +2,7 @@
 
 ghost use Rattle.dcd_base.specs.declared.failures.AccessFault.{AccessFault};
 ghost use Rattle.explainer.specs.Explanations.{access_refusal, entries_explained, entry_explained, line_explained, reply_explained, script_frame, step_explained};
-ghost use Rattle.journal_core.specs.Lending.{lent_entry};
+ghost use Rattle.journal_check.specs.kept_journal.specs.Lending.{lent_entry};
 ghost use Rattle.journal_core.specs.Seen.{seen_reply};
 ghost use Rattle.journal_core.specs.declared.acts.Reply.{Reply};
 ghost use Rattle.explainer.specs.PartWords.{detail, labelled};
@@ -14,7 +14,8 @@ ghost use Rattle.script_text.specs.text_lines.specs.Words.{line_text};
 
 use crate::{put_answer, put_labelled, put_labelled_size};
 use dcd_base::{AccessFault, Bytes, NoMemory};
-use journal_core::{Lender, Lent, ReplySeen};
+use journal_check::kept_journal::{Lender, Lent};
+use journal_core::ReplySeen;
 use script_text::put_line;
 use script_text::script_codec::{Line, Script};
 use script_text::text_lines::Frame;

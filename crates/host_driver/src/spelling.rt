@@ -6,8 +6,9 @@ ghost use Rattle.journal_core.specs.declared.entries.Entry.{Entry};
 ghost use Rattle.std.specs.Prelude.{◌≡◌, ◌++◌, ◌∷◌, [], List};
 
 use device_plain::Device;
+use device_plain::kept_journal::{KeptEntries, WithoutExtents};
 use event_records::law_event_is_spelled;
-use journal_core::{Effect, Entry, EntryEffects, KeptEntries, WithoutExtents};
+use journal_core::{Effect, Effects, Entry};
 
 /// The bytes of each record that went into a log are its one spelling.
 pub(crate) fn are_spelled(journal: &[Entry])
@@ -19,10 +20,10 @@ pub(crate) fn are_spelled(journal: &[Entry])
 }
 
 /// So are those of the effects of one entry.
-fn effects_are_spelled(effects: &EntryEffects)
+fn effects_are_spelled(effects: &Effects)
     ensures { AreSpelledIn effects.now }
 {
-    left_are_spelled(effects.without_extents());
+    left_are_spelled(WithoutExtents::among(effects.as_slice()));
 }
 
 /// So are those of effects that are lent one after another.

@@ -30,8 +30,7 @@ fn put_items(alloc: Global, entry: &Entry, host: &HostId, items: &mut Items) -> 
     if acts_for(host, &entry.actor) {
         return items.push(Item::Own(entry.act.copy()?));
     }
-    let effects = entry.effects.list(alloc)?;
-    put_delivered(alloc, effects.as_slice(), host, items)
+    put_delivered(alloc, entry.effects.as_slice(), host, items)
 }
 
 /// Whether the actor is the host.

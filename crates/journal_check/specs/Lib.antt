@@ -13,3 +13,4 @@ pub use Rattle.device_plain.specs.device_state
 pub use Rattle.device_plain.specs.control_core
 pub use Rattle.device_plain
 pub use Rattle.report
+pub use Rattle.device_plain.specs.kept_journal

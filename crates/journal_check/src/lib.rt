@@ -15,7 +15,7 @@ mod status;
 
 pub use checking::check;
 pub use device_plain;
-pub use device_plain::{control_core, device_rules, device_state};
+pub use device_plain::{control_core, device_rules, device_state, kept_journal};
 pub use laws::{law_one_answer, law_one_journal};
 pub use program::run_check;
 pub use replaying::replay;

@@ -1,12 +1,12 @@
--- Where an entry goes that is put into a journal.
-use Rattle.std.proofs.Common.{◌≡◌, Bool, true, false, cond, List, [], ◌∷◌, ◌++◌, refl, ap, arith}
-use Rattle.std.specs.Prelude.{All, IsFalse}
+-- Where an entry goes that is put into a journal, and a list that is in order by itself.
+use Rattle.std.proofs.Common.{◌≡◌, Bool, true, false, cond, List, [], ◌∷◌, ◌++◌, refl, ap, ◌∙◌, append-nil, arith}
+use Rattle.std.specs.Prelude.{fold, All, IsFalse}
 use Rattle.std.proofs.lemmas.Bool.Decides.{nat_tests}
-use Rattle.std.proofs.lemmas.List.Elements.{All-cons, All-nil, All-weaker}
+use Rattle.std.proofs.lemmas.List.Elements.{All-cons, All-head, All-nil, All-tail, All-weaker}
 use Rattle.region_config.specs.dcd_base.specs.declared.steps.Stamp.{Stamp}
 use Rattle.journal_core.specs.declared.entries.Entry.{Entry}
-use Rattle.journal_core.specs.Merging.{Rising, insert_entry, is_later}
-use Rattle.journal_core.proofs.Lists.{rising_head, rising_tail}
+use Rattle.journal_core.specs.Merging.{Rising, in_order, insert_entry, is_later}
+use Rattle.journal_core.proofs.Rising.{rising_head, rising_tail}
 
 -- The entry was put behind a front and before what is later.
 pub record IsPut (e : Entry) (journal after : List Entry) : Type 0 where
@@ -33,3 +33,23 @@ insert_entry-put e (f ∷ journal) up =
     by : (b : Bool) → is_later f.stamp e.stamp ≡ b → IsPut e journal (insert_entry e journal) → IsPut e (f ∷ journal) (cond b (e ∷ f ∷ journal) (f ∷ insert_entry e journal))
     by true is rest = record { front = []; rest = f ∷ journal; was = refl; now = refl; later = put_first e f journal is up }
     by false is rest = record { front = f ∷ rest.front; rest = rest.rest; was = ap (λ l. f ∷ l) rest.was; now = ap (λ l. f ∷ l) rest.now; later = rest.later }
+
+-- ---- many entries
+
+abbrev pub insert_all : List Entry → List Entry → List Entry
+insert_all done entries = fold (λ journal e. insert_entry e journal) done entries
+
+-- an entry stays in front of all that are not earlier
+pub first_stays : (x : Entry) (done zs : List Entry) → All (λ (z : Entry). IsFalse (is_later x.stamp z.stamp)) zs → insert_all (x ∷ done) zs ≡ x ∷ insert_all done zs
+first_stays x done [] all = refl
+first_stays x done (z ∷ zs) all =
+    ap (λ b. insert_all (cond b (z ∷ x ∷ done) (x ∷ insert_entry z done)) zs) (All-head (λ (z : Entry). IsFalse (is_later x.stamp z.stamp)) z zs all)
+    ∙ first_stays x (insert_entry z done) zs (All-tail (λ (z : Entry). IsFalse (is_later x.stamp z.stamp)) z zs all)
+
+-- a list that rises is in order
+pub in_order_alone : (xs : List Entry) → Rising xs → in_order xs ≡ xs
+in_order_alone [] up = refl
+in_order_alone (x ∷ xs) up = first_stays x [] xs (rising_head x xs up) ∙ ap (λ ys. x ∷ ys) (in_order_alone xs (rising_tail x xs up))
+
+pub in_order_before_none : (xs : List Entry) → Rising xs → in_order (xs ++ []) ≡ xs
+in_order_before_none xs up = ap in_order (append-nil xs) ∙ in_order_alone xs up

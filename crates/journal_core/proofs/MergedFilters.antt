@@ -8,7 +8,7 @@ use Rattle.journal_core.specs.declared.entries.Entry.{Entry}
 use Rattle.journal_core.specs.Merging.{Rising, has_stamp, is_later, merged}
 use Rattle.journal_core.proofs.Filters.{filter_swapped}
 use Rattle.journal_core.proofs.Merges.{merged-once, merged-rising, merged-ties}
-use Rattle.journal_core.proofs.Pairs.{in_order_before_none}
+use Rattle.journal_core.proofs.Inserting.{in_order_before_none}
 use Rattle.journal_core.proofs.Pushing.{all_in_order}
 
 -- a filter of a merge is the merge of the filtered lists

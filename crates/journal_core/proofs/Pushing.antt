@@ -5,10 +5,8 @@ use Rattle.std.proofs.lemmas.List.Elements.{All-cons, All-head, All-nil, All-tai
 use Rattle.std.proofs.lemmas.List.Sums.{fold-append}
 use Rattle.journal_core.specs.declared.entries.Entry.{Entry}
 use Rattle.journal_core.specs.Merging.{in_order, insert_entry, is_later, merged}
+use Rattle.journal_core.proofs.Inserting.{insert_all}
 use Rattle.journal_core.proofs.Merges.{inserted-last}
-
-abbrev insert_all : List Entry → List Entry → List Entry
-insert_all done entries = fold (λ journal e. insert_entry e journal) done entries
 
 -- what all entries are, all are that are put in order
 inserted_all : (P : Entry → Type 0) (e : Entry) (journal : List Entry) → P e → All P journal → All P (insert_entry e journal)

@@ -21,22 +21,24 @@ access_entry pass line h act reply stamp = record {
   stamp = stamp;
 }
 
--- what is replied to a load, by the word that it found, and to a store, unless it is refused
+-- what is replied to a load, by the word that it found
 abbrev pub load_said : Result ℕ AccessFault → Reply
 load_said (Ok word) = Reply.Word word
 load_said (Err fault) = Reply.Refused fault
 
+-- what is replied to a store, unless it is refused
 abbrev pub stored_unless : Option AccessFault → Reply
 stored_unless None = Reply.Stored
 stored_unless (Some fault) = Reply.Refused fault
 
 -- ---- what is kept of an access
 
--- what was asked, and what was replied: a load is asked at a DPA and finds a word, a store brings one
+-- what was asked: a load is asked at a DPA, and a store brings a word
 abbrev pub act_by : Kind → ℕ → ℕ → Act
 act_by Kind.Load dpa word = Act.Load dpa
 act_by Kind.Store dpa word = Act.Store dpa word
 
+-- what was replied: a load finds a word
 abbrev pub reply_by : Kind → ℕ → Option AccessFault → Reply
 reply_by Kind.Load word None = Reply.Word word
 reply_by Kind.Load word (Some fault) = Reply.Refused fault

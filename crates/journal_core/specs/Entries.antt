@@ -1,13 +1,31 @@
--- The entries of a journal: their effects, who may do what, and what holds of each.
-use Rattle.std.specs.Prelude.{ℕ, nat_lt, true, false, Bool, List, flat_map, [], ◌∷◌, ◌++◌}
+-- The entries of a journal: their effects, the next one, who may do what, and what holds of each.
+use Rattle.std.specs.Prelude.{ℕ, ◌+◌, nat_lt, true, false, Bool, List, flat_map, length, [], ◌∷◌, ◌++◌}
 use Rattle.journal_core.specs.declared.outcome.Effect.{Effect}
 use Rattle.journal_core.specs.declared.entries.Entry.{Entry}
 use Rattle.journal_core.specs.declared.acts.Act.{Act}
+use Rattle.journal_core.specs.declared.acts.Reply.{Reply}
 use Rattle.region_config.specs.dcd_base.specs.declared.steps.Actor.{Actor}
+use Rattle.region_config.specs.dcd_base.specs.declared.steps.Stamp.{Stamp}
 
 -- the effects of the entries, in order
 abbrev pub effects : List Entry → List Effect
 effects journal = flat_map (λ e. e.effects) journal
+
+-- the stamp of the next command or scrub behind some
+abbrev pub next_stamp : List Entry → Stamp
+next_stamp entries = record { number = length entries + 1; count = 0 }
+
+-- the entry of a command or a scrub behind some, by what is answered to it: its reply and its effects
+abbrev pub next_entry : List Entry → ℕ → ℕ → Actor → Act → Reply × List Effect → Entry
+next_entry entries pass line actor act answered = record {
+  pass = pass;
+  line = line;
+  actor = actor;
+  act = act;
+  reply = answered.0;
+  effects = answered.1;
+  stamp = next_stamp entries;
+}
 
 -- a command or a scrub, and no access
 abbrev pub is_control : Act → Bool
@@ -27,10 +45,11 @@ fits hosts Actor.Manager act = false
 fits hosts Actor.Sanitizer (Act.Scrub n) = true
 fits hosts Actor.Sanitizer act = false
 
--- P holds of each entry and the entries before it.
+-- P holds of each entry, with these and the entries in front of it before it.
 abbrev pub EachFrom : List Entry → (List Entry → Entry → Type 0) → List Entry → Type 0
 EachFrom before P [] = Unit {0}
 EachFrom before P (e ∷ journal) = P before e × EachFrom (before ++ e ∷ []) P journal
 
+-- P holds of each entry and the entries before it.
 abbrev pub Each : (List Entry → Entry → Type 0) → List Entry → Type 0
 Each P journal = EachFrom [] P journal

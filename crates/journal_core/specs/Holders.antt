@@ -20,20 +20,22 @@ holds h g past = fold (holding_after h g) false past
 abbrev pub holders : Configuration → ℕ → List Effect → List HostId
 holders c g past = filter (λ h. holds h g past) (hosts_of c)
 
--- whether the granule was taken after it was last zeroed
+-- whether the granule is taken, after one more effect: since it was last zeroed
 abbrev pub taking_after : ℕ → Bool → Effect → Bool
 taking_after g taken (Effect.Take k run) = if has_granule run g then true else taken
 taking_after g taken (Effect.Zero run) = if has_granule run g then false else taken
 taking_after g taken e = taken
 
+-- whether it is so after these effects
 abbrev pub is_taken : ℕ → List Effect → Bool
 is_taken g past = fold (taking_after g) false past
 
--- whether it was soiled after it was last zeroed, that is, removed from a host by a command that cleans
+-- whether it is soiled, after one more effect: since it was last zeroed, a command that cleans removed it from a host
 abbrev pub soil_after : ℕ → Bool → Effect → Bool
 soil_after g soiled (Effect.Soil run) = if has_granule run g then true else soiled
 soil_after g soiled (Effect.Zero run) = if has_granule run g then false else soiled
 soil_after g soiled e = soiled
 
+-- whether it is so after these effects
 abbrev pub is_soiled : ℕ → List Effect → Bool
 is_soiled g past = fold (soil_after g) false past

@@ -1,11 +1,5 @@
 pub mod Accesses
-pub mod Coding
 pub mod Entries
-pub mod Gathering
 pub mod Holders
-pub mod Keeping
-pub mod Lending
 pub mod Merging
 pub mod Seen
-pub mod Slots
-pub mod Tokens

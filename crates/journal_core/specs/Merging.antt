@@ -1,5 +1,5 @@
 -- The order of a whole journal.
-use Rattle.std.specs.Prelude.{ℕ, ◌+◌, Bool, ◌&&◌, ◌||◌, ◌==◌, nat_le, nat_lt, List, [], ◌∷◌, ◌++◌, count_by, flat_map, fold, if◌then◌else◌, IsTrue, IsFalse, AllPairs, map, filter}
+use Rattle.std.specs.Prelude.{ℕ, ◌+◌, All, Bool, ◌&&◌, ◌||◌, ◌==◌, nat_le, nat_lt, List, [], ◌∷◌, ◌++◌, count_by, flat_map, fold, if◌then◌else◌, IsTrue, IsFalse, AllPairs, map, filter}
 use Rattle.region_config.specs.dcd_base.specs.declared.steps.Stamp.{Stamp}
 use Rattle.journal_core.specs.declared.acts.Act.{Act}
 use Rattle.journal_core.specs.declared.entries.Entry.{Entry}
@@ -18,6 +18,10 @@ has_stamp s e = (e.stamp.number == s.number) && (e.stamp.count == s.count)
 abbrev pub Rising : List Entry → Type 0
 Rising journal = AllPairs (λ (e f : Entry). IsFalse (is_later e.stamp f.stamp)) journal
 
+-- The stamps of each list rise.
+abbrev pub AllRise : List (List Entry) → Type 0
+AllRise lists = All Rising lists
+
 -- an entry goes behind all whose stamp is not later
 abbrev pub insert_entry : Entry → List Entry → List Entry
 insert_entry e [] = e ∷ []
@@ -32,6 +36,7 @@ in_order entries = fold (λ journal e. insert_entry e journal) [] entries
 abbrev pub merged : List Entry → List (List Entry) → List Entry
 merged control shards = in_order (control ++ flat_map (λ entries. entries) shards)
 
+-- how many commands and scrubs there are
 abbrev pub commands_in : List Entry → ℕ
 commands_in journal = count_by (λ (e : Entry). is_control e.act) journal
 
@@ -56,6 +61,7 @@ pub record Call : Type 0 where
   pub reply : Reply
   pub stamp : Stamp
 
+-- the call that an entry is of its pass
 abbrev pub call_of : Entry → Call
 call_of e = record { line = e.line; act = e.act; reply = e.reply; stamp = e.stamp }
 

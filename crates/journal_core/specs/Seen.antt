@@ -13,10 +13,11 @@ kind_of (Act.Load dpa) = ActKind.Load
 kind_of (Act.Store dpa value) = ActKind.Store
 kind_of (Act.Scrub most) = ActKind.Scrub
 
--- the response and the reply that are seen
+-- the response that is seen
 abbrev pub seen_response : ResponseSeen → Response
 seen_response r = record { tag = r.tag; opcode = r.opcode; code = r.code; payload = r.payload.now }
 
+-- the reply that is seen
 abbrev pub seen_reply : ReplySeen → Reply
 seen_reply (ReplySeen.Answer r) = Reply.Answer (seen_response r)
 seen_reply (ReplySeen.Word word) = Reply.Word word

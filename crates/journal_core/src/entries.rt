@@ -3,7 +3,6 @@
 ghost use Rattle.std.specs.Prelude.{◌≡◌, IfOk};
 
 use crate::acts::{Act, Reply};
-use crate::entry_effects::EntryEffects;
 use crate::outcome::Effect;
 use region_config::dcd_base::{Actor, Duplicate, NoMemory, Seq, Stamp};
 use std::alloc::Global;
@@ -19,7 +18,7 @@ pub struct Entry {
     pub act: Act,
     pub reply: Reply,
     /// What it changed, in order. A load or a store has no effects.
-    pub effects: EntryEffects,
+    pub effects: Effects,
     /// When it happened, relative to the others.
     pub stamp: Stamp,
 }

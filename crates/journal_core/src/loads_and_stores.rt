@@ -2,15 +2,15 @@
 
 ghost use Rattle.journal_core.specs.Accesses.{access_entry, load_said, stored_unless};
 ghost use Rattle.journal_core.specs.Seen.{kind_of, seen_reply};
-ghost use Rattle.journal_core.specs.Tokens.{without_extents};
 ghost use Rattle.journal_core.specs.declared.acts.Act.{Act};
 ghost use Rattle.std.specs.Prelude.{◌≡◌};
 
 use crate::acts::{Act, Reply};
-use crate::entries::Entry;
-use crate::entry_effects::{EntryEffects, WithoutExtents};
+use crate::entries::{Effects, Entry};
+use crate::outcome::Effect;
 use crate::seen::{ActKind, ReplySeen, StepSeen};
 use region_config::dcd_base::{AccessFault, Actor, HostId, Seq, Stamp};
+use std::alloc::Global;
 use std::marker::Model;
 
 /// What was asked for.
@@ -152,6 +152,15 @@ impl Access {
         }
     }
 
+    /// What it changed, which is nothing.
+    pub fn effects(&self) -> &[Effect]
+        ensures { result.now ≡ self.now.effects }
+    {
+        // An access without its fields would say nothing of its entry.
+        let _kind = self.kind;
+        &[]
+    }
+
     /// When it happened.
     pub fn stamp(&self) -> Stamp
         ensures { result ≡ self.now.stamp }
@@ -160,7 +169,7 @@ impl Access {
     }
 
     /// An entry of its own, with all of this.
-    pub fn entry(&self) -> Entry
+    pub fn entry(&self, alloc: Global) -> Entry
         ensures { result ≡ self.now }
     {
         Entry {
@@ -169,14 +178,14 @@ impl Access {
             actor: self.actor(),
             act: self.act(),
             reply: self.reply(),
-            effects: EntryEffects::none(),
+            effects: Effects::new(alloc),
             stamp: self.stamp,
         }
     }
 
     /// What the line of a printed journal is made of.
     #[inline]
-    pub(crate) fn seen(&self) -> StepSeen<'_>
+    pub fn seen(&self) -> StepSeen<'_>
         ensures line { result.line ≡ self.now.line }
         ensures actor { result.actor ≡ self.now.actor }
         ensures kind { result.kind ≡ kind_of self.now.act }
@@ -188,15 +197,6 @@ impl Access {
             kind: self.act_kind(),
             reply: self.reply_seen(),
         }
-    }
-
-    /// Its effects without extents, which are none.
-    pub(crate) fn effects_without_extents(&self) -> WithoutExtents<'_>
-        ensures { result ≡ without_extents self.now.effects }
-    {
-        // What is seen of it has none.
-        let _kind = self.kind;
-        WithoutExtents::none()
     }
 
     /// What kind of act it is.

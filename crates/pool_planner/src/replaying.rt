@@ -2,14 +2,15 @@
 
 ghost use Rattle.device_plain.specs.device_rules.specs.Legal.{Legal};
 ghost use Rattle.journal_core.specs.Entries.{fits};
-ghost use Rattle.journal_core.specs.Lending.{lent_entry};
+ghost use Rattle.device_plain.specs.kept_journal.specs.Lending.{lent_entry};
 ghost use Rattle.journal_core.specs.Merging.{Rising};
 ghost use Rattle.plan_rules.specs.PlanAlike.{replayed as taken_again, with_act_of};
 ghost use Rattle.std.specs.Prelude.{◌≡◌, [], IfOk, IsTrue, OnOk};
 
 use dcd_base::NoMemory;
 use device_plain::control_core::Control;
-use journal_core::{Act, KeptEntries, Lender, Lent};
+use device_plain::kept_journal::{KeptEntries, Lender, Lent};
+use journal_core::Act;
 use region_config::Config;
 use std::alloc::Global;
 

@@ -13,7 +13,7 @@ use crate::replaying::replayed;
 use dcd_base::{NoMemory, Seq};
 use dcd_codes::Rule;
 use device_plain::control_core::Control;
-use journal_core::KeptEntries;
+use device_plain::kept_journal::KeptEntries;
 use plan_rules::PlanFault;
 use region_config::Config;
 use std::alloc::Global;

@@ -5,3 +5,4 @@ pub use Rattle.control_core
 pub use Rattle.control_core.specs.device_rules
 pub use Rattle.control_core.specs.device_laws
 pub use Rattle.script_codec
+pub use Rattle.control_core.specs.kept_journal

@@ -1,7 +1,7 @@
 //! The lines of entries.
 
 ghost use Rattle.control_core.specs.Deciding.{AreShort, IsShort};
-ghost use Rattle.journal_core.specs.Lending.{lent_entry};
+ghost use Rattle.control_core.specs.kept_journal.specs.Lending.{lent_entry};
 ghost use Rattle.journal_core.specs.Seen.{seen_reply, seen_response};
 ghost use Rattle.journal_core.specs.declared.acts.Reply.{Reply};
 ghost use Rattle.report.specs.Printing.{Puts};
@@ -10,8 +10,9 @@ ghost use Rattle.std.specs.Prelude.{◌≡◌, ◌<◌, ◌^◌, length};
 
 use crate::printing::Printer;
 use cci_codec::response_head;
+use control_core::kept_journal::{Lender, Lent};
 use dcd_base::{AccessFault, Sink};
-use journal_core::{ActKind, Lender, Lent, ReplySeen, ResponseSeen};
+use journal_core::{ActKind, ReplySeen, ResponseSeen};
 
 /// The number of a fault of a load or store.
 fn fault_number(fault: AccessFault) -> u64

@@ -11,8 +11,8 @@ use crate::entry_lines::put_entries;
 use crate::printing::Printer;
 use crate::state_lines::{put_records, put_state};
 use control_core::Control;
+use control_core::kept_journal::Lender;
 use dcd_base::{Failed, Sink};
-use journal_core::Lender;
 
 /// Puts the first line, with the version of the form.
 #[tactic(auto, unfolding(crate::specs::Texts::first_line))]

@@ -16,3 +16,4 @@ pub use Rattle.device_plain.specs.isolation_laws
 pub use Rattle.report
 pub use Rattle.script_gen
 pub use Rattle.script_gen.specs.script_codec
+pub use Rattle.device_plain.specs.kept_journal

@@ -1,7 +1,7 @@
 -- What a run in threads leaves.
 use Rattle.std.specs.Prelude.{◌≡◌, ℕ, List, length}
 use Rattle.journal_core.specs.declared.entries.Entry.{Entry}
-use Rattle.journal_core.specs.Lending.{AllRise}
+use Rattle.journal_core.specs.Merging.{AllRise}
 use Rattle.journal_core.specs.Merging.{merged}
 use Rattle.region_config.specs.Configurations.{Configuration}
 use Rattle.script_gen.specs.script_codec.specs.declared.scripts.Script.{Script}

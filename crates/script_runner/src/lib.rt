@@ -24,7 +24,7 @@ mod whole;
 mod words;
 
 pub use device_plain;
-pub use device_plain::isolation_laws;
+pub use device_plain::{isolation_laws, kept_journal};
 pub use report;
 pub use running::run_in_threads;
 pub use script_gen;

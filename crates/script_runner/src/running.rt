@@ -1,6 +1,6 @@
 //! A script in threads.
 
-ghost use Rattle.journal_core.specs.Lending.{AllRise};
+ghost use Rattle.journal_core.specs.Merging.{AllRise};
 ghost use Rattle.journal_core.specs.Merging.{merged};
 ghost use Rattle.shared_device.specs.ruled_cells.specs.Calls.{seats_of};
 ghost use Rattle.script_gen.specs.script_codec.specs.Scripts.{IsScript, is_sound_line};

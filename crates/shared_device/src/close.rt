@@ -1,6 +1,6 @@
 //! Taking the device apart.
 
-ghost use Rattle.block_shard.specs.journal_core.specs.Lending.{AllRise};
+ghost use Rattle.block_shard.specs.journal_core.specs.Merging.{AllRise};
 ghost use Rattle.block_shard.specs.ruled_cells.specs.Calls.{seats_of};
 ghost use Rattle.shared_device.specs.Closing.{AreAllPasses, IsClosed};
 ghost use Rattle.std.specs.Prelude.{◌≡◌, ◌≤◌, [], IfErr, IfOk, length, map, vec_capacity};

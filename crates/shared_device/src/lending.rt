@@ -2,14 +2,14 @@
 
 ghost use Rattle.control_core.specs.Deciding.{AreShort};
 ghost use Rattle.block_shard.specs.journal_core.specs.Entries.{effects};
-ghost use Rattle.block_shard.specs.journal_core.specs.Lending.{AllRise};
-ghost use Rattle.block_shard.specs.journal_core.specs.Merging.{merged};
+ghost use Rattle.block_shard.specs.journal_core.specs.Merging.{AllRise, merged};
 ghost use Rattle.shared_device.specs.Closing.{IsClosed};
 ghost use Rattle.shared_device.specs.declared.pass.Pass.{Pass};
 ghost use Rattle.std.specs.Prelude.{◌≡◌, ◌+◌, ◌^◌, ◌<◌, ◌≤◌, List, flat_map, length, ℕ};
 
-use block_shard::journal_core::{Accesses, KeptEntries, WholeOfShards, whole_of_shards};
+use block_shard::journal_core::Accesses;
 use control_core::Control;
+use control_core::kept_journal::{KeptEntries, WholeOfShards, whole_of_shards};
 
 /// How many loads and stores the lists have.
 fn count_all(lists: &[Accesses]) -> u64

@@ -1,7 +1,7 @@
 -- What a device of two hosts leaves.
 use Rattle.std.proofs.Common.{◌≡◌, ℕ, List, length, sym, ◌∙◌, ap, subst}
 use Rattle.journal_core.specs.declared.entries.Entry.{Entry}
-use Rattle.journal_core.specs.Lending.{AllRise}
+use Rattle.journal_core.specs.Merging.{AllRise}
 use Rattle.region_config.specs.Configurations.{Configuration}
 use Rattle.shared_device.specs.Closing.{IsClosed}
 use Rattle.shared_device.specs.declared.pass.Pass.{Pass}

@@ -3,7 +3,7 @@ use Rattle.std.specs.Prelude.{◌≡◌, ℕ, ◌<◌, List, length, slice_index
 use Rattle.dcd_base.specs.declared.ids.HostId.{HostId}
 use Rattle.dcd_base.specs.declared.steps.Actor.{Actor}
 use Rattle.journal_core.specs.declared.entries.Entry.{Entry}
-use Rattle.journal_core.specs.Lending.{AllRise}
+use Rattle.journal_core.specs.Merging.{AllRise}
 use Rattle.region_config.specs.Configurations.{Configuration}
 use Rattle.block_shard.specs.ruled_cells.specs.Calls.{seats_of}
 use Rattle.shared_device.specs.Closing.{IsClosed}

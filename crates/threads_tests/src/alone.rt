@@ -3,10 +3,11 @@
 use crate::seeing::{see, see_text};
 use crate::talk::Talk;
 use dcd_base::{Actor, HostId};
-use journal_core::{Act, Entry, Reply, copies};
+use journal_core::{Act, Entry, Reply};
 use region_config::{Config, RegionSpec};
 use script_runner::device_plain::Device;
 use script_runner::isolation_laws::{SoloReply, own_items, solo_replies};
+use script_runner::kept_journal::copies;
 use script_runner::script_gen::generate;
 use std::alloc::Global;
 use std::process::Abort;

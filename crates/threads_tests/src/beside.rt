@@ -172,7 +172,7 @@ fn worked_once<R: Threads + Wait + Abort + Sync>(
     let before = device.play(rt, alloc, lines[0]);
     device.beside(rt, work, &flags);
     let after = device.play(rt, alloc, lines[1]);
-    let ending = end(rt, device, rows);
+    let ending = end(rt, alloc, device, rows);
     Ok(([before?, after?], flags.found(), ending))
 }
 

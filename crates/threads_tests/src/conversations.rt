@@ -23,7 +23,7 @@ fn played_once<R: Abort + Wait>(
 ) -> Result<Outcome, Trouble> {
     let mut device = TwoHosts::start(alloc)?;
     let wrong = device.play(rt, alloc, lines);
-    let ending = end(rt, device, rows);
+    let ending = end(rt, alloc, device, rows);
     Ok((wrong?, ending))
 }
 

@@ -5,9 +5,11 @@ ghost use Rattle.threads_tests.specs.Hosting.{AreRemains};
 use crate::told::{Told, told_by};
 use crate::two_hosts::TwoHosts;
 use dcd_base::{HostId, LogId, NoMemory};
-use journal_core::{Accesses, Entry, Lender, Lent};
+use journal_core::{Accesses, Entry};
+use script_runner::kept_journal::{Lender, Lent};
 use shared_device::control_core::Control;
 use shared_device::lend_journal;
+use std::alloc::Global;
 use std::process::Abort;
 
 /// An entry: its pass, its line, what was told, and its stamp, a number and a count.
@@ -38,23 +40,23 @@ fn row_of(entry: &Entry) -> Row {
 }
 
 /// A copy of an entry. Where memory is wanted it is made once more.
-fn copy_of(entry: &Lent<'_>) -> Option<Entry> {
-    match entry.copy() {
+fn copy_of(alloc: Global, entry: &Lent<'_>) -> Option<Entry> {
+    match entry.copy(alloc) {
         Ok(copy) => Some(copy),
-        Err(NoMemory) => entry.copy().ok(),
+        Err(NoMemory) => entry.copy(alloc).ok(),
     }
 }
 
 /// The row of the next entry.
-fn next_row<J: Lender>(journal: &J) -> Option<Row> {
-    let entry = copy_of(&journal.peek()?)?;
+fn next_row<J: Lender>(alloc: Global, journal: &J) -> Option<Row> {
+    let entry = copy_of(alloc, &journal.peek()?)?;
     Some(row_of(&entry))
 }
 
 /// The first entry that is not that of its row; an entry behind the rows is none.
-fn first_other<J: Lender>(journal: &mut J, rows: &[Row]) -> Option<Row> {
+fn first_other<J: Lender>(alloc: Global, journal: &mut J, rows: &[Row]) -> Option<Row> {
     for row in rows {
-        let next = next_row(journal);
+        let next = next_row(alloc, journal);
         if next != Some(*row) {
             return next;
         }
@@ -64,12 +66,12 @@ fn first_other<J: Lender>(journal: &mut J, rows: &[Row]) -> Option<Row> {
 }
 
 /// What the control and the shards have left.
-fn ending_of(control: &Control, shards: &[Accesses], rows: &[Row]) -> Ending
+fn ending_of(alloc: Global, control: &Control, shards: &[Accesses], rows: &[Row]) -> Ending
     requires { AreRemains control.now.config control.now.entries shards.now }
 {
     let mut journal = lend_journal(control, shards);
     let entries = journal.len();
-    let other = first_other(&mut journal, rows);
+    let other = first_other(alloc, &mut journal, rows);
     (
         other,
         [
@@ -82,7 +84,7 @@ fn ending_of(control: &Control, shards: &[Accesses], rows: &[Row]) -> Ending
 }
 
 /// Takes the device apart, and compares what it leaves with the first rows of its journal.
-pub fn end<R: Abort>(rt: &R, device: TwoHosts, rows: &[Row]) -> Ending {
+pub fn end<R: Abort>(rt: &R, alloc: Global, device: TwoHosts, rows: &[Row]) -> Ending {
     let (control, shards) = closed(rt, device);
-    ending_of(&control, shards.as_slice(), rows)
+    ending_of(alloc, &control, shards.as_slice(), rows)
 }

@@ -2,7 +2,7 @@
 ghost use Rattle.threads_tests.specs.Desks.{desk_reads};
 
 use dcd_base::{Actor, NoMemory, Stamp};
-use journal_core::{Act, Entry, EntryEffects, Journal, Reply};
+use journal_core::{Act, Effects, Entry, Journal, Reply};
 use std::marker::Model;
 use std::sync::Wait;
 use workers::Handler;
@@ -53,7 +53,7 @@ impl Handler for Keeper {
             actor: pass.actor,
             act: act.copy()?,
             reply: Reply::Stored,
-            effects: EntryEffects::none(),
+            effects: Effects::new(pass.entries.allocator()),
             stamp: Stamp {
                 number: 0,
                 count: 1,

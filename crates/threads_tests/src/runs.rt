@@ -12,7 +12,7 @@ use crate::ledger::Ledger;
 use crate::seeing::see;
 use block_shard::ruled_cells::{Busy, Cells, Seat};
 use dcd_base::{Actor, NoMemory, Stamp};
-use journal_core::{Act, Entry, EntryEffects, Journal, Reply};
+use journal_core::{Act, Effects, Entry, Journal, Reply};
 use std::alloc::Global;
 use std::process::Abort;
 use std::sync::Wait;
@@ -38,7 +38,7 @@ fn counter(alloc: Global, index: u32) -> Counter
 }
 
 /// An access of the seat, above both stamps.
-fn access(pass: u32, line: u32, stamp: Stamp) -> Entry
+fn access(alloc: Global, pass: u32, line: u32, stamp: Stamp) -> Entry
     ensures { (result.pass ≡ pass) × (result.actor ≡ Sanitizer) × (is_control result.act ≡ false) × (result.stamp ≡ stamp) }
 {
     Entry {
@@ -47,7 +47,7 @@ fn access(pass: u32, line: u32, stamp: Stamp) -> Entry
         actor: Actor::Sanitizer,
         act: Act::Load(0),
         reply: Reply::Word(0),
-        effects: EntryEffects::none(),
+        effects: Effects::new(alloc),
         stamp,
     }
 }
@@ -65,7 +65,7 @@ fn add(mut counter: Counter, pass: u32, line: u32, seen: Stamp) -> (Counter, Sta
     if counter.value == u64::MAX {
         return (counter, seen);
     }
-    let entry = access(pass, line, stamp);
+    let entry = access(counter.entries.allocator(), pass, line, stamp);
     if counter.entries.push(entry).is_err() {
         return (counter, seen);
     }

@@ -14,13 +14,14 @@ use crate::runs::{Tallies, Worker, closed, made, put_back};
 use crate::seeing::see;
 use block_shard::ruled_cells::Chief;
 use dcd_base::{Actor, Stamp};
-use journal_core::{Act, Entry, EntryEffects, Reply};
+use journal_core::{Act, Effects, Entry, Reply};
+use std::alloc::Global;
 use std::process::Abort;
 use std::sync::Wait;
 use std::test::*;
 
 /// The scrub that names the counter of index 0.
-fn scrub(pass: u32, number: u64) -> Entry
+fn scrub(alloc: Global, pass: u32, number: u64) -> Entry
     ensures { (result.pass ≡ pass) × (result.actor ≡ Sanitizer) × (result.act ≡ Scrub 0) × (result.stamp ≡ stamp number 0) }
 {
     Entry {
@@ -29,7 +30,7 @@ fn scrub(pass: u32, number: u64) -> Entry
         actor: Actor::Sanitizer,
         act: Act::Scrub(0),
         reply: Reply::Scrubbed(0),
-        effects: EntryEffects::none(),
+        effects: Effects::new(alloc),
         stamp: Stamp { number, count: 0 },
     }
 }
@@ -94,7 +95,8 @@ fn run<R: Wait>(rt: &R, cells: &Tallies, seat: &mut Worker) -> bool
     if counter.value == u64::MAX {
         return give_up(cells, seat, ledger, counter);
     }
-    if !enter(&mut ledger, scrub(seat.number(), number)) {
+    let entry = scrub(ledger.entries.allocator(), seat.number(), number);
+    if !enter(&mut ledger, entry) {
         return give_up(cells, seat, ledger, counter);
     }
     finish(cells, seat, ledger, counter);

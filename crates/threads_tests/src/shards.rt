@@ -11,7 +11,7 @@ use block_shard::{Shard, touches};
 use dcd_base::{
     AccessFault, Actor, Change, Changes, Granule, HostId, NoMemory, Place, Run, Stamp, shard_of,
 };
-use journal_core::{Access, Act, Effect, Effects, Entry, EntryEffects, Journal, Reply, merge};
+use journal_core::{Access, Act, Effect, Effects, Entry, Journal, Reply, merge};
 use media_map::locate;
 use region_config::{Config, ConfigFault, RegionSpec};
 use std::alloc::Global;
@@ -209,7 +209,7 @@ fn a_shard_answers_by_its_own_holders_words_and_clock(rt: HostRuntime) -> Result
 fn journal_of(alloc: Global, accesses: &[Access]) -> Result<Journal, Fail> {
     let mut journal = Journal::new(alloc);
     for access in accesses {
-        journal.push(access.entry())?;
+        journal.push(access.entry(alloc))?;
     }
     Ok(journal)
 }
@@ -257,14 +257,14 @@ fn two_shards(alloc: Global) -> Result<Vec<Journal>, Fail> {
 }
 
 /// A scrub with this number, in line 9.
-fn scrub(number: u64) -> Entry {
+fn scrub(alloc: Global, number: u64) -> Entry {
     Entry {
         pass: 3,
         line: 9,
         actor: Actor::Sanitizer,
         act: Act::Scrub(0),
         reply: Reply::Scrubbed(0),
-        effects: EntryEffects::none(),
+        effects: Effects::new(alloc),
         stamp: stamp(number, 0),
     }
 }
@@ -272,8 +272,8 @@ fn scrub(number: u64) -> Entry {
 /// Two scrubs.
 fn two_scrubs(alloc: Global) -> Result<Journal, Fail> {
     let mut control = Journal::new(alloc);
-    control.push(scrub(1))?;
-    control.push(scrub(2))?;
+    control.push(scrub(alloc, 1))?;
+    control.push(scrub(alloc, 2))?;
     Ok(control)
 }
 
@@ -322,8 +322,8 @@ fn with_effect(alloc: Global, effect: Effect) -> Result<Entry, NoMemory> {
     let mut effects = Effects::new(alloc);
     effects.push(effect)?;
     Ok(Entry {
-        effects: EntryEffects::of(&effects)?,
-        ..scrub(1)
+        effects,
+        ..scrub(alloc, 1)
     })
 }
 

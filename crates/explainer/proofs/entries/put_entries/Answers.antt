@@ -1,6 +1,6 @@
 use Rattle.std.proofs.Common.{◌++◌, sym, ap, ◌∙◌}
 use Rattle.std.specs.List.{flat_map}
-use Rattle.journal_core.specs.Lending.{lent, lent_entry}
+use Rattle.journal_check.specs.kept_journal.specs.Lending.{lent, lent_entry}
 use Rattle.explainer.specs.Explanations.{entry_explained}
 use Rattle.explainer.proofs.Lists.{entries_done, entry_more}
 use Rattle.explainer.proofs.entries.put_entries.Goals as goal

@@ -1,6 +1,6 @@
 use Rattle.std.proofs.Common.{◌∙◌, ap, subst, sym}
 use Rattle.std.proofs.lemmas.Option.{none-some, same_Some}
-use Rattle.journal_core.specs.Lending.{lent, lent_entry}
+use Rattle.device_plain.specs.kept_journal.specs.Lending.{lent, lent_entry}
 use Rattle.journal_core.specs.declared.entries.Entry.{Entry}
 use Rattle.host_driver.specs.Spelling.{AreSpelledIn}
 use Rattle.host_driver.proofs.Spelled.{spelled_alone}

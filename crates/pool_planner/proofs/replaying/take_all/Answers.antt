@@ -3,9 +3,9 @@ use Rattle.std.specs.Prelude.{IsTrue}
 use Rattle.std.proofs.lemmas.List.Sums.{fold_push}
 use Rattle.region_config.specs.Configurations.{Configuration}
 use Rattle.journal_core.specs.Entries.{fits}
-use Rattle.journal_core.specs.Lending.{lent, lent_entry}
+use Rattle.device_plain.specs.kept_journal.specs.Lending.{lent, lent_entry}
 use Rattle.journal_core.specs.declared.entries.Entry.{Entry}
-use Rattle.journal_core.proofs.Lists.{next_has, one_more_done}
+use Rattle.device_plain.specs.kept_journal.proofs.Lists.{next_has, one_more_done}
 use Rattle.plan_rules.specs.PlanAlike.{with_act_of}
 use Rattle.pool_planner.proofs.TakenAgain.{all_fit}
 use Rattle.pool_planner.proofs.replaying.take_all.Goals as goal

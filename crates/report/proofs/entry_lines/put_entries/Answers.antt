@@ -3,8 +3,8 @@ use Rattle.std.specs.List.{enumerate_from}
 use Rattle.std.proofs.lemmas.List.{length_push}
 use Rattle.control_core.specs.Deciding.{IsShort}
 use Rattle.journal_core.specs.declared.entries.Entry.{Entry}
-use Rattle.journal_core.specs.Lending.{lent, lent_entry}
-use Rattle.journal_core.proofs.Lists.{next_has, one_more_done}
+use Rattle.control_core.specs.kept_journal.specs.Lending.{lent, lent_entry}
+use Rattle.control_core.specs.kept_journal.proofs.Lists.{next_has, one_more_done}
 use Rattle.report.specs.Texts.{entry_line}
 use Rattle.report.proofs.Parts.{entries_push, prints_each}
 use Rattle.report.proofs.entry_lines.put_entries.Goals as goal

@@ -1,6 +1,6 @@
 use Rattle.std.proofs.Common.{List, sym, subst}
 use Rattle.block_shard.specs.journal_core.specs.declared.entries.Entry.{Entry}
-use Rattle.block_shard.specs.journal_core.specs.Lending.{AllRise}
+use Rattle.block_shard.specs.journal_core.specs.Merging.{AllRise}
 use Rattle.block_shard.specs.ruled_cells.specs.Calls.{AccountFor, AreAll, seats_of}
 use Rattle.block_shard.specs.shard_laws.specs.Right.{stripe_reads}
 use Rattle.shared_device.specs.Closing.{IsClosed}

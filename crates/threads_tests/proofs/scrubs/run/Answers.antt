@@ -28,10 +28,10 @@ returns-then-not-enter-clause-turns g c = both_again _ _ _ _ _ _ c.requires.idle
 pub finish-requires-clause-ledger : goal.finish-requires-clause-ledger
 finish-requires-clause-ledger g c =
     let took = c.take-counter.ensures.turn in
-    let s = c.scrub.ensures in
-    let pushed : c.enter.new.ledger ≡ c.take_first-ledger.result ++ c.scrub.result ∷ [] = search rules in
+    let s = c.scrub-entry.ensures in
+    let pushed : c.enter.new.ledger ≡ c.take_first-ledger.result ++ c.scrub-entry.result ∷ [] = search rules in
     let first = still_there (turns_of c.take_first-ledger.new.seat) (turns_of c.take-counter.new.seat) 1 0 _ _ took.0 (λ e. omega (arith, e)) c.take_first-ledger.ensures.turn.1 in
-    (c.take_first-ledger.result, c.scrub.result, first, pushed, s.2, search rules, search rules, search rules)
+    (c.take_first-ledger.result, c.scrub-entry.result, first, pushed, s.2, search rules, search rules, search rules)
 
 pub returns-clause-turns : goal.returns-clause-turns
 returns-clause-turns g c = both_again _ _ _ _ _ _ c.requires.idle.0 c.take_first-ledger.ensures.turn.0 c.take-counter.ensures.turn.0 c.finish.ensures.turns

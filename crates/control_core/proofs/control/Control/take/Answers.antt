@@ -1,8 +1,8 @@
 use Rattle.std.proofs.Common.{◌≡◌, List, ap, sym, subst, ◌∙◌}
-use Rattle.journal_core.specs.Keeping.{next_stamp}
+use Rattle.journal_core.specs.Entries.{next_stamp}
 use Rattle.journal_core.specs.declared.entries.Entry.{Entry}
 use Rattle.device_commands.specs.device_rules.specs.Legal.{Meets}
-use Rattle.control_core.specs.Deciding.{Holds, IsShort}
+use Rattle.control_core.specs.Deciding.{Holds}
 use Rattle.control_core.specs.Steps.{Controlled}
 use Rattle.control_core.proofs.Entering.{holds_next, past_held}
 use Rattle.control_core.proofs.NextEntry.{is_next_meets}
@@ -12,30 +12,27 @@ pub enter-requires-clause-step : goal.enter-requires-clause-step
 enter-requires-clause-step c =
     let live = c.self.inside.live in
     let before = c.self.inside.entries.entries in
-    let e = c.entry.inside.entry in
-    let meets = subst (λ (x : Entry). Meets live.config before x) (sym c.entry.view_is)
-    (subst (λ (d : Controlled). Meets d.config d.entries c.args.entry) (sym c.self.view_is) (is_next_meets c.args.self.now c.args.entry c.requires.next)) in
+    let e = c.args.entry in
+    let meets = subst (λ (d : Controlled). Meets d.config d.entries e) (sym c.self.view_is) (is_next_meets c.args.self.now e c.requires.next) in
     record {
       past = before;
       entry = e;
       leads = past_held live.config before live.state c.self.invariant;
       meets = meets;
-      effects_are = sym (c.as_slice.ensures ∙ c.entry.invariant);
+      effects_are = sym (c.as_slice.ensures ∙ ap (λ (x : Entry). x.effects) c.get.ensures);
     }
 
 pub invariant_of-self : goal.invariant_of-self
 invariant_of-self c =
     let live = c.self.inside.live in
     let before = c.self.inside.entries.entries in
-    let e = c.entry.inside.entry in
-    let meets = subst (λ (x : Entry). Meets live.config before x) (sym c.entry.view_is)
-    (subst (λ (d : Controlled). Meets d.config d.entries c.args.entry) (sym c.self.view_is) (is_next_meets c.args.self.now c.args.entry c.requires.next)) in
-    let stamp : e.stamp ≡ next_stamp before = ap (λ (x : Entry). x.stamp) (c.entry.view_is ∙ c.requires.next.is) ∙ ap (λ (d : Controlled). next_stamp d.entries) (sym c.self.view_is) in
-    let short = subst (λ (x : Entry). IsShort x.reply) (sym c.entry.view_is) c.requires.short in
-    let are : e.effects ≡ c.as_slice.result.now = sym (c.as_slice.ensures ∙ c.entry.invariant) in
+    let e = c.args.entry in
+    let meets = subst (λ (d : Controlled). Meets d.config d.entries e) (sym c.self.view_is) (is_next_meets c.args.self.now e c.requires.next) in
+    let stamp : e.stamp ≡ next_stamp before = ap (λ (x : Entry). x.stamp) c.requires.next.is ∙ ap (λ (d : Controlled). next_stamp d.entries) (sym c.self.view_is) in
+    let are : e.effects ≡ c.as_slice.result.now = sym (c.as_slice.ensures ∙ ap (λ (x : Entry). x.effects) c.get.ensures) in
     subst (λ (es : List Entry). Holds c.enter.new.self.config es c.enter.new.self.state) (sym c.push_reserved.ensures.pushed)
-    (holds_next live c.enter.new.self before c.self.invariant e meets stamp short c.as_slice.result.now are c.enter.ensures.entered)
+    (holds_next live c.enter.new.self before c.self.invariant e meets stamp c.requires.short c.as_slice.result.now are c.enter.ensures.entered)
 
 pub push_reserved-requires-clause-stamp : goal.push_reserved-requires-clause-stamp
 push_reserved-requires-clause-stamp c =
-    ap (λ (x : Entry). x.stamp) (c.entry.view_is ∙ c.requires.next.is) ∙ ap (λ (d : Controlled). next_stamp d.entries) (sym c.self.view_is)
+    ap (λ (x : Entry). x.stamp) c.requires.next.is ∙ ap (λ (d : Controlled). next_stamp d.entries) (sym c.self.view_is)

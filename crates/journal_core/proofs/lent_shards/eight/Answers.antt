@@ -1,6 +1,0 @@
-use Rattle.std.proofs.Common.{◌∙◌}
-use Rattle.journal_core.proofs.Parts.{pair_of_parts}
-use Rattle.journal_core.proofs.lent_shards.eight.Goals as goal
-
-pub returns : goal.returns
-returns c = c.new.ensures ∙ pair_of_parts c.args.lists.now c.args.at 4 c.four.result c.four-2.result c.four.ensures c.four-2.ensures

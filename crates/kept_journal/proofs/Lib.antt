@@ -1,0 +1,10 @@
+pub mod CoderChanges
+pub mod CoderSteps
+pub mod EventSlots
+pub mod Gathered
+pub mod Keepings
+pub mod Lists
+pub mod Pairs
+pub mod Parts
+pub mod Slotting
+pub mod StepBytes

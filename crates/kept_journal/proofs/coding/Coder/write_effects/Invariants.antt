@@ -1,0 +1,9 @@
+use Rattle.std.proofs.Common.{take}
+use Rattle.std.specs.Prelude.{flat_map}
+use Rattle.kept_journal.specs.Coding.{CodesTo}
+use Rattle.kept_journal.specs.Slots.{slots_in}
+use Rattle.kept_journal.specs.Tokens.{tokens_of}
+use Rattle.kept_journal.proofs.coding.Coder.write_effects.Given as goal
+
+abbrev pub invariant-loop-effect : goal.invariant-loop-effect
+invariant-loop-effect l = CodesTo l.fn.self l.self (slots_in l.self.slots) (flat_map tokens_of (take l.effect-index l.effects))

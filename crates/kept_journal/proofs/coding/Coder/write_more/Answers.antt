@@ -1,0 +1,11 @@
+use Rattle.kept_journal.specs.Slots.{slots_in}
+use Rattle.kept_journal.specs.declared.slots.TheConstants.{MORE}
+use Rattle.kept_journal.specs.Tokens.{token_of}
+use Rattle.kept_journal.specs.declared.tokens.Token.{Token}
+use Rattle.kept_journal.proofs.CoderSteps.{codes_ended}
+use Rattle.kept_journal.proofs.coding.Coder.write_more.Goals as goal
+
+pub returns : goal.returns
+unfolding token_of
+returns c =
+    codes_ended MORE _ c.set_extent.ensures.slots (λ i. Token.More (c.set_extent.ensures.back (slots_in c.args.self.now.slots) i)) c.set_extent.ensures.coded c.end.ensures.coded

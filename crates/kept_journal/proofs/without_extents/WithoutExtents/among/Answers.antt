@@ -1,0 +1,12 @@
+use Rattle.std.proofs.Common.{List, ◌++◌, ap, append-nil, ◌∙◌}
+use Rattle.std.specs.Prelude.{filter_map}
+use Rattle.kept_journal.specs.Slots.{no_slots}
+use Rattle.kept_journal.specs.Tokens.{effect_alone, without_extents}
+use Rattle.kept_journal.specs.declared.tokens.Token.{Token}
+use Rattle.kept_journal.proofs.CoderSteps.{nothing_told}
+use Rattle.kept_journal.proofs.without_extents.WithoutExtents.among.Goals as goal
+
+pub returns : goal.returns
+returns c =
+    ap (λ (tokens : List Token). without_extents c.args.effects.now ++ filter_map effect_alone tokens) (c.new.ensures ∙ nothing_told no_slots)
+    ∙ append-nil (without_extents c.args.effects.now)
