@@ -1,0 +1,4 @@
+pub mod Ends
+pub mod Meanings
+pub mod Runs
+pub mod Settling
