@@ -5,7 +5,6 @@ pub mod FabricLaws
 pub mod FabricLineLaws
 pub mod FabricLists
 pub mod Fronts
-pub mod NoWords
 pub mod Printed
 pub mod Worlds
 pub mod Wrapping

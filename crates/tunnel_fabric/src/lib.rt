@@ -23,6 +23,7 @@ mod rules;
 mod running;
 mod status;
 mod stepping;
+mod texts;
 
 pub use fabric_lines::{FabricLine, FabricLines};
 pub use fabric_scripts::{Configs, FabricScript};

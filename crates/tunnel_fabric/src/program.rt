@@ -1,27 +1,95 @@
 //! The top call.
 
-ghost use Rattle.dcd_base.specs.Streams.{HasRisen, IsAtEnd};
-ghost use Rattle.edge_io.specs.Words.{words_of};
-ghost use Rattle.std.specs.List.{All};
-ghost use Rattle.std.specs.Prelude.{◌≡◌, ◌≢◌, ◌≤◌, [], length};
-ghost use Rattle.tunnel_fabric.specs.Planning.{FabricEndsBy, FabricEndsFor, FabricEndsOn, FabricEndsRefused, FabricEndsWith, IsFabricBegun, IsFabricRunSoundly, IsFabricWritten};
-ghost use Rattle.tunnel_fabric.specs.Printing.{fabric_text};
-ghost use Rattle.tunnel_fabric.specs.Sending.{CanRun, IsShortReply};
-ghost use Rattle.tunnel_fabric.specs.Statuses.{IfFabricWhole, OnFabricDone, OnFabricNothing, OnFabricReadFault, OnFabricWriteFault, UnlessFabricFinished};
+ghost use Rattle.program_frame.specs.Meanings.{Decides};
+ghost use Rattle.program_frame.specs.Runs.{Ran};
+ghost use Rattle.std.specs.Prelude.{◌≡◌, ◌≤◌, IfOk, length};
+ghost use Rattle.tunnel_fabric.specs.Planning.{HasFewDevices, IsTextOfRun, bytes_of, fabric_program};
+ghost use Rattle.tunnel_fabric.specs.Printing.{fabric_refusal, fabric_usage_line};
+ghost use Rattle.tunnel_fabric.specs.Sending.{CanRun};
+ghost use Rattle.tunnel_fabric.specs.declared.texts.FabricText.{FabricText};
 ghost use Rattle.tunnel_fabric.specs.declared.status.FabricStatus.{FabricStatus};
 
-use crate::fabrics::Fabric;
 use crate::printing::{print_fabric, reply_lines};
-use crate::refusals::{refusal, usage};
+use crate::refusals::refusal;
 use crate::running::run_lines;
 use crate::status::FabricStatus;
+use crate::texts::FabricText;
 use crate::{FabricFault, FabricScript, read_fabric};
 use dcd_base::{Bytes, Failed, NoMemory, Sink, Source, write_all};
-use edge_io::{ReadEnd, read_all};
+use program_frame::{Program, Stop, no_words, run};
 use std::alloc::Global;
 
 /// The most bytes that a fabric has.
 const MOST_BYTES: usize = 16_777_216;
+
+/// The program.
+#[derive(Clone, Copy, Debug, PartialEq, Eq)]
+struct Tunnels;
+
+impl Program for Tunnels {
+    ghost use Rattle.tunnel_fabric.specs.Planning.{HasFewDevices, bytes_of, fabric_program};
+
+    type Task = ();
+
+    type Status = FabricStatus;
+
+    type Text = FabricText;
+
+    ghost means = { λ _. fabric_program };
+
+    ghost bytes = { bytes_of };
+
+    ghost ready = { HasFewDevices };
+
+    fn asked(&self, words: &[String]) -> Option<()> {
+        no_words(words)
+    }
+
+    #[tactic(auto, unfolding(crate::specs::Printing::fabric_usage_line))]
+    fn usage(&self) -> &[u8] {
+        b"usage: tunnel_fabric\n".as_slice()
+    }
+
+    fn most(&self, _task: &()) -> Option<usize> {
+        Some(MOST_BYTES)
+    }
+
+    #[tactic(auto, using(crate::proofs::FabricEndings::all_decide, crate::proofs::FabricEndings::all_short))]
+    fn decide(
+        &self,
+        alloc: Global,
+        _task: (),
+        input: Bytes,
+    ) -> Result<(FabricStatus, FabricText), NoMemory> {
+        decide(alloc, input.as_slice())
+    }
+
+    fn decide_long(
+        &self,
+        alloc: Global,
+        _task: (),
+    ) -> Result<(FabricStatus, FabricText), NoMemory> {
+        refused(alloc, FabricFault::TooLong)
+    }
+
+    fn print<K: Sink>(&self, text: &FabricText, sink: &mut K) -> Result<(), Failed> {
+        match text {
+            FabricText::Ran { lines, fabric } => {
+                print_fabric(lines.as_slice(), fabric.devices(), sink)
+            }
+            FabricText::Line(line) => write_all(sink, line.as_slice()),
+        }
+    }
+
+    fn stopped(&self, stop: Stop) -> FabricStatus {
+        match stop {
+            Stop::Usage => FabricStatus::Usage,
+            Stop::NoMemory => FabricStatus::NoMemory,
+            Stop::ReadFault => FabricStatus::ReadFault,
+            Stop::WriteFault => FabricStatus::WriteFault,
+        }
+    }
+}
 
 /// Runs the fabric that is left in the source, and writes the replies to its messages to the tunnel and the text of each device,
 /// or one line that says why not. No words are taken.
@@ -34,83 +102,41 @@ pub fn run_fabric<S: Source, K: Sink>(
     source: &mut S,
     sink: &mut K,
 ) -> FabricStatus
-    ensures written { IfFabricWhole result (IsFabricWritten (words_of words.now) (S.left source.old) (K.taken sink.old) (K.taken sink.new)) }
-    ensures begun { OnFabricWriteFault result (IsFabricBegun (words_of words.now) (S.left source.old) (K.taken sink.old) (K.taken sink.new)) }
-    ensures nothing { OnFabricNothing result (K.taken sink.new ≡ K.taken sink.old) }
-    ensures to_the_end { OnFabricDone result (IsAtEnd (S.left source.new)) }
-    ensures untouched { words_of words.now ≢ [] → source.new ≡ source.old }
-    ensures read_fault { OnFabricReadFault result (HasRisen (S.faults source.old) (S.faults source.new)) }
-    ensures write_fault { OnFabricWriteFault result (HasRisen (K.faults sink.old) (K.faults sink.new)) }
-    ensures complete { UnlessFabricFinished result (¬ IsFabricRunSoundly (words_of words.now) S.left S.faults K.faults source.old source.new sink.old sink.new) }
+    ensures { Ran fabric_program words.now S.left S.faults K.taken K.faults source.old source.new sink.old sink.new result }
 {
-    if words.is_empty() {
-        return run_source(alloc, source, sink);
-    }
-    match usage(sink) {
-        Ok(()) => FabricStatus::Usage,
-        Err(Failed) => FabricStatus::WriteFault,
+    run(&Tunnels, alloc, words, source, sink)
+}
+
+/// How a run over an input ends, and what is printed.
+#[tactic(auto, using(crate::proofs::FabricEndings::can_run, crate::proofs::FabricEndings::ran_decided))]
+fn decide(alloc: Global, input: &[u8]) -> Result<(FabricStatus, FabricText), NoMemory>
+    requires { length input.now ≤ 16777216 }
+    ensures decides { IfOk result (λ end. Decides fabric_program tt input.now end.0 (bytes_of end.1)) }
+    ensures ready { IfOk result (λ end. HasFewDevices end.1) }
+{
+    match read_fabric(alloc, input) {
+        Ok(script) => ran(alloc, script),
+        Err(FabricFault::NoMemory) => Err(NoMemory),
+        Err(fault) => refused(alloc, fault),
     }
 }
 
-/// Runs what is left in the source, up to one byte more than a fabric may have.
-fn run_source<S: Source, K: Sink>(alloc: Global, source: &mut S, sink: &mut K) -> FabricStatus
-    ensures ends { FabricEndsBy (S.left source.old) (S.left source.new) (K.taken sink.old) (K.faults sink.old) (K.taken sink.new) (K.faults sink.new) result }
-    ensures read_fault { OnFabricReadFault result (HasRisen (S.faults source.old) (S.faults source.new)) }
+/// The line on the first fault of an input.
+fn refused(alloc: Global, fault: FabricFault) -> Result<(FabricStatus, FabricText), NoMemory>
+    ensures { IfOk result (λ end. end ≡ (FabricStatus.Refused fault, FabricText.Line (fabric_refusal fault))) }
 {
-    match read_all(alloc, source, MOST_BYTES) {
-        Ok(input) => run_input(alloc, input, sink),
-        Err(ReadEnd::TooLong) => refused(alloc, FabricFault::TooLong, sink),
-        Err(ReadEnd::ReadFault) => FabricStatus::ReadFault,
-        Err(ReadEnd::NoMemory) => FabricStatus::NoMemory,
-    }
+    let line = refusal(alloc, &fault)?;
+    Ok((FabricStatus::Refused(fault), FabricText::Line(line)))
 }
 
-/// Runs the fabric that the input is, or writes the line on its first fault.
-fn run_input<K: Sink>(alloc: Global, input: Bytes, sink: &mut K) -> FabricStatus
-    ensures { FabricEndsFor input (K.taken sink.old) (K.faults sink.old) (K.taken sink.new) (K.faults sink.new) result }
-{
-    match read_fabric(alloc, input.as_slice()) {
-        Ok(script) => run_script(alloc, script, sink),
-        Err(FabricFault::NoMemory) => FabricStatus::NoMemory,
-        Err(fault) => refused(alloc, fault, sink),
-    }
-}
-
-/// Writes the line on the first fault of an input.
-fn refused<K: Sink>(alloc: Global, fault: FabricFault, sink: &mut K) -> FabricStatus
-    ensures { FabricEndsRefused fault (K.taken sink.old) (K.faults sink.old) (K.taken sink.new) (K.faults sink.new) result }
-{
-    match refusal(alloc, &fault) {
-        Ok(line) => match write_all(sink, line.as_slice()) {
-            Ok(()) => FabricStatus::Refused(fault),
-            Err(Failed) => FabricStatus::WriteFault,
-        },
-        Err(NoMemory) => FabricStatus::NoMemory,
-    }
-}
-
-/// Runs the lines of a fabric, and writes what is told of it.
-fn run_script<K: Sink>(alloc: Global, script: FabricScript, sink: &mut K) -> FabricStatus
+/// The text of a run of the fabric.
+fn ran(alloc: Global, script: FabricScript) -> Result<(FabricStatus, FabricText), NoMemory>
     requires { CanRun script }
-    ensures { FabricEndsOn script (K.taken sink.old) (K.faults sink.old) (K.taken sink.new) (K.faults sink.new) result }
+    ensures done { IfOk result (λ end. end.0 ≡ FabricStatus.Done) }
+    ensures text { IfOk result (λ end. IsTextOfRun script end.1) }
+    ensures ready { IfOk result (λ end. HasFewDevices end.1) }
 {
-    match run_lines(alloc, &script) {
-        Ok(fabric) => print(alloc, &fabric, sink),
-        Err(NoMemory) => FabricStatus::NoMemory,
-    }
-}
-
-/// Writes the replies to the messages to the tunnel and the texts of all devices.
-fn print<K: Sink>(alloc: Global, fabric: &Fabric, sink: &mut K) -> FabricStatus
-    requires short { All IsShortReply fabric.now.replies }
-    requires few { length fabric.now.devices ≤ 8 }
-    ensures { FabricEndsWith FabricStatus.Done (fabric_text fabric.now) (K.taken sink.old) (K.faults sink.old) (K.taken sink.new) (K.faults sink.new) result }
-{
-    match reply_lines(alloc, fabric.replies().as_slice()) {
-        Ok(lines) => match print_fabric(lines.as_slice(), fabric.devices(), sink) {
-            Ok(()) => FabricStatus::Done,
-            Err(Failed) => FabricStatus::WriteFault,
-        },
-        Err(NoMemory) => FabricStatus::NoMemory,
-    }
+    let fabric = run_lines(alloc, &script)?;
+    let lines = reply_lines(alloc, fabric.replies().as_slice())?;
+    Ok((FabricStatus::Done, FabricText::Ran { lines, fabric }))
 }

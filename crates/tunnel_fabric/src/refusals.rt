@@ -1,12 +1,11 @@
-//! The lines on fabrics and words that are refused.
+//! The line on a fabric that is refused.
 
-ghost use Rattle.dcd_base.specs.Streams.{HasRisen, Passes};
-ghost use Rattle.std.specs.Prelude.{◌≡◌, ◌++◌, [], IfOk, List, OnErr, OnOk, decimal, ℕ};
-ghost use Rattle.tunnel_fabric.specs.Printing.{fabric_fault_number, fabric_fault_place, fabric_refusal, fabric_usage_line};
+ghost use Rattle.std.specs.Prelude.{◌≡◌, ◌++◌, IfOk, decimal};
+ghost use Rattle.tunnel_fabric.specs.Printing.{fabric_fault_number, fabric_fault_place, fabric_refusal};
 
 use crate::FabricFault;
 use crate::printing::put_number;
-use dcd_base::{Bytes, Failed, NoMemory, Sink, write_all};
+use dcd_base::{Bytes, NoMemory};
 use std::alloc::Global;
 
 /// The number of a fabric's fault, 0 for want of memory.
@@ -62,14 +61,4 @@ pub(crate) fn refusal(alloc: Global, fault: &FabricFault) -> Result<Bytes, NoMem
     put_number(&mut line, place_of(fault))?;
     line.push(b'\n')?;
     Ok(line)
-}
-
-/// Writes the line that says that no words are taken.
-#[tactic(auto, unfolding(crate::specs::Printing::fabric_usage_line))]
-pub(crate) fn usage<K: Sink>(sink: &mut K) -> Result<(), Failed>
-    ensures whole { OnOk result (Passes (K.taken sink.old) (K.taken sink.new) [] fabric_usage_line) }
-    ensures front { OnErr result ((rest : List ℕ) × Passes (K.taken sink.old) (K.taken sink.new) rest fabric_usage_line) }
-    ensures failed { OnErr result (HasRisen (K.faults sink.old) (K.faults sink.new)) }
-{
-    write_all(sink, b"usage: tunnel_fabric\n")
 }

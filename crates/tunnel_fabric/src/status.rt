@@ -1,9 +1,11 @@
 //! How a run of a fabric ends.
 
+ghost use Rattle.program_frame.specs.Ends.{number_of};
 ghost use Rattle.std.specs.Prelude.{◌≡◌};
-ghost use Rattle.tunnel_fabric.specs.Statuses.{fabric_status_number};
+ghost use Rattle.tunnel_fabric.specs.Statuses.{fabric_end};
 
 use crate::FabricFault;
+use program_frame::End;
 
 /// How a run of a fabric ends.
 #[derive(Clone, Copy, Debug, PartialEq, Eq)]
@@ -23,17 +25,24 @@ pub enum FabricStatus {
 }
 
 impl FabricStatus {
-    /// The exit status of the program.
-    pub fn number(self) -> u8
-        ensures { result ≡ fabric_status_number self }
+    /// Which end it is.
+    pub fn end(self) -> End
+        ensures { result ≡ fabric_end self }
     {
         match self {
-            FabricStatus::Done => 0,
-            FabricStatus::Usage => 2,
-            FabricStatus::Refused(_) => 3,
-            FabricStatus::NoMemory => 4,
-            FabricStatus::ReadFault => 5,
-            FabricStatus::WriteFault => 6,
+            FabricStatus::Done => End::Done,
+            FabricStatus::Usage => End::Usage,
+            FabricStatus::Refused(_) => End::Refused,
+            FabricStatus::NoMemory => End::NoMemory,
+            FabricStatus::ReadFault => End::ReadFault,
+            FabricStatus::WriteFault => End::WriteFault,
         }
+    }
+
+    /// The exit status of the program.
+    pub fn number(self) -> u8
+        ensures { result ≡ number_of (fabric_end self) }
+    {
+        self.end().number()
     }
 }

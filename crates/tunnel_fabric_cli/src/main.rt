@@ -1,8 +1,9 @@
 //! `tunnel_fabric`: reads a fabric from standard input, runs its lines on the devices behind the tunnel, and prints the replies to
-//! the messages to the tunnel and the text of each device.
+//! the messages to the tunnel and the text of each device. Where it ends otherwise, it says on standard error why.
 #![tactic(auto)]
 
 use edge_io::{StdSink, StdSource, words};
+use program_frame::{FAULT_PRINTED, leave};
 use std::process::ExitCode;
 use tunnel_fabric::{FabricStatus, run_fabric};
 
@@ -16,5 +17,5 @@ fn main(rt: HostRuntime) -> ExitCode {
         }
         Err(_) => FabricStatus::NoMemory,
     };
-    ExitCode::from(status.number())
+    leave(&rt, "tunnel_fabric", status.end(), FAULT_PRINTED)
 }
