@@ -1,9 +1,8 @@
 -- How a run of the planner ends: what is to be written, by its status.
-use Rattle.std.specs.Prelude.{◌≡◌, ◌≢◌, ◌⊎◌, ℕ, ◌+◌, ◌<◌, ◌≤◌, List, [], ◌∷◌, length, take, drop, Option, Some, None, Ok, Err, nat_lt, if◌then◌else◌}
+use Rattle.std.specs.Prelude.{◌≡◌, ◌≢◌, ℕ, ◌+◌, ◌<◌, ◌≤◌, List, [], length, take, drop, Some, None, Ok, Err, nat_lt, if◌then◌else◌}
 use Rattle.std.specs.Int.{w32}
-use Rattle.std.specs.Option.{IfSome}
 use Rattle.field_bytes.specs.Layouts.{number_at}
-use Rattle.dcd_base.specs.Streams.{HasRisen, Passes}
+use Rattle.program_frame.specs.Meanings.{Meaning, asks_nothing}
 use Rattle.region_config.specs.Configurations.{Configuration}
 use Rattle.journal_core.specs.Entries.{effects}
 use Rattle.journal_core.specs.declared.entries.Entry.{Entry}
@@ -22,6 +21,7 @@ use Rattle.plan_rules.specs.Listing.{planned}
 use Rattle.plan_rules.specs.Meeting.{MeetsDemands}
 use Rattle.plan_rules.specs.Planning.{AllSucceed, plan_fault}
 use Rattle.pool_planner.specs.PlanPrinting.{demands_refused, plan_fault_line, plan_text, planner_usage_line}
+use Rattle.pool_planner.specs.PlanStatuses.{plan_end}
 use Rattle.pool_planner.specs.declared.status.PlanStatus.{PlanStatus}
 
 -- ---- the frame: a number of 32 bits, so many bytes of a script, and demands
@@ -117,51 +117,22 @@ IsPlanEnd input (PlanStatus.InputShort need have) printed = IsShortPlanFrame inp
 IsPlanEnd input PlanStatus.InputLong printed = (most_of_frame < length input) × (printed ≡ [])
 IsPlanEnd input status printed = ⊥
 
--- ---- what a run comes to
-
--- By these words a run over what the source has left is to end so, and to write this. No word is taken.
-abbrev pub IsPlanOutcome : List (List ℕ) → Option (List ℕ) → PlanStatus → List ℕ → Type 0
-IsPlanOutcome [] left status printed = IfSome left (λ input. IsPlanEnd input status printed)
-IsPlanOutcome (word ∷ words) left status printed = (status ≡ PlanStatus.Usage) × (printed ≡ planner_usage_line)
-
--- All of it is written.
-pub record IsPlanWritten (words : List (List ℕ)) (left old new : Option (List ℕ)) (status : PlanStatus) : Type 0 where
-  pub printed : List ℕ
-  pub outcome : IsPlanOutcome words left status printed
-  pub took : Passes old new [] printed
-
--- A front of it is written.
-pub record IsPlanBegun (words : List (List ℕ)) (left old new : Option (List ℕ)) : Type 0 where
-  pub status : PlanStatus
-  pub printed : List ℕ
-  pub rest : List ℕ
-  pub outcome : IsPlanOutcome words left status printed
-  pub took : Passes old new rest printed
-
--- Nothing stood in the way: there are no words, the input is told and is a frame of a script and of demands for which there is
--- a list, and no read and no write failed. The pairs are counts of faults before and after.
-pub record IsSoundPlan (words : List (List ℕ)) (left : Option (List ℕ)) (reads writes : ℕ × ℕ) : Type 0 where
-  pub no_words : words ≡ []
-  pub input : List ℕ
-  pub told : left ≡ Some input
+-- Nothing is wrong with the input: it is a frame of a script and of demands for which there is a list.
+pub record IsSoundInput (input : List ℕ) : Type 0 where
   pub frame : IsPlanFrame input
   pub script : Script
   pub reads_as : ReadsScript (frame_script input) script
   pub q : Demands
   pub states : IsReadAsDemands (frame_rest input) (Ok q)
   pub planned : (journal : List Entry) → IsScriptJournal script journal → plan_fault script.config journal q ≡ None
-  pub no_read_fault : HasRisen reads.0 reads.1 → ⊥
-  pub no_write_fault : HasRisen writes.0 writes.1 → ⊥
 
--- The same of a source and a sink, before and after: what the source has left, and their counts of faults.
-abbrev pub IsPlannedSoundly : {S K : Type 0} → List (List ℕ) → (S → Option (List ℕ)) → (S → ℕ) → (K → ℕ) → S → S → K → K → Type 0
-IsPlannedSoundly words left reads writes source source' sink sink' =
-    IsSoundPlan words (left source) (reads source, reads source') (writes sink, writes sink')
-
--- ---- one part of it
-
--- This text was to be written at this end: it was, or a write failed.
-abbrev pub PutsEnding : PlanStatus → List ℕ → Option (List ℕ) → ℕ → Option (List ℕ) → ℕ → PlanStatus → Type 0
-PutsEnding status printed old faults new count result =
-    ((result ≡ status) × Passes old new [] printed)
-    ⊎ ((result ≡ PlanStatus.WriteFault) × ((rest : List ℕ) × Passes old new rest printed) × HasRisen faults count)
+-- The program. It takes no words.
+abbrev pub planner : Meaning (Unit {0}) PlanStatus
+planner = record {
+  asks = asks_nothing;
+  usage = planner_usage_line;
+  most = λ task. Some most_of_frame;
+  plan = λ task. IsPlanEnd;
+  sound = λ task. IsSoundInput;
+  end = plan_end;
+}

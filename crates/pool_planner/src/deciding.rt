@@ -6,7 +6,6 @@ ghost use Rattle.pool_planner.specs.declared.status.PlanStatus.{PlanStatus};
 ghost use Rattle.report.specs.script_codec.specs.Scripts.{IsScript};
 ghost use Rattle.std.specs.Prelude.{◌≡◌, ◌≤◌, IfOk, length};
 
-use crate::ending::Ending;
 use crate::plan;
 use crate::printing::act_lines;
 use crate::refusals::{demands_refusal, plan_refusal, script_refusal};
@@ -19,6 +18,9 @@ use journal_core::Act;
 use plan_rules::{DemandFault, Demands, PlanFault, read_demands};
 use report::script_codec::{Script, ScriptFault, read};
 use std::alloc::Global;
+
+/// How a run ends, and what it writes.
+type Ending = (PlanStatus, Bytes);
 
 /// How many bytes an input has to have.
 fn need_of(input: &[u8]) -> u64
@@ -45,15 +47,12 @@ fn parts_of(input: &[u8]) -> (&[u8], &[u8])
 /// How a run over an input ends, and what it writes.
 pub(crate) fn decide(alloc: Global, input: &[u8]) -> Result<Ending, NoMemory>
     requires { length input.now ≤ 33554432 }
-    ensures { IfOk result (λ e. IsPlanEnd input.now e.status e.text) }
+    ensures { IfOk result (λ e. IsPlanEnd input.now e.0 e.1) }
 {
     let need = need_of(input);
     let have = input.len() as u64;
     if have < need {
-        Ok(Ending {
-            status: PlanStatus::InputShort { need, have },
-            text: Bytes::new(alloc),
-        })
+        Ok((PlanStatus::InputShort { need, have }, Bytes::new(alloc)))
     } else {
         decide_frame(alloc, input)
     }
@@ -62,38 +61,35 @@ pub(crate) fn decide(alloc: Global, input: &[u8]) -> Result<Ending, NoMemory>
 /// How it ends over a frame.
 fn decide_frame(alloc: Global, input: &[u8]) -> Result<Ending, NoMemory>
     requires { IsPlanFrame input.now }
-    ensures { IfOk result (λ e. IsPlanEnd input.now e.status e.text) }
+    ensures { IfOk result (λ e. IsPlanEnd input.now e.0 e.1) }
 {
     let (script, rest) = parts_of(input);
     match read(alloc, script) {
         Ok(script) => decide_script(alloc, script, rest),
         Err(ScriptFault::NoMemory) => Err(NoMemory),
-        Err(fault) => Ok(Ending {
-            status: PlanStatus::ScriptRefused(fault),
-            text: script_refusal(alloc, &fault)?,
-        }),
+        Err(fault) => Ok((
+            PlanStatus::ScriptRefused(fault),
+            script_refusal(alloc, &fault)?,
+        )),
     }
 }
 
 /// How it ends where the frame has this script, and this behind it.
 fn decide_script(alloc: Global, script: Script, rest: &[u8]) -> Result<Ending, NoMemory>
     requires { IsScript script }
-    ensures { IfOk result (λ e. IsScriptEnd script rest.now e.status e.text) }
+    ensures { IfOk result (λ e. IsScriptEnd script rest.now e.0 e.1) }
 {
     match read_demands(alloc, rest) {
         Ok(demands) => decide_demands(alloc, script, &demands),
         Err(DemandFault::NoMemory) => Err(NoMemory),
-        Err(fault) => Ok(Ending {
-            status: PlanStatus::Demands(fault),
-            text: demands_refusal(alloc, &fault)?,
-        }),
+        Err(fault) => Ok((PlanStatus::Demands(fault), demands_refusal(alloc, &fault)?)),
     }
 }
 
 /// How it ends for these demands behind a script.
 fn decide_demands(alloc: Global, script: Script, demands: &Demands) -> Result<Ending, NoMemory>
     requires { IsScript script }
-    ensures { IfOk result (λ e. IsDemandsEnd script demands.now e.status e.text) }
+    ensures { IfOk result (λ e. IsDemandsEnd script demands.now e.0 e.1) }
 {
     let Script {
         version: _,
@@ -110,7 +106,7 @@ fn decide_demands(alloc: Global, script: Script, demands: &Demands) -> Result<En
 
 /// How it ends for these demands on a device.
 fn decide_plan(alloc: Global, device: &mut Device, demands: &Demands) -> Result<Ending, NoMemory>
-    ensures { IfOk result (λ e. IsPlannedEnd device.old.config device.old.journal demands.now e.status e.text) }
+    ensures { IfOk result (λ e. IsPlannedEnd device.old.config device.old.journal demands.now e.0 e.1) }
 {
     // The journal is legal.
     let _journal = device.journal();
@@ -118,18 +114,15 @@ fn decide_plan(alloc: Global, device: &mut Device, demands: &Demands) -> Result<
     match plan(alloc, control.config(), control, demands) {
         Ok(acts) => take_list(alloc, device, acts.as_slice()),
         Err(PlanFault::NoMemory) => Err(NoMemory),
-        Err(fault) => Ok(Ending {
-            status: PlanStatus::Plan(fault),
-            text: plan_refusal(alloc, &fault)?,
-        }),
+        Err(fault) => Ok((PlanStatus::Plan(fault), plan_refusal(alloc, &fault)?)),
     }
 }
 
 /// Takes a list, and answers its lines and those of the state behind it. Each act of a plan fits its actor, and its message
 /// can be written; since no clause says so, it is tried, and a list that is not so ends as where memory is wanted.
 fn take_list(alloc: Global, device: &mut Device, acts: &[(Actor, Act)]) -> Result<Ending, NoMemory>
-    ensures status { IfOk result (λ e. e.status ≡ PlanStatus.Done) }
-    ensures text { IfOk result (λ e. e.text ≡ plan_text device.old.config device.old.journal acts.now) }
+    ensures status { IfOk result (λ e. e.0 ≡ PlanStatus.Done) }
+    ensures text { IfOk result (λ e. e.1 ≡ plan_text device.old.config device.old.journal acts.now) }
 {
     let hosts = device.control().config().hosts();
     if !are_sound(hosts, acts) {
@@ -138,8 +131,5 @@ fn take_list(alloc: Global, device: &mut Device, acts: &[(Actor, Act)]) -> Resul
     let mut text = act_lines(alloc, hosts, acts)?;
     take_steps(device, acts)?;
     put_state(&mut text, device)?;
-    Ok(Ending {
-        status: PlanStatus::Done,
-        text,
-    })
+    Ok((PlanStatus::Done, text))
 }

@@ -6,7 +6,6 @@
 
 mod bad_names;
 mod deciding;
-mod ending;
 mod gain_steps;
 mod gaining;
 mod held;

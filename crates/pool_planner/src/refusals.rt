@@ -1,27 +1,16 @@
 //! The lines that say why there is no list.
 
-ghost use Rattle.dcd_base.specs.Streams.{HasRisen, Passes};
-ghost use Rattle.pool_planner.specs.PlanPrinting.{demand_fault_number, demands_refused, plan_fault_line, plan_refused, plan_short, planner_usage_line};
+ghost use Rattle.pool_planner.specs.PlanPrinting.{demand_fault_number, demands_refused, plan_fault_line, plan_refused, plan_short};
 ghost use Rattle.report.specs.Refusals.{refusal_line};
 ghost use Rattle.report.specs.script_codec.specs.declared.faults.ScriptFault.{ScriptFault};
-ghost use Rattle.std.specs.Prelude.{◌≡◌, ◌≢◌, [], IfOk, List, OnErr, OnOk, ℕ};
+ghost use Rattle.std.specs.Prelude.{◌≡◌, ◌≢◌, IfOk};
 
 use crate::printing::put_number;
-use dcd_base::{Bytes, Failed, MemSink, NoMemory, Sink, write_all};
+use dcd_base::{Bytes, Failed, MemSink, NoMemory};
 use plan_rules::{DemandFault, PlanFault};
 use report::refusal;
 use report::script_codec::ScriptFault;
 use std::alloc::Global;
-
-/// Writes the line that says that no words are taken.
-#[tactic(auto, unfolding(crate::specs::PlanPrinting::planner_usage_line))]
-pub(crate) fn usage<K: Sink>(sink: &mut K) -> Result<(), Failed>
-    ensures whole { OnOk result (Passes (K.taken sink.old) (K.taken sink.new) [] planner_usage_line) }
-    ensures front { OnErr result ((rest : List ℕ) × Passes (K.taken sink.old) (K.taken sink.new) rest planner_usage_line) }
-    ensures failed { OnErr result (HasRisen (K.faults sink.old) (K.faults sink.new)) }
-{
-    write_all(sink, b"usage: pool_planner\n")
-}
 
 /// The line on the first fault of a script.
 pub(crate) fn script_refusal(alloc: Global, fault: &ScriptFault) -> Result<Bytes, NoMemory>

@@ -1,9 +1,11 @@
 //! How a run of the planner ends.
 
-ghost use Rattle.pool_planner.specs.PlanStatuses.{plan_status_number};
+ghost use Rattle.pool_planner.specs.PlanStatuses.{plan_end};
+ghost use Rattle.program_frame.specs.Ends.{number_of};
 ghost use Rattle.std.specs.Prelude.{◌≡◌};
 
 use plan_rules::{DemandFault, PlanFault};
+use program_frame::{End, FAULT_PRINTED};
 use report::script_codec::ScriptFault;
 
 /// How a run of the planner ends.
@@ -32,21 +34,42 @@ pub enum PlanStatus {
 }
 
 impl PlanStatus {
-    /// The exit status of the program.
-    pub fn number(self) -> u8
-        ensures { result ≡ plan_status_number self }
+    /// Which end it is.
+    pub fn end(self) -> End
+        ensures { result ≡ plan_end self }
     {
         match self {
-            PlanStatus::Done => 0,
-            PlanStatus::Usage => 2,
-            PlanStatus::ScriptRefused(_) => 3,
-            PlanStatus::NoMemory => 4,
-            PlanStatus::ReadFault => 5,
-            PlanStatus::WriteFault => 6,
-            PlanStatus::InputShort { .. } => 7,
-            PlanStatus::InputLong => 8,
-            PlanStatus::Demands(_) => 9,
-            PlanStatus::Plan(_) => 10,
+            PlanStatus::Done => End::Done,
+            PlanStatus::Usage => End::Usage,
+            PlanStatus::ScriptRefused(_) => End::Refused,
+            PlanStatus::NoMemory => End::NoMemory,
+            PlanStatus::ReadFault => End::ReadFault,
+            PlanStatus::WriteFault => End::WriteFault,
+            PlanStatus::InputShort { .. } => End::Refusal(7),
+            PlanStatus::InputLong => End::Refusal(8),
+            PlanStatus::Demands(_) => End::Refusal(9),
+            PlanStatus::Plan(_) => End::Refusal(10),
+        }
+    }
+
+    /// The exit status of the program.
+    pub fn number(self) -> u8
+        ensures { result ≡ number_of (plan_end self) }
+    {
+        self.end().number()
+    }
+
+    /// What is said of an input that is refused.
+    pub fn why<'a>(&self) -> &'a str {
+        match self {
+            PlanStatus::InputShort { .. } => "the input ends within its script",
+            PlanStatus::InputLong => "the input has more than 33554432 bytes",
+            PlanStatus::Demands(_) => {
+                "the demands are refused: 1 is no JSON, 2 another shape (docs/planner.md)"
+            }
+            PlanStatus::Plan(_) =>
+                "there is no plan for the fault that was printed (docs/planner.md)",
+            _ => FAULT_PRINTED,
         }
     }
 }

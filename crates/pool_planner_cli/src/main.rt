@@ -1,9 +1,11 @@
 //! `pool_planner`: reads a script and demands from standard input, and writes the commands that lead from what hosts hold behind
-//! the script to what is demanded, and the state behind them, or one line that says why there are none.
+//! the script to what is demanded, and the state behind them, or one line that says why there are none. Where it
+//! ends otherwise, it says on standard error why.
 #![tactic(auto)]
 
 use edge_io::{StdSink, StdSource, words};
 use pool_planner::{PlanStatus, run_plan};
+use program_frame::leave;
 use std::process::ExitCode;
 
 /// Hands `run_plan` the words of the command line, standard input and standard output, and exits with its status.
@@ -16,5 +18,5 @@ fn main(rt: HostRuntime) -> ExitCode {
         }
         Err(_) => PlanStatus::NoMemory,
     };
-    ExitCode::from(status.number())
+    leave(&rt, "pool_planner", status.end(), status.why())
 }

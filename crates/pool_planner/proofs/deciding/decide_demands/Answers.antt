@@ -18,11 +18,11 @@ returns c =
     subst (λ (d : Configuration). Runs d.hosts s.lanes 1 s.lines device.journal) c.in_ok-device.ensures.config
     (subst (λ (lines : List Line). Runs c.in_ok-device.device.config.hosts s.lanes 1 lines device.journal) c.as_slice.ensures c.in_ok-run_lines.ensures.ran) in
     IfOk-weaker c.decide_plan.result
-    (λ e. IsPlannedEnd device.config device.journal q e.status e.text)
-    (λ e. IsDemandsEnd s q e.status e.text)
+    (λ e. IsPlannedEnd device.config device.journal q e.0 e.1)
+    (λ e. IsDemandsEnd s q e.0 e.1)
     (λ e ends. record {
       journal = device.journal;
       runs = record { legal = legal; runs = ran };
-      ends = subst (λ (d : Configuration). IsPlannedEnd d device.journal q e.status e.text) same ends;
+      ends = subst (λ (d : Configuration). IsPlannedEnd d device.journal q e.0 e.1) same ends;
     })
     c.decide_plan.ensures

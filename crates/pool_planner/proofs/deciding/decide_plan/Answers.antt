@@ -20,7 +20,7 @@ returns-in-Ok c =
     list_end k entries journal c.args.demands.now alike c.in-Ok.acts
     (subst (λ x. IsPlan x entries c.args.demands.now (Ok c.in-Ok.acts)) config c.in-Ok.ensures.planned)
     (subst (λ x. MeetsDemands x (effects entries) (effects (stepped x entries c.in-Ok.acts)) c.args.demands.now) config c.in-Ok.ensures.meets) c.take_list.result c.take_list.ensures.status
-    (subst (λ acts. IfOk c.take_list.result (λ e. e.text ≡ plan_text k journal acts)) c.as_slice.ensures c.take_list.ensures.text)
+    (subst (λ acts. IfOk c.take_list.result (λ e. e.1 ≡ plan_text k journal acts)) c.as_slice.ensures c.take_list.ensures.text)
 
 pub returns-in_ok-plan_refusal-in-Err : goal.returns-in_ok-plan_refusal-in-Err
 returns-in_ok-plan_refusal-in-Err c =
