@@ -4,7 +4,7 @@ use Rattle.std.specs.Prelude.{if◌then◌else◌}
 use Rattle.std.proofs.lemmas.Bool.{and_from, and_parts, false≢true}
 use Rattle.edge_io.specs.Words.{is_number, number_in}
 use Rattle.edge_io.proofs.WordNumbers.{is_a_number, number_is}
-use Rattle.host_driver.specs.Words.{AsksForNoDrive, IsDriveChoice, drive_choice, host_digits, bound_digits}
+use Rattle.host_driver.specs.Words.{AsksForNoDrive, AsksToDrive, IsDriveChoice, drive_choice, host_digits, bound_digits}
 use Rattle.host_driver.specs.declared.words.DriveChoice.{DriveChoice}
 
 abbrev head_of : List (List ℕ) → List ℕ
@@ -38,3 +38,24 @@ choice_is (h ∷ m ∷ w ∷ words) = other_count (h ∷ m ∷ w ∷ words) (λ 
 
 pub choice_found : (words : List (List ℕ)) (found : Option DriveChoice) → found ≡ drive_choice words → IsDriveChoice words found
 choice_found words found is = subst (IsDriveChoice words) (sym is) (choice_is words)
+
+-- ---- they ask for one thing
+
+chosen_as : (h m : List ℕ) (host most : ℕ) → (is_number host_digits h && is_number bound_digits m) ≡ true → host ≡ number_in h → most ≡ number_in m
+    → drive_choice (h ∷ m ∷ []) ≡ Some (record { host = host; most = most })
+chosen_as h m host most good is too =
+    ap (λ both. if both then Some (record { host = number_in h; most = number_in m }) else None) good
+    ∙ (λ i. Some (record { host = sym is i; most = sym too i }))
+
+asked_is : (words : List (List ℕ)) (host most : ℕ) → AsksToDrive words host most → drive_choice words ≡ Some (record { host = host; most = most })
+asked_is words host most a =
+    let first : is_number host_digits a.host_word ≡ true = is_a_number host_digits a.host_word host a.host_is in
+    let second : is_number bound_digits a.most_word ≡ true = is_a_number bound_digits a.most_word most a.most_is in
+    ap drive_choice a.two
+    ∙ chosen_as a.host_word a.most_word host most (and_from (is_number host_digits a.host_word) (is_number bound_digits a.most_word) first second) a.host_is.value a.most_is.value
+
+pub one_choice : (words : List (List ℕ)) (found other : Option DriveChoice) → IsDriveChoice words found → IsDriveChoice words other → other ≡ found
+one_choice words None None is too = refl
+one_choice words (Some a) (Some b) is too = sym (asked_is words b.host b.most too) ∙ asked_is words a.host a.most is
+one_choice words None (Some b) is too = absurd (is b.host b.most too)
+one_choice words (Some a) None is too = absurd (too a.host a.most is)

@@ -9,6 +9,7 @@ mod faults;
 mod kept;
 mod laws;
 mod pages;
+mod printed;
 mod printing;
 mod program;
 mod settling;

@@ -1,30 +1,95 @@
 //! The top call.
 
-ghost use Rattle.dcd_base.specs.Streams.{HasRisen, IsAtEnd, Passes};
-ghost use Rattle.edge_io.specs.Words.{words_of};
-ghost use Rattle.host_driver.specs.Planning.{DriveEndsFor, DriveEndsRefused, EndsBy, EndsDriven, EndsOn, EndsWith};
-ghost use Rattle.host_driver.specs.Planning.{IsDriveBegun, IsDriveWritten, IsDrivenSoundly, drive_usage_line, printed_of};
-ghost use Rattle.host_driver.specs.Statuses.{IfDriveWhole, OnDriveDone, OnDriveNothing, OnDriveReadFault, OnDriveWriteFault, UnlessDriveFinished};
-ghost use Rattle.host_driver.specs.Words.{AsksForNoDrive};
+ghost use Rattle.host_driver.specs.Planning.{EndsOn, IsDrivenText, IsPrintable, bytes_of, driver_program, drive_usage_line};
+ghost use Rattle.program_frame.specs.Meanings.{Decides};
+ghost use Rattle.program_frame.specs.Runs.{Ran};
 ghost use Rattle.report.specs.script_codec.specs.Scripts.{is_sound_line};
-ghost use Rattle.report.specs.script_codec.specs.declared.faults.ScriptFault.{ScriptFault};
 ghost use Rattle.std.specs.List.{list_all};
-ghost use Rattle.std.specs.Prelude.{◌≡◌, ◌≢◌, ◌<◌, ◌≤◌, IsTrue, List, [], OnErr, OnOk, length, ℕ};
+ghost use Rattle.std.specs.Prelude.{◌<◌, ◌≤◌, IfOk, IsTrue, length};
 
-use crate::driver::Driver;
 use crate::driving::drive;
+use crate::printed::Printed;
 use crate::printing::{extent_lines, print_with};
 use crate::status::DriveStatus;
 use crate::words::{DriveChoice, chosen};
-use dcd_base::{Bytes, Failed, HostId, NoMemory, Sink, Source, write_all};
-use device_plain::Device;
-use edge_io::{ReadEnd, read_all};
+use dcd_base::{Bytes, Failed, HostId, NoMemory, Sink, Source};
+use program_frame::{Program, Stop, run};
 use report::refusal;
 use report::script_codec::{Script, ScriptFault, read};
 use std::alloc::Global;
 
 /// The most bytes that a script has.
 const MOST_BYTES: usize = 16_777_216;
+
+/// The program.
+#[derive(Clone, Copy, Debug, PartialEq, Eq)]
+struct HostDriver;
+
+impl Program for HostDriver {
+    ghost use Rattle.host_driver.specs.Planning.{IsPrintable, bytes_of, driver_program};
+
+    type Task = DriveChoice;
+
+    type Status = DriveStatus;
+
+    type Text = Printed;
+
+    ghost means = { λ _. driver_program };
+
+    ghost bytes = { bytes_of };
+
+    ghost ready = { IsPrintable };
+
+    #[tactic(auto, using(crate::proofs::Choices::one_choice))]
+    fn asked(&self, words: &[String]) -> Option<DriveChoice> {
+        chosen(words)
+    }
+
+    #[tactic(auto, unfolding(crate::specs::Planning::drive_usage_line))]
+    fn usage(&self) -> &[u8] {
+        b"usage: host_driver\n".as_slice()
+    }
+
+    fn most(&self, _task: &DriveChoice) -> Option<usize> {
+        Some(MOST_BYTES)
+    }
+
+    #[tactic(auto, using(crate::proofs::Endings::all_decide, crate::proofs::Endings::all_short))]
+    fn decide(
+        &self,
+        alloc: Global,
+        task: DriveChoice,
+        input: Bytes,
+    ) -> Result<(DriveStatus, Printed), NoMemory> {
+        drive_input(alloc, task, input.as_slice())
+    }
+
+    fn decide_long(
+        &self,
+        _alloc: Global,
+        _task: DriveChoice,
+    ) -> Result<(DriveStatus, Printed), NoMemory> {
+        let fault = ScriptFault::TooLong;
+        Ok((DriveStatus::ScriptRefused(fault), Printed::Fault(fault)))
+    }
+
+    fn print<K: Sink>(&self, text: &Printed, sink: &mut K) -> Result<(), Failed> {
+        match text {
+            Printed::Driven { device, lines } => print_with(device, lines.as_slice(), sink),
+            Printed::Fault(fault) => refusal(fault, sink),
+            Printed::Nothing => Ok(()),
+        }
+    }
+
+    fn stopped(&self, stop: Stop) -> DriveStatus {
+        match stop {
+            Stop::Usage => DriveStatus::Usage,
+            Stop::NoMemory => DriveStatus::NoMemory,
+            Stop::ReadFault => DriveStatus::ReadFault,
+            Stop::WriteFault => DriveStatus::WriteFault,
+        }
+    }
+}
 
 /// Drives one host over the script that is left in the source, and writes the text of the journal and a line `ext S L` for
 /// each extent of the driver's table, its start and its length in bytes.
@@ -38,109 +103,57 @@ pub fn run_driver<S: Source, K: Sink>(
     source: &mut S,
     sink: &mut K,
 ) -> DriveStatus
-    ensures written { IfDriveWhole result (IsDriveWritten (words_of words.now) (S.left source.old) (K.taken sink.old) (K.taken sink.new)) }
-    ensures begun { OnDriveWriteFault result (IsDriveBegun (words_of words.now) (S.left source.old) (K.taken sink.old) (K.taken sink.new)) }
-    ensures nothing { OnDriveNothing result (K.taken sink.new ≡ K.taken sink.old) }
-    ensures to_the_end { OnDriveDone result (IsAtEnd (S.left source.new)) }
-    ensures untouched { AsksForNoDrive (words_of words.now) → source.new ≡ source.old }
-    ensures read_fault { OnDriveReadFault result (HasRisen (S.faults source.old) (S.faults source.new)) }
-    ensures write_fault { OnDriveWriteFault result (HasRisen (K.faults sink.old) (K.faults sink.new)) }
-    ensures complete { UnlessDriveFinished result (¬ IsDrivenSoundly (words_of words.now) S.left S.faults K.faults source.old source.new sink.old sink.new) }
+    ensures { Ran driver_program words.now S.left S.faults K.taken K.faults source.old source.new sink.old sink.new result }
 {
-    match chosen(words) {
-        Some(choice) => drive_source(alloc, choice, source, sink),
-        None => match usage(sink) {
-            Ok(()) => DriveStatus::Usage,
-            Err(Failed) => DriveStatus::WriteFault,
-        },
-    }
+    run(&HostDriver, alloc, words, source, sink)
 }
 
-/// Writes the line that says which words are taken.
-#[tactic(auto, unfolding(crate::specs::Planning::drive_usage_line))]
-fn usage<K: Sink>(sink: &mut K) -> Result<(), Failed>
-    ensures whole { OnOk result (Passes (K.taken sink.old) (K.taken sink.new) [] drive_usage_line) }
-    ensures front { OnErr result ((rest : List ℕ) × Passes (K.taken sink.old) (K.taken sink.new) rest drive_usage_line) }
-    ensures failed { OnErr result (HasRisen (K.faults sink.old) (K.faults sink.new)) }
-{
-    write_all(sink, b"usage: host_driver\n")
-}
-
-/// Drives the host over what is left in the source, up to one byte more than a script may have.
-fn drive_source<S: Source, K: Sink>(
+/// Drives the host over the script that the input is, or answers its first fault.
+#[tactic(auto, using(crate::proofs::Endings::on_script))]
+fn drive_input(
     alloc: Global,
     choice: DriveChoice,
-    source: &mut S,
-    sink: &mut K,
-) -> DriveStatus
-    ensures ends { EndsBy choice (S.left source.old) (S.left source.new) (K.taken sink.old) (K.faults sink.old) (K.taken sink.new) (K.faults sink.new) result }
-    ensures read_fault { OnDriveReadFault result (HasRisen (S.faults source.old) (S.faults source.new)) }
+    input: &[u8],
+) -> Result<(DriveStatus, Printed), NoMemory>
+    requires { length input.now ≤ 16777216 }
+    ensures decides { IfOk result (λ end. Decides driver_program choice input.now end.0 (bytes_of end.1)) }
+    ensures printable { IfOk result (λ end. IsPrintable end.1) }
 {
-    match read_all(alloc, source, MOST_BYTES) {
-        Ok(input) => drive_input(alloc, choice, input, sink),
-        Err(ReadEnd::TooLong) => refused(ScriptFault::TooLong, sink),
-        Err(ReadEnd::ReadFault) => DriveStatus::ReadFault,
-        Err(ReadEnd::NoMemory) => DriveStatus::NoMemory,
-    }
-}
-
-/// Drives the host over the script that the input is, or writes the line on its first fault.
-fn drive_input<K: Sink>(
-    alloc: Global,
-    choice: DriveChoice,
-    input: Bytes,
-    sink: &mut K,
-) -> DriveStatus
-    ensures { DriveEndsFor choice.host choice.most input (K.taken sink.old) (K.faults sink.old) (K.taken sink.new) (K.faults sink.new) result }
-{
-    match read(alloc, input.as_slice()) {
-        Ok(script) => drive_script(alloc, choice, script, sink),
-        Err(ScriptFault::NoMemory) => DriveStatus::NoMemory,
-        Err(fault) => refused(fault, sink),
-    }
-}
-
-/// Writes the line on the first fault of an input.
-fn refused<K: Sink>(fault: ScriptFault, sink: &mut K) -> DriveStatus
-    requires { fault ≢ ScriptFault.NoMemory }
-    ensures { DriveEndsRefused fault (K.taken sink.old) (K.faults sink.old) (K.taken sink.new) (K.faults sink.new) result }
-{
-    match refusal(&fault, sink) {
-        Ok(()) => DriveStatus::ScriptRefused(fault),
-        Err(Failed) => DriveStatus::WriteFault,
+    match read(alloc, input) {
+        Ok(script) => drive_script(alloc, choice, script),
+        Err(ScriptFault::NoMemory) => Err(NoMemory),
+        Err(fault) => Ok((DriveStatus::ScriptRefused(fault), Printed::Fault(fault))),
     }
 }
 
 /// Drives the host over a script, if the script has it.
-fn drive_script<K: Sink>(
+#[tactic(auto, using(crate::proofs::Endings::known_so))]
+fn drive_script(
     alloc: Global,
     choice: DriveChoice,
     script: Script,
-    sink: &mut K,
-) -> DriveStatus
+) -> Result<(DriveStatus, Printed), NoMemory>
     requires sound { IsTrue (list_all (is_sound_line script.config.hosts script.lanes) script.lines) }
     requires few { length script.lines ≤ 65536 }
-    ensures { EndsOn script choice.host choice.most (K.taken sink.old) (K.faults sink.old) (K.taken sink.new) (K.faults sink.new) result }
+    ensures ends { IfOk result (λ end. EndsOn script choice end.0 (bytes_of end.1)) }
+    ensures printable { IfOk result (λ end. IsPrintable end.1) }
 {
     if choice.host < u64::from(script.config.hosts()) {
-        drive_host(alloc, HostId(choice.host as u8), choice.most, script, sink)
+        let driven = drive_host(alloc, HostId(choice.host as u8), choice.most, script)?;
+        Ok((DriveStatus::Done, driven))
     } else {
-        DriveStatus::NoSuchHost
+        Ok((DriveStatus::NoSuchHost, Printed::Nothing))
     }
 }
 
-/// Drives a host of the script over it, and writes the journal and the table.
-fn drive_host<K: Sink>(
-    alloc: Global,
-    host: HostId,
-    most: u64,
-    script: Script,
-    sink: &mut K,
-) -> DriveStatus
+/// Drives a host of the script over it.
+#[tactic(auto, using(crate::proofs::Endings::driven_text))]
+fn drive_host(alloc: Global, host: HostId, most: u64, script: Script) -> Result<Printed, NoMemory>
     requires known { host < script.config.hosts }
     requires sound { IsTrue (list_all (is_sound_line script.config.hosts script.lanes) script.lines) }
     requires few { length script.lines ≤ 65536 }
-    ensures { EndsDriven script host most (K.taken sink.old) (K.faults sink.old) (K.taken sink.new) (K.faults sink.new) result }
+    ensures driven { IfOk result (λ printed. IsDrivenText script host most (bytes_of printed)) }
+    ensures printable { IfOk result IsPrintable }
 {
     let Script {
         version: _,
@@ -148,21 +161,10 @@ fn drive_host<K: Sink>(
         config,
         lines,
     } = script;
-    match drive(alloc, config, &lines, host, most) {
-        Ok((device, driver)) => print(alloc, &device, &driver, sink),
-        Err(NoMemory) => DriveStatus::NoMemory,
-    }
-}
-
-/// Writes the text of a device's journal and the lines of a driver's table.
-fn print<K: Sink>(alloc: Global, device: &Device, driver: &Driver, sink: &mut K) -> DriveStatus
-    ensures { EndsWith (printed_of device.now driver.now) (K.taken sink.old) (K.faults sink.old) (K.taken sink.new) (K.faults sink.new) result }
-{
-    match extent_lines(alloc, driver.table()) {
-        Ok(lines) => match print_with(device, lines.as_slice(), sink) {
-            Ok(()) => DriveStatus::Done,
-            Err(Failed) => DriveStatus::WriteFault,
-        },
-        Err(NoMemory) => DriveStatus::NoMemory,
-    }
+    let (device, driver) = drive(alloc, config, &lines, host, most)?;
+    let table = extent_lines(alloc, driver.table())?;
+    Ok(Printed::Driven {
+        device,
+        lines: table,
+    })
 }

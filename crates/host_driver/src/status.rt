@@ -1,8 +1,10 @@
 //! How a run of the driver ends.
 
-ghost use Rattle.host_driver.specs.Statuses.{drive_status_number};
+ghost use Rattle.host_driver.specs.Statuses.{drive_end};
+ghost use Rattle.program_frame.specs.Ends.{number_of};
 ghost use Rattle.std.specs.Prelude.{◌≡◌};
 
+use program_frame::{End, FAULT_PRINTED};
 use report::script_codec::ScriptFault;
 
 /// How a run of the driver ends.
@@ -25,18 +27,33 @@ pub enum DriveStatus {
 }
 
 impl DriveStatus {
-    /// The exit status of the program.
-    pub fn number(self) -> u8
-        ensures { result ≡ drive_status_number self }
+    /// Which end it is.
+    pub fn end(self) -> End
+        ensures { result ≡ drive_end self }
     {
         match self {
-            DriveStatus::Done => 0,
-            DriveStatus::Usage => 2,
-            DriveStatus::ScriptRefused(_) => 3,
-            DriveStatus::NoMemory => 4,
-            DriveStatus::ReadFault => 5,
-            DriveStatus::WriteFault => 6,
-            DriveStatus::NoSuchHost => 7,
+            DriveStatus::Done => End::Done,
+            DriveStatus::Usage => End::Usage,
+            DriveStatus::ScriptRefused(_) => End::Refused,
+            DriveStatus::NoMemory => End::NoMemory,
+            DriveStatus::ReadFault => End::ReadFault,
+            DriveStatus::WriteFault => End::WriteFault,
+            DriveStatus::NoSuchHost => End::Refusal(7),
+        }
+    }
+
+    /// The exit status of the program.
+    pub fn number(self) -> u8
+        ensures { result ≡ number_of (drive_end self) }
+    {
+        self.end().number()
+    }
+
+    /// What is said of an input that is refused.
+    pub fn why<'a>(self) -> &'a str {
+        match self {
+            DriveStatus::NoSuchHost => "the script has no such host",
+            _ => FAULT_PRINTED,
         }
     }
 }

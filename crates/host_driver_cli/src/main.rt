@@ -4,6 +4,7 @@
 
 use edge_io::{StdSink, StdSource, words};
 use host_driver::{DriveStatus, run_driver};
+use program_frame::leave;
 use std::process::ExitCode;
 
 /// Hands `run_driver` the words of the command line, standard input and standard output, and exits with its status.
@@ -16,5 +17,5 @@ fn main(rt: HostRuntime) -> ExitCode {
         }
         Err(_) => DriveStatus::NoMemory,
     };
-    ExitCode::from(status.number())
+    leave(&rt, "host_driver", status.end(), status.why())
 }
