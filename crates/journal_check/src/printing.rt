@@ -1,31 +1,28 @@
 //! The lines that a check writes.
 
-ghost use Rattle.dcd_base.specs.Streams.{HasRisen, Passes};
-ghost use Rattle.journal_check.specs.CheckPlanning.{check_usage_line, no_line, yes_line};
-ghost use Rattle.std.specs.Prelude.{◌≡◌, [], IfOk, List, OnErr, OnOk, ℕ};
+ghost use Rattle.journal_check.specs.CheckPlanning.{no_line, yes_line};
+ghost use Rattle.std.specs.Prelude.{◌≡◌, IfOk};
 
-use dcd_base::{Bytes, Failed, NoMemory, Sink, write_all};
+use dcd_base::{Bytes, NoMemory};
 use itoa::Buffer;
+use report::script_codec::ScriptFault;
 use std::alloc::Global;
 
-/// Writes the line that says that no word is taken.
-#[tactic(auto, unfolding(crate::specs::CheckPlanning::check_usage_line))]
-pub(crate) fn usage<K: Sink>(sink: &mut K) -> Result<(), Failed>
-    ensures whole { OnOk result (Passes (K.taken sink.old) (K.taken sink.new) [] check_usage_line) }
-    ensures front { OnErr result ((rest : List ℕ) × Passes (K.taken sink.old) (K.taken sink.new) rest check_usage_line) }
-    ensures failed { OnErr result (HasRisen (K.faults sink.old) (K.faults sink.new)) }
-{
-    write_all(sink, b"usage: journal_check\n")
+/// What is printed.
+#[derive(Drop)]
+pub(crate) enum Printed {
+    /// A line, or nothing.
+    Line(Bytes),
+    /// The line on the first fault of a script.
+    Fault(ScriptFault),
 }
 
-/// Writes the line that says that a text is right.
+/// The line that says that a text is right.
 #[tactic(auto, unfolding(crate::specs::CheckPlanning::yes_line))]
-pub(crate) fn yes<K: Sink>(sink: &mut K) -> Result<(), Failed>
-    ensures whole { OnOk result (Passes (K.taken sink.old) (K.taken sink.new) [] yes_line) }
-    ensures front { OnErr result ((rest : List ℕ) × Passes (K.taken sink.old) (K.taken sink.new) rest yes_line) }
-    ensures failed { OnErr result (HasRisen (K.faults sink.old) (K.faults sink.new)) }
+pub(crate) fn yes(alloc: Global) -> Result<Bytes, NoMemory>
+    ensures { IfOk result (λ line. line ≡ yes_line) }
 {
-    write_all(sink, b"yes\n")
+    Bytes::from_slice(alloc, b"yes\n")
 }
 
 /// The line that names the first wrong line.

@@ -1,27 +1,87 @@
 //! The top call.
 
-ghost use Rattle.dcd_base.specs.Streams.{HasRisen, IsAtEnd};
-ghost use Rattle.journal_check.specs.CheckPlanning.{CheckEndsBy, CheckEndsFor, CheckEndsOn, CheckEndsRefused, CheckEndsWith};
-ghost use Rattle.journal_check.specs.CheckPlanning.{IsCheckBegun, IsCheckWritten, IsCheckedSoundly, are_taken};
-ghost use Rattle.journal_check.specs.CheckStatuses.{IfCheckWhole, OnCheckNothing, OnCheckRead, OnCheckReadFault, OnCheckUsage};
-ghost use Rattle.journal_check.specs.CheckStatuses.{OnCheckWriteFault, UnlessCheckFinished};
-ghost use Rattle.journal_check.specs.Frames.{needed, script_part, text_part};
+ghost use Rattle.journal_check.specs.CheckPlanning.{IsAnswer, IsAnswered, IsCheckPlannedFor, IsPrintable, bytes_of, checker};
+ghost use Rattle.journal_check.specs.Frames.{IsFrame, needed, script_part, text_part};
+ghost use Rattle.program_frame.specs.Runs.{Ran};
 ghost use Rattle.report.specs.script_codec.specs.Writing.{IsWritable};
-ghost use Rattle.report.specs.script_codec.specs.declared.faults.ScriptFault.{ScriptFault};
-ghost use Rattle.std.specs.Prelude.{◌≡◌, ◌≢◌, ◌≤◌, Some, length};
+ghost use Rattle.std.specs.Prelude.{◌≡◌, ◌≤◌, IfOk, length};
 
 use crate::checking::check;
-use crate::printing::{no_at, usage, yes};
+use crate::printing::{Printed, no_at, yes};
 use crate::status::CheckStatus;
-use dcd_base::{Failed, NoMemory, Sink, Source, write_all};
-use edge_io::{ReadEnd, read_all};
+use dcd_base::{Bytes, Failed, NoMemory, Sink, Source, write_all};
 use field_bytes::u32_at;
+use program_frame::{Program, Stop, no_words, run};
 use report::refusal;
 use report::script_codec::{Script, ScriptFault, read};
 use std::alloc::Global;
 
 /// The most bytes of an input.
 const MOST_INPUT: usize = 402_653_184;
+
+/// The program.
+#[derive(Clone, Copy, Debug, PartialEq, Eq)]
+struct Checker;
+
+impl Program for Checker {
+    ghost use Rattle.journal_check.specs.CheckPlanning.{IsPrintable, bytes_of, checker};
+
+    type Task = ();
+
+    type Status = CheckStatus;
+
+    type Text = Printed;
+
+    ghost means = { λ _. checker };
+
+    ghost bytes = { bytes_of };
+
+    ghost ready = { IsPrintable };
+
+    fn asked(&self, words: &[String]) -> Option<()> {
+        no_words(words)
+    }
+
+    #[tactic(auto, unfolding(crate::specs::CheckPlanning::check_usage_line))]
+    fn usage(&self) -> &[u8] {
+        b"usage: journal_check\n".as_slice()
+    }
+
+    fn most(&self, _task: &()) -> Option<usize> {
+        Some(MOST_INPUT)
+    }
+
+    #[tactic(auto, using(crate::proofs::CheckEndings::all_short))]
+    fn decide(
+        &self,
+        alloc: Global,
+        _task: (),
+        input: Bytes,
+    ) -> Result<(CheckStatus, Printed), NoMemory> {
+        check_input(alloc, input.as_slice())
+    }
+
+    #[tactic(auto, using(crate::proofs::CheckEndings::long_decides))]
+    fn decide_long(&self, alloc: Global, _task: ()) -> Result<(CheckStatus, Printed), NoMemory> {
+        Ok((CheckStatus::InputLong, Printed::Line(Bytes::new(alloc))))
+    }
+
+    fn print<K: Sink>(&self, text: &Printed, sink: &mut K) -> Result<(), Failed> {
+        match text {
+            Printed::Line(line) => write_all(sink, line.as_slice()),
+            Printed::Fault(fault) => refusal(fault, sink),
+        }
+    }
+
+    fn stopped(&self, stop: Stop) -> CheckStatus {
+        match stop {
+            Stop::Usage => CheckStatus::Usage,
+            Stop::NoMemory => CheckStatus::NoMemory,
+            Stop::ReadFault => CheckStatus::ReadFault,
+            Stop::WriteFault => CheckStatus::WriteFault,
+        }
+    }
+}
 
 /// Reads a frame, which is the number of bytes of a script in four bytes, the script and a text, and writes whether the
 /// text is that of a legal journal of the script, or which line is the first wrong one. It takes no words.
@@ -34,36 +94,9 @@ pub fn run_check<S: Source, K: Sink>(
     source: &mut S,
     sink: &mut K,
 ) -> CheckStatus
-    ensures written { IfCheckWhole result (IsCheckWritten (are_taken words.now) (S.left source.old) (K.taken sink.old) (K.taken sink.new)) }
-    ensures begun { OnCheckWriteFault result (IsCheckBegun (are_taken words.now) (S.left source.old) (K.taken sink.old) (K.taken sink.new)) }
-    ensures nothing { OnCheckNothing result (K.taken sink.new ≡ K.taken sink.old) }
-    ensures untouched { OnCheckUsage result (source.new ≡ source.old) }
-    ensures to_the_end { OnCheckRead result (IsAtEnd (S.left source.new)) }
-    ensures read_fault { OnCheckReadFault result (HasRisen (S.faults source.old) (S.faults source.new)) }
-    ensures write_fault { OnCheckWriteFault result (HasRisen (K.faults sink.old) (K.faults sink.new)) }
-    ensures complete { UnlessCheckFinished result (¬ IsCheckedSoundly (are_taken words.now) S.left S.faults K.faults source.old source.new sink.old sink.new) }
+    ensures { Ran checker words.now S.left S.faults K.taken K.faults source.old source.new sink.old sink.new result }
 {
-    if words.is_empty() {
-        check_source(alloc, source, sink)
-    } else {
-        match usage(sink) {
-            Ok(()) => CheckStatus::Usage,
-            Err(Failed) => CheckStatus::WriteFault,
-        }
-    }
-}
-
-/// Checks what is left in the source.
-fn check_source<S: Source, K: Sink>(alloc: Global, source: &mut S, sink: &mut K) -> CheckStatus
-    ensures ends { CheckEndsBy (S.left source.old) (S.left source.new) (K.taken sink.old) (K.faults sink.old) (K.taken sink.new) (K.faults sink.new) result }
-    ensures read_fault { OnCheckReadFault result (HasRisen (S.faults source.old) (S.faults source.new)) }
-{
-    match read_all(alloc, source, MOST_INPUT) {
-        Ok(input) => check_input(alloc, input.as_slice(), sink),
-        Err(ReadEnd::TooLong) => CheckStatus::InputLong,
-        Err(ReadEnd::ReadFault) => CheckStatus::ReadFault,
-        Err(ReadEnd::NoMemory) => CheckStatus::NoMemory,
-    }
+    run(&Checker, alloc, words, source, sink)
 }
 
 /// How many bytes an input needs.
@@ -78,16 +111,18 @@ fn need_of(input: &[u8]) -> u64
 }
 
 /// Checks an input, where it has all bytes that it needs.
-fn check_input<K: Sink>(alloc: Global, input: &[u8], sink: &mut K) -> CheckStatus
+fn check_input(alloc: Global, input: &[u8]) -> Result<(CheckStatus, Printed), NoMemory>
     requires { length input.now ≤ 402653184 }
-    ensures { CheckEndsFor input.now (K.taken sink.old) (K.faults sink.old) (K.taken sink.new) (K.faults sink.new) result }
+    ensures decides { IfOk result (λ end. IsCheckPlannedFor input.now end.0 (bytes_of end.1)) }
+    ensures printable { IfOk result (λ end. IsPrintable end.1) }
 {
     let need = need_of(input);
     let have = input.len() as u64;
     if have < need {
-        CheckStatus::InputShort { need, have }
+        let status = CheckStatus::InputShort { need, have };
+        Ok((status, Printed::Line(Bytes::new(alloc))))
     } else {
-        check_frame(alloc, input, sink)
+        check_frame(alloc, input)
     }
 }
 
@@ -102,64 +137,38 @@ fn parts_of(input: &[u8]) -> (&[u8], &[u8])
     rest.split_at(count)
 }
 
-/// Checks the text of a frame against its script, or writes the line on the script's first fault.
-fn check_frame<K: Sink>(alloc: Global, input: &[u8], sink: &mut K) -> CheckStatus
-    requires short { length input.now ≤ 402653184 }
-    requires whole { needed input.now ≤ length input.now }
-    ensures { CheckEndsFor input.now (K.taken sink.old) (K.faults sink.old) (K.taken sink.new) (K.faults sink.new) result }
+/// Checks the text of a frame against its script, or answers the script's first fault.
+#[tactic(auto, using(crate::proofs::CheckEndings::answered_ends))]
+fn check_frame(alloc: Global, input: &[u8]) -> Result<(CheckStatus, Printed), NoMemory>
+    requires { IsFrame input.now }
+    ensures decides { IfOk result (λ end. IsCheckPlannedFor input.now end.0 (bytes_of end.1)) }
+    ensures printable { IfOk result (λ end. IsPrintable end.1) }
 {
     let (script, text) = parts_of(input);
     match read(alloc, script) {
-        Ok(script) => answer(alloc, &script, text, sink),
-        Err(ScriptFault::NoMemory) => CheckStatus::NoMemory,
-        Err(fault) => refused(fault, sink),
+        Ok(script) => answer(alloc, &script, text),
+        Err(ScriptFault::NoMemory) => Err(NoMemory),
+        Err(fault) => Ok((CheckStatus::ScriptRefused(fault), Printed::Fault(fault))),
     }
 }
 
-/// Writes the line on the first fault of a script.
-fn refused<K: Sink>(fault: ScriptFault, sink: &mut K) -> CheckStatus
-    requires { fault ≢ ScriptFault.NoMemory }
-    ensures { CheckEndsRefused fault (K.taken sink.old) (K.faults sink.old) (K.taken sink.new) (K.faults sink.new) result }
-{
-    match refusal(&fault, sink) {
-        Ok(()) => CheckStatus::ScriptRefused(fault),
-        Err(Failed) => CheckStatus::WriteFault,
-    }
-}
-
-/// Checks the text and writes what comes of it.
-fn answer<K: Sink>(alloc: Global, script: &Script, text: &[u8], sink: &mut K) -> CheckStatus
+/// Checks the text.
+fn answer(alloc: Global, script: &Script, text: &[u8]) -> Result<(CheckStatus, Printed), NoMemory>
     requires { IsWritable script.now }
-    ensures { CheckEndsOn script.now text.now (K.taken sink.old) (K.faults sink.old) (K.taken sink.new) (K.faults sink.new) result }
+    ensures answered { IfOk result (λ end. IsAnswered script.now text.now end.0 (bytes_of end.1)) }
+    ensures printable { IfOk result (λ end. IsPrintable end.1) }
 {
-    match check(alloc, script, text) {
-        Ok(first) => tell(alloc, first, sink),
-        Err(NoMemory) => CheckStatus::NoMemory,
-    }
+    let first = check(alloc, script, text)?;
+    tell(alloc, first)
 }
 
-/// Writes that all is right, or which line is the first wrong one.
-fn tell<K: Sink>(alloc: Global, first: Option<u32>, sink: &mut K) -> CheckStatus
-    ensures { CheckEndsWith first (K.taken sink.old) (K.faults sink.old) (K.taken sink.new) (K.faults sink.new) result }
+/// Tells that all is right, or which line is the first wrong one.
+fn tell(alloc: Global, first: Option<u32>) -> Result<(CheckStatus, Printed), NoMemory>
+    ensures answer { IfOk result (λ end. IsAnswer first end.0 (bytes_of end.1)) }
+    ensures printable { IfOk result (λ end. IsPrintable end.1) }
 {
     match first {
-        None => match yes(sink) {
-            Ok(()) => CheckStatus::Yes,
-            Err(Failed) => CheckStatus::WriteFault,
-        },
-        Some(line) => tell_no(alloc, line, sink),
-    }
-}
-
-/// Writes which line is the first wrong one.
-fn tell_no<K: Sink>(alloc: Global, line: u32, sink: &mut K) -> CheckStatus
-    ensures { CheckEndsWith (Some line) (K.taken sink.old) (K.faults sink.old) (K.taken sink.new) (K.faults sink.new) result }
-{
-    match no_at(alloc, line) {
-        Ok(text) => match write_all(sink, text.as_slice()) {
-            Ok(()) => CheckStatus::No(line),
-            Err(Failed) => CheckStatus::WriteFault,
-        },
-        Err(NoMemory) => CheckStatus::NoMemory,
+        None => Ok((CheckStatus::Yes, Printed::Line(yes(alloc)?))),
+        Some(line) => Ok((CheckStatus::No(line), Printed::Line(no_at(alloc, line)?))),
     }
 }

@@ -1,8 +1,10 @@
 //! How a check ends.
 
-ghost use Rattle.journal_check.specs.CheckStatuses.{check_status_number};
+ghost use Rattle.journal_check.specs.CheckStatuses.{check_end};
+ghost use Rattle.program_frame.specs.Ends.{number_of};
 ghost use Rattle.std.specs.Prelude.{◌≡◌};
 
+use program_frame::{End, FAULT_PRINTED};
 use report::script_codec::ScriptFault;
 
 /// How a check ends.
@@ -29,20 +31,37 @@ pub enum CheckStatus {
 }
 
 impl CheckStatus {
-    /// The exit status of the program.
-    pub fn number(self) -> u8
-        ensures { result ≡ check_status_number self }
+    /// Which end it is.
+    pub fn end(self) -> End
+        ensures { result ≡ check_end self }
     {
         match self {
-            CheckStatus::Yes => 0,
-            CheckStatus::No(_) => 1,
-            CheckStatus::Usage => 2,
-            CheckStatus::ScriptRefused(_) => 3,
-            CheckStatus::NoMemory => 4,
-            CheckStatus::ReadFault => 5,
-            CheckStatus::WriteFault => 6,
-            CheckStatus::InputShort { .. } => 7,
-            CheckStatus::InputLong => 8,
+            CheckStatus::Yes => End::Done,
+            CheckStatus::No(_) => End::Answer(1),
+            CheckStatus::Usage => End::Usage,
+            CheckStatus::ScriptRefused(_) => End::Refused,
+            CheckStatus::NoMemory => End::NoMemory,
+            CheckStatus::ReadFault => End::ReadFault,
+            CheckStatus::WriteFault => End::WriteFault,
+            CheckStatus::InputShort { .. } => End::Refusal(7),
+            CheckStatus::InputLong => End::Refusal(8),
+        }
+    }
+
+    /// The exit status of the program.
+    pub fn number(self) -> u8
+        ensures { result ≡ number_of (check_end self) }
+    {
+        self.end().number()
+    }
+
+    /// What is said of an answer that is no, and of an input that is refused.
+    pub fn why<'a>(self) -> &'a str {
+        match self {
+            CheckStatus::No(_) => "no run of the script can print that line there",
+            CheckStatus::InputShort { .. } => "the input ends within its script",
+            CheckStatus::InputLong => "the input has more than 402653184 bytes",
+            _ => FAULT_PRINTED,
         }
     }
 }

@@ -4,6 +4,7 @@
 
 use edge_io::{StdSink, StdSource, words};
 use journal_check::{CheckStatus, run_check};
+use program_frame::leave;
 use std::process::ExitCode;
 
 /// Hands `run_check` the words of the command line, standard input and standard output, and exits with its status.
@@ -16,5 +17,5 @@ fn main(rt: HostRuntime) -> ExitCode {
         }
         Err(_) => CheckStatus::NoMemory,
     };
-    ExitCode::from(status.number())
+    leave(&rt, "journal_check", status.end(), status.why())
 }
