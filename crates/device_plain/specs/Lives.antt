@@ -62,6 +62,10 @@ pub record IsWhole (d : Living) : Type 0 where
 abbrev pub IsRightReply : Living → Actor → Act → Reply → Type 0
 IsRightReply d actor act reply = ByEveryLife d (λ life. reply ≡ (right_answer d.config life actor act).0)
 
+-- These are the effects that every journal that leads here asks for.
+abbrev pub Changes : Living → Actor → Act → List Effect → Type 0
+Changes d actor act new = ByEveryLife d (λ life. new ≡ (right_answer d.config life actor act).1)
+
 -- The step leads on: with the entry that it asks for, of this actor and act, each journal leads to the device after it.
 abbrev pub LivesOn : Living → Living → Actor → Act → Type 0
 LivesOn old now actor act = (life : List Entry) → IsLife life old → (e : Entry) → e.actor ≡ actor → e.act ≡ act → Meets old.config life e → IsLife (life ++ e ∷ []) now

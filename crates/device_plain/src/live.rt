@@ -6,7 +6,7 @@ ghost use Rattle.control_core.specs.Steps.{MayStep};
 ghost use Rattle.dcd_base.specs.declared.steps.Actor.{Actor};
 ghost use Rattle.journal_core.specs.Entries.{fits};
 ghost use Rattle.journal_core.specs.declared.acts.Act.{Act};
-ghost use Rattle.device_plain.specs.Lives.{ByEveryLife, CanTake, IsAlive, IsLife, IsReplyTo, IsRightReply, IsTooLong, LivesOn, TakesEffects, payload_length};
+ghost use Rattle.device_plain.specs.Lives.{ByEveryLife, CanTake, Changes, IsAlive, IsLife, IsReplyTo, IsRightReply, IsTooLong, LivesOn, TakesEffects, payload_length};
 ghost use Rattle.std.specs.Prelude.{◌≡◌, ◌<◌, ◌≤◌, [], IfErr, IfOk, IsTrue, OnErr, OnOk};
 
 use crate::faults::StepFault;
@@ -109,9 +109,36 @@ impl LiveDevice {
         ensures too_long { IfErr result (IsTooLong self.old actor act.now most) }
         ensures kept { OnErr result (self.new ≡ self.old) }
     {
+        let mut changed = Effects::new(self.control.allocator());
+        self.step_telling(actor, act, most, &mut changed)
+    }
+
+    /// Takes a step as `step_within` does, and leaves in the list what it changed: nothing where no step was taken.
+    ///
+    /// The act fits its actor.
+    pub fn step_telling(
+        &mut self,
+        actor: Actor,
+        act: &Act,
+        most: usize,
+        changed: &mut Effects,
+    ) -> Result<Reply, StepFault>
+        requires { IsTrue (fits self.old.config.hosts actor act.now) }
+        ensures config { self.new.config ≡ self.old.config }
+        ensures reply { IfOk result (IsRightReply self.old actor act.now) }
+        ensures kind { IfOk result (IsReplyTo act.now) }
+        ensures short { IfOk result IsShort }
+        ensures within { IfOk result (λ reply. payload_length reply ≤ most) }
+        ensures led { OnOk result (LivesOn self.old self.new actor act.now) }
+        ensures changed { OnOk result (Changes self.old actor act.now changed.new) }
+        ensures nothing { OnErr result (changed.new ≡ []) }
+        ensures too_long { IfErr result (IsTooLong self.old actor act.now most) }
+        ensures kept { OnErr result (self.new ≡ self.old) }
+    {
+        changed.clear();
         match act {
-            Act::Command(_) => self.answered(actor, act, most),
-            Act::Scrub(_) => self.answered(actor, act, most),
+            Act::Command(_) => self.answered(actor, act, most, changed),
+            Act::Scrub(_) => self.answered(actor, act, most, changed),
             Act::Load(dpa) => match actor {
                 Actor::Host(host) => Ok(self.load(host, *dpa)),
                 _ => unreachable!(),
@@ -123,15 +150,24 @@ impl LiveDevice {
         }
     }
 
-    /// Takes a command or a scrub, unless its reply is too long.
-    fn answered(&mut self, actor: Actor, act: &Act, most: usize) -> Result<Reply, StepFault>
-        requires { MayStep self.old.config actor act.now }
+    /// Takes a command or a scrub, unless its reply is too long, and leaves in the list, which is empty, what it changed.
+    fn answered(
+        &mut self,
+        actor: Actor,
+        act: &Act,
+        most: usize,
+        changed: &mut Effects,
+    ) -> Result<Reply, StepFault>
+        requires may { MayStep self.old.config actor act.now }
+        requires empty { changed.old ≡ [] }
         ensures config { self.new.config ≡ self.old.config }
         ensures reply { IfOk result (IsRightReply self.old actor act.now) }
         ensures kind { IfOk result (IsReplyTo act.now) }
         ensures short { IfOk result IsShort }
         ensures within { IfOk result (λ reply. payload_length reply ≤ most) }
         ensures led { OnOk result (LivesOn self.old self.new actor act.now) }
+        ensures changed { OnOk result (Changes self.old actor act.now changed.new) }
+        ensures nothing { OnErr result (changed.new ≡ []) }
         ensures too_long { IfErr result (IsTooLong self.old actor act.now most) }
         ensures kept { OnErr result (self.new ≡ self.old) }
     {
@@ -143,6 +179,7 @@ impl LiveDevice {
             return Err(StepFault::TooLong(length));
         }
         self.take(&effects)?;
+        *changed = effects;
         Ok(reply)
     }
 
