@@ -1,25 +1,18 @@
-/* Plays a script on the device of the library and prints what dcdsim --mode serial prints, but for records that stay in logs.
-   It maps as docs/embed.md says, tells on standard error what is mapped to a host each time that it may have changed, and stops
-   where a load or a store is granted and not mapped, or mapped and not granted. */
+/* Plays a script on the device of the library and prints what dcdsim --mode serial prints. It maps by what dcd_changes says, tells
+   on standard error what it maps and unmaps, and stops where a load or a store is granted and not mapped, or mapped and not
+   granted. */
 #include "dcd.h"
 #include <inttypes.h>
 #include <stdio.h>
 #include <stdlib.h>
 
-enum { MOST = (1 << 24) + 1, ROOM = 2060, COMMAND = 1, LOAD = 2, STORE = 3, SCRUB = 4 };
-enum { HOSTS = 16, EXTENTS = 64, PAGE = 50, NOBODY = 255 };
-
-struct extent {
-    uint64_t start, length;
-};
-
-struct map {
-    struct extent extents[EXTENTS];
-    unsigned count;
-};
+enum { MOST = (1 << 24) + 1, COMMAND = 1, LOAD = 2, STORE = 3, SCRUB = 4, MOST_RUNS = 4096, MOST_LOG = 128 * DCD_RECORD };
 
 static uint8_t script[MOST + 32];
-static struct map maps[HOSTS];
+static uint16_t mapped[MOST_RUNS]; /* of each granule, the hosts to which it is mapped: bit h is host h */
+static struct dcd_device device = DCD_INIT;
+static struct dcd_region regions[DCD_MOST_REGIONS];
+static uint64_t bases[DCD_MOST_HOSTS * DCD_MOST_REGIONS], region_count;
 
 static uint64_t number(const uint8_t *at, int bytes) {
     uint64_t value = 0;
@@ -28,8 +21,16 @@ static uint64_t number(const uint8_t *at, int bytes) {
 }
 
 static void stop(const char *what, uint32_t status) {
-    fprintf(stderr, "play: %s: status %" PRIu32 "\n", what, status);
+    char name[40] = "";
+    uint64_t length = 0;
+    dcd_status_name(status, name, sizeof name, &length);
+    fprintf(stderr, "play: %s: %s\n", what, name);
     exit(1);
+}
+
+static void print_bytes(const uint8_t *bytes, uint64_t count) {
+    for (uint64_t i = 0; i < count; i++) printf("%02x", bytes[i]);
+    printf("\n");
 }
 
 /* Prints the number of the entry, its line and its actor: a host, or another one. */
@@ -38,90 +39,85 @@ static void begin(unsigned entry, unsigned line, const char *other, uint8_t host
     else printf("%u %u h%u ", entry, line, host);
 }
 
-/* Prints that a load or a store was refused, or stops where it failed otherwise. */
-static void refused(const char *what, uint32_t status) {
-    if (status < DCD_MISALIGNED) stop(what, status);
-    printf("%s refused %" PRIu32 "\n", what, status - DCD_MISALIGNED + 1);
+/* Maps and unmaps what the last step says. */
+static void apply(void) {
+    static struct dcd_run runs[MOST_RUNS];
+    struct dcd_step step = {.size = sizeof step};
+    uint32_t status = dcd_changes(&device, runs, MOST_RUNS, &step);
+    if (status != DCD_OK) stop("changes", status);
+    for (struct dcd_run *run = runs; run < runs + step.runs; run++) {
+        if (run->kind == DCD_ZEROED) continue;
+        fprintf(stderr, "h%u %c%" PRIx64 "+%" PRIx64 "\n", run->host, run->kind == DCD_GAINED ? '+' : '-', run->dpa, run->length);
+        for (uint32_t g = run->first_granule; g < run->first_granule + run->granules; g++)
+            if (run->kind == DCD_GAINED) mapped[g] |= (uint16_t)(1u << run->host);
+            else mapped[g] &= (uint16_t)~(1u << run->host);
+    }
 }
 
-/* Of which host the map may have changed by this message and its response, as docs/embed.md says; NOBODY where of none. */
-static uint8_t changed(uint8_t actor, const uint8_t *message, const uint8_t *response) {
-    uint64_t opcode = number(message + 3, 2);
-    if (number(response + 8, 2) != 0) return NOBODY; /* a refusal gives and takes nothing */
-    if (opcode == 0x4802 || opcode == 0x4803) return message[16] & 1 ? NOBODY : actor; /* nor does a part with More */
-    return opcode == 0x5605 && message[14] & 0x10 ? message[12] : NOBODY; /* only by force something is taken */
+/* Whether the address is mapped to the host. */
+static bool is_mapped(uint8_t host, uint64_t dpa) {
+    uint64_t first = 0;
+    for (uint64_t r = 0; r < region_count; r++) {
+        uint64_t size = regions[r].sizes & -regions[r].sizes, offset = dpa - bases[host * region_count + r];
+        if (offset < regions[r].length) return mapped[first + offset / size] >> host & 1;
+        first += regions[r].length / size;
+    }
+    return false;
 }
 
-/* Maps what the host has accepted, which its 4801h tells page by page, and nothing else. */
-static void map(struct dcd_device *device, uint8_t host) {
-    uint8_t message[20] = {[3] = 0x01, [4] = 0x48, [5] = 8, [12] = PAGE}, room[ROOM];
-    uint64_t length = 0;
-    struct map *all = &maps[host];
-    all->count = 0;
-    do {
-        message[16] = (uint8_t)all->count;
-        uint32_t status = dcd_send(device, host, message, sizeof message, room, ROOM, &length);
-        if (status != DCD_OK || number(room + 8, 2) != 0 || number(room + 16, 4) > EXTENTS) stop("list of extents", status);
-        for (const uint8_t *at = room + 28; at < room + length; at += 40)
-            all->extents[all->count++] = (struct extent){number(at, 8), number(at + 8, 8)};
-    } while (all->count < number(room + 16, 4));
-    fprintf(stderr, "h%u", host);
-    for (unsigned i = 0; i < all->count; i++) fprintf(stderr, " %" PRIx64 "+%" PRIx64, all->extents[i].start, all->extents[i].length);
-    fprintf(stderr, "\n");
-}
-
-/* Stops where the word at the address is granted to the host and not mapped, or mapped and not granted. */
-static void see_mapped(uint8_t host, uint64_t dpa, uint32_t status) {
-    bool is_mapped = false;
-    for (unsigned i = 0; i < maps[host].count; i++)
-        if (dpa - maps[host].extents[i].start < maps[host].extents[i].length) is_mapped = true;
-    if (status == DCD_OK && !is_mapped) stop("granted and not mapped", status);
-    if (status == DCD_NOT_GRANTED && is_mapped) stop("mapped and not granted", status);
-}
-
-static size_t command(struct dcd_device *device, const uint8_t *at, unsigned entry, unsigned line) {
-    static uint8_t room[ROOM];
+static size_t command(const uint8_t *at, unsigned entry, unsigned line) {
+    static uint8_t room[DCD_MOST_RESPONSE];
     uint64_t length = 0;
     size_t bytes = number(at + 2, 2);
     uint8_t actor = at[1] == DCD_MANAGER ? DCD_MANAGER : at[1] % 16;
-    uint32_t status = dcd_send(device, actor, at + 4, bytes, room, ROOM, &length);
+    uint32_t status = dcd_send(&device, actor, at + 4, bytes, room, sizeof room, &length);
     if (status != DCD_OK) stop("command", status);
     begin(entry, line, actor == DCD_MANAGER ? "fm" : NULL, actor);
     printf("cmd ");
-    for (uint64_t i = 0; i < length; i++) printf("%02x", room[i]);
-    printf("\n");
-    uint8_t host = changed(actor, at + 4, room);
-    if (host != NOBODY) map(device, host);
+    print_bytes(room, length);
     return 4 + bytes;
 }
 
-static size_t access_word(struct dcd_device *device, const uint8_t *at, unsigned entry, unsigned line) {
-    uint64_t word = 0;
+static size_t access_word(const uint8_t *at, unsigned entry, unsigned line) {
+    uint64_t word = 0, dpa = number(at + 2, 8);
     uint8_t host = at[1] % 16;
-    int loads = at[0] == LOAD;
-    uint32_t status = loads ? dcd_load(device, host, number(at + 2, 8), &word)
-                            : dcd_store(device, host, number(at + 2, 8), number(at + 10, 8));
-    see_mapped(host, number(at + 2, 8), status);
+    bool loads = at[0] == LOAD;
+    uint32_t status = loads ? dcd_load(&device, host, dpa, &word) : dcd_store(&device, host, dpa, number(at + 10, 8));
+    if (status != DCD_OK && status < DCD_MISALIGNED) stop("access", status);
+    if (status == DCD_OK && !is_mapped(host, dpa)) stop("granted and not mapped", status);
+    if (status == DCD_NOT_GRANTED && is_mapped(host, dpa)) stop("mapped and not granted", status);
     begin(entry, line, NULL, host);
-    if (status != DCD_OK) refused(loads ? "ld" : "st", status);
+    if (status != DCD_OK) printf("%s refused %" PRIu32 "\n", loads ? "ld" : "st", status - DCD_MISALIGNED + 1);
     else if (loads) printf("ld %016" PRIx64 "\n", word);
     else printf("st ok\n");
     return loads ? 10 : 18;
 }
 
-static size_t scrub(struct dcd_device *device, const uint8_t *at, unsigned entry, unsigned line) {
+static size_t scrub(const uint8_t *at, unsigned entry, unsigned line) {
     uint64_t zeroed = 0;
-    uint32_t status = dcd_scrub(device, (uint16_t)number(at + 1, 2), &zeroed);
+    uint32_t status = dcd_scrub(&device, (uint16_t)number(at + 1, 2), &zeroed);
     if (status != DCD_OK) stop("scrub", status);
     begin(entry, line, "sz", 0);
     printf("sc %" PRIu64 "\n", zeroed);
     return 3;
 }
 
+static void print_log(const char *name, uint8_t host, uint8_t log) {
+    static uint8_t records[MOST_LOG];
+    uint64_t count = 0;
+    uint32_t status = dcd_records(&device, log, records, sizeof records, &count);
+    if (status != DCD_OK) stop("records", status);
+    for (uint64_t at = 0; at < count; at += DCD_RECORD) {
+        if (name) printf("rec %s ", name);
+        else printf("rec h%u ", host);
+        print_bytes(records + at, DCD_RECORD);
+    }
+}
+
 int main(void) {
-    struct dcd_device device = {0};
     struct dcd_head_fault fault = {0};
-    struct dcd_memory_state all = {0};
+    struct dcd_memory_state all = {.size = sizeof all};
+    uint64_t count = 0;
     size_t length = fread(script, 1, MOST, stdin);
     uint32_t status = dcd_open(&device, script, length, &fault);
     if (status == DCD_BAD_HEAD) {
@@ -129,18 +125,26 @@ int main(void) {
         return 3;
     }
     if (status != DCD_OK) stop("open", status);
+    dcd_regions(&device, regions, DCD_MOST_REGIONS, &region_count);
+    dcd_bases(&device, bases, DCD_MOST_HOSTS * DCD_MOST_REGIONS, &count);
     printf("dcd 1\n");
     const uint8_t *at = script + 16 + 40 * script[9] + 8 * script[8] * script[9];
     unsigned entry = 0;
     for (unsigned line = 1; *at != 0; line++) {
-        if (*at == COMMAND) at += command(&device, at, ++entry, line);
-        else if (*at == LOAD || *at == STORE) at += access_word(&device, at, ++entry, line);
-        else if (*at == SCRUB) at += scrub(&device, at, ++entry, line);
-        else at++;
+        if (*at == COMMAND) at += command(at, ++entry, line);
+        else if (*at == LOAD || *at == STORE) at += access_word(at, ++entry, line);
+        else if (*at == SCRUB) at += scrub(at, ++entry, line);
+        else {
+            at++;
+            continue;
+        }
+        apply();
     }
     dcd_memory(&device, &all);
+    for (uint8_t host = 0; host < all.hosts; host++) print_log(NULL, host, host);
+    print_log("fm", 0, DCD_MANAGER);
     for (uint8_t host = 0; host < all.hosts; host++) {
-        struct dcd_host_state has = {0};
+        struct dcd_host_state has = {.size = sizeof has};
         dcd_host(&device, host, &has);
         printf("host h%u extents %" PRIu32 " granules %" PRIu32 " log %" PRIu32 "\n", host, has.extents, has.granules, has.records);
     }

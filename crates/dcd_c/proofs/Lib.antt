@@ -1,3 +1,10 @@
 pub mod LooseValues
 pub mod PlaceValues
 mod ResponseParts
+mod MapSteps
+mod RunSteps
+mod Filling
+mod OfferSteps
+mod RecordSteps
+mod BaseSteps
+mod Spelled

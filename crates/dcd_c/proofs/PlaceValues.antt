@@ -14,7 +14,7 @@ use denote.Struct.Struct.{within}
 use denote.Struct.Owning.{shape}
 use Rattle.dcd_c.specs.Places.{has_device, place_owns}
 use Rattle.dcd_c.specs.contracts.places.Place as place
-use Rattle.device_plain.specs.Lives.{Living}
+use Rattle.dcd_c.specs.declared.sessions.Session.{Session}
 
 abbrev pub Place : RattleType
 Place = place.the_row
@@ -30,13 +30,13 @@ module _ {M : Type 1} {𝓤 : Ura M} {𝓛 : Logic 𝓤} {K : Type 0} {Γ : List
       fsplit t $ fpick t (λ vss. fsplit t $ feq_l t (λ ev. fsplit t $ feq_l t (λ ep. drop t $
       k (subst (λ (ps : List Val). vs ≡ vstruct (of_list (ps ++ [])) ∷ []) ep ev))))
 
-  pub place_in : K → (p : Ptr) (x : Option Living)
+  pub place_in : K → (p : Ptr) (x : Option Session)
       → Step K 𝓛 (‵ (Place.own_val (record { at = p; device = x }) (single (ptr_val p) ∷ [])) ∷ Γ) G (‵ (place_owns p x) ∷ Γ) G
   place_in t p x = step (λ s. let v : Val = single (ptr_val p) in
       nothing t $ feq_i t (List Val) (ptr_val p ∷ []) (ptr_val p ∷ []) refl $ fjoin t $ feq_i t (List Val) (v ∷ []) (v ∷ []) refl $ fjoin t $
       fpack t (Valss (RawPtr ∷ [])) (within (shape place.the_type) (p, tt) (v ∷ [])) (ptr_val p ∷ [], tt) $ fjoin t $ s)
 
 -- the device of a place that has one
-pub found : (o : Option Living) → IsTrue (has_device o) → (x : Living) × (o ≡ Some x)
+pub found : (o : Option Session) → IsTrue (has_device o) → (x : Session) × (o ≡ Some x)
 found None never = absurd (false≢true never)
 found (Some x) has = (x, refl)

@@ -10,6 +10,8 @@ use Rattle.device_plain.specs.device_rules.specs.Hosts.{accepted_of, offers_of}
 use Rattle.device_plain.specs.Lives.{ByEveryLife, Living}
 use Rattle.dcd_c.specs.Statuses.{status_of_call}
 use Rattle.dcd_c.specs.declared.faults.Fault.{Fault}
+use Rattle.dcd_c.specs.declared.sessions.Session.{Session}
+use Rattle.region_config.specs.declared.region_spec.RegionSpec.{RegionSpec}
 use Rattle.dcd_c.specs.declared.asking.HostState.{HostState}
 use Rattle.dcd_c.specs.declared.asking.MemoryState.{MemoryState}
 
@@ -17,8 +19,13 @@ use Rattle.dcd_c.specs.declared.asking.MemoryState.{MemoryState}
 abbrev pub bytes_of_extents : List Extent → ℕ
 bytes_of_extents extents = sum_by (λ x. x.length) extents % 2 ^ 64
 
+-- the bytes of regions, in the 64 bits of a number
+abbrev pub bytes_of_regions : List RegionSpec → ℕ
+bytes_of_regions regions = sum_by (λ r. r.length) regions % 2 ^ 64
+
 -- What is told of a host is what the journal says.
 pub record TellsHostState (d : Living) (host : ℕ) (s : HostState) (life : List Entry) : Type 0 where
+  pub size : s.size ≡ 40
   pub extents : s.extents ≡ extent_count d.config host (effects life)
   pub granules : s.granules ≡ granules_held d.config host (effects life)
   pub held : s.bytes ≡ bytes_of_extents (accepted_of d.config host (effects life))
@@ -28,8 +35,11 @@ pub record TellsHostState (d : Living) (host : ℕ) (s : HostState) (life : List
 
 -- What is told of the memory and of the Fabric Manager's log is what the journal says.
 pub record TellsMemoryState (d : Living) (s : MemoryState) (life : List Entry) : Type 0 where
+  pub size : s.size ≡ 32
   pub hosts : s.hosts ≡ d.config.hosts
+  pub regions : s.regions ≡ length d.config.regions
   pub granules : s.granules ≡ granule_total d.config
+  pub held : s.bytes ≡ bytes_of_regions d.config.regions
   pub free : s.free ≡ free_count d.config (effects life)
   pub dirty : s.dirty ≡ dirty_count d.config (effects life)
   pub records : s.records ≡ length (records_of LogId.Manager (effects life))
@@ -46,8 +56,8 @@ AsksMemory d (Ok s) = ByEveryLife d (TellsMemoryState d s)
 AsksMemory d (Err fault) = ⊥
 
 -- The same of a place.
-abbrev pub AsksPlace : {X : Type 0} → (Living → Result X Fault → Type 0) → Option Living → Result X Fault → Type 0
-AsksPlace P (Some d) outcome = P d outcome
+abbrev pub AsksPlace : {X : Type 0} → (Living → Result X Fault → Type 0) → Option Session → Result X Fault → Type 0
+AsksPlace P (Some s) outcome = P s.device outcome
 AsksPlace P None outcome = outcome ≡ Err Fault.Closed
 
 -- what stands at the pointer: the answer, or what was there

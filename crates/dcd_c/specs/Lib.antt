@@ -5,3 +5,12 @@ pub mod Sending
 pub mod Heads
 pub mod Asking
 pub mod HeadFaults
+pub mod Sessions
+pub mod Opening
+pub mod Lists
+pub mod Changes
+pub mod Maps
+pub mod Refusals
+pub mod RuleNumbers
+pub mod Words
+pub mod Texts

@@ -5,18 +5,18 @@ use denote.RawPtr.{Ptr}
 use Rattle.std.specs.Box.Ownership.{box_owns}
 use Rattle.std.specs.contracts.impls.GlobalAllocator.TheImpl.{ghosts}
 use Rattle.std.specs.declared.alloc.Global.{Global}
-use Rattle.device_plain.specs.Lives.{Living}
-use Rattle.device_plain.specs.contracts.live.LiveDevice.{the_row}
+use Rattle.dcd_c.specs.declared.sessions.Session.{Session}
+use Rattle.dcd_c.specs.contracts.sessions.Session.{the_row}
 
 -- the C library's heap, of which there is one
 abbrev pub the_heap : Global
 the_heap = record { memory = record { seal = tt } }
 
-abbrev pub place_owns : Ptr → Option Living → Fml
+abbrev pub place_owns : Ptr → Option Session → Fml
 place_owns at None = ftrue
 place_owns at (Some device) = box_owns (ghosts.dealloc_token the_heap) the_row at device
 
 -- whether there is one
-abbrev pub has_device : Option Living → Bool
+abbrev pub has_device : Option Session → Bool
 has_device None = false
 has_device (Some device) = true

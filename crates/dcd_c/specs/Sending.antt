@@ -9,7 +9,8 @@ use Rattle.journal_core.specs.declared.acts.Act.{Act}
 use Rattle.journal_core.specs.declared.acts.Reply.{Reply}
 use Rattle.device_plain.specs.device_rules.specs.Legal.{right_answer}
 use Rattle.device_plain.specs.Lives.{ByEveryLife, Living, payload_length}
-use Rattle.dcd_c.specs.Calls.{Steps}
+use Rattle.dcd_c.specs.Sessions.{IsIdle, Steps}
+use Rattle.dcd_c.specs.declared.sessions.Session.{Session}
 use Rattle.dcd_c.specs.declared.faults.Fault.{Fault}
 
 -- What reading a message answers: the request that the bytes are, or why they are none.
@@ -20,7 +21,7 @@ IsMessageRead message (Err (Fault.Message fault)) = (fault ≢ MessageFault.NoMe
 IsMessageRead message (Err fault) = ⊥
 
 -- The device answered the command, and the response has room.
-pub record CommandAnswered (actor : Actor) (request : Request) (room : ℕ) (old new : Living) (response : Response) : Type 0 where
+pub record CommandAnswered (actor : Actor) (request : Request) (room : ℕ) (old new : Session) (response : Response) : Type 0 where
   pub steps : Steps old new actor (Act.Command request) (Reply.Answer response)
   pub short : length response.payload ≤ 2048
   pub within : 12 + length response.payload ≤ room
@@ -32,8 +33,8 @@ pub record LacksRoom (actor : Actor) (request : Request) (room : ℕ) (old : Liv
   pub header : room < 12 → n ≡ 12
   pub right : 12 ≤ room → ByEveryLife old (λ life. 12 + payload_length (right_answer old.config life actor (Act.Command request)).0 ≡ n)
 
-abbrev pub Commands : Actor → Request → ℕ → Living → Living → Result Response Fault → Type 0
+abbrev pub Commands : Actor → Request → ℕ → Session → Session → Result Response Fault → Type 0
 Commands actor request room old new (Ok response) = CommandAnswered actor request room old new response
-Commands actor request room old new (Err Fault.NoMemory) = new ≡ old
-Commands actor request room old new (Err (Fault.NoRoom n)) = (new ≡ old) × LacksRoom actor request room old n
+Commands actor request room old new (Err Fault.NoMemory) = IsIdle old new
+Commands actor request room old new (Err (Fault.NoRoom n)) = IsIdle old new × LacksRoom actor request room old.device n
 Commands actor request room old new (Err fault) = ⊥

@@ -1,5 +1,5 @@
 -- The numbers by which a call says what went wrong.
-use Rattle.std.specs.Prelude.{◌≡◌, ℕ, Result, Ok, Err}
+use Rattle.std.specs.Prelude.{◌≡◌, ℕ, Bool, true, false, Result, Ok, Err}
 use Rattle.cci_codec.specs.declared.faults.MessageFault.{MessageFault}
 use Rattle.dcd_base.specs.declared.failures.AccessFault.{AccessFault}
 use Rattle.dcd_c.specs.declared.faults.Fault.{Fault}
@@ -24,6 +24,9 @@ fault_status Fault.NoActor = 5
 fault_status (Fault.Message fault) = message_status fault
 fault_status (Fault.NoRoom n) = 9
 fault_status (Fault.Access fault) = access_status fault
+fault_status Fault.BadSize = 13
+fault_status Fault.BadCount = 14
+fault_status Fault.NoName = 15
 
 -- 0 where it was done
 abbrev pub status_of_call : {X : Type 0} → Result X Fault → ℕ
@@ -42,6 +45,11 @@ pub record TellsNumber (status was is : ℕ) (P : Result ℕ Fault → Type 0) :
   pub is_status : status ≡ status_of_call outcome
   pub is_number : is ≡ number_told was outcome
   pub holds : P outcome
+
+-- What holds where the size in the caller's struct is too small, and else.
+abbrev pub BySize : Bool → Type 0 → Type 0 → Type 0
+BySize true P Q = P
+BySize false P Q = Q
 
 -- The status tells an outcome of which P holds.
 pub record TellsDone (status : ℕ) (P : Result (Unit {0}) Fault → Type 0) : Type 0 where

@@ -4,19 +4,20 @@ ghost use Rattle.dcd_c.specs.Calls.{AnswersLoad, AnswersStore, AnswersTurn, Call
 
 use crate::faults::Fault;
 use crate::handles::{Handle, put_in, take_out};
+use crate::sessions::Session;
 use dcd_base::{Actor, HostId, NoMemory};
-use device_plain::LiveDevice;
 use journal_core::{Act, Reply};
 use std::alloc::Global;
 
 /// Lets the host load the word at the address.
-fn load(device: &mut LiveDevice, host: u8, dpa: u64) -> Result<u64, Fault>
-    ensures { AnswersLoad host dpa device.old device.new result }
+fn load(session: &mut Session, host: u8, dpa: u64) -> Result<u64, Fault>
+    ensures { AnswersLoad host dpa session.old session.new result }
 {
-    if host >= device.config().hosts() {
+    if host >= session.device.config().hosts() {
+        session.rest();
         return Err(Fault::NoActor);
     }
-    match device.step(Actor::Host(HostId(host)), &Act::Load(dpa)) {
+    match session.step(Actor::Host(HostId(host)), &Act::Load(dpa)) {
         Ok(Reply::Word(word)) => Ok(word),
         Ok(Reply::Refused(fault)) => Err(Fault::Access(fault)),
         Ok(_) => unreachable!(),
@@ -25,13 +26,14 @@ fn load(device: &mut LiveDevice, host: u8, dpa: u64) -> Result<u64, Fault>
 }
 
 /// Lets the host store the word at the address.
-fn store(device: &mut LiveDevice, host: u8, dpa: u64, value: u64) -> Result<(), Fault>
-    ensures { AnswersStore host dpa value device.old device.new result }
+fn store(session: &mut Session, host: u8, dpa: u64, value: u64) -> Result<(), Fault>
+    ensures { AnswersStore host dpa value session.old session.new result }
 {
-    if host >= device.config().hosts() {
+    if host >= session.device.config().hosts() {
+        session.rest();
         return Err(Fault::NoActor);
     }
-    match device.step(Actor::Host(HostId(host)), &Act::Store(dpa, value)) {
+    match session.step(Actor::Host(HostId(host)), &Act::Store(dpa, value)) {
         Ok(Reply::Stored) => Ok(()),
         Ok(Reply::Refused(fault)) => Err(Fault::Access(fault)),
         Ok(_) => unreachable!(),
@@ -40,10 +42,10 @@ fn store(device: &mut LiveDevice, host: u8, dpa: u64, value: u64) -> Result<(), 
 }
 
 /// Lets the sanitizer zero at most so many granules.
-fn scrub(device: &mut LiveDevice, most: u16) -> Result<u64, Fault>
-    ensures { AnswersTurn most device.old device.new result }
+fn scrub(session: &mut Session, most: u16) -> Result<u64, Fault>
+    ensures { AnswersTurn most session.old session.new result }
 {
-    match device.step(Actor::Sanitizer, &Act::Scrub(most)) {
+    match session.step(Actor::Sanitizer, &Act::Scrub(most)) {
         Ok(Reply::Scrubbed(count)) => Ok(u64::from(count)),
         Ok(_) => unreachable!(),
         Err(NoMemory) => Err(Fault::NoMemory),
@@ -57,9 +59,9 @@ pub(crate) fn loaded(handle: &mut Handle, alloc: Global, host: u8, dpa: u64) -> 
     if !handle.is_open() {
         return Err(Fault::Closed);
     }
-    let mut device = take_out(handle, alloc);
-    let outcome = load(&mut device, host, dpa);
-    put_in(handle, device);
+    let mut session = take_out(handle, alloc);
+    let outcome = load(&mut session, host, dpa);
+    put_in(handle, session);
     outcome
 }
 
@@ -76,9 +78,9 @@ pub(crate) fn stored(
     if !handle.is_open() {
         return Err(Fault::Closed);
     }
-    let mut device = take_out(handle, alloc);
-    let outcome = store(&mut device, host, dpa, value);
-    put_in(handle, device);
+    let mut session = take_out(handle, alloc);
+    let outcome = store(&mut session, host, dpa, value);
+    put_in(handle, session);
     outcome
 }
 
@@ -89,8 +91,8 @@ pub(crate) fn scrubbed(handle: &mut Handle, alloc: Global, most: u16) -> Result<
     if !handle.is_open() {
         return Err(Fault::Closed);
     }
-    let mut device = take_out(handle, alloc);
-    let outcome = scrub(&mut device, most);
-    put_in(handle, device);
+    let mut session = take_out(handle, alloc);
+    let outcome = scrub(&mut session, most);
+    put_in(handle, session);
     outcome
 }

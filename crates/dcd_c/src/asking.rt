@@ -1,43 +1,60 @@
 //! What is held, free and waiting.
 
-ghost use Rattle.dcd_c.specs.Asking.{AsksHost, AsksMemory, AsksPlace, TellsHostState, TellsMemoryState, bytes_of_extents};
+ghost use Rattle.dcd_c.specs.Asking.{AsksHost, AsksMemory, AsksPlace, TellsHostState, TellsMemoryState, bytes_of_extents, bytes_of_regions};
 ghost use Rattle.device_plain.specs.Lives.{ByEveryLife};
-ghost use Rattle.std.specs.Prelude.{◌≡◌, ◌<◌};
+ghost use Rattle.std.specs.Prelude.{◌≡◌, ◌<◌, ◌≤◌, length, take};
 
 use crate::faults::Fault;
 use crate::handles::{Handle, put_in, take_out};
-use dcd_base::{Extent, HostId, LogId};
+use dcd_base::{Extent, HostId, LogId, RegionId};
 use device_plain::LiveDevice;
+use region_config::Config;
 use std::alloc::Global;
 
 /// What a host has.
 #[repr(C)]
 #[derive(Clone, Copy, Drop)]
 pub struct HostState {
-    /// How many extents it has accepted, how many granules they have, and how many bytes.
+    /// How many bytes the struct has, by the caller and then by the library.
+    pub size: u32,
+    /// How many extents it has accepted, and how many granules they have.
     pub extents: u32,
     pub granules: u32,
+    /// How many records are in its log.
+    pub records: u32,
+    /// How many bytes its extents have.
     pub bytes: u64,
     /// How many offers it has not answered.
     pub offers: u64,
-    /// How many records are in its log, and how many found it full.
-    pub records: u32,
+    /// How many records found its log full.
     pub missed: u16,
+    pub reserved: u16,
+    pub reserved_too: u32,
 }
+
+/// How many bytes the structs have.
+pub(crate) const HOST_STATE: u32 = 40;
+
+pub(crate) const MEMORY_STATE: u32 = 32;
 
 /// What the whole device has.
 #[repr(C)]
 #[derive(Clone, Copy, Drop)]
 pub struct MemoryState {
+    /// How many bytes the struct has, by the caller and then by the library.
+    pub size: u32,
     /// How many granules there are, and how many of them are free and dirty.
     pub granules: u32,
     pub free: u32,
     pub dirty: u32,
+    /// How many bytes all regions have.
+    pub bytes: u64,
     /// How many records are in the log of the Fabric Manager, and how many found it full.
     pub records: u32,
     pub missed: u16,
-    /// How many hosts there are.
+    /// How many hosts and regions there are.
     pub hosts: u8,
+    pub regions: u8,
 }
 
 /// The bytes of the extents.
@@ -51,6 +68,18 @@ fn bytes_of(extents: &[Extent]) -> u64
     bytes
 }
 
+/// The bytes of the regions before this one, or of all.
+pub(crate) fn bytes_before(config: &Config, region: u8) -> u64
+    requires { region ≤ length config.now.regions }
+    ensures { result ≡ bytes_of_regions (take region config.now.regions) }
+{
+    let mut bytes = 0u64;
+    for i in 0..region {
+        bytes = bytes.wrapping_add(config.region(RegionId(i)).length);
+    }
+    bytes
+}
+
 /// What the host has, which is one of the device.
 fn state_of(device: &LiveDevice, host: u8) -> HostState
     requires { host < device.now.config.hosts }
@@ -59,12 +88,15 @@ fn state_of(device: &LiveDevice, host: u8) -> HostState
     let control = device.control();
     let id = HostId(host);
     HostState {
+        size: HOST_STATE,
         extents: control.extents(id),
         granules: control.granules_held(id),
+        records: control.records(LogId::Host(id)),
         bytes: bytes_of(control.accepted(id)),
         offers: control.offers(id) as u64,
-        records: control.records(LogId::Host(id)),
         missed: control.missed(LogId::Host(id)),
+        reserved: 0,
+        reserved_too: 0,
     }
 }
 
@@ -75,12 +107,15 @@ fn memory_of(device: &LiveDevice) -> MemoryState
     let config = device.config();
     let control = device.control();
     MemoryState {
+        size: MEMORY_STATE,
         granules: config.granules(),
         free: control.free(),
         dirty: control.dirty(),
+        bytes: bytes_before(config, config.regions()),
         records: control.records(LogId::Manager),
         missed: control.missed(LogId::Manager),
         hosts: config.hosts(),
+        regions: config.regions(),
     }
 }
 
@@ -102,9 +137,9 @@ pub(crate) fn host_asked(handle: &mut Handle, alloc: Global, host: u8) -> Result
     if !handle.is_open() {
         return Err(Fault::Closed);
     }
-    let device = take_out(handle, alloc);
-    let outcome = host_of(&device, host);
-    put_in(handle, device);
+    let session = take_out(handle, alloc);
+    let outcome = host_of(&session.device, host);
+    put_in(handle, session);
     outcome
 }
 
@@ -116,8 +151,8 @@ pub(crate) fn memory_asked(handle: &mut Handle, alloc: Global) -> Result<MemoryS
     if !handle.is_open() {
         return Err(Fault::Closed);
     }
-    let device = take_out(handle, alloc);
-    let state = memory_of(&device);
-    put_in(handle, device);
+    let session = take_out(handle, alloc);
+    let state = memory_of(&session.device);
+    put_in(handle, session);
     Ok(state)
 }

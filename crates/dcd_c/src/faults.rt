@@ -22,10 +22,16 @@ pub enum Fault {
     NoActor,
     /// The bytes are no request.
     Message(MessageFault),
-    /// The response has so many bytes, and there is room for fewer.
+    /// What is answered has so many bytes or items, and there is room for fewer.
     NoRoom(u64),
     /// The load or the store is refused.
     Access(AccessFault),
+    /// The size in the caller's struct is less than that of the struct.
+    BadSize,
+    /// There are not as many bases as hosts times regions.
+    BadCount,
+    /// Nothing has this number.
+    NoName,
 }
 
 impl Fault {
@@ -47,6 +53,9 @@ impl Fault {
             Fault::Access(AccessFault::Misaligned) => 10,
             Fault::Access(AccessFault::OutsideRegions) => 11,
             Fault::Access(AccessFault::NotGranted) => 12,
+            Fault::BadSize => 13,
+            Fault::BadCount => 14,
+            Fault::NoName => 15,
         }
     }
 }

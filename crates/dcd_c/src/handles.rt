@@ -5,7 +5,7 @@ ghost use Rattle.std.specs.Prelude.{◌≡◌, IsTrue, None, Some, false};
 
 use crate::loose::Loose;
 use crate::places::{Place, empty_place, kept_in};
-use device_plain::LiveDevice;
+use crate::sessions::Session;
 use std::alloc::Global;
 use std::mem::replace;
 
@@ -27,7 +27,7 @@ impl Handle {
 }
 
 /// Takes the device out of the handle.
-pub(crate) fn take_out(handle: &mut Handle, alloc: Global) -> Box<LiveDevice>
+pub(crate) fn take_out(handle: &mut Handle, alloc: Global) -> Box<Session>
     requires { IsTrue (has_device handle.old.place.device) }
     ensures had { handle.old.place.device ≡ Some result.value }
     ensures left { handle.new.place.device ≡ None }
@@ -38,7 +38,7 @@ pub(crate) fn take_out(handle: &mut Handle, alloc: Global) -> Box<LiveDevice>
 }
 
 /// Puts the device into the handle, which has none.
-pub(crate) fn put_in(handle: &mut Handle, device: Box<LiveDevice>)
+pub(crate) fn put_in(handle: &mut Handle, device: Box<Session>)
     requires { has_device handle.old.place.device ≡ false }
     ensures { handle.new.place.device ≡ Some device.value }
 {

@@ -1,11 +1,11 @@
 //! A place for a device on the heap.
 
 ghost use Rattle.dcd_c.specs.Places.{has_device, place_owns};
-ghost use Rattle.device_plain.specs.Lives.{Living};
+ghost use Rattle.dcd_c.specs.declared.sessions.Session.{Session};
 ghost use Rattle.std.specs.Prelude.{◌≡◌, IsTrue, None, Option, Some, false};
 
 use crate::loose::Loose;
-use device_plain::LiveDevice;
+use crate::sessions::Session;
 use std::alloc::Global;
 use std::marker::Model;
 use std::ptr::null_mut;
@@ -17,7 +17,7 @@ use std::ptr::null_mut;
 #[repr(C)]
 pub struct Place {
     at: *mut u8,
-    pub ghost device: { Option Living },
+    pub ghost device: { Option Session },
 }
 
 impl Model for Place {
@@ -37,20 +37,20 @@ unsafe impl Send for Place {}
 
 impl Place {
     /// The device of a place that has one.
-    pub(crate) fn taken_out(self, alloc: Global) -> Loose<LiveDevice, Global>
+    pub(crate) fn taken_out(self, alloc: Global) -> Loose<Session, Global>
         requires { IsTrue (has_device self.device) }
         ensures { self.device ≡ Some result.value }
     {
         let Place { at } = self;
         Loose {
-            at: at as *mut LiveDevice,
+            at: at as *mut Session,
             alloc,
         }
     }
 }
 
 /// A place that has the device.
-pub(crate) fn kept_in(device: Loose<LiveDevice, Global>) -> Place
+pub(crate) fn kept_in(device: Loose<Session, Global>) -> Place
     ensures { result.device ≡ Some device.value }
 {
     let Loose { at, alloc: _alloc } = device;

@@ -10,9 +10,10 @@ use crate::actors::actor_of;
 use crate::faults::Fault;
 use crate::handles::{Handle, put_in, take_out};
 use crate::responses::put_response;
+use crate::sessions::Session;
 use cci_codec::{MessageFault, Request, Response, decode};
 use dcd_base::Actor;
-use device_plain::{LiveDevice, StepFault};
+use device_plain::StepFault;
 use journal_core::{Act, Reply};
 use std::alloc::Global;
 
@@ -37,7 +38,7 @@ fn most_payload(room: usize) -> usize
 }
 
 /// The request that the bytes are.
-fn request_of(alloc: Global, message: &[u8]) -> Result<Request, Fault>
+pub(crate) fn request_of(alloc: Global, message: &[u8]) -> Result<Request, Fault>
     ensures { IsMessageRead message.now result }
 {
     match decode(alloc, message) {
@@ -49,18 +50,20 @@ fn request_of(alloc: Global, message: &[u8]) -> Result<Request, Fault>
 
 /// Lets the device take the command, where its response has at most so many bytes.
 fn command(
-    device: &mut LiveDevice,
+    session: &mut Session,
     actor: Actor,
     request: Request,
     room: usize,
 ) -> Result<Response, Fault>
-    requires { IsTrue (fits device.old.config.hosts actor (Act.Command request)) }
-    ensures { Commands actor request room device.old device.new result }
+    requires { IsTrue (fits session.old.device.config.hosts actor (Act.Command request)) }
+    ensures { Commands actor request room session.old session.new result }
 {
     if room < HEADER {
+        session.rest();
         return Err(Fault::NoRoom(HEADER as u64));
     }
-    match device.step_within(actor, &Act::Command(request), most_payload(room)) {
+    let most = most_payload(room);
+    match session.step_within(actor, &Act::Command(request), most) {
         Ok(Reply::Answer(response)) => Ok(response),
         Ok(_) => unreachable!(),
         Err(StepFault::NoMemory) => Err(Fault::NoMemory),
@@ -70,21 +73,29 @@ fn command(
 
 /// Sends a message of the actor to the device, and puts the response into the room.
 fn answered(
-    device: &mut LiveDevice,
+    session: &mut Session,
     alloc: Global,
     number: u8,
     message: &[u8],
     room: &mut [u8],
 ) -> Result<u64, Fault>
-    ensures { SendsMessage number message.now room.old room.new device.old device.new result }
+    ensures { SendsMessage number message.now room.old room.new session.old session.new result }
 {
-    match actor_of(device.config().hosts(), number) {
-        None => Err(Fault::NoActor),
-        Some(actor) => {
-            let request = request_of(alloc, message)?;
-            let response = command(device, actor, request, room.len())?;
-            Ok(put_response(&response, room))
+    match actor_of(session.device.config().hosts(), number) {
+        None => {
+            session.rest();
+            Err(Fault::NoActor)
         }
+        Some(actor) => match request_of(alloc, message) {
+            Err(fault) => {
+                session.rest();
+                Err(fault)
+            }
+            Ok(request) => match command(session, actor, request, room.len()) {
+                Err(fault) => Err(fault),
+                Ok(response) => Ok(put_response(&response, room)),
+            },
+        },
     }
 }
 
@@ -101,8 +112,8 @@ pub(crate) fn sent(
     if !handle.is_open() {
         return Err(Fault::Closed);
     }
-    let mut device = take_out(handle, alloc);
-    let outcome = answered(&mut device, alloc, number, message, room);
-    put_in(handle, device);
+    let mut session = take_out(handle, alloc);
+    let outcome = answered(&mut session, alloc, number, message, room);
+    put_in(handle, session);
     outcome
 }

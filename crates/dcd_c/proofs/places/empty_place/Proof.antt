@@ -17,7 +17,7 @@ use denote.Steps.{nothing}
 use denote.Triple.Walked.{Stays, walk_of}
 use Rattle.std.proofs.raw_atomic.Walks.{proved_at, leaves}
 use Rattle.dcd_c.proofs.PlaceValues.{single, place_in}
-use Rattle.device_plain.specs.Lives.{Living}
+use Rattle.dcd_c.specs.declared.sessions.Session.{Session}
 use Rattle.std.specs.Prelude.{Option}
 use Rattle.dcd_c.specs.contracts.places.empty_place.{ended, clauses}
 use Rattle.dcd_c.specs.contracts.places.empty_place.Key.{name as #self}
@@ -28,7 +28,7 @@ pub empty_place_spec : {M : Type 1} → statement M
 empty_place_spec 𝓤 𝓛 𝓜 𝓡 wired =
     let H = 𝓛.H in let 𝓣 = tables 𝓤 H 𝓜 𝓡 𝓡.env in
     let c = clauses 𝓛 𝓜.mem 𝓡.returns in let fn = code.function in
-    let hs : Stays ended.signature.params ended.kept = tt in let empty : Option Living = None in
+    let hs : Stays ended.signature.params ended.kept = tt in let empty : Option Session = None in
     proved_at 𝓛 ended hs c 𝓜 𝓡 tt #self fn (code.unfolded 𝓤 H 𝓜 𝓡 wired) (λ z are.
     let κs = z.0.0 in let Post : Val → SProp 𝓤 = (walk_of 𝓛 ended hs c).post z in let made : Val = single (ptr_val null_ptr) in
     qed 𝓛 ((‵ ftrue ⊛ ‵ (owns (types_at ended.signature.params κs) z.0.3 z.0.4)) ∷ raw ((c κs z.0.3).requires z.1) ∷ []) ∵ split ! $

@@ -21,7 +21,7 @@ use Rattle.std.specs.contracts.alloc.Global as heap
 use Rattle.std.proofs.alloc.Global.TheLaws as heap_laws
 use Rattle.std.specs.contracts.impls.GlobalAllocator.TheImpl.{ghosts}
 use Rattle.std.proofs.raw_atomic.Walks.{proved_at, leaves}
-use Rattle.device_plain.specs.contracts.live.LiveDevice as device
+use Rattle.dcd_c.specs.contracts.sessions.Session as device
 use Rattle.dcd_c.specs.Places.{place_owns}
 use Rattle.dcd_c.proofs.LooseValues.{both, Loose, loose_good, loose_out}
 use Rattle.dcd_c.proofs.PlaceValues.{single, place_in}

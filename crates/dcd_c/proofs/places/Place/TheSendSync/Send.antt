@@ -7,13 +7,13 @@ use denote.RawPtr.{Ptr}
 use Rattle.std.specs.Prelude.{Option, Some, None}
 use Rattle.std.proofs.Crossing.{frees}
 use Rattle.std_alloc.proofs.SendSync as any
-use Rattle.device_plain.specs.Lives.{Living}
-use Rattle.device_plain.specs.contracts.live.LiveDevice as device
-use Rattle.device_plain.proofs.live.LiveDevice.TheSendSync.{the_send}
+use Rattle.dcd_c.specs.declared.sessions.Session.{Session}
+use Rattle.dcd_c.specs.contracts.sessions.Session as device
+use Rattle.dcd_c.proofs.sessions.Session.TheSendSync.{the_send}
 use Rattle.dcd_c.specs.Places.{place_owns, the_heap}
 use Rattle.dcd_c.specs.contracts.places.Place.{the_row, the_type}
 
-owned_keyless : (at : Ptr) (o : Option Living) → Keyless (place_owns at o)
+owned_keyless : (at : Ptr) (o : Option Session) → Keyless (place_owns at o)
 owned_keyless at None = tt
 owned_keyless at (Some d) = (any.lies device.the_row the_send at d, frees.frees the_heap (raw (lone (device.the_row).mir)) at)
 

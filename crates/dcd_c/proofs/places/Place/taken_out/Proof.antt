@@ -27,8 +27,8 @@ use Rattle.std.specs.contracts.alloc.Global as heap
 use Rattle.std.proofs.alloc.Global.TheLaws as heap_laws
 use Rattle.std.specs.contracts.impls.GlobalAllocator.TheImpl.{ghosts}
 use Rattle.std.proofs.raw_atomic.Walks.{proved_at, leaves}
-use Rattle.device_plain.specs.contracts.live.LiveDevice as device
-use Rattle.device_plain.specs.Lives.{Living}
+use Rattle.dcd_c.specs.contracts.sessions.Session as device
+use Rattle.dcd_c.specs.declared.sessions.Session.{Session}
 use Rattle.dcd_c.specs.Places.{has_device, place_owns}
 use Rattle.dcd_c.proofs.LooseValues.{both, loose_good, loose_in}
 use Rattle.dcd_c.proofs.PlaceValues.{Place, found, single, place_out}
@@ -47,7 +47,7 @@ taken_out_spec 𝓤 𝓛 𝓜 𝓡 wired =
     let h = one (layout Z) z.0.4.1.0 ((LZ.lawful 𝓛).typed a z.0.4.1.0 are.1.0) in
     qed 𝓛 ((‵ ftrue ⊛ ‵ (owns (types_at ended.signature.params κs) z.0.3 z.0.4)) ∷ raw (fact 𝓤 (IsTrue (has_device p.device))) ∷ []) ∵ move ! (1 ∷ []) $ heard ! (IsTrue (has_device p.device)) (λ has. let x = (found p.device has).0 in let is = (found p.device has).1 in split ! $ move ! (1 ∷ []) $ fsplit3 ! $
     rewrite ! 1 (λ (us : List Val). ‵ (Z.own_val a us)) h.1 refl $
-    place_out ! p z.0.4.0 (λ ws. rewrite ! 0 (λ (o : Option Living). ‵ (place_owns p.at o)) is refl $
+    place_out ! p z.0.4.0 (λ ws. rewrite ! 0 (λ (o : Option Session). ‵ (place_owns p.at o)) is refl $
     in_a_block ! p.at (λ q. box_owns (ghosts.dealloc_token a) R q x) (fst∗ 𝓤 (never 𝓤) (sem 𝓛 (ghosts.dealloc_token a (bare (lone R.mir)) null_ptr))) (λ b o e.
     let w : Val = single (vptr b o) in let typed = loose_good R Z LZ ghosts b o h.0 h.2 in let made : Val = both (vptr b o) h.0 in
     let told : z.0.4.0 ≡ w ∷ [] = ws ∙ ap (λ (q : Ptr). single (ptr_val q) ∷ []) e in

@@ -1,0 +1,6 @@
+use Rattle.std.proofs.Common.{◌≡◌, take, fold}
+use Rattle.dcd_c.specs.Changes.{filled_by}
+use Rattle.dcd_c.proofs.changes.filled.Given as goal
+
+abbrev pub invariant-loop-i : goal.invariant-loop-i
+invariant-loop-i l = l.bits ≡ fold filled_by 0 (take l.i l.effects)
