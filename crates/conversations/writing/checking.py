@@ -4,6 +4,7 @@ Which line is the first wrong one is worked out by hand: it is the line that was
 """
 import struct
 
+from phases import parted
 from talk import *
 from using import CASES as USING, memory, one_block, with_lanes
 
@@ -79,20 +80,40 @@ FOUR_HOSTS = USING["four-hosts"]
 
 def four_hosts_in_order(step):
     """The text of four hosts with their loads and stores in another order: those of each host stay in order, and the hosts take turns of so many."""
-    entries = [line for line in FOUR_HOSTS.text if line.split()[0].isdigit()]
-    places = [at for at, line in enumerate(entries) if line.split()[3] in ("ld", "st")]
     waiting = {}
-    for at in places:
-        waiting.setdefault(entries[at].split()[2], []).append(entries[at])
+    for line in accesses(FOUR_HOSTS):
+        waiting.setdefault(line.split()[2], []).append(line)
     taken, hosts = [], sorted(waiting, reverse=step % 2 == 0)
     while any(waiting.values()):
         for host in hosts:
             taken += waiting[host][:step]
             del waiting[host][:step]
-    for at, line in zip(places, taken):
-        entries[at] = line
-    numbered = [f"{number} " + line.split(" ", 1)[1] for number, line in enumerate(entries, 1)]
-    return checked(FOUR_HOSTS.script, spelled([FOUR_HOSTS.text[0], *numbered, *FOUR_HOSTS.text[len(entries) + 1:]]))
+    return with_accesses(FOUR_HOSTS, taken)
+
+
+def four_hosts_in_threads():
+    """The same where marks part the commands, and all loads and stores stand between two marks: in the order in which a run in threads has printed them."""
+    is_access = [line[0] in (2, 3) for line, _ in lines_of(FOUR_HOSTS.script)]
+    case = parted(FOUR_HOSTS, [False] + [not (one and other) for one, other in zip(is_access, is_access[1:])])
+    by_line = {int(line.split()[1]): line for line in accesses(case)}
+    return with_accesses(case, [by_line[line] for lines in PRINTED_IN_THREADS for line in lines])
+
+
+# The lines of h3, some of h2, those of h0, the rest of h2, those of h1.
+PRINTED_IN_THREADS = range(79, 89), range(69, 75), range(49, 59), range(75, 79), range(59, 69)
+
+
+def accesses(case):
+    """The loads and stores among the entries of a text."""
+    return [line for line in case.text if line.split()[0].isdigit() and line.split()[3] in ("ld", "st")]
+
+
+def with_accesses(case, taken):
+    """The text with its loads and stores in this order, numbered anew."""
+    left = iter(taken)
+    lines = [next(left) if line in taken else line for line in case.text]
+    numbered = [f"{number} " + line.split(" ", 1)[1] if line.split()[0].isdigit() else line for number, line in enumerate(lines)]
+    return checked(case.script, spelled(numbered))
 
 
 # ---- the frame
@@ -140,6 +161,7 @@ CASES = {
     "checked-lane-out-of-order": ordered(1, 2, 4, 5, 7, 9, 10, 12, 8, 11, 13, 14, wrong=9),
     "checked-four-hosts": checked(FOUR_HOSTS.script, spelled(FOUR_HOSTS.text)),
     **{f"checked-four-hosts-by-turns-of-{step}": four_hosts_in_order(step) for step in range(1, 11)},
+    "checked-four-hosts-in-threads": four_hosts_in_threads(),
     "checked-mark": changed(LANES, 4, "3 4 h0", "3 3 h0"),
     # frames that are none
     "checked-nothing": misses(4, 0),
