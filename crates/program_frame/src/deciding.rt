@@ -17,6 +17,7 @@ pub(crate) fn settle<P: Program, S: Source>(
     task: P::Task,
     source: &mut S,
 ) -> Result<(P::Status, P::Text), Stop>
+    requires { P.able program.now }
     ensures settles { Settles (P.means program.now) P.bytes task (S.left source.old) (S.left source.new) (S.faults source.old) (S.faults source.new) result }
     ensures ready { IfOk result (λ end. P.ready end.1) }
     ensures taken { (most : ℕ) → (P.means program.now).most task ≡ Some most → TakesAtMost (most + 1) (S.left source.old) (S.left source.new) }

@@ -4,7 +4,7 @@ ghost use Rattle.dcd_base.specs.Streams.{HasRisen, Passes};
 ghost use Rattle.edge_io.specs.Words.{words_of};
 ghost use Rattle.program_frame.specs.Ends.{stop_end};
 ghost use Rattle.program_frame.specs.Meanings.{Decides};
-ghost use Rattle.std.specs.Prelude.{◌≡◌, ◌<◌, ◌≤◌, ◌-◌, ◌^◌, IfOk, IfSome, IsSome, List, [], None, OnErr, OnOk, Option, Some, length, ℕ};
+ghost use Rattle.std.specs.Prelude.{◌≡◌, ◌<◌, ◌≤◌, ◌-◌, ◌^◌, IfOk, IfSome, List, [], OnErr, OnOk, Option, Some, length, ℕ};
 
 use crate::ends::Stop;
 use dcd_base::{Bytes, Failed, NoMemory, Sink};
@@ -13,7 +13,7 @@ use std::alloc::Global;
 /// A program: what its words ask for, what is to come of an input, and how that is printed.
 pub trait Program {
     ghost use Rattle.program_frame.specs.Meanings.{Meaning};
-    ghost use Rattle.std.specs.Prelude.{List, ℕ};
+    ghost use Rattle.std.specs.Prelude.{List, ℕ, ⊤};
 
     /// What words may ask for.
     type Task: Drop;
@@ -32,6 +32,9 @@ pub trait Program {
 
     /// What is so of all that is printed.
     ghost ready: { Self.Text → Type 0 };
+
+    /// What has to be so of a program that decides.
+    ghost able: { Self → Type 0 } = { λ _. ⊤ };
 
     /// What the words ask for, and no more than that: nothing where they are refused.
     fn asked(&self, words: &[String]) -> Option<Self::Task>
@@ -54,7 +57,8 @@ pub trait Program {
         task: Self::Task,
         input: Bytes,
     ) -> Result<(Self::Status, Self::Text), NoMemory>
-        requires { IfSome ((means self.now).most task) (λ most. length input ≤ most) }
+        requires able { able self.now }
+        requires short { IfSome ((means self.now).most task) (λ most. length input ≤ most) }
         ensures decides { IfOk result (λ end. Decides (means self.now) task input end.0 (bytes end.1)) }
         ensures ready { IfOk result (λ end. ready end.1) };
 

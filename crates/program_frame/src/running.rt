@@ -19,6 +19,7 @@ pub fn run<P: Program, S: Source, K: Sink>(
     source: &mut S,
     sink: &mut K,
 ) -> P::Status
+    requires { P.able program.now }
     ensures { Ran (P.means program.now) words.now S.left S.faults K.taken K.faults source.old source.new sink.old sink.new result }
 {
     match program.asked(words) {
