@@ -57,96 +57,16 @@ fn again(rt: &impl Abort, alloc: Global, opcode: u16, payload: &[u8]) -> Result<
     Ok(request)
 }
 
-/// The number as four bytes.
-fn spelled(number: u16) -> [u8; 4] {
-    [(number % 256) as u8, (number / 256) as u8, 0, 0]
-}
-
-/// The bytes of an extent that begins at 16 TiB and has a length of its own.
-fn listed_bytes(number: u16) -> [u8; 24] {
-    let [low, high, _, _] = spelled(number);
-    [
-        0, 0, 0, 0, 0, 16, 0, 0, low, high, 0, 0, 0, 0, 0, 0, 0, 0, 0, 0, 0, 0, 0, 0,
-    ]
-}
-
-/// The payload of a list of extents without tags, each of a length of its own.
-fn list(alloc: Global, count: u16) -> Result<Bytes, Fail> {
-    let mut payload = Bytes::from_slice(alloc, &spelled(count))?;
-    payload.extend_from_slice(&[1, 0, 0, 0])?;
-    for i in 0..count {
-        payload.extend_from_slice(&listed_bytes(i))?;
-    }
-    Ok(payload)
-}
-
-/// Payloads that are refused: the opcode, the bytes and the fault.
-static REFUSED: [(u16, &[u8], PayloadFault); 14] = [
-    (0x5600, &[0; 0], PayloadFault::UnknownOpcode(0x5600)),
-    (0x4804, &[0; 9], PayloadFault::UnknownOpcode(0x4804)),
+/// Payloads of another length: the opcode, the bytes, and the lengths that are needed and there. The greatest count needs
+/// a length that does not wrap.
+static REFUSED: [(u16, &[u8], u64, u64); 3] = [
+    (0x4801, &[0; 7], 8, 7),
+    (0x4801, &[0; 9], 8, 9),
     (
-        0x0100,
-        &[0; 0],
-        PayloadFault::WrongLength { need: 1, have: 0 },
-    ),
-    (
-        0x0100,
-        &[0; 2],
-        PayloadFault::WrongLength { need: 1, have: 2 },
-    ),
-    (
-        0x0101,
-        &[0; 5],
-        PayloadFault::WrongLength { need: 6, have: 5 },
-    ),
-    (
-        0x0101,
-        &[0; 7],
-        PayloadFault::WrongLength { need: 6, have: 7 },
-    ),
-    (
-        0x0101,
-        &[4, 0, 1, 0, 0, 0, 7],
-        PayloadFault::WrongLength { need: 8, have: 7 },
-    ),
-    (
-        0x4800,
-        &[0; 1],
-        PayloadFault::WrongLength { need: 2, have: 1 },
-    ),
-    (
-        0x4800,
-        &[0; 3],
-        PayloadFault::WrongLength { need: 2, have: 3 },
-    ),
-    (
-        0x4801,
-        &[0; 7],
-        PayloadFault::WrongLength { need: 8, have: 7 },
-    ),
-    (
-        0x4801,
-        &[0; 9],
-        PayloadFault::WrongLength { need: 8, have: 9 },
-    ),
-    (
-        0x4802,
-        &[0; 7],
-        PayloadFault::WrongLength { need: 8, have: 7 },
-    ),
-    (
-        0x4803,
-        &[0; 9],
-        PayloadFault::WrongLength { need: 8, have: 9 },
-    ),
-    (
-        // the greatest count needs a length that does not wrap
         0x4802,
         &[255, 255, 255, 255, 0, 0, 0, 0],
-        PayloadFault::WrongLength {
-            need: 103_079_215_088,
-            have: 8,
-        },
+        103_079_215_088,
+        8,
     ),
 ];
 
@@ -156,9 +76,13 @@ fn fault_of(alloc: Global, opcode: u16, payload: &[u8]) -> Option<PayloadFault> 
 }
 
 #[test]
-fn each_payload_has_its_own_length_once_the_opcode_is_known(rt: HostRuntime) {
-    for (opcode, payload, fault) in &REFUSED {
-        see(&rt, &fault_of(rt.alloc(), *opcode, *payload), &Some(*fault));
+fn each_payload_has_its_own_length(rt: HostRuntime) {
+    for (opcode, payload, need, have) in &REFUSED {
+        let fault = PayloadFault::WrongLength {
+            need: *need,
+            have: *have,
+        };
+        see(&rt, &fault_of(rt.alloc(), *opcode, *payload), &Some(fault));
     }
 }
 
@@ -225,58 +149,4 @@ fn see_listed(rt: &impl Abort, alloc: Global, opcode: u16) -> Result<(), Fail> {
 fn a_listed_extent_has_no_tag(rt: HostRuntime) -> Result<(), Fail> {
     see_listed(&rt, rt.alloc(), 0x4802)?;
     see_listed(&rt, rt.alloc(), 0x4803)
-}
-
-/// Whether all records are cleared, by this byte of the flags.
-fn clears_all(alloc: Global, byte: u8) -> Result<Option<bool>, PayloadFault> {
-    match decode(alloc, 0x0101, &[4, byte, 0, 1, 2, 3])? {
-        HostRequest::ClearEvents { all, .. } => Ok(Some(all)),
-        _ => Ok(None),
-    }
-}
-
-#[test]
-fn reserved_bits_are_free(rt: HostRuntime) {
-    let found = [clears_all(rt.alloc(), 0xFE), clears_all(rt.alloc(), 0xFF)];
-    see(&rt, &found, &[Ok(Some(false)), Ok(Some(true))]);
-}
-
-/// The payload that clears so many records.
-fn clearing(alloc: Global, count: u8) -> Result<Bytes, Fail> {
-    let mut payload = Bytes::from_slice(alloc, &[4, 0, count, 0, 0, 0])?;
-    for i in 0..count {
-        payload.extend_from_slice(&[i, 1])?;
-    }
-    Ok(payload)
-}
-
-/// Sees that such a payload is read, and written again.
-fn see_clearing(rt: &impl Abort, alloc: Global, count: u8) -> Result<(), Fail> {
-    let payload = clearing(alloc, count)?;
-    again(rt, alloc, 0x0101, payload.as_slice())?;
-    Ok(())
-}
-
-#[test]
-fn records_to_clear_are_none_or_255(rt: HostRuntime) -> Result<(), Fail> {
-    see_clearing(&rt, rt.alloc(), 0)?;
-    see_clearing(&rt, rt.alloc(), 255)
-}
-
-/// The opcodes of lists, and how many extents are listed: none, and as many as can be.
-static LISTED: [(u16, u16); 4] = [(0x4802, 0), (0x4802, 65535), (0x4803, 0), (0x4803, 65535)];
-
-/// Sees that such a payload is read, and written again.
-fn see_list_again(rt: &impl Abort, alloc: Global, opcode: u16, count: u16) -> Result<(), Fail> {
-    let payload = list(alloc, count)?;
-    again(rt, alloc, opcode, payload.as_slice())?;
-    Ok(())
-}
-
-#[test]
-fn extents_are_none_or_65535(rt: HostRuntime) -> Result<(), Fail> {
-    for (opcode, count) in &LISTED {
-        see_list_again(&rt, rt.alloc(), *opcode, *count)?;
-    }
-    Ok(())
 }

@@ -5,7 +5,7 @@ ghost use Rattle.std.specs.Prelude.{◌↔◌, IsTrue};
 
 use crate::seeing::{see, see_list, see_text};
 use dcd_base::{Bytes, Extent, Tag};
-use fm_payloads::{FmRequest, PayloadFault, decode, encode};
+use fm_payloads::{FmRequest, decode, encode};
 use std::alloc::Global;
 use std::process::Abort;
 use std::test::Fail;
@@ -66,130 +66,6 @@ fn again(rt: &impl Abort, alloc: Global, opcode: u16, payload: &[u8]) -> Result<
     Ok(request)
 }
 
-/// The number as four bytes.
-fn spelled(number: u16) -> [u8; 4] {
-    [(number % 256) as u8, (number / 256) as u8, 0, 0]
-}
-
-/// The bytes of an extent that begins at 16 TiB and has a length of its own.
-fn placed_bytes(number: u16) -> [u8; 40] {
-    let [low, high, _, _] = spelled(number);
-    [
-        0, 0, 0, 0, 0, 16, 0, 0, low, high, 0, 0, 0, 0, 0, 0, // start and length
-        1, 2, 3, 4, 5, 6, 7, 8, 9, 10, 11, 12, 13, 14, 15, 16, // tag
-        3, 1, 0, 0, 0, 0, 0, 0, // sequence
-    ]
-}
-
-/// The payload that places so many extents, each with a length of its own.
-fn placing(alloc: Global, choice: u8, count: u16) -> Result<Bytes, Fail> {
-    let mut payload = Bytes::from_slice(alloc, &[2, 1, choice, 1, 0, 4, 0, 0, 0, 0, 0, 0])?;
-    payload.extend_from_slice(&TAG.0)?;
-    payload.extend_from_slice(&spelled(count))?;
-    for i in 0..count {
-        payload.extend_from_slice(&placed_bytes(i))?;
-    }
-    Ok(payload)
-}
-
-/// A payload of 5604h that counts as many extents as can be.
-const MOST: [u8; 32] = [
-    0, 0, 0, 0, 0, 0, 0, 0, 0, 0, 0, 0, 0, 0, 0, 0, 0, 0, 0, 0, 0, 0, 0, 0, 0, 0, 0, 0, 255, 255,
-    255, 255,
-];
-
-/// Payloads that are refused: the opcode, the bytes and the fault.
-static REFUSED: [(u16, &[u8], PayloadFault); 16] = [
-    (0x4800, &[0; 2], PayloadFault::UnknownOpcode(0x4800)),
-    (0x5609, &[0; 0], PayloadFault::UnknownOpcode(0x5609)),
-    (
-        0x5600,
-        &[0; 1],
-        PayloadFault::WrongLength { need: 0, have: 1 },
-    ),
-    (
-        0x0100,
-        &[0; 2],
-        PayloadFault::WrongLength { need: 1, have: 2 },
-    ),
-    (
-        0x0101,
-        &[4, 0, 1, 0, 0, 0, 7],
-        PayloadFault::WrongLength { need: 8, have: 7 },
-    ),
-    (
-        0x5601,
-        &[0; 3],
-        PayloadFault::WrongLength { need: 4, have: 3 },
-    ),
-    (
-        0x5602,
-        &[0; 17],
-        PayloadFault::WrongLength { need: 16, have: 17 },
-    ),
-    (
-        0x5603,
-        &[0; 11],
-        PayloadFault::WrongLength { need: 12, have: 11 },
-    ),
-    (
-        0x5604,
-        &[0; 31],
-        PayloadFault::WrongLength { need: 32, have: 31 },
-    ),
-    (
-        0x5604,
-        &[0; 33],
-        PayloadFault::WrongLength { need: 32, have: 33 },
-    ),
-    (
-        0x5605,
-        &[0; 31],
-        PayloadFault::WrongLength { need: 32, have: 31 },
-    ),
-    (
-        0x5605,
-        &[0; 33],
-        PayloadFault::WrongLength { need: 32, have: 33 },
-    ),
-    (
-        0x5606,
-        &[0; 15],
-        PayloadFault::WrongLength { need: 16, have: 15 },
-    ),
-    (
-        0x5607,
-        &[0; 17],
-        PayloadFault::WrongLength { need: 16, have: 17 },
-    ),
-    (
-        0x5608,
-        &[0; 7],
-        PayloadFault::WrongLength { need: 8, have: 7 },
-    ),
-    (
-        // the greatest count needs a length that does not wrap
-        0x5604,
-        &MOST,
-        PayloadFault::WrongLength {
-            need: 171_798_691_832,
-            have: 32,
-        },
-    ),
-];
-
-/// The fault of a payload, if it is no request.
-fn fault_of(alloc: Global, opcode: u16, payload: &[u8]) -> Option<PayloadFault> {
-    decode(alloc, opcode, payload).err()
-}
-
-#[test]
-fn each_payload_has_its_own_length_once_the_opcode_is_known(rt: HostRuntime) {
-    for (opcode, payload, fault) in &REFUSED {
-        see(&rt, &fault_of(rt.alloc(), *opcode, *payload), &Some(*fault));
-    }
-}
-
 /// The opcode and the payload of a short request, and the request.
 static SHORT: [(u16, &[u8], &str); 8] = [
     (0x0100, &[4], "GetEvents { log: 4 }"),
@@ -248,88 +124,35 @@ fn each_short_request_goes_both_ways(rt: HostRuntime) -> Result<(), Fail> {
     Ok(())
 }
 
-/// Sees the tag and the extents of a request that places so many.
-fn see_request(rt: &impl Abort, request: &FmRequest, count: u16) {
-    let found = placed(request);
-    see(rt, &found.is_some(), &true);
-    if let Some((tag, extents)) = found {
-        see(rt, &(tag, extents.len()), &(TAG, count as usize));
-        see_extents(rt, extents);
-    }
-}
+/// 1 KiB in region 1 of host 258: one extent of 258 bytes at 16 TiB.
+const PLACING: [u8; 72] = [
+    2, 1, 2, 1, 0, 4, 0, 0, 0, 0, 0, 0, // host, policy, region and length
+    1, 2, 3, 4, 5, 6, 7, 8, 9, 10, 11, 12, 13, 14, 15, 16, // tag
+    1, 0, 0, 0, // one extent
+    0, 0, 0, 0, 0, 16, 0, 0, 2, 1, 0, 0, 0, 0, 0, 0, // its start and its length
+    1, 2, 3, 4, 5, 6, 7, 8, 9, 10, 11, 12, 13, 14, 15, 16, // its tag
+    3, 1, 0, 0, 0, 0, 0, 0, // its sequence
+];
 
-/// Sees that of a payload that places so many.
-fn see_placed(
-    rt: &impl Abort,
-    alloc: Global,
-    opcode: u16,
-    choice: u8,
-    count: u16,
-) -> Result<(), Fail> {
-    let payload = placing(alloc, choice, count)?;
-    let asked = again(rt, alloc, opcode, payload.as_slice())?;
-    see_request(rt, &asked, count);
+/// The extent of this payload.
+const EXTENT: Extent = Extent {
+    start: 0x1000_0000_0000,
+    length: 258,
+    tag: TAG,
+    sequence: 259,
+};
+
+/// Sees what is placed by the opcode, where this is the policy or these are the flags.
+fn see_placed(rt: &impl Abort, alloc: Global, opcode: u16, choice: u8) -> Result<(), Fail> {
+    let mut payload = PLACING;
+    payload[2] = choice;
+    let asked = again(rt, alloc, opcode, &payload)?;
+    see(rt, &placed(&asked), &Some((TAG, &[EXTENT])));
     Ok(())
 }
-
-/// Sees that each extent begins at 16 TiB, whatever its length, and has the tag and the sequence 259.
-fn see_extents(rt: &impl Abort, extents: &[Extent]) {
-    for extent in extents {
-        let want = Extent {
-            start: 0x1000_0000_0000,
-            length: extent.length,
-            tag: TAG,
-            sequence: 259,
-        };
-        see(rt, extent, &want);
-    }
-}
-
-/// The opcode, the policy or the flags, and how many extents are placed: none, and as many as can be.
-static PLACED: [(u16, u8, u16); 4] = [
-    (0x5604, 2, 0),
-    (0x5604, 2, 65535),
-    (0x5605, 0x11, 0),
-    (0x5605, 0x11, 65535),
-];
 
 #[test]
 fn extents_are_placed_with_their_tags(rt: HostRuntime) -> Result<(), Fail> {
-    for (opcode, choice, count) in &PLACED {
-        see_placed(&rt, rt.alloc(), *opcode, *choice, *count)?;
-    }
-    Ok(())
-}
-
-/// Whether the request is a release with each flag.
-fn has_all_flags(request: &FmRequest) -> bool {
-    matches!(request, FmRequest::Remove { flags: 0xFF, .. })
-}
-
-#[test]
-fn flags_are_part_of_a_release_as_they_stand(rt: HostRuntime) -> Result<(), Fail> {
-    let mut payload = [0u8; 32];
-    payload[2] = 0xFF;
-    let asked = again(&rt, rt.alloc(), 0x5605, &payload)?;
-    see(&rt, &has_all_flags(&asked), &true);
-    Ok(())
-}
-
-/// Whether a region that is set sanitizes, by this byte of its flags, where the reserved bits are set.
-fn sanitizes(alloc: Global, byte: u8) -> Result<bool, PayloadFault> {
-    let payload = [1, 9, 9, 9, 0, 0, 32, 0, 0, 0, 0, 0, byte, 9, 9, 9];
-    Ok(matches!(
-        decode(alloc, 0x5602, &payload)?,
-        FmRequest::SetRegion {
-            region: 1,
-            sanitize: true,
-            block: 0x20_0000
-        }
-    ))
-}
-
-#[test]
-fn reserved_bits_are_free(rt: HostRuntime) {
-    let found = [sanitizes(rt.alloc(), 0xFE), sanitizes(rt.alloc(), 0xFF)];
-    see(&rt, &found, &[Ok(false), Ok(true)]);
+    see_placed(&rt, rt.alloc(), 0x5604, 2)?;
+    see_placed(&rt, rt.alloc(), 0x5605, 0x11)
 }

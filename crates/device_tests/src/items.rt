@@ -72,7 +72,6 @@ fn offers(alloc: Global) -> Result<Effects, NoMemory> {
     Ok(effects)
 }
 
-/// An access of the host.
 fn access(alloc: Global, host: u8, act: Act) -> Entry {
     entry(Actor::Host(HostId(host)), act, Effects::new(alloc))
 }
@@ -104,7 +103,6 @@ fn letter_of(item: &Item) -> u8 {
     }
 }
 
-/// The letters of items.
 fn letters_of(alloc: Global, items: &[Item]) -> Result<Bytes, NoMemory> {
     let mut letters = Bytes::new(alloc);
     for item in items {
@@ -192,7 +190,6 @@ fn sign_of(reply: &SoloReply) -> u8 {
     }
 }
 
-/// The items of the letters.
 fn items_of(alloc: Global, letters: &[u8]) -> Result<Items, Fail> {
     let mut items = Items::new(alloc);
     for letter in letters {

@@ -5,8 +5,7 @@ ghost use Rattle.std.specs.Prelude.{◌≡◌, IfOk};
 
 use crate::seeing::see;
 use crate::steps::{HOST, MIB, OFFER, REGION, RESPONSE, Told, command, kind_of};
-use dcd_base::{Actor, LogId};
-use device_plain::control_core::LiveControl;
+use dcd_base::Actor;
 use device_plain::{LiveDevice, StepFault, law_lives};
 use journal_core::{Act, Reply};
 use region_config::Config;
@@ -96,46 +95,6 @@ fn too_long(device: &mut LiveDevice, act: &Act, most: usize) -> Result<usize, Fa
     }
 }
 
-/// Free and dirty granules, the host's extents and their granules, its offers, and the records of both logs.
-fn counts(control: &LiveControl) -> [u32; 6]
-    requires { control.now.config.hosts ≡ 1 }
-{
-    [
-        control.free(),
-        control.dirty(),
-        control.extents(HOST),
-        control.granules_held(HOST),
-        control.records(LogId::Host(HOST)),
-        control.records(LogId::Manager),
-    ]
-}
-
-/// Its lists and its log.
-fn lengths(control: &LiveControl) -> [usize; 6]
-    requires { control.now.config.hosts ≡ 1 }
-{
-    [
-        control.accepted(HOST).len(),
-        control.offers(HOST),
-        control.held_responses(HOST).len(),
-        control.held_releases(HOST).len(),
-        control.log(LogId::Manager).len() as usize,
-        control.states().len() as usize,
-    ]
-}
-
-/// Sees what is counted and kept of the block.
-fn see_kept(rt: &impl Abort, device: &LiveDevice)
-    requires { device.now.config.hosts ≡ 1 }
-{
-    let control = device.control();
-    see(rt, &counts(control), &[15, 0, 1, 1, 1, 1]);
-    see(rt, &lengths(control), &[1, 0, 0, 0, 1, 16]);
-    let hosts = (control.present().hosts(), device.config().hosts());
-    see(rt, &hosts, &(1, 1));
-    see(rt, &control.missed(LogId::Manager), &0);
-}
-
 /// Sees the steps, and that a reply that is too long changes nothing and is answered where there is room.
 fn see_steps(rt: &impl Abort, alloc: Global, device: &mut LiveDevice) -> Result<(), Fail>
     requires { device.old.config.hosts ≡ 1 }
@@ -144,7 +103,6 @@ fn see_steps(rt: &impl Abort, alloc: Global, device: &mut LiveDevice) -> Result<
     see(rt, &told, &[Told::Success, Told::Success, Told::Other]);
     see(rt, &stored(device)?, &[Told::Other, Told::NotGranted]);
     see(rt, &loaded(device, 2 * MIB + 8)?, &Some(7));
-    see_kept(rt, device);
     let act = command(alloc, 0x4800, &REGIONS)?;
     let length = too_long(device, &act, 8)?;
     see(rt, &(length > 8), &true);

@@ -1,19 +1,70 @@
-//! Responses to the offers of a host that has accepted nothing yet, and each rule with its values.
+//! Responses to the offers of a host that has accepted nothing yet.
 
 ghost use Rattle.extent_list.specs.ExtentLists.{count_in};
 ghost use Rattle.offer_core.specs.Offerings.{lists_of};
-ghost use Rattle.std.specs.Prelude.{◌+◌, ◌<◌, ◌≤◌, IfOk, length};
+ghost use Rattle.std.specs.Prelude.{◌≡◌, ◌+◌, ◌<◌, ◌≤◌, IfOk, length};
 
-use crate::fixtures::{BASE, M, extent, listed, one_region, two_regions};
-use crate::seeing_decisions::{see, see_list};
-use dcd_base::{Extent, Extents, HostId, NoMemory};
+use crate::seeing::{see, see_list};
+use dcd_base::{Extent, Extents, HostId, NoMemory, Tag};
 use dcd_codes::Refusal::{self, Broken};
 use dcd_codes::Rule;
 use offer_core::{Answered, Offer, Offers};
-use region_config::Config;
+use region_config::{Config, ConfigFault, RegionSpec};
 use std::alloc::Global;
 use std::process::Abort;
 use std::test::Fail;
+
+/// 1 MiB, the size of a granule.
+const M: u64 = 0x10_0000;
+
+/// Where the shareable region begins for host 0 and the other one for host 1.
+const BASE: u64 = 0x1000_0000;
+
+fn region(length: u64, shareable: bool) -> RegionSpec {
+    RegionSpec {
+        decode_units: 1,
+        length,
+        block: M,
+        sizes: M,
+        handle: 0,
+        sanitize: true,
+        shareable,
+    }
+}
+
+/// Two hosts, a region of 16 MiB and a shareable one of 8 MiB.
+fn two_regions(alloc: Global) -> Result<Config, ConfigFault>
+    ensures { IfOk result (λ c. c.hosts ≡ 2) }
+{
+    let regions = [region(16 * M, false), region(8 * M, true)];
+    Config::new(alloc, 2, &regions, &[0, BASE, BASE, 2 * BASE])
+}
+
+/// One host and a region of 128 MiB with blocks of 1 MiB.
+fn one_region(alloc: Global) -> Result<Config, ConfigFault>
+    ensures { IfOk result (λ c. c.hosts ≡ 1) }
+{
+    Config::new(alloc, 1, &[region(128 * M, false)], &[0])
+}
+
+/// An extent from an address on; the bytes of the tag are all equal.
+fn extent(start: u64, length: u64, tag: u8, sequence: u16) -> Extent {
+    Extent {
+        start,
+        length,
+        tag: Tag([tag; 16]),
+        sequence,
+    }
+}
+
+/// Extents as a message lists them, each a start and a length: tags and sequences are not read.
+fn listed(alloc: Global, ranges: &[(u64, u64)]) -> Result<Extents, NoMemory> {
+    let mut list = Extents::new(alloc);
+    for (start, length) in ranges {
+        list.push(extent(*start, *length, 0xEE, 99))?;
+    }
+    Ok(list)
+}
 
 /// Puts an offer of at most eight extents behind the others.
 fn offer(offers: &mut Offers, alloc: Global, extents: &[Extent]) -> Result<(), NoMemory>
@@ -155,7 +206,7 @@ fn see_in_turn(rt: &impl Abort, alloc: Global, config: &Config) -> Result<(), No
 fn offers_are_answered_oldest_first_and_counted_from_the_held_list(
     rt: HostRuntime,
 ) -> Result<(), Fail> {
-    see_in_turn(&rt, rt.alloc(), &two_regions(rt.alloc(), M)?)?;
+    see_in_turn(&rt, rt.alloc(), &two_regions(rt.alloc())?)?;
     Ok(())
 }
 
@@ -253,114 +304,6 @@ fn see_shared(rt: &impl Abort, alloc: Global, config: &Config) -> Result<(), NoM
 
 #[test]
 fn a_shared_tag_is_accepted_whole(rt: HostRuntime) -> Result<(), Fail> {
-    see_shared(&rt, rt.alloc(), &two_regions(rt.alloc(), M)?)?;
-    Ok(())
-}
-
-/// What these ranges come to behind the held one, where the offer is 3 MiB from 0 on and 1 MiB at 5, and a later one
-/// follows.
-fn told_of(
-    alloc: Global,
-    config: &Config,
-    held: (u64, u64),
-    ranges: &[(u64, u64)],
-) -> Result<Told, Refusal>
-    requires { 0 < config.now.hosts }
-{
-    let first = [extent(0, 3 * M, 1, 0), extent(5 * M, M, 1, 0)];
-    let mut offers = two_offers(alloc, &first, &[extent(8 * M, M, 2, 0)])?;
-    let mut accepted = Extents::new(alloc);
-    let _ = respond_with(&mut offers, config, &[held], true, &mut accepted)?;
-    respond_with(&mut offers, config, ranges, false, &mut accepted)
-}
-
-/// A held range, the ranges of the response, and the rule that is broken.
-static BROKEN: [((u64, u64), &[(u64, u64)], Rule); 12] = [
-    ((0, M), &[(M, 0)], Rule::ZeroLength(1)),
-    ((0, M), &[(15 * M, 2 * M)], Rule::OutsideRegion(1)),
-    ((0, M), &[(u64::MAX - M + 1, 2 * M)], Rule::OutsideRegion(1)),
-    ((0, M), &[(M, M / 2)], Rule::Unaligned(1)),
-    ((0, M), &[(8 * M, M)], Rule::NotOffered(1)),
-    ((0, M), &[(2 * M, 2 * M)], Rule::NotOffered(1)),
-    ((0, M), &[(0, 2 * M)], Rule::Overlap { index: 1, with: 0 }),
-    ((9 * M, 0), &[(0, M)], Rule::ZeroLength(0)),
-    ((16 * M, 0), &[(16 * M, M)], Rule::ZeroLength(0)),
-    ((9 * M, M), &[(0, 0)], Rule::NotOffered(0)),
-    (
-        (5 * M, M),
-        &[(5 * M, M)],
-        Rule::Overlap { index: 1, with: 0 },
-    ),
-    (
-        (0, 3 * M),
-        &[(5 * M, M), (2 * M, M)],
-        Rule::Overlap { index: 2, with: 0 },
-    ),
-];
-
-/// Sees that each response of the table breaks its rule.
-fn see_broken(rt: &impl Abort, alloc: Global, config: &Config)
-    requires { 0 < config.now.hosts }
-{
-    for (held, ranges, rule) in &BROKEN {
-        let told = told_of(alloc, config, *held, *ranges);
-        see(rt, &told, &Err(Broken(*rule)));
-    }
-}
-
-#[test]
-fn the_first_broken_rule_names_the_extent_of_the_whole_list(rt: HostRuntime) -> Result<(), Fail> {
-    see_broken(&rt, rt.alloc(), &two_regions(rt.alloc(), M)?);
-    Ok(())
-}
-
-/// Two offers of one extent.
-fn two_of_one(alloc: Global) -> Result<Offers, NoMemory>
-    ensures { IfOk result (λ offers. count_in (lists_of offers.offers) ≤ 64) }
-{
-    two_offers(alloc, &[extent(0, M, 1, 0)], &[extent(5 * M, M, 2, 0)])
-}
-
-/// Has a range held, and drops the held list: how many extents are held in the offering then, and in the copy that was
-/// made before.
-fn held_and_copied(offers: &mut Offers, config: &Config) -> Result<(usize, usize), Refusal>
-    requires host { 0 < config.now.hosts }
-    requires few { count_in (lists_of offers.old.offers) ≤ 64 }
-{
-    let mut accepted = Extents::new(offers.allocator());
-    let _ = respond_with(offers, config, &[(0, M)], true, &mut accepted)?;
-    let copy = offers.copy()?;
-    offers.drop_held();
-    Ok((offers.held().len(), copy.held().len()))
-}
-
-/// Sees one extent held in the copy alone.
-fn see_copy(rt: &impl Abort, alloc: Global, config: &Config) -> Result<(), NoMemory>
-    requires { 0 < config.now.hosts }
-{
-    let found = held_and_copied(&mut two_of_one(alloc)?, config);
-    see(rt, &found, &Ok((0, 1)));
-    Ok(())
-}
-
-#[test]
-fn a_copy_is_a_list_of_its_own(rt: HostRuntime) -> Result<(), Fail> {
-    see_copy(&rt, rt.alloc(), &two_regions(rt.alloc(), M)?)?;
-    Ok(())
-}
-
-/// How many extents the copy of the later of two offers has.
-fn later_copied(offers: &Offers) -> Result<Option<usize>, NoMemory> {
-    if offers.len() < 2 {
-        return Ok(None);
-    }
-    let copy = offers.copy()?;
-    Ok(Some(copy.at(1).len()))
-}
-
-#[test]
-fn an_offer_is_copied(rt: HostRuntime) -> Result<(), Fail> {
-    let found = later_copied(&two_of_one(rt.alloc())?)?;
-    see(&rt, &found, &Some(1));
+    see_shared(&rt, rt.alloc(), &two_regions(rt.alloc())?)?;
     Ok(())
 }

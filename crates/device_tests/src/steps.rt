@@ -4,11 +4,9 @@ ghost use Rattle.std.specs.Prelude.{◌≡◌, IfOk};
 
 use crate::seeing::see;
 use cci_codec::{Payload, Request};
-use dcd_base::{AccessFault, Actor, HostId, LogId, NoMemory};
+use dcd_base::{AccessFault, Actor, HostId, NoMemory};
 use device_plain::Device;
-use device_plain::control_core::Control;
 use device_plain::kept_journal::copies;
-use event_records::EventKind;
 use journal_core::{Act, Entry, Reply};
 use region_config::{Config, RegionSpec};
 use std::alloc::Global;
@@ -95,16 +93,6 @@ pub(crate) fn command(alloc: Global, opcode: u16, payload: &[u8]) -> Result<Act,
     }))
 }
 
-/// How many extents the oldest offer to the host has.
-fn offered_to(control: &Control) -> usize
-    requires { control.now.config.hosts ≡ 1 }
-{
-    if control.offers(HOST) == 0 {
-        return 0;
-    }
-    control.offer(HOST, 0).len()
-}
-
 /// The block is offered and accepted, zero granules are scrubbed, a word of it is loaded, and one beside it stored.
 fn five_steps(alloc: Global, device: &mut Device) -> Result<[Told; 4], Fail>
     requires { device.old.config.hosts ≡ 1 }
@@ -139,56 +127,7 @@ fn see_journal(rt: &impl Abort, alloc: Global, device: &Device) -> Result<(), No
     Ok(())
 }
 
-/// Free and dirty granules, the host's extents and their granules, and the records of both logs.
-fn counts(control: &Control) -> [u32; 6]
-    requires { control.now.config.hosts ≡ 1 }
-{
-    [
-        control.free(),
-        control.dirty(),
-        control.extents(HOST),
-        control.granules_held(HOST),
-        control.records(LogId::Host(HOST)),
-        control.records(LogId::Manager),
-    ]
-}
-
-/// The host's accepted, offered and held extents, the records of the manager's log, and all granules.
-fn lengths(control: &Control) -> [usize; 6]
-    requires { control.now.config.hosts ≡ 1 }
-{
-    [
-        control.accepted(HOST).len(),
-        offered_to(control),
-        control.held_responses(HOST).len(),
-        control.held_releases(HOST).len(),
-        control.log(LogId::Manager).len() as usize,
-        control.states().len() as usize,
-    ]
-}
-
-/// The kind of the oldest record of the manager's log, its host and the start of its extent, if there is one.
-fn oldest(control: &Control) -> Option<(EventKind, u16, u64)> {
-    if control.records(LogId::Manager) == 0 {
-        return None;
-    }
-    let record = control.record(LogId::Manager, 0);
-    Some((record.kind, record.host, record.extent.start))
-}
-
-/// Sees what is counted and told of the block.
-fn see_accepted(rt: &impl Abort, control: &Control)
-    requires { control.now.config.hosts ≡ 1 }
-{
-    see(rt, &counts(control), &[15, 0, 1, 1, 1, 1]);
-    see(rt, &lengths(control), &[1, 0, 0, 0, 1, 16]);
-    let hosts = (control.present().hosts(), control.missed(LogId::Manager));
-    see(rt, &hosts, &(1, 0));
-    let record = (EventKind::AddResponse, 0, 2 * MIB);
-    see(rt, &oldest(control), &Some(record));
-}
-
-/// Sees the five steps, their entries, and the block counted and told.
+/// Sees the five steps and their entries.
 fn see_steps(rt: &impl Abort, alloc: Global, device: &mut Device) -> Result<(), Fail>
     requires { device.old.config.hosts ≡ 1 }
 {
@@ -196,14 +135,11 @@ fn see_steps(rt: &impl Abort, alloc: Global, device: &mut Device) -> Result<(), 
     let expected = [Told::Success, Told::Success, Told::Zero, Told::NotGranted];
     see(rt, &told, &expected);
     see_journal(rt, alloc, device)?;
-    see_accepted(rt, device.control());
     Ok(())
 }
 
 #[test]
-fn steps_are_entered_with_their_stamps_and_a_block_is_counted_and_told(
-    rt: HostRuntime,
-) -> Result<(), Fail> {
+fn steps_are_entered_with_their_stamps(rt: HostRuntime) -> Result<(), Fail> {
     let mut device = device(rt.alloc())?;
     see_steps(&rt, rt.alloc(), &mut device)
 }

@@ -1,4 +1,3 @@
 mod DeskSteps
-mod Leavings
 mod Passes
 mod TallySteps

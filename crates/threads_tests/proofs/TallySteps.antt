@@ -1,24 +1,21 @@
 -- A counter under the rule.
-use Rattle.std.proofs.Common.{◌≡◌, ◌≢◌, ◌⊎◌, ℕ, zero, suc, ◌+◌, ◌^◌, ◌<◌, ◌≤◌, max, eqb, ne_eqb, ◌&&◌, not, true, false, List, [], ◌∷◌, ◌++◌, length, set, sym, refl, ap, ◌∙◌, subst, ⊎_elim, inl, inr, arith, Option, Some, None}
+use Rattle.std.proofs.Common.{◌≡◌, ◌⊎◌, ℕ, zero, suc, ◌+◌, ◌<◌, ◌≤◌, max, true, false, List, [], ◌∷◌, ◌++◌, length, sym, refl, ap, ◌∙◌, subst, ⊎_elim, inl, inr, arith, Option, None}
 use Rattle.std.proofs.lemmas.List.{length_push}
 use mathlib.Core.Option.{some, some-injective, some-ne-none}
-use native.Mathlib.Decide.{dec_lt}
 use lib.ListN.{get_elem?}
-use Rattle.atomic_table.proofs.Lists.{at_set, set_else}
 use Rattle.dcd_base.specs.declared.steps.Stamp.{Stamp}
 use Rattle.dcd_base.specs.declared.steps.Actor.{Actor}
 use Rattle.journal_core.specs.declared.entries.Entry.{Entry}
-use Rattle.journal_core.specs.declared.acts.Act.{Act}
 use Rattle.block_shard.specs.ruled_cells.specs.declared.about.SeatView.{SeatView}
 use Rattle.block_shard.specs.ruled_cells.specs.declared.cell_value.CellValue.{CellValue}
-use Rattle.block_shard.specs.ruled_cells.specs.Turning.{NoTurn, HasTurn}
-use Rattle.block_shard.specs.ruled_cells.specs.Stamps.{Below, stamps_after, has_index, pending, stamp}
-use Rattle.block_shard.specs.ruled_cells.specs.Reads.{ChiefReads, about_of}
-use Rattle.block_shard.specs.ruled_cells.specs.Ruling.{Names, names, access_cell, touches_cell}
-use Rattle.block_shard.specs.ruled_cells.specs.Telling.{Alike, MayEnter, MayGive, MayGiveFirst, MayNote, GaveCell, last_of, entered_view, changed_view}
-use Rattle.threads_tests.specs.Tally.{Tally, Adds, IsAdded, MayHaveAdded, IsIdle, above_both, follows, scrubs, tally_reads, turns}
+use Rattle.block_shard.specs.ruled_cells.specs.Turning.{HasTurn}
+use Rattle.block_shard.specs.ruled_cells.specs.Stamps.{stamps_after, pending, stamp}
+use Rattle.block_shard.specs.ruled_cells.specs.Reads.{ChiefReads}
+use Rattle.block_shard.specs.ruled_cells.specs.Ruling.{Names, names, access_cell}
+use Rattle.block_shard.specs.ruled_cells.specs.Telling.{MayGive, GaveCell, entered_view, changed_view}
+use Rattle.threads_tests.specs.Tally.{Tally, Adds, IsAdded, MayHaveAdded, IsIdle, above_both, follows, tally_reads}
 use Rattle.journal_core.specs.Entries.{is_control}
-use Rattle.block_shard.specs.ruled_cells.specs.declared.cell_value.CellValue.TheVariants.{First, Rest}
+use Rattle.block_shard.specs.ruled_cells.specs.declared.cell_value.CellValue.TheVariants.{Rest}
 use Rattle.block_shard.specs.ruled_cells.specs.declared.seat.Seat.{Seat}
 use Rattle.block_shard.specs.ruled_cells.specs.declared.cells.Cells.{Cells}
 use Rattle.block_shard.specs.ruled_cells.specs.Seats.{IsSameSeat, NoTurns, seat_number}
@@ -26,53 +23,14 @@ use Rattle.block_shard.specs.ruled_cells.specs.Calls.{IsOf, AreAll, seats_of}
 use Rattle.block_shard.specs.ruled_cells.proofs.Places.{some_some}
 use Rattle.block_shard.specs.ruled_cells.proofs.ClosingSteps.{at_end}
 use Rattle.block_shard.specs.ruled_cells.proofs.RuleSteps.{rest_same}
-use Rattle.block_shard.specs.ruled_cells.proofs.Order.{never, two, pending_new, pending_done}
-
-above_is : (s t : Stamp) → Dec (s.number < max s.number t.number) → Below s (above_both s t)
-above_is s t (yes h) = inl h
-above_is s t (Dec.no h) = inr (omega (arith, h), omega arith)
-
-above_other : (s t : Stamp) → Dec (t.number < max s.number t.number) → Below t (above_both s t)
-above_other s t (yes h) = inl h
-above_other s t (Dec.no h) = inr (omega (arith, h), omega arith)
-
-one_of : (a b : ℕ) → Dec (a < b) → (max a b ≡ a) ⊎ (max a b ≡ b)
-one_of a b (yes h) = inr (omega (arith, h))
-one_of a b (Dec.no h) = inl (omega (arith, h))
-
-one_above : (a b : ℕ) → Dec (a < b) → (max a b + 1 ≤ a + 1) ⊎ (max a b + 1 ≤ b + 1)
-one_above a b (yes h) = inr (omega (arith, h))
-one_above a b (Dec.no h) = inl (omega (arith, h))
+use Rattle.block_shard.specs.ruled_cells.proofs.Order.{never, two}
 
 module _ {F : Type 0} (chief : ChiefReads F) where
   abbrev w : Names F Tally
   w = names chief tally_reads
 
-  alike_itself : (x y : Tally) → y ≡ x → Alike w x y
-  alike_itself x y e = record { config_is = refl; entries_are = ap (λ (t : Tally). t.entries) e; clock_is = ap (λ (t : Tally). t.clock) e; right_too = λ k log r. subst (λ (t : Tally). w.right k t log) (sym e) r }
-
-  enters : (index number : ℕ) (seen : Stamp) (v : SeatView) (x y : Tally) → IsIdle number seen v → length v.calls < 2 ^ 32 → x.index ≡ index → IsAdded number seen x y → MayEnter w (access_cell Adds) (suc index) number v x y
-  enters index number seen v x y idle room at a =
-      let clock : y.clock ≡ above_both v.seen x.clock = a.clock_is ∙ ap (λ (s : Stamp). above_both s x.clock) idle.seen_is in
-      let s : Stamp = v.seen in let t : Stamp = x.clock in record {
-        actor = Actor.Sanitizer;
-        actor_is = idle.actor;
-        is_access = subst (λ (i : ℕ). Adds i number Actor.Sanitizer x y) at a.adds;
-        above_seen = subst (Below s) (sym clock) (above_is s t (dec_lt s.number (max s.number t.number)));
-        above_clock = subst (Below t) (sym clock) (above_other s t (dec_lt t.number (max s.number t.number)));
-        number = subst (λ (z : Stamp). (z.number ≡ s.number) ⊎ (z.number ≡ t.number)) (sym clock) (one_of s.number t.number (dec_lt s.number t.number));
-        counted = subst (λ (z : Stamp). (z.count ≤ s.count + 1) ⊎ (z.count ≤ t.count + 1)) (sym clock) (one_above s.count t.count (dec_lt s.count t.count));
-        room = room;
-      }
-
   none_waits : (v : SeatView) (k : ℕ) → v.entry ≡ None → pending w.touches v.entry v.changed k ≡ false
   none_waits v k e = ap (λ o. pending w.touches o v.changed k) e
-
-  pub may_give : (index number : ℕ) (taken : List (Option (CellValue F Tally))) (seen stamps_after : Stamp) (v : SeatView) (x y : Tally) → IsIdle number seen v → length v.calls < 2 ^ 32 → x.index ≡ index → MayHaveAdded number seen x y stamps_after → MayGive w (access_cell Adds) follows (suc index) number taken v x y
-  may_give index number taken seen stamps_after v x y idle room at done = record {
-    at_pending = λ e is p right. never (pending w.touches v.entry v.changed (suc index)) p (none_waits v (suc index) idle.entry);
-    at_others = λ _. ⊎_elim (λ (q : (y ≡ x) × (stamps_after ≡ seen)). inl (alike_itself x y q.0)) (λ (q : IsAdded number seen x y × (stamps_after ≡ y.clock)). inr (enters index number seen v x y idle room at q.0)) done;
-  }
 
   -- what the seat knows then
   pub idle_again : (index number : ℕ) (seen stamps_after : Stamp) (v v' : SeatView) (a x y : Tally) → IsIdle number seen v → a ≡ x → MayHaveAdded number seen x y stamps_after → GaveCell w (suc index) v a y v' → IsIdle number stamps_after v' × (length v'.calls ≤ length v.calls + 1)
@@ -93,12 +51,6 @@ module _ {F : Type 0} (chief : ChiefReads F) where
         let l : length v'.calls ≡ length v.calls + 1 = ap (λ (u : SeatView). length u.calls) p.3 ∙ length_push v.calls p.0 in omega (arith, l),
       )) done)
       gave
-
--- a turn that was taken and given back
-pub given_again : {A : Type 0} (s t u : List (Option A)) (k : ℕ) (x : A) → ((j : ℕ) → NoTurn s j) → t ≡ set s k (Some x) → u ≡ set t k None → (j : ℕ) → NoTurn u j
-given_again s t u k x bare took gave j y e = ⊎_elim (λ (p : (j ≡ k) × (None ≡ Some y)). absurd (let q : None ≡ Some y = p.1 in (cc)))
-    (λ (p : (j ≢ k) × (get_elem? t j ≡ some (Some y))). ⊎_elim (λ (q : (j ≡ k) × (Some x ≡ Some y)). p.0 q.0) (λ (q : (j ≢ k) × (get_elem? s j ≡ some (Some y))). bare j y q.1) (at_set s k j (Some x) (Some y) (ap (λ l. get_elem? l j) (sym took) ∙ p.1)))
-    (at_set t k j None (Some y) (ap (λ l. get_elem? l j) (sym gave) ∙ e))
 
 pub same_cell : {F S : Type 0} (taken : List (Option (CellValue F S))) (k : ℕ) (a b : S) → HasTurn taken k (Rest a) → HasTurn taken k (Rest b) → a ≡ b
 same_cell {F} {S} taken k a b p q = rest_same a b (some_some (Rest a) (Rest b) (sym p ∙ q))
@@ -159,89 +111,3 @@ pub same_twice : {F S : Type 0} (s t u : Seat F S) → IsSameSeat s t → IsSame
 same_twice s t u p q = record { number = q.number ∙ p.number; among = q.among ∙ p.among; place = q.place ∙ p.place }
 
 -- ---- a scrub that names the counter of index 0
-
-pub last_is : (l : List Entry) (e : Entry) → last_of (l ++ e ∷ []) ≡ e
-last_is [] e = refl
-last_is (x ∷ []) e = refl
-last_is (x ∷ y ∷ l) e = last_is (y ∷ l) e
-
-names_zero : (index : ℕ) (e : Entry) → e.act ≡ Act.Scrub 0 → turns (suc index) e ≡ true → ⊥
-names_zero index e act t = let q : eqb 0 (suc index) ≡ false = ne_eqb 0 (suc index) (λ z. omega (arith, z)) in let p : eqb 0 (suc index) ≡ true = ap (λ a. scrubs (suc index) a) (sym act) ∙ t in (let r : true ≡ false = sym p ∙ q in let z : ⊥ = cc in z)
-
-waits : (e : Entry) → e.act ≡ Act.Scrub 0 → pending (touches_cell turns) (Some e) [] 1 ≡ true
-waits e act = pending_new (touches_cell turns) e 1 ∙ ap (λ a. scrubs 0 a) act
-
-module _ {F : Type 0} (chief : ChiefReads F) where
-  touched : (taken : List (Option (CellValue F Tally))) (e : Entry) (x : Tally) → e.act ≡ Act.Scrub 0 → HasTurn taken 1 (Rest x) → (k : ℕ) → 0 < k → k < 3 → (names chief tally_reads).touches k e ≡ true → (y : CellValue F Tally) × HasTurn taken k y
-  touched taken e x act turn zero pos lt t = absurd (omega (arith, pos))
-  touched taken e x act turn (suc zero) pos lt t = (Rest x, turn)
-  touched taken e x act turn (suc (suc i)) pos lt t = absurd (names_zero i e act t)
-
-  pub may_note : (number : ℕ) (taken : List (Option (CellValue F Tally))) (v : SeatView) (f g : F) (e : Entry) (x : Tally) → HasTurn taken 0 (First f) → HasTurn taken 1 (Rest x) → v.entry ≡ None
-      → about_of chief g ≡ about_of chief f → chief.sound g → chief.journal g ≡ chief.journal f ++ e ∷ [] → e.act ≡ Act.Scrub 0 → e.stamp ≡ stamp (length (chief.journal f) + 1) 0 → e.pass ≡ number
-      → get_elem? v.about.actors number ≡ some e.actor → length v.calls < 2 ^ 32
-      → MayNote (names chief tally_reads) 3 number taken v f g (last_of (chief.journal g))
-  may_note number taken v f g e x first cell none about ok longer act at pass actor room =
-      let last : last_of (chief.journal g) ≡ e = ap last_of longer ∙ last_is (chief.journal f) e in
-      let long : length (chief.journal g) ≡ length (chief.journal f) + 1 = ap length longer ∙ length_push (chief.journal f) e in
-      subst (λ (z : Entry). MayNote (names chief tally_reads) 3 number taken v f g z) (sym last) record {
-        turn = first;
-        not_yet = none;
-        about_is = about;
-        sound = ok;
-        longer = longer;
-        control = ap is_control act;
-        stamp_is = at ∙ ap (λ (n : ℕ). stamp n 0) (sym long);
-        pass = pass;
-        actor = actor;
-        room = room;
-        turns = touched taken e x act cell;
-      }
-
-  -- the counter counts it, and the seat has noted it
-  pub may_count : (number : ℕ) (taken : List (Option (CellValue F Tally))) (v : SeatView) (e : Entry) (x y : Tally) → v.entry ≡ Some e → v.changed ≡ [] → e.act ≡ Act.Scrub 0 → follows e x y → MayGive (names chief tally_reads) (access_cell Adds) follows 1 number taken v x y
-  may_count number taken v e x y noted fresh act does = record {
-    at_pending = λ f is p right. subst (λ (z : Entry). follows z x y) (let q : Some e ≡ Some f = sym noted ∙ is in let r : e ≡ f = cc in r) does;
-    at_others = λ p. absurd (let q : pending (touches_cell turns) (Some e) [] 1 ≡ true = waits e act in let r : pending (touches_cell turns) v.entry v.changed 1 ≡ true = (λ i. pending (touches_cell turns) (noted i) (fresh i) 1) ∙ q in let z : true ≡ false = sym r ∙ p in (cc));
-  }
-
-module _ {F : Type 0} (chief : ChiefReads F) where
-  -- a first cell with nothing noted is given back as it was taken
-  pub may_return : (v : SeatView) (f : F) → chief.sound f → v.entry ≡ None → MayGiveFirst (names chief tally_reads) 3 v f f
-  may_return v f ok none = record { about_is = refl; sound = ok; journal_is = ap (stamps_after (chief.journal f)) (sym none); none_left = λ k pos lt. ap (λ o. pending (touches_cell turns) o v.changed k) none }
-
-  all_done : (e : Entry) → e.act ≡ Act.Scrub 0 → (k : ℕ) → 0 < k → k < 3 → pending (touches_cell turns) (Some e) (1 ∷ []) k ≡ false
-  all_done e act zero pos lt = absurd (omega (arith, pos))
-  all_done e act (suc zero) pos lt = pending_done (touches_cell turns) (Some e) [] 1
-  all_done e act (suc (suc zero)) pos lt = ap (λ a. scrubs 1 a && not (has_index 2 (1 ∷ []))) act
-  all_done e act (suc (suc (suc k))) pos lt = absurd (omega (arith, lt))
-
-  -- once the counter has counted, the first cell is given back with the entry
-  pub may_end : (v : SeatView) (f g : F) (e : Entry) → about_of chief g ≡ about_of chief f → chief.sound g → chief.journal g ≡ chief.journal f ++ e ∷ [] → e.act ≡ Act.Scrub 0 → v.entry ≡ Some e → v.changed ≡ 1 ∷ []
-      → MayGiveFirst (names chief tally_reads) 3 v f g
-  may_end v f g e about ok longer act noted done = record { about_is = about; sound = ok; journal_is = longer ∙ ap (stamps_after (chief.journal f)) (sym noted); none_left = λ k pos lt. (λ i. pending (touches_cell turns) (noted i) (done i) k) ∙ all_done e act k pos lt }
-
-  -- what the seat knows once the counter has counted
-  pub counted_view : (v v' : SeatView) (e : Entry) (a x y : Tally) → v.entry ≡ Some e → v.changed ≡ [] → e.act ≡ Act.Scrub 0 → a ≡ x → follows e x y → GaveCell (names chief tally_reads) 1 v a y v' → v' ≡ changed_view 1 v
-  counted_view v v' e a x y noted fresh act same does gave =
-      let q : pending (touches_cell turns) v.entry v.changed 1 ≡ true = (λ i. pending (touches_cell turns) (noted i) (fresh i) 1) ∙ waits e act in
-      let entries : y.entries ≡ a.entries = ap (λ (t : Tally). t.entries) does ∙ ap (λ (t : Tally). t.entries) (sym same) in
-      ⊎_elim
-      (λ (p : (y.entries ≡ a.entries) × (((pending (touches_cell turns) v.entry v.changed 1 ≡ false) × (v' ≡ v)) ⊎ ((pending (touches_cell turns) v.entry v.changed 1 ≡ true) × (v' ≡ changed_view 1 v)))).
-      ⊎_elim (λ (r : (pending (touches_cell turns) v.entry v.changed 1 ≡ false) × (v' ≡ v)). never (pending (touches_cell turns) v.entry v.changed 1) q r.0) (λ (r : (pending (touches_cell turns) v.entry v.changed 1 ≡ true) × (v' ≡ changed_view 1 v)). r.1) p.1)
-      (λ (p : (f : Entry) × (y.entries ≡ a.entries ++ f ∷ []) × (y.clock ≡ f.stamp) × (v' ≡ entered_view f v)). absurd (let l : length y.entries ≡ length a.entries + 1 = ap length p.1 ∙ length_push a.entries p.0 in let m = ap length entries in omega (arith, l, m)))
-      gave
-
--- the turns of two cells were taken, and given back
-pub both_again : {A : Type 0} (s t u z : List (Option A)) (x y : A) → ((j : ℕ) → NoTurn s j) → t ≡ set s 0 (Some x) → u ≡ set t 1 (Some y) → z ≡ set (set u 1 None) 0 None → (j : ℕ) → NoTurn z j
-both_again s t u z x y bare a b c j v e = ⊎_elim (λ (p : (j ≡ 0) × (None ≡ Some v)). absurd (let q : None ≡ Some v = p.1 in (cc)))
-    (λ (p : (j ≢ 0) × (get_elem? (set u 1 None) j ≡ some (Some v))). ⊎_elim (λ (q : (j ≡ 1) × (None ≡ Some v)). absurd (let r : None ≡ Some v = q.1 in (cc)))
-    (λ (q : (j ≢ 1) × (get_elem? u j ≡ some (Some v))). ⊎_elim (λ (r : (j ≡ 1) × (Some y ≡ Some v)). q.0 r.0)
-    (λ (r : (j ≢ 1) × (get_elem? t j ≡ some (Some v))). ⊎_elim (λ (k : (j ≡ 0) × (Some x ≡ Some v)). p.0 k.0) (λ (k : (j ≢ 0) × (get_elem? s j ≡ some (Some v))). bare j v k.1)
-    (at_set s 0 j (Some x) (Some v) (ap (λ l. get_elem? l j) (sym a) ∙ r.1)))
-    (at_set t 1 j (Some y) (Some v) (ap (λ l. get_elem? l j) (sym b) ∙ q.1)))
-    (at_set u 1 j None (Some v) p.1))
-    (at_set (set u 1 None) 0 j None (Some v) (ap (λ l. get_elem? l j) (sym c) ∙ e))
-
-pub still_there : {A : Type 0} (s t : List (Option A)) (k j : ℕ) (x : Option A) (o : Option A) → t ≡ set s k x → j ≢ k → get_elem? s j ≡ some o → get_elem? t j ≡ some o
-still_there s t k j x o is ne e = ap (λ l. get_elem? l j) is ∙ (set_else s k j x ne ∙ e)

@@ -1,6 +1,6 @@
 -- A counter with its history: a small value of a cell, for the tests.
 -- It counts its accesses, and the scrubs of the journal that name its index.
-use Rattle.std.specs.Prelude.{◌≡◌, ℕ, ◌+◌, ◌^◌, ◌<◌, Bool, false, ◌==◌, List, [], ◌∷◌, ◌++◌, length, if◌then◌else◌, max, ◌⊎◌, None}
+use Rattle.std.specs.Prelude.{◌≡◌, ℕ, ◌+◌, ◌<◌, Bool, false, ◌==◌, List, [], ◌∷◌, ◌++◌, length, if◌then◌else◌, max, ◌⊎◌, None}
 use Rattle.std.proofs.Common.{refl, ap, ◌∙◌, arith, cond}
 use Rattle.std.proofs.lemmas.List.{length_push}
 use mathlib.Core.Option.{some}
@@ -15,9 +15,7 @@ use Rattle.block_shard.specs.ruled_cells.specs.Laws.{AccessEnters, ChangeIs, Sta
 use Rattle.block_shard.specs.ruled_cells.specs.declared.about.SeatView.{SeatView}
 use Rattle.block_shard.specs.ruled_cells.specs.Booking.{weigh}
 use Rattle.block_shard.specs.ruled_cells.specs.Reads.{ChiefReads, MemberReads}
-use Rattle.block_shard.specs.ruled_cells.specs.Seats.{HasFirst, NoTurns, seat_number, seat_view}
 use Rattle.block_shard.specs.ruled_cells.specs.Stamps.{stamp}
-use Rattle.block_shard.specs.ruled_cells.specs.declared.seat.Seat.{Seat}
 
 pub record Tally : Type 0 where
   pub index : ℕ
@@ -105,15 +103,6 @@ pub record IsIdle (number : ℕ) (seen : Stamp) (v : SeatView) : Type 0 where
 -- the seat has made no call yet
 abbrev pub IsUnused : SeatView → Type 0
 IsUnused v = (v.seen ≡ stamp 0 0) × (v.calls ≡ [])
-
--- the seat has the turn of the first cell, and its journal has a new entry behind what was taken: a scrub by this seat that names the counter of index 0
-abbrev pub HasScrubbed : {S : Type 0} → Seat (List Entry) S → List Entry → Type 0
-HasScrubbed s ledger = (taken : List Entry) × (e : Entry) × HasFirst s taken × (ledger ≡ taken ++ e ∷ []) × (e.act ≡ Act.Scrub 0) × (e.stamp ≡ stamp (length taken + 1) 0)
-    × (e.pass ≡ seat_number s) × (get_elem? (seat_view s).about.actors (seat_number s) ≡ some e.actor)
-
--- the seat has no turn, room for one call more, and is the sanitizer's
-abbrev pub MayScrub : {F S : Type 0} → Seat F S → Type 0
-MayScrub s = NoTurns s × (length (seat_view s).calls < 2 ^ 32) × (get_elem? (seat_view s).about.actors (seat_number s) ≡ some Actor.Sanitizer)
 
 -- ---- the laws
 

@@ -41,7 +41,6 @@ fn may(pass: &Pass, act: &Act) -> Result<(), Trouble>
     }
 }
 
-/// The pass is that of a host.
 #[tactic(auto, using(crate::proofs::Passes::is_host))]
 fn of_a_host(pass: &Pass) -> Result<(), Trouble>
     ensures { OnOk result (IsHostOf 2 (pass_actor pass.now)) }

@@ -80,7 +80,6 @@ const TRIES: [Try; 5] = [
     (BASE + M, None, NOT_GRANTED),
 ];
 
-/// Whether a try is told so.
 fn is_told<R: Wait>(rt: &R, shared: &Shared, pass: &mut Pass, what: &Try) -> bool
     requires of { IsOneOf shared.now pass.old }
     requires hosts { hosts_at shared.now ≡ 2 }

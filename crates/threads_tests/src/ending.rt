@@ -33,7 +33,6 @@ fn closed<R: Abort>(rt: &R, device: TwoHosts) -> (Control, Vec<Accesses>)
     }
 }
 
-/// The row of an entry.
 fn row_of(entry: &Entry) -> Row {
     let stamp = (entry.stamp.number, entry.stamp.count);
     (entry.pass, entry.line, told_by(&entry.reply), stamp)

@@ -2,8 +2,6 @@
 #![tactic(auto)]
 
 #[cfg(test)]
-mod alone;
-#[cfg(test)]
 mod asking;
 #[cfg(test)]
 mod beside;
@@ -42,13 +40,9 @@ mod refusals;
 #[cfg(test)]
 mod runs;
 #[cfg(test)]
-mod scrubs;
-#[cfg(test)]
 mod seeing;
 #[cfg(test)]
 mod shards;
-#[cfg(test)]
-mod talk;
 #[cfg(test)]
 mod threads;
 #[cfg(test)]

@@ -33,7 +33,6 @@ pub enum Ask {
     TryStore(u64, u64),
 }
 
-/// The tag.
 const TAG: [u8; 16] = [1, 2, 3, 4, 5, 6, 7, 8, 9, 10, 11, 12, 13, 14, 15, 16];
 
 /// Contiguous in region 1 for host 0: 1 MiB under the tag, and no extent.
@@ -79,7 +78,6 @@ fn listed(start: u16, length: u16) -> [u8; 32] {
     ]
 }
 
-/// A command.
 fn command(alloc: Global, opcode: u16, payload: &[u8]) -> Result<Act, Trouble> {
     let payload = Payload::from_slice(alloc, payload)?;
     Ok(Act::Command(Request {

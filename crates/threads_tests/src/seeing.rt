@@ -13,8 +13,3 @@ pub(crate) fn see<T: Debug + PartialEq>(rt: &impl Abort, found: &T, expected: &T
 pub(crate) fn see_list<T: Debug + PartialEq>(rt: &impl Abort, found: &[T], expected: &[T]) {
     assert_eq!(rt; found, expected);
 }
-
-/// Sees that a text is the expected one.
-pub(crate) fn see_text(rt: &impl Abort, found: &str, expected: &str) {
-    assert_eq!(rt; found, expected);
-}

@@ -1,4 +1,4 @@
-//! Shards: the loads and stores of one, the journal of two, and which of them a command touches.
+//! The loads and stores of a shard.
 
 ghost use Rattle.journal_core.specs.Entries.{is_control};
 ghost use Rattle.block_shard.specs.shard_laws.specs.Belonging.{asked_at, shard_at};
@@ -6,12 +6,10 @@ ghost use Rattle.std.specs.Prelude.{◌≡◌, ◌<◌, IfOk, false};
 
 use crate::ledger::Ledger;
 use crate::seeing::{see, see_list};
+use block_shard::Shard;
 use block_shard::shard_laws::{law_at_rest, law_changed, law_merged};
-use block_shard::{Shard, touches};
-use dcd_base::{
-    AccessFault, Actor, Change, Changes, Granule, HostId, NoMemory, Place, Run, Stamp, shard_of,
-};
-use journal_core::{Access, Act, Effect, Effects, Entry, Journal, Reply, merge};
+use dcd_base::{AccessFault, Change, Changes, Granule, HostId, Place, Run, Stamp, shard_of};
+use journal_core::{Act, Reply};
 use media_map::locate;
 use region_config::{Config, ConfigFault, RegionSpec};
 use std::alloc::Global;
@@ -65,7 +63,6 @@ fn kind_of(reply: &Reply) -> Told {
     }
 }
 
-/// The shard of a place.
 fn shard_of_place(at: &Result<Place, AccessFault>) -> u32
     ensures { result ≡ shard_at at.now }
 {
@@ -190,6 +187,9 @@ fn one_shard(alloc: Global) -> Result<([(Told, Stamp); 5], Stamp), Fail> {
 
 #[test]
 fn a_shard_answers_by_its_own_holders_words_and_clock(rt: HostRuntime) -> Result<(), Fail> {
+    law_merged();
+    law_changed();
+    law_at_rest::<Ledger>();
     let (answers, granted) = one_shard(rt.alloc())?;
     let expected = [
         (Told::Refused(AccessFault::NotGranted), stamp(0, 1)),
@@ -200,168 +200,5 @@ fn a_shard_answers_by_its_own_holders_words_and_clock(rt: HostRuntime) -> Result
     ];
     see(&rt, &granted, &stamp(1, 0));
     see_list(&rt, &answers, &expected);
-    Ok(())
-}
-
-// ---- the journal of two shards
-
-/// The entries of loads and stores.
-fn journal_of(alloc: Global, accesses: &[Access]) -> Result<Journal, Fail> {
-    let mut journal = Journal::new(alloc);
-    for access in accesses {
-        journal.push(access.entry(alloc))?;
-    }
-    Ok(journal)
-}
-
-/// Loads by the stamps (0, 1) and (1, 2) of shard 0, and by (1, 1) and (1, 2) of shard 1.
-fn steps_of_two(
-    alloc: Global,
-    first: &mut Shard,
-    second: &mut Shard,
-    config: &Config,
-) -> Result<(), Fail>
-    requires first { (first.old.config ≡ config.now) × (first.old.index ≡ 0) }
-    requires second { (second.old.config ≡ config.now) × (second.old.index ≡ 1) }
-    requires hosts { config.now.hosts ≡ 2 }
-{
-    load(first, 0, config, stamp(0, 0), 0)?;
-    grant(alloc, first, config, 1, 0, false)?;
-    grant(alloc, second, config, 1, 1, false)?;
-    load(second, 1, config, stamp(0, 0), M)?;
-    load(first, 0, config, stamp(1, 1), 0)?;
-    load(second, 1, config, stamp(1, 1), M)?;
-    Ok(())
-}
-
-/// The journals of both.
-fn journals_of(alloc: Global, first: &[Access], second: &[Access]) -> Result<Vec<Journal>, Fail> {
-    let mut journals = Vec::new(alloc);
-    journals.push(journal_of(alloc, first)?)?;
-    journals.push(journal_of(alloc, second)?)?;
-    Ok(journals)
-}
-
-/// The journals of two shards after those steps.
-fn shards_of(alloc: Global, config: &Config) -> Result<Vec<Journal>, Fail>
-    requires { config.now.hosts ≡ 2 }
-{
-    let mut first = Shard::new(alloc, 0, config)?;
-    let mut second = Shard::new(alloc, 1, config)?;
-    steps_of_two(alloc, &mut first, &mut second, config)?;
-    journals_of(alloc, first.entries(), second.into_entries().as_slice())
-}
-
-fn two_shards(alloc: Global) -> Result<Vec<Journal>, Fail> {
-    shards_of(alloc, &two_hosts(alloc)?)
-}
-
-/// A scrub with this number, in line 9.
-fn scrub(alloc: Global, number: u64) -> Entry {
-    Entry {
-        pass: 3,
-        line: 9,
-        actor: Actor::Sanitizer,
-        act: Act::Scrub(0),
-        reply: Reply::Scrubbed(0),
-        effects: Effects::new(alloc),
-        stamp: stamp(number, 0),
-    }
-}
-
-/// Two scrubs.
-fn two_scrubs(alloc: Global) -> Result<Journal, Fail> {
-    let mut control = Journal::new(alloc);
-    control.push(scrub(alloc, 1))?;
-    control.push(scrub(alloc, 2))?;
-    Ok(control)
-}
-
-/// The line and the stamp of each entry.
-fn lines_of(alloc: Global, entries: &[Entry]) -> Result<Vec<(u32, Stamp)>, Fail> {
-    let mut lines = Vec::new(alloc);
-    for entry in entries {
-        lines.push((entry.line, entry.stamp))?;
-    }
-    Ok(lines)
-}
-
-/// The line and the stamp of each entry of two scrubs and shards.
-fn merged_with(alloc: Global, shards: &[Journal]) -> Result<Vec<(u32, Stamp)>, Fail> {
-    let control = two_scrubs(alloc)?;
-    let journal = merge(alloc, &control, shards)?;
-    lines_of(alloc, journal.as_slice())
-}
-
-/// The same of two shards.
-fn merged(alloc: Global) -> Result<Vec<(u32, Stamp)>, Fail> {
-    merged_with(alloc, two_shards(alloc)?.as_slice())
-}
-
-#[test]
-fn the_journal_of_two_shards_is_in_the_order_of_the_stamps(rt: HostRuntime) -> Result<(), Fail> {
-    law_merged();
-    law_changed();
-    law_at_rest::<Ledger>();
-    let expected = [
-        (0, stamp(0, 1)),
-        (9, stamp(1, 0)),
-        (1, stamp(1, 1)),
-        (0, stamp(1, 2)),
-        (1, stamp(1, 2)),
-        (9, stamp(2, 0)),
-    ];
-    see_list(&rt, merged(rt.alloc())?.as_slice(), &expected);
-    Ok(())
-}
-
-// ---- touching
-
-/// A scrub with this effect.
-fn with_effect(alloc: Global, effect: Effect) -> Result<Entry, NoMemory> {
-    let mut effects = Effects::new(alloc);
-    effects.push(effect)?;
-    Ok(Entry {
-        effects,
-        ..scrub(alloc, 1)
-    })
-}
-
-/// Whether a scrub with this effect touches the shards 15, 0, 1 and 2.
-fn touched(alloc: Global, effect: Effect) -> Result<[bool; 4], NoMemory> {
-    let entry = with_effect(alloc, effect)?;
-    Ok([
-        touches(&entry, 15),
-        touches(&entry, 0),
-        touches(&entry, 1),
-        touches(&entry, 2),
-    ])
-}
-
-/// So many granules from 15 on.
-fn granules(count: u32) -> Run {
-    Run {
-        first: Granule(15),
-        count,
-    }
-}
-
-/// What is touched where host 0 takes three granules, leaves them, one is zeroed, and three are soiled.
-fn touched_by_each(alloc: Global) -> Result<[[bool; 4]; 4], NoMemory> {
-    Ok([
-        touched(alloc, Effect::Take(HostId(0), granules(3)))?,
-        touched(alloc, Effect::Leave(HostId(0), granules(3)))?,
-        touched(alloc, Effect::Zero(granules(1)))?,
-        touched(alloc, Effect::Soil(granules(3)))?,
-    ])
-}
-
-#[test]
-fn a_command_touches_the_shards_of_the_granules_that_it_gives_takes_or_zeroes(
-    rt: HostRuntime,
-) -> Result<(), Fail> {
-    let three = [true, true, true, false];
-    let expected = [three, three, [true, false, false, false], [false; 4]];
-    see(&rt, &touched_by_each(rt.alloc())?, &expected);
     Ok(())
 }

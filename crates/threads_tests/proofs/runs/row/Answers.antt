@@ -1,4 +1,5 @@
-use Rattle.threads_tests.proofs.TallySteps.{given_again, same_twice}
+use Rattle.shared_device.proofs.Turns.{given_again}
+use Rattle.threads_tests.proofs.TallySteps.{same_twice}
 use Rattle.threads_tests.proofs.runs.row.Goals as goal
 
 pub returns-clause-first : goal.returns-clause-first

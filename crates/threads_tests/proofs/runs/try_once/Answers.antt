@@ -1,5 +1,6 @@
 use Rattle.std.proofs.Common.{◌∙◌, suc}
-use Rattle.threads_tests.proofs.TallySteps.{given_again, same_twice}
+use Rattle.shared_device.proofs.Turns.{given_again}
+use Rattle.threads_tests.proofs.TallySteps.{same_twice}
 use Rattle.threads_tests.proofs.runs.try_once.Goals as goal
 
 pub returns-in-Ok : goal.returns-in-Ok

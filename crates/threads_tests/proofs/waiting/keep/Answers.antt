@@ -1,4 +1,5 @@
-use Rattle.threads_tests.proofs.TallySteps.{given_again, same_twice}
+use Rattle.shared_device.proofs.Turns.{given_again}
+use Rattle.threads_tests.proofs.TallySteps.{same_twice}
 use Rattle.threads_tests.proofs.waiting.keep.Goals as goal
 
 pub returns : goal.returns
