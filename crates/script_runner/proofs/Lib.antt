@@ -1,10 +1,10 @@
 mod AllRan
 mod Choices
-mod Endings
+mod Decisions
 mod Fronts
-mod Inputs
 pub mod LineActors
 mod LinesRan
 pub mod NewPassesReady
 mod Printed
+mod Takings
 mod WordItems

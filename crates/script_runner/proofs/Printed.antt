@@ -1,5 +1,5 @@
 -- The text of a run of the script that the input is, and the summary of a generated one.
-use Rattle.std.proofs.Common.{◌≡◌, ℕ, List, Option, ap, subst, sym}
+use Rattle.std.proofs.Common.{◌≡◌, ℕ, List, ap, subst}
 use Rattle.region_config.specs.Configurations.{Configuration}
 use Rattle.journal_core.specs.declared.entries.Entry.{Entry}
 use Rattle.journal_core.specs.Merging.{merged}
@@ -11,9 +11,7 @@ use Rattle.script_gen.specs.script_codec.specs.declared.scripts.Script.{Script}
 use Rattle.script_gen.specs.Generated.{generated}
 use Rattle.script_runner.specs.declared.words.Mode.{Mode}
 use Rattle.script_runner.specs.Fronts.{RanAll, RanScript}
-use Rattle.script_runner.specs.declared.status.Status.{Status}
-use Rattle.script_runner.specs.Endings.{IsPlannedFor}
-use Rattle.script_runner.specs.Planning.{IsBegun, IsSummaryOf, IsTextOf, PassesInPart}
+use Rattle.script_runner.specs.Planning.{IsSummaryOf, IsTextOf}
 use Rattle.script_runner.specs.Running.{IsLawful, IsScriptRun}
 use Rattle.script_runner.specs.Threads.{RanInThreads, RanInput}
 use Rattle.std.specs.Prelude.{◌<◌, AllPairs}
@@ -70,17 +68,6 @@ text_of_threads input config entries shards ran = record {
   reads = ran.reads;
   runs = in_threads ran.script config entries shards ran.ran;
   is = ap (λ k. text k (merged entries shards)) ran.ran.config_is;
-}
-
--- a front of that text, of the entries as they are lent
-pub begun_in_threads : (input : List ℕ) (config : Configuration) (entries : List Entry) (shards lent : List (List Entry)) (old new : Option (List ℕ))
-    → RanInput input config entries shards → lent ≡ shards → PassesInPart old new (text config (merged entries lent)) → IsBegun (IsPlannedFor Mode.Threads input) old new
-begun_in_threads input config entries shards lent old new ran is front = record {
-  status = Status.Done;
-  printed = text config (merged entries lent);
-  rest = front.0;
-  planned = text_of_threads input config entries lent (subst (λ (s : List (List Entry)). RanInput input config entries s) (sym is) ran);
-  took = front.1;
 }
 
 pub summary_of_threads : (seed : ℕ) (config : Configuration) (entries : List Entry) (shards : List (List Entry)) → RanInThreads (generated seed) config entries shards

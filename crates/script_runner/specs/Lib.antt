@@ -1,5 +1,3 @@
-pub mod Completing
-pub mod Endings
 pub mod Fronts
 pub mod ItemByItem
 pub mod Planning
@@ -7,7 +5,6 @@ pub mod Running
 pub mod ScriptPasses
 pub mod SharedPasses
 pub mod Statuses
-pub mod Taking
 pub mod ThreadRuns
 pub mod Threads
 pub mod Words

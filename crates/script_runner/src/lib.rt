@@ -11,6 +11,7 @@ mod generated;
 mod in_threads;
 mod inside;
 mod lines;
+mod outcome;
 mod printing;
 mod running;
 mod script;
@@ -19,8 +20,6 @@ mod summaries;
 mod texts;
 mod thread_lines;
 mod top;
-mod usage;
-mod whole;
 mod words;
 
 pub use device_plain;

@@ -1,8 +1,10 @@
 //! How a run ends.
 
-ghost use Rattle.script_runner.specs.Statuses.{status_number};
+ghost use Rattle.program_frame.specs.Ends.{number_of};
+ghost use Rattle.script_runner.specs.Statuses.{status_end};
 ghost use Rattle.std.specs.Prelude.{◌≡◌};
 
+use program_frame::End;
 use script_gen::script_codec::ScriptFault;
 
 /// How a run ends.
@@ -23,17 +25,24 @@ pub enum Status {
 }
 
 impl Status {
-    /// The exit status of the program.
-    pub fn number(self) -> u8
-        ensures { result ≡ status_number self }
+    /// Which end it is.
+    pub fn end(self) -> End
+        ensures { result ≡ status_end self }
     {
         match self {
-            Status::Done => 0,
-            Status::Usage => 2,
-            Status::ScriptRefused(_) => 3,
-            Status::NoMemory => 4,
-            Status::ReadFault => 5,
-            Status::WriteFault => 6,
+            Status::Done => End::Done,
+            Status::Usage => End::Usage,
+            Status::ScriptRefused(_) => End::Refused,
+            Status::NoMemory => End::NoMemory,
+            Status::ReadFault => End::ReadFault,
+            Status::WriteFault => End::WriteFault,
         }
+    }
+
+    /// The exit status of the program.
+    pub fn number(self) -> u8
+        ensures { result ≡ number_of (status_end self) }
+    {
+        self.end().number()
     }
 }

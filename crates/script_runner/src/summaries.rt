@@ -1,63 +1,60 @@
 //! The summary of a generated script, in either mode.
 
-ghost use Rattle.script_runner.specs.Endings.{EndsAs, IsSummaryPlan};
+ghost use Rattle.script_runner.specs.Planning.{IsPrintable, IsSummaryOf, bytes_of};
 ghost use Rattle.script_runner.specs.declared.words.Mode.{Mode};
+ghost use Rattle.std.specs.Prelude.{IfOk};
 
 use crate::generated::run_rounds;
 use crate::in_threads::run_seed_in_threads;
-use crate::printing::{print_merged_summary, print_summary};
-use crate::status::Status;
+use crate::outcome::Printed;
 use crate::words::Mode;
-use dcd_base::{Failed, Gate, NoMemory, Sink};
+use dcd_base::{Gate, NoMemory};
 use std::alloc::{AllocGlobal, Global};
 use std::sync::Wait;
 use std::thread::Threads;
 
-/// Runs the generated script of the seed in the mode and writes the summary of its journal.
-pub(crate) fn run_generated<R: Threads + Wait + Sync + AllocGlobal, K: Sink, G: Gate>(
+/// The summary of a run of the generated script of the seed, in the mode.
+pub(crate) fn summary_in<R: Threads + Wait + Sync + AllocGlobal, G: Gate>(
     rt: &R,
     alloc: Global,
     mode: Mode,
     seed: u64,
-    sink: &mut K,
     gate: &G,
-) -> Status
-    ensures { EndsAs (IsSummaryPlan mode seed) ⊥ K.taken K.faults sink.old sink.new result }
+) -> Result<Printed, NoMemory>
+    ensures summary { IfOk result (λ text. IsSummaryOf mode seed (bytes_of text)) }
+    ensures printable { IfOk result IsPrintable }
 {
     match mode {
-        Mode::Serial => summary_serially(alloc, seed, sink),
-        Mode::Threads => summary_in_threads(rt, alloc, seed, sink, gate),
+        Mode::Serial => summary_serially(alloc, seed),
+        Mode::Threads => summary_in_threads(rt, alloc, seed, gate),
     }
 }
 
-/// Runs the script on the serial device.
-fn summary_serially<K: Sink>(alloc: Global, seed: u64, sink: &mut K) -> Status
-    ensures { EndsAs (IsSummaryPlan Mode.Serial seed) ⊥ K.taken K.faults sink.old sink.new result }
+/// That of a run on the serial device.
+#[tactic(auto, using(crate::proofs::Printed::summary_of_seed))]
+fn summary_serially(alloc: Global, seed: u64) -> Result<Printed, NoMemory>
+    ensures summary { IfOk result (λ text. IsSummaryOf Mode.Serial seed (bytes_of text)) }
+    ensures printable { IfOk result IsPrintable }
 {
     match run_rounds(alloc, seed) {
-        Ok(device) => match print_summary(&device, sink) {
-            Ok(()) => Status::Done,
-            Err(Failed) => Status::WriteFault,
-        },
-        Err(NoMemory) => Status::NoMemory,
+        Ok(device) => Ok(Printed::Summary(device)),
+        Err(NoMemory) => Err(NoMemory),
     }
 }
 
-/// Runs the script in threads.
-fn summary_in_threads<R: Threads + Wait + Sync + AllocGlobal, K: Sink, G: Gate>(
+/// That of a run in threads.
+#[tactic(auto, using(crate::proofs::Printed::summary_of_threads))]
+fn summary_in_threads<R: Threads + Wait + Sync + AllocGlobal, G: Gate>(
     rt: &R,
     alloc: Global,
     seed: u64,
-    sink: &mut K,
     gate: &G,
-) -> Status
-    ensures { EndsAs (IsSummaryPlan Mode.Threads seed) ⊥ K.taken K.faults sink.old sink.new result }
+) -> Result<Printed, NoMemory>
+    ensures summary { IfOk result (λ text. IsSummaryOf Mode.Threads seed (bytes_of text)) }
+    ensures printable { IfOk result IsPrintable }
 {
     match run_seed_in_threads(rt, alloc, seed, gate) {
-        Ok(left) => match print_merged_summary(&left.0, left.1.as_slice(), sink) {
-            Ok(()) => Status::Done,
-            Err(Failed) => Status::WriteFault,
-        },
-        Err(NoMemory) => Status::NoMemory,
+        Ok((control, shards)) => Ok(Printed::MergedSummary(control, shards)),
+        Err(NoMemory) => Err(NoMemory),
     }
 }
