@@ -1,11 +1,11 @@
 -- One bit of a set of hosts.
-use Rattle.std.proofs.Common.{ℕ, ◌≡◌, ◌==◌, ◌+◌, ◌-◌, ◌*◌, ◌%◌, ◌^◌, ◌<◌, Bool, true, false, not, bit_and, bit_or, ◌⊎◌, inl, inr, refl, sym, ◌∙◌, ap, arith, true≢false}
+use Rattle.std.proofs.Common.{ℕ, ◌≡◌, ◌==◌, ◌+◌, ◌-◌, ◌*◌, ◌%◌, ◌^◌, ◌<◌, Bool, true, false, bit_and, bit_or, ◌⊎◌, inl, inr, refl, sym, ◌∙◌, arith, true≢false}
 use Rattle.std.specs.Int.{bit_at}
 use Rattle.std.specs.Int.Bits.{or_add_and}
 use Rattle.std.proofs.Math.Pow.{pow-lt}
-use Rattle.std.proofs.lemmas.Bool.{eqb-true, eq-eqb, ne_eqb}
-use Rattle.std.proofs.lemmas.Nat.{one_shl, pow_pos, and-not, and_comm}
-use Rattle.std.proofs.lemmas.Nat.Bits.{and_pow, bit_at-lt, bit_at-zero}
+use Rattle.std.proofs.lemmas.Bool.{eqb-true, eq-eqb}
+use Rattle.std.proofs.lemmas.Nat.{one_shl, and-not, and_comm}
+use Rattle.std.proofs.lemmas.Nat.Bits.{and_pow, bit_at-lt}
 use Rattle.dcd_base.specs.Hosts.{has_host, with_host, without_host}
 
 bit_is : (hosts h : ℕ) → ((bit_at hosts h ≡ 1) × (has_host hosts h ≡ true)) ⊎ ((bit_at hosts h ≡ 0) × (has_host hosts h ≡ false))
@@ -42,14 +42,3 @@ and_not_host hosts h lt fits =
       | inl one ↦ rw (shl, one.1) (omega (arith, rw (bit, one.0) at sum))
       | inr none ↦ rw (shl, none.1) (omega (arith, rw (bit, none.0) at sum))
     ]
-
--- a host that was not among them
-pub with_host-new : (hosts h : ℕ) → has_host hosts h ≡ false → with_host hosts h ≡ hosts + 2 ^ h
-with_host-new hosts h new = rw new refl
-
--- a set with a host is not empty
-pub with_host-some : (hosts h : ℕ) → not (with_host hosts h == 0) ≡ true
-with_host-some hosts h = elim (bit_is hosts h) [
-  | inl one ↦ rw (one.1, ne_eqb hosts 0 (λ none. cc (sym (bit_at-zero h), ap (λ n. bit_at n h) (sym none), one.0))) refl
-  | inr none ↦ rw (none.1, ne_eqb (hosts + 2 ^ h) 0 (λ zero. omega (arith, pow_pos h, zero))) refl
-]

@@ -1,5 +1,5 @@
 -- How writing in pieces composes, and that a count that rose stays risen.
-use Rattle.std.proofs.Common.{◌≡◌, ℕ, ◌^◌, ◌<◌, ◌≤◌, List, [], ◌++◌, Option, Some, None, refl, sym, ap, ◌∙◌, inl, inr, arith, take, drop, length, ◌+◌, subst}
+use Rattle.std.proofs.Common.{◌≡◌, ℕ, ◌≤◌, List, [], ◌++◌, Option, Some, None, refl, sym, ap, ◌∙◌, inl, inr, arith, take, drop, length, ◌+◌, subst}
 use Rattle.std.proofs.lemmas.List.{append_assoc, append-nil, take-append-drop, drop-drop, drop_all}
 use Rattle.dcd_base.specs.Streams.{HasRisen, taken_after, with_front, Passes}
 
@@ -53,11 +53,6 @@ passes_both {old} {new} {next} {first} {rest} {second} p q = record {
 pub with_front_twice : (left : Option (List ℕ)) (first next : List ℕ) → with_front first (with_front next left) ≡ with_front (first ++ next) left
 with_front_twice None first next = refl
 with_front_twice (Some rest) first next = ap (λ xs. Some xs) (sym (append_assoc first next rest))
-
--- a count that rose and does not fall has risen
-pub risen_after : {a b c : ℕ} → HasRisen a b → b ≤ c → c < 2 ^ 64 → HasRisen a c
-risen_after (inl less) le fits = inl (omega (arith, less, le))
-risen_after (inr last) le fits = inr (omega (arith, last, le, fits))
 
 -- a count that did not fall and then rose has risen
 pub risen_before : {a b c : ℕ} → a ≤ b → HasRisen b c → HasRisen a c

@@ -23,8 +23,7 @@ use Rattle.list_rules.specs.Listing.{too_many_listed}
 use Rattle.selection.specs.Selections.{all_free, are_free, contiguous_runs, free_extent_rule, free_runs, is_free_block, prescribed_rule}
 use Rattle.selection.proofs.Chosen.{contiguous_are_free, free_are_free, free_some}
 use Rattle.selection.proofs.Prescribed.{kept}
-use Rattle.device_rules.specs.Adding.{area_of, extents_of, per_block, with_tag}
-use Rattle.device_rules.specs.Adding.{region_free_blocks as blocks_free, region_longest_free as blocks_together}
+use Rattle.device_rules.specs.Adding.{area_of, extents_of, per_block, with_tag, region_free_blocks as blocks_free, region_longest_free as blocks_together}
 use Rattle.device_laws.specs.Pictures.{count_on}
 use Rattle.device_laws.specs.Standing.{IsMade}
 use Rattle.device_laws.proofs.BlockRuns.{IsBlockRun, apart_count, contiguous_apart, contiguous_block_runs, extent_made, extent_run, free_apart, free_block_runs}

@@ -17,8 +17,7 @@ use Rattle.list_rules.specs.media_map.specs.Places.{run_of}
 use Rattle.list_rules.specs.media_map.specs.region_config.specs.Configurations.{Configuration}
 use Rattle.list_rules.specs.media_map.specs.region_config.specs.Granules.{hosts_of, region_spec}
 use Rattle.list_rules.specs.media_map.specs.region_config.specs.Soundness.{IsSound}
-use Rattle.tag_refs.specs.Tables.{opened, passes}
-use Rattle.tag_refs.specs.Tables.{has_entry, entry_referenced}
+use Rattle.tag_refs.specs.Tables.{opened, passes, has_entry, entry_referenced}
 use Rattle.tag_refs.specs.declared.entries.TagEntry.{TagEntry}
 use Rattle.device_rules.specs.Adding.{is_open_in, offered}
 use Rattle.device_rules.specs.Answers.{manager_outcome, manager_rule}

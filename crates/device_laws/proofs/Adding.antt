@@ -22,8 +22,7 @@ use Rattle.journal_core.specs.declared.outcome.Effect.{Effect}
 use Rattle.journal_core.specs.Entries.{effects}
 use Rattle.list_rules.specs.Listing.{too_many_extents}
 use Rattle.selection.specs.Selections.{contiguous_runs, free_runs, prescribed_rule, too_few_free}
-use Rattle.device_rules.specs.Adding.{add_outcome, add_rule, area_of, by_length_rule, extents_of, is_free_now, is_open_in, offered, per_block, present, with_tag, too_many_tags}
-use Rattle.device_rules.specs.Adding.{region_free_blocks as blocks_free, region_longest_free as blocks_together}
+use Rattle.device_rules.specs.Adding.{add_outcome, add_rule, area_of, by_length_rule, extents_of, is_free_now, is_open_in, offered, per_block, present, with_tag, too_many_tags, region_free_blocks as blocks_free, region_longest_free as blocks_together}
 use Rattle.device_rules.specs.Outcomes.{effects_of, log_full}
 use Rattle.device_rules.specs.Tags.{is_free, is_live, last_offer, open_tags, region_of_offer, status, tag_region, tag_runs}
 use Rattle.device_rules.specs.Views.{View, extents_in, view_of}

@@ -57,7 +57,7 @@ cut_short x (a ∷ xs) each = elim (cases_Bool (has_range x.start x.length a)) [
     no_piece : (a : Extent) (from to : ℕ) → to ≤ from → length (piece a from to) ≡ 0
     no_piece a from to none = rw (le-ltb _ _ none) refl
 
-soils_quiet : (clean : Bool) (run : Run) → list_all is_quiet (soils clean run) ≡ true
+pub soils_quiet : (clean : Bool) (run : Run) → list_all is_quiet (soils clean run) ≡ true
 soils_quiet true run = refl
 soils_quiet false run = refl
 

@@ -8,8 +8,7 @@ use Rattle.cci_codec.specs.field_bytes.specs.dcd_base.specs.declared.capacity.Ex
 use Rattle.cci_codec.specs.field_bytes.specs.dcd_base.specs.declared.capacity.Tag.{Tag}
 use Rattle.cci_codec.specs.field_bytes.specs.dcd_base.specs.declared.ids.HostId.{HostId}
 use Rattle.cci_codec.specs.field_bytes.specs.dcd_base.specs.declared.media.Run.{Run}
-use Rattle.cci_codec.specs.field_bytes.specs.dcd_base.specs.Words.{flag_of}
-use Rattle.cci_codec.specs.field_bytes.specs.dcd_base.specs.Words.{has_granule, has_in_runs, has_tag}
+use Rattle.cci_codec.specs.field_bytes.specs.dcd_base.specs.Words.{flag_of, has_granule, has_in_runs, has_tag}
 use Rattle.list_rules.specs.dcd_codes.specs.declared.rules.Rule.{Rule}
 use Rattle.list_rules.specs.dcd_codes.specs.Rules.{◌breaks◌, each_in}
 use Rattle.list_rules.specs.media_map.specs.region_config.specs.Configurations.{Configuration}

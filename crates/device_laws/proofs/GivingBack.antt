@@ -41,12 +41,12 @@ use Rattle.device_laws.proofs.Quiet.{hold_quiet, is_quiet, quiet_front, quiet_ou
 use Rattle.device_laws.proofs.Settling.{outcome_keeps}
 
 -- leaves are removals that do not clean
-leaves_are : (c : Configuration) (h : HostId) (xs : List Extent) → removals c h false xs ≡ leaves c h xs
+pub leaves_are : (c : Configuration) (h : HostId) (xs : List Extent) → removals c h false xs ≡ leaves c h xs
 leaves_are c h [] = refl
 leaves_are c h (x ∷ xs) = ap (λ es. Effect.Leave h (run_of c h x) ∷ es) (leaves_are c h xs)
 
 -- and those of marked extents are those of the extents
-marked_removals : (c : Configuration) (h : HostId) (clean : Bool) (accepted xs : List Extent) → removals c h clean (map (marked accepted) xs) ≡ removals c h clean xs
+pub marked_removals : (c : Configuration) (h : HostId) (clean : Bool) (accepted xs : List Extent) → removals c h clean (map (marked accepted) xs) ≡ removals c h clean xs
 marked_removals c h clean accepted [] = refl
 marked_removals c h clean accepted (x ∷ xs) = ap (λ es. Effect.Leave h (run_of c h x) ∷ soils clean (run_of c h x) ++ es) (marked_removals c h clean accepted xs)
 

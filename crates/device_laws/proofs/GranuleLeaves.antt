@@ -26,7 +26,8 @@ use Rattle.device_laws.specs.Pictures.{extents_at, picture_of}
 use Rattle.device_laws.specs.Standing.{Stands}
 use Rattle.device_laws.proofs.FreeGranules.{shared_claim}
 use Rattle.device_laws.specs.GranuleStates.{stands_for}
-use Rattle.device_rules.proofs.HostSearches.{or_assoc, or_false, or_true}
+use Rattle.list_rules.proofs.EachTag.{or_assoc}
+use Rattle.device_rules.proofs.HostSearches.{or_false, or_true}
 use Rattle.device_rules.proofs.Leaving.{after_front, is_quiet}
 use Rattle.device_rules.proofs.RunEffects.{in_extents}
 use Rattle.device_laws.proofs.StatusParts.{tagged_still}

@@ -10,7 +10,7 @@ use Rattle.list_rules.specs.media_map.specs.region_config.proofs.Powers.{support
 use Rattle.std.proofs.lemmas.List.{length-map}
 use Rattle.std.proofs.lemmas.List.FromFn.{length-enumerate_from}
 use Rattle.std.proofs.lemmas.Bool.{and_parts, cases_lt, leb-true, ltb-true}
-use Rattle.std.proofs.Math.Nat.{mul-mod_left, mul_assoc}
+use Rattle.std.proofs.Math.Nat.{mul-mod_left}
 use Rattle.cci_codec.specs.field_bytes.specs.dcd_base.specs.declared.capacity.Extent.{Extent}
 use Rattle.cci_codec.specs.field_bytes.specs.dcd_base.specs.declared.capacity.Tag.{Tag}
 use Rattle.cci_codec.specs.field_bytes.specs.dcd_base.specs.declared.ids.HostId.{HostId}
@@ -25,16 +25,8 @@ use Rattle.list_rules.specs.media_map.specs.region_config.proofs.GranuleLemmas.{
 use Rattle.list_rules.specs.media_map.specs.Places.{IsRun, bytes_of_run, extent_of, has_address, region_at, run_of, start_of}
 use Rattle.list_rules.specs.media_map.proofs.PlaceLemmas.{has}
 use Rattle.list_rules.specs.media_map.proofs.RunLemmas.{IsGranular, is_run, region_at_is, run_bytes, run_fits, run_starts}
-use Rattle.selection.proofs.Placed.{IsPlaced}
+use Rattle.selection.proofs.Placed.{IsPlaced, of_parts}
 use Rattle.device_laws.specs.Standing.{IsMade}
-
--- what is made of blocks is made of their granules
-of_parts : (n block size : ℕ) → block % size ≡ 0 → n % block ≡ 0 → n % size ≡ 0
-of_parts n block size whole ends =
-    let blocks : n ≡ n / block * block = omega (arith, div-add-mod' n block, ends) in
-    let granules : block ≡ block / size * size = omega (arith, div-add-mod' block size, whole) in
-    let product : n ≡ n / block * (block / size) * size = blocks ∙ ap (λ m. n / block * m) granules ∙ sym (mul_assoc (n / block) (block / size) size) in
-    ap (λ m. m % size) product ∙ mul-mod_left (n / block * (block / size)) size
 
 module _ (c : Configuration) (h : HostId) (s : IsSound c) (host : h < c.hosts) (size r : ℕ) (x : Extent) (whole : size % granule_size c r ≡ 0) (m : IsMade c size h r x) where
   pub made_region : region_at c h x.start ≡ r

@@ -5,7 +5,8 @@ use Rattle.std.specs.List.{list_any}
 use Rattle.std.proofs.lemmas.Bool.{and_parts, cases_Bool, cases_eq, cases_lt, eq-eqb, eqb-true, false≢true, le-leb, le-ltb, lt-ltb, ne_eqb, leb-true}
 use Rattle.cci_codec.specs.field_bytes.specs.dcd_base.specs.Words.{has_granule, has_in_runs}
 use Rattle.granule_map.specs.Choices.{joined, joined_onto}
-use Rattle.device_rules.proofs.HostSearches.{or_assoc, or_true}
+use Rattle.list_rules.proofs.EachTag.{or_assoc}
+use Rattle.device_rules.proofs.HostSearches.{or_true}
 use Rattle.device_rules.proofs.RunEffects.{run_from}
 
 -- a number is not below another

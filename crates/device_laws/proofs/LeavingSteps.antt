@@ -10,10 +10,9 @@ use Rattle.cci_codec.specs.field_bytes.specs.dcd_base.specs.declared.ids.HostId.
 use Rattle.list_rules.specs.dcd_codes.specs.Rules.{◌breaks◌, each_in}
 use Rattle.list_rules.specs.dcd_codes.specs.declared.rules.Rule.{Rule}
 use Rattle.list_rules.specs.extent_list.specs.ExtentLists.{count_in, cut, cut_all, has_extent_of, marked, owner_of, tags_of}
-use Rattle.journal_core.specs.declared.outcome.Effect.{Effect}
 use Rattle.journal_core.specs.declared.outcome.HeldKind.{HeldKind}
 use Rattle.list_rules.specs.Listing.{incomplete, too_many_extents, too_many_listed}
-use Rattle.list_rules.specs.media_map.specs.Places.{region_at, run_of}
+use Rattle.list_rules.specs.media_map.specs.Places.{region_at}
 use Rattle.list_rules.specs.media_map.specs.region_config.specs.Configurations.{Configuration}
 use Rattle.list_rules.specs.media_map.specs.region_config.specs.Granules.{region_spec, with_blocks}
 use Rattle.list_rules.specs.media_map.specs.region_config.specs.Soundness.{IsSound}
@@ -21,7 +20,7 @@ use Rattle.release_core.specs.Leaving.{count_after}
 use Rattle.release_core.specs.Releases.{give_back_rule}
 use Rattle.release_core.specs.Removals.{by_tag_rule, prescribed_removal_rule, extents_of_tag}
 use Rattle.device_rules.specs.Outcomes.{log_full}
-use Rattle.device_rules.specs.ReleaseOutcomes.{give_back_changes, is_cleaning, is_forced, leaves, policy_in, removals, remove_rule, removed, soils}
+use Rattle.device_rules.specs.ReleaseOutcomes.{give_back_changes, is_cleaning, is_forced, leaves, policy_in, removals, remove_rule, removed}
 use Rattle.device_rules.specs.ResponseOutcomes.{unhold}
 use Rattle.device_rules.specs.Tags.{last_offer_after, tag_region, tag_runs}
 use Rattle.device_rules.specs.Views.{View}
@@ -39,8 +38,9 @@ use Rattle.device_rules.proofs.EffectKinds.{removals_pass}
 use Rattle.device_rules.proofs.Leaving.{last_offer-over, leaves_tags}
 use Rattle.device_laws.proofs.ResponseSteps.{told_same}
 use Rattle.device_laws.proofs.HostOfTagsSet.{Told}
+use Rattle.device_laws.proofs.GivingBack.{leaves_are, marked_removals}
 
-both_ways : (a b : Bool) → (a ≡ true → b ≡ true) → (b ≡ true → a ≡ true) → a ≡ b
+pub both_ways : (a b : Bool) → (a ≡ true → b ≡ true) → (b ≡ true → a ≡ true) → a ≡ b
 both_ways true b there back = sym (there refl)
 both_ways false true there back = back refl
 both_ways false false there back = refl
@@ -53,15 +53,6 @@ has_cut_all t (y ∷ ys) xs e = has_cut t y.start y.length xs (has_cut_all t ys 
 -- removals offer nothing
 last_removals : (c : Configuration) (h : HostId) (clean : Bool) (ys : List Extent) (t : Tag) (last : Option (HostId × List Extent)) → fold (last_offer_after t) last (removals c h clean ys) ≡ last
 last_removals c h clean ys t last = last_offer-over t last (removals c h clean ys) (removals_pass leaves_tags h (λ run. refl) (λ run. refl) c true clean ys)
-
--- those of marked extents are those of the extents, and a release's are removals that do not clean
-marked_removals : (c : Configuration) (h : HostId) (clean : Bool) (accepted xs : List Extent) → removals c h clean (map (marked accepted) xs) ≡ removals c h clean xs
-marked_removals c h clean accepted [] = refl
-marked_removals c h clean accepted (x ∷ xs) = ap (λ es. Effect.Leave h (run_of c h x) ∷ soils clean (run_of c h x) ++ es) (marked_removals c h clean accepted xs)
-
-leaves_are : (c : Configuration) (h : HostId) (xs : List Extent) → removals c h false xs ≡ leaves c h xs
-leaves_are c h [] = refl
-leaves_are c h (x ∷ xs) = ap (λ es. Effect.Leave h (run_of c h x) ∷ es) (leaves_are c h xs)
 
 -- What the extents leave: the tags that they have not, and all open tags open.
 pub record IsGone (c : Configuration) (h : HostId) (told : List Tag) (p q : Picture) : Type 0 where

@@ -34,15 +34,12 @@ use Rattle.device_laws.specs.TagTable.{IsEntry, IsTable, among}
 use Rattle.device_laws.proofs.HostBits.{host_bits-change, host_bits-none, host_bits-same}
 use Rattle.device_laws.proofs.TagEntries.{each_open, uses}
 use Rattle.device_laws.proofs.HostOfTagsSet.{Told, told_entry}
+use Rattle.list_rules.proofs.EachTag.{or_false}
 
 -- extents of one tag have no other
 none_of_tag : (t u : Tag) (xs : List Extent) → AllByRecursion (λ x. x.tag ≡ t) xs → same_tag t u ≡ false → has_extent_of u xs ≡ false
 none_of_tag t u [] marked other = refl
 none_of_tag t u (x ∷ xs) marked other = or_from (same_tag x.tag u) (has_extent_of u xs) (ap (λ v. same_tag v u) marked.0 ∙ other) (none_of_tag t u xs marked.1 other)
-
-or_false : (b : Bool) → (b || false) ≡ b
-or_false true = refl
-or_false false = refl
 
 module _ (c : Configuration) (sound : IsSound c) (past : List Effect) (now : Sound c (picture_of c past)) (h : HostId) (r : ℕ) (tag : Tag) (x : Extent) (xs : List Extent)
     (a : IsAdded c (picture_of c past) h r tag (x ∷ xs)) where

@@ -25,6 +25,7 @@ use Rattle.device_laws.proofs.Homes.{made_of_region, made_region}
 use Rattle.device_rules.proofs.ListSteps.{any-map, each-append, each-at, each-both, each-change, flat-push, many, many-append, many-none}
 use Rattle.device_laws.proofs.Settling.{extent_lives}
 use Rattle.device_rules.proofs.TagSteps.{same_tag-is, same_tag-self}
+use Rattle.list_rules.proofs.EachTag.{or_false}
 
 -- whether an extent of the list has the granule
 abbrev pub reaches : Configuration → HostId → List Extent → ℕ → Bool
@@ -70,10 +71,6 @@ many-tags p q (t ∷ tags) agree =
 
 has-push : (tags : List Tag) (t u : Tag) → has_tag (tags ++ t ∷ []) u ≡ (has_tag tags u || (same_tag u t || false))
 has-push tags t u = list_any-append (same_tag u) tags (t ∷ [])
-
-or_false : (b : Bool) → (b || false) ≡ b
-or_false true = refl
-or_false false = refl
 
 -- a host that passes one test passes another
 pub any-implies : {X : Type 0} (f g : X → Bool) (xs : List X) → ((x : X) → f x ≡ true → g x ≡ true) → list_any f xs ≡ true → list_any g xs ≡ true

@@ -1,7 +1,7 @@
 -- A tag that lives, and whose last offer lies in a shareable region, is open.
 use Rattle.std.proofs.Common.{◌≡◌, ℕ, ◌+◌, Bool, true, false, not, ◌&&◌, ◌||◌, ◌==◌, List, [], ◌∷◌, ◌++◌, map, Some, refl, ap, sym, subst, ◌∙◌, inl, inr, ltb}
 use Rattle.std.specs.Prelude.{if◌then◌else◌}
-use Rattle.std.specs.List.{AllByRecursion, list_all, list_any}
+use Rattle.std.specs.List.{AllByRecursion, list_any}
 use Rattle.std.proofs.lemmas.Bool.{and_from, and_parts, cases_Bool, false≢true, false_from_ne_true, or_from, or_left, or_right}
 use Rattle.std.proofs.lemmas.List.Folds.{list_any-append}
 use Rattle.cci_codec.specs.field_bytes.specs.dcd_base.specs.declared.capacity.Extent.{Extent}
@@ -20,9 +20,10 @@ use Rattle.device_rules.specs.Tags.{is_in_shareable, tag_region}
 use Rattle.device_laws.specs.Pictures.{Picture, is_with_a_host, lives, picture_after, picture_of}
 use Rattle.device_laws.proofs.OneOffer.{any-implies}
 use Rattle.device_laws.proofs.Pictures.{picture-append, picture-outcome}
-use Rattle.device_laws.proofs.Quiet.{is_quiet, quiet_front}
+use Rattle.device_laws.proofs.Quiet.{quiet_front}
 use Rattle.device_laws.proofs.Settling.{ended_parts}
 use Rattle.device_rules.proofs.TagSteps.{open_still, same_tag-is, same_tag-self}
+use Rattle.device_laws.proofs.AllLeave.{soils_quiet}
 
 abbrev pub IsOpened : Configuration → Picture → Type 0
 IsOpened c p = (t : Tag) → lives c p t ≡ true → is_in_shareable c (tag_region c (p.last t)) ≡ true → has_tag p.tags t ≡ true
@@ -93,10 +94,6 @@ leave_opened c p h run opened =
       | inl held ↦ or_left (has_extent_of t (p.accepted k)) (list_any (has_extent_of t) (p.offers k)) (has_cut t (start_of c k run) (bytes_of_run c run) (p.accepted k) held)
       | inr not_held ↦ or_right (has_extent_of t (p.accepted k)) (list_any (has_extent_of t) (p.offers k)) (rw not_held at has)
     ]
-
-soils_quiet : (clean : Bool) (run : Run) → list_all is_quiet (soils clean run) ≡ true
-soils_quiet true run = refl
-soils_quiet false run = refl
 
 pub removals_opened : (c : Configuration) (h : HostId) (clean : Bool) (ys : List Extent) (p : Picture) → IsOpened c p → IsOpened c (picture_after c p (removals c h clean ys))
 removals_opened c h clean [] p opened = opened

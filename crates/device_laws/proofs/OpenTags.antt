@@ -1,7 +1,7 @@
 -- After every legal journal the open tags are those that live where their granules are shareable.
-use Rattle.std.proofs.Common.{◌≡◌, ℕ, ◌<◌, Bool, true, false, not, ◌==◌, List, [], ◌∷◌, ◌++◌, length, Some, None, refl, ap, sym, subst, ◌∙◌, arith, append_assoc, append-nil}
+use Rattle.std.proofs.Common.{◌≡◌, ℕ, ◌<◌, true, false, not, ◌==◌, List, [], ◌∷◌, ◌++◌, length, Some, None, refl, ap, sym, subst, ◌∙◌, arith, append_assoc, append-nil}
 use Rattle.std.specs.Prelude.{Option, IsTrue}
-use Rattle.std.specs.List.{AllByRecursion, list_all}
+use Rattle.std.specs.List.{AllByRecursion, list_all, enumerate_from}
 use Rattle.std.specs.declared.result.Result.{Result}
 use Rattle.std.specs.declared.result.Result.TheVariants.{Ok, Err}
 use Rattle.std.proofs.lemmas.Bool.{and_from, and_parts, false≢true, ltb-true, not-false}
@@ -12,10 +12,9 @@ use Rattle.cci_codec.specs.field_bytes.specs.dcd_base.specs.declared.steps.Actor
 use Rattle.cci_codec.specs.field_bytes.specs.dcd_base.specs.declared.steps.LogId.{LogId}
 use Rattle.cci_codec.specs.field_bytes.specs.dcd_base.specs.Words.{has_tag}
 use Rattle.list_rules.specs.dcd_codes.specs.declared.rules.Rule.{Rule}
-use Rattle.cci_codec.specs.field_bytes.specs.declared.faults.PayloadFault.{PayloadFault as ManagerFault}
+use Rattle.cci_codec.specs.field_bytes.specs.declared.faults.PayloadFault.{PayloadFault as ManagerFault, PayloadFault as HostFault}
 use Rattle.fm_payloads.specs.declared.requests.FmRequest.{FmRequest}
 use Rattle.fm_payloads.specs.ManagerPayloads.{manager_request}
-use Rattle.cci_codec.specs.field_bytes.specs.declared.faults.PayloadFault.{PayloadFault as HostFault}
 use Rattle.host_payloads.specs.declared.requests.HostRequest.{HostRequest}
 use Rattle.host_payloads.specs.HostPayloads.{host_request}
 use Rattle.list_rules.specs.media_map.specs.Places.{region_at}
@@ -47,7 +46,7 @@ use Rattle.device_laws.proofs.OpenLive.{IsOpened, outcome_opened}
 use Rattle.device_laws.proofs.OpenedJournals.{added_opened, dropped_opened, each_tagged, given_opened, quiet_opened, quiet_outcome_opened, reference_opened, removed_opened, responded_opened}
 use Rattle.device_laws.proofs.Overlaps.{not_broken}
 use Rattle.device_laws.proofs.Quiet.{hold_quiet, is_quiet, zeroes_quiet}
-use Rattle.std.specs.List.{enumerate_from}
+use Rattle.device_laws.proofs.LeavingSteps.{both_ways}
 
 module _ (c : Configuration) (sound : IsSound c) (journal : List Entry) (before : Sound c (picture_of c (effects journal))) (opened : IsOpened c (picture_of c (effects journal))) where
   abbrev past : List Effect
@@ -155,11 +154,6 @@ open_shared c sound p s t a = by_extents a.extents a.some a.each a.offer
         let m = each.0 in
         let at : region_at c a.host x.start ≡ a.region = made_region c a.host sound a.known (p.block a.region) a.region x (present_whole c sound p s a.region m.known) m in
         ap (λ o. is_in_shareable c (tag_region c o)) last ∙ ap (λ r. (region_spec c r).shareable) at ∙ a.shareable
-
-both_ways : (a b : Bool) → (a ≡ true → b ≡ true) → (b ≡ true → a ≡ true) → a ≡ b
-both_ways true b there back = sym (there refl)
-both_ways false true there back = back refl
-both_ways false false there back = refl
 
 -- The open tags are the live shareable ones.
 pub open_is_live : (c : Configuration) → IsSound c → (past : List Effect) → Sound c (picture_of c past) → IsOpened c (picture_of c past) → (t : Tag) → has_tag (open_tags c past) t ≡ is_live_shareable c t past

@@ -30,6 +30,7 @@ use Rattle.device_laws.proofs.Pictures.{picture-append}
 use Rattle.device_laws.proofs.Quiet.{is_quiet, quiet_front, quiet_picture, unhold_quiet}
 use Rattle.device_laws.proofs.Responding.{answer_of}
 use Rattle.device_rules.proofs.TagSteps.{same_tag-is}
+use Rattle.device_laws.proofs.GivingBack.{leaves_are}
 
 -- ---- a command
 
@@ -78,11 +79,6 @@ responded_opened c sound p before h host (offer ∷ later) is held list row open
     let a = answer_of c sound p before.stands h host offer later (held ++ list) rules.1 in
     subst (IsOpened c) (sym (quiet_front c p (unhold h HeldKind.Responses held) (Effect.Answer h (map (marked offer) (held ++ list)) ∷ map (λ x. Effect.Take h (run_of c h x)) (held ++ list)) (unhold_quiet h HeldKind.Responses held)))
     (answer_opened c sound p before h host offer later is (held ++ list) a opened)
-
--- 4803h
-leaves_are : (c : Configuration) (h : HostId) (xs : List Extent) → removals c h false xs ≡ leaves c h xs
-leaves_are c h [] = refl
-leaves_are c h (x ∷ xs) = ap (λ es. Effect.Leave h (run_of c h x) ∷ es) (leaves_are c h xs)
 
 pub given_opened : (c : Configuration) (p : Picture) (h : HostId) (held list : List Extent) → IsOpened c p → IsOpened c (picture_after c p (unhold h HeldKind.Releases held ++ leaves c h (held ++ list)))
 given_opened c p h held list opened =

@@ -1,6 +1,6 @@
 -- Extents that share a granule share an address, and what lies in an extent has granules of it alone.
-use Rattle.std.proofs.Common.{◌≡◌, ℕ, ◌+◌, ◌-◌, ◌*◌, ◌/◌, ◌%◌, ◌<◌, ◌≤◌, Bool, true, false, List, [], ◌∷◌, ◌++◌, length, Some, None, refl, sym, subst, ◌∙◌, inl, inr, arith, leb, ltb, append_assoc, mul-le-mul_right, add-mul, zero-mul}
-use Rattle.std.specs.Prelude.{Option, option_map, position}
+use Rattle.std.proofs.Common.{◌≡◌, ℕ, ◌+◌, ◌-◌, ◌*◌, ◌/◌, ◌%◌, ◌<◌, ◌≤◌, Bool, true, false, List, [], ◌∷◌, ◌++◌, length, None, refl, sym, subst, ◌∙◌, inl, inr, arith, leb, ltb, append_assoc, mul-le-mul_right, add-mul, zero-mul}
+use Rattle.std.specs.Prelude.{Option, position}
 use Rattle.std.specs.List.{AllByRecursion, list_any, position_from}
 use Rattle.std.proofs.lemmas.Bool.{and_from, and_parts, cases_Bool, cases_lt, false≢true, false_from_ne_true, le-leb, leb-true, lt-ltb, ltb-true, or_from, or_parts}
 use Rattle.std.proofs.lemmas.Iterator.Adapters.{position_from-zero}
@@ -8,7 +8,7 @@ use Rattle.std.proofs.lemmas.List.Folds.{list_any-append}
 use Rattle.std.proofs.lemmas.Option.{none-some}
 use Rattle.cci_codec.specs.field_bytes.specs.dcd_base.specs.declared.capacity.Extent.{Extent}
 use Rattle.cci_codec.specs.field_bytes.specs.dcd_base.specs.declared.ids.HostId.{HostId}
-use Rattle.cci_codec.specs.field_bytes.specs.dcd_base.specs.Words.{◌or◌, has_granule}
+use Rattle.cci_codec.specs.field_bytes.specs.dcd_base.specs.Words.{has_granule}
 use Rattle.list_rules.specs.dcd_codes.specs.declared.rules.Rule.{Rule}
 use Rattle.list_rules.specs.dcd_codes.specs.Rules.{◌breaks◌, first_by}
 use Rattle.list_rules.specs.extent_list.specs.ExtentLists.{lies_in, overlaps}
@@ -25,21 +25,13 @@ use Rattle.device_laws.specs.Standing.{IsMade}
 use Rattle.device_laws.proofs.Homes.{made_begins, made_long, made_of_region, made_run}
 use Rattle.device_rules.proofs.ListSteps.{many-none}
 use Rattle.device_laws.proofs.OneOffer.{reaches}
+use Rattle.selection.proofs.Prescribed.{neither, option_none}
 
 -- ---- rows
-
--- neither of two rules is broken
-pub neither : (a b : Option Rule) → (a or b) ≡ None → (a ≡ None) × (b ≡ None)
-neither None b none = (refl, none)
-neither (Some r) b none = absurd (none-some r (sym none))
 
 pub not_broken : (b : Bool) (rule : Rule) → (b breaks rule) ≡ None → b ≡ false
 not_broken false rule none = refl
 not_broken true rule none = absurd (none-some rule (sym none))
-
-option_none : (f : ℕ → Rule) (o : Option ℕ) → option_map f o ≡ None → o ≡ None
-option_none f None none = refl
-option_none f (Some j) none = absurd (none-some (f j) (sym none))
 
 none_passes : (p : Extent → Bool) (i : ℕ) (xs : List Extent) → position_from p i xs ≡ None → list_any p xs ≡ false
 none_passes p i [] none = refl

@@ -10,8 +10,7 @@ use Rattle.list_rules.specs.extent_list.specs.ExtentLists.{has_extent_of}
 use Rattle.journal_core.specs.declared.outcome.Effect.{Effect}
 use Rattle.list_rules.specs.media_map.specs.region_config.specs.Configurations.{Configuration}
 use Rattle.list_rules.specs.media_map.specs.region_config.specs.Granules.{hosts_of}
-use Rattle.tag_refs.specs.Tables.{entries_changed, is_entry_of, is_used, passes, still_used, with_reference}
-use Rattle.tag_refs.specs.Tables.{entry_referenced}
+use Rattle.tag_refs.specs.Tables.{entries_changed, is_entry_of, is_used, passes, still_used, with_reference, entry_referenced}
 use Rattle.tag_refs.specs.declared.entries.TagEntry.{TagEntry}
 use Rattle.device_rules.specs.Outcomes.{effects_of, ended}
 use Rattle.device_rules.specs.TagCommands.{add_reference_outcome, remove_reference_outcome}

@@ -10,8 +10,7 @@ use Rattle.list_rules.specs.media_map.specs.region_config.specs.Configurations.{
 use Rattle.list_rules.specs.media_map.specs.region_config.specs.Granules.{hosts_of}
 use Rattle.tag_refs.specs.Tables.{has_entry, is_used, passes}
 use Rattle.tag_refs.specs.declared.entries.TagEntry.{TagEntry}
-use Rattle.device_rules.specs.Tags.{is_accepted_by, is_offered_to, is_referenced, last_offer, open_tags, tag_region, tag_runs}
-use Rattle.device_rules.specs.Tags.{is_live as tag_lives}
+use Rattle.device_rules.specs.Tags.{is_accepted_by, is_offered_to, is_referenced, last_offer, open_tags, tag_region, tag_runs, is_live as tag_lives}
 use Rattle.device_laws.specs.Pictures.{picture_of}
 use Rattle.device_laws.specs.Standing.{Sound}
 use Rattle.device_rules.proofs.TagSteps.{same_tag-is, same_tag-self}

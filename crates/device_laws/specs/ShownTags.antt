@@ -7,8 +7,7 @@ use Rattle.list_rules.specs.extent_list.specs.ExtentLists.{has_extent_of}
 use Rattle.journal_core.specs.declared.outcome.Effect.{Effect}
 use Rattle.list_rules.specs.media_map.specs.region_config.specs.Configurations.{Configuration}
 use Rattle.list_rules.specs.media_map.specs.region_config.specs.Granules.{hosts_of}
-use Rattle.tag_refs.specs.Tables.{is_used, passes}
-use Rattle.tag_refs.specs.Tables.{has_entry, entry_referenced, tag_view as entry_view}
+use Rattle.tag_refs.specs.Tables.{is_used, passes, has_entry, entry_referenced, tag_view as entry_view}
 use Rattle.tag_refs.specs.declared.entries.TagEntry.{TagEntry}
 use Rattle.device_rules.specs.Adding.{is_open_in}
 use Rattle.device_rules.specs.Hosts.{accepted_of, offers_of}

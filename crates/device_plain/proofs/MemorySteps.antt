@@ -1,10 +1,9 @@
 -- The words, with one more entry.
 use Rattle.std.proofs.Common.{◌≡◌, ℕ, ◌<◌, false, List, [], ◌∷◌, ◌++◌, refl, sym, ap, ◌∙◌, append-nil}
-use Rattle.std.specs.Prelude.{IfOk, IsTrue, if◌then◌else◌}
+use Rattle.std.specs.Prelude.{IfOk, IsTrue, if◌then◌else◌, Bool, true}
 use Rattle.std.specs.List.{list_any}
 use Rattle.std.specs.declared.result.Result.{Result}
 use Rattle.std.specs.declared.result.Result.TheVariants.{Ok, Err}
-use Rattle.std.specs.Prelude.{Bool, true}
 use Rattle.std.proofs.lemmas.List.Sums.{fold_push}
 use Rattle.dcd_base.specs.declared.failures.AccessFault.{AccessFault}
 use Rattle.dcd_base.specs.declared.ids.HostId.{HostId}

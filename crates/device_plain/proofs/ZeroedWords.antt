@@ -18,10 +18,6 @@ use Rattle.device_plain.specs.Accesses.{AreZeroed, IsZeroedBy, Stored}
 pub word_inside : (c : Configuration) (p : Place) → IsWord c p → p.granule < granule_total c
 word_inside c p is = let rise = granules_rise c (suc p.region) (length c.regions) is.known in omega (arith, is.to, rise)
 
--- none yet
-pub zeroed_none : (m : Stored) → AreZeroed m m []
-zeroed_none m g w = refl
-
 -- one more
 zeroed_push : (old mid new : Stored) (es : List Effect) (e : Effect) → AreZeroed old mid es → IsZeroedBy mid new e → AreZeroed old new (es ++ e ∷ [])
 zeroed_push old mid new es e so_far one g w =

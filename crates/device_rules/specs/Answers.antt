@@ -24,8 +24,7 @@ use Rattle.device_rules.specs.Views.{View, view_of}
 use Rattle.list_rules.specs.extent_list.specs.ExtentLists.{count_in}
 use Rattle.list_rules.specs.dcd_codes.specs.Rules.{code_of, number_of}
 use Rattle.device_rules.specs.Tags.{dirty_granules}
-use Rattle.cci_codec.specs.field_bytes.specs.declared.faults.PayloadFault.{PayloadFault as HostFault}
-use Rattle.cci_codec.specs.field_bytes.specs.declared.faults.PayloadFault.{PayloadFault as ManagerFault}
+use Rattle.cci_codec.specs.field_bytes.specs.declared.faults.PayloadFault.{PayloadFault as HostFault, PayloadFault as ManagerFault}
 use Rattle.host_payloads.specs.HostPayloads.{host_request}
 use Rattle.fm_payloads.specs.ManagerPayloads.{manager_request}
 use Rattle.device_rules.specs.Outcomes.{Outcome, only, effects_of}

@@ -3,7 +3,7 @@ use Rattle.fm_payloads.specs.ManagerPayloads.{regions_head, info_payload, lists_
 use Rattle.host_payloads.specs.HostPayloads.{configuration_payload, region_bytes, counts_bytes, extents_payload}
 use Rattle.cci_codec.specs.field_bytes.specs.Extents.{extent_bytes}
 use Rattle.cci_codec.specs.field_bytes.specs.dcd_base.specs.Limits.{page_extents, extents_supported, tags_supported}
-use Rattle.cci_codec.specs.field_bytes.specs.dcd_base.specs.Words.{◌or◌}
+use Rattle.cci_codec.specs.field_bytes.specs.dcd_base.specs.Words.{◌or◌, flag_of}
 use Rattle.host_payloads.specs.declared.views.Counts.{Counts}
 use Rattle.host_payloads.specs.declared.views.RegionView.{RegionView}
 use Rattle.device_rules.specs.Views.{generation_in, View, extents_available, tags_available}
@@ -20,7 +20,6 @@ use Rattle.list_rules.specs.media_map.specs.region_config.specs.Granules.{region
 use Rattle.list_rules.specs.dcd_codes.specs.Rules.{◌breaks◌, each_in}
 use Rattle.device_rules.specs.Tags.{status, is_free, free_granules, dirty_granules}
 use Rattle.device_rules.specs.Outcomes.{log_full, Outcome, record_for, no_extent}
-use Rattle.cci_codec.specs.field_bytes.specs.dcd_base.specs.Words.{flag_of}
 
 -- members from a place on, as many as asked and no more than fit
 abbrev pub page : {X : Type 0} → ℕ → ℕ → List X → List X

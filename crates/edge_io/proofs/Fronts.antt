@@ -1,5 +1,5 @@
 -- What was read from a source, piece by piece.
-use Rattle.std.proofs.Common.{refl, ◌≡◌, ℕ, ◌+◌, take, ◌<◌, ◌≤◌, List, [], ◌++◌, Option, Some, None, length, sym, ap, ◌∙◌, arith}
+use Rattle.std.proofs.Common.{◌≡◌, ℕ, ◌+◌, take, ◌<◌, ◌≤◌, List, ◌++◌, Option, Some, None, length, sym, ap, ◌∙◌, arith}
 use Rattle.std.specs.Option.{IfSome}
 use Rattle.std.proofs.lemmas.List.{append-nil, length-append, length-take, take_at}
 use Rattle.edge_io.specs.ReadEnds.{TakesAtMost, TakesAll, TakesMore}
@@ -11,17 +11,6 @@ never x e = cc
 
 inner : {A : Type 0} (x y : A) → Some x ≡ Some y → x ≡ y
 inner x y e = cc
-
--- Nothing in front.
-pub nothing : (new : Option (List ℕ)) → with_front [] new ≡ new
-nothing None = refl
-nothing (Some rest) = refl
-
--- Where nothing was read at the end, that is the end.
-pub taken_to_end : (old now new : Option (List ℕ)) (bytes piece : List ℕ) → old ≡ with_front bytes now → now ≡ with_front piece new → piece ≡ []
-    → old ≡ with_front bytes new
-taken_to_end old now new bytes piece given read none =
-    given ∙ ap (with_front bytes) (read ∙ ap (λ p. with_front p new) none ∙ nothing new)
 
 -- A piece that was read behind others is taken from what was left.
 pub taken_too : (old now new : Option (List ℕ)) (bytes buf : List ℕ) (n room most : ℕ) → old ≡ with_front bytes now → now ≡ with_front (take n buf) new

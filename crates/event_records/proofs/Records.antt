@@ -49,7 +49,7 @@ no_record_fault : (bytes : List ℕ) → HasNoFault bytes → record_fault bytes
 no_record_fault bytes has =
     rw ((bytes_decides (take 16 bytes) record_uuid).1 has.uuid, eq-eqb (slice_index bytes 16) 128 has.length, le-ltb 5 (slice_index bytes 48) has.kind) refl
 
-kind_small : (k : EventKind) → kind_number k ≤ 5
+pub kind_small : (k : EventKind) → kind_number k ≤ 5
 kind_small EventKind.Add = omega arith
 kind_small EventKind.Release = omega arith
 kind_small EventKind.Forced = omega arith

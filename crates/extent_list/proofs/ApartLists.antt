@@ -9,7 +9,7 @@ use Rattle.std.proofs.lemmas.List.Kept.{AllPairs-cons}
 use Rattle.std.proofs.lemmas.List.Quantifiers.{all_pairs_push}
 use Rattle.std.proofs.lemmas.List.Sums.{position_or_len_is}
 use Rattle.dcd_base.specs.declared.capacity.Extent.{Extent}
-use Rattle.extent_list.specs.Apart.{AreFalling, AreRising, IsBelow, StandApart}
+use Rattle.extent_list.specs.Apart.{IsBelow, StandApart}
 use Rattle.extent_list.specs.ExtentLists.{cut, has_range, holder_of, piece}
 
 -- what an index past the end reads
@@ -158,11 +158,3 @@ begins_min xs i low next is before = elim (cases_lt low (get_or xs i no_extent).
   | inl less ↦ begins_more xs i low next (omega (arith, is, less)) before
   | inr from ↦ begins_new xs i next (omega (arith, is, from))
 ]
-
--- in a list by rising or by falling address the next one lies above the others or below them
-pub stands_so : (xs : List Extent) (i low high : ℕ) → i < length xs → EndsAt xs i high → BeginsAt xs i low → All (λ (x : Extent). x.start + x.length < 2 ^ 64) xs
-    → (get_or xs i no_extent).start < high → low < (get_or xs i no_extent).start + (get_or xs i no_extent).length → AreRising xs ⊎ AreFalling xs → ⊥
-stands_so xs i low high known (inl none) begins ends below above (inl rising) = omega (arith, none, below)
-stands_so xs i low high known (inr one) begins ends below above (inl rising) = omega (arith, one.2, below, rising one.0 i no_extent one.1 known)
-stands_so xs i low high known top (inl none) ends below above (inr falling) = omega (arith, none, above, ends i no_extent known)
-stands_so xs i low high known top (inr one) ends below above (inr falling) = omega (arith, one.2, above, falling one.0 i no_extent one.1 known)

@@ -1,7 +1,7 @@
 -- Whole extents that leave from the back of a list.
 use Rattle.std.proofs.Common.{◌≡◌, ℕ, ◌+◌, ◌-◌, ◌<◌, false, inl, inr, List, [], ◌∷◌, ◌++◌, length, get_or, take, drop, ap, sym, ◌∙◌, arith, zero, suc}
 use Rattle.std.proofs.lemmas.Bool.{cases_Bool}
-use Rattle.std.proofs.lemmas.List.{drop_more, get_or-take, length-take, length-take-le, take_more}
+use Rattle.std.proofs.lemmas.List.{drop_more, get_or-take, length-take-le, take_more}
 use Rattle.dcd_base.specs.declared.capacity.Extent.{Extent}
 use Rattle.extent_list.specs.Apart.{StandApart}
 use Rattle.extent_list.specs.ExtentLists.{cut, cut_all, has_range}
@@ -45,9 +45,3 @@ cut_back leaving kept i n d apart in_leaving at some from long =
     ∙ ap (λ (xs : List Extent). cut_all (x ∷ drop (i + 1) leaving) xs) (take_more kept n d known)
     ∙ ap (cut_all (drop (i + 1) leaving)) (cut-last (take n kept) (get_or kept n d) d x.start x.length from long none)
     ∙ ap (λ (j : ℕ). cut_all (drop (i + 1) leaving) (take j kept)) (sym left)
-
--- the front of a list that stands apart does
-pub front_apart : (xs : List Extent) (n : ℕ) → StandApart xs → StandApart (take n xs)
-front_apart xs n apart i j d below known =
-    let few = length-take n xs in
-    rw (get_or-take n xs i d (omega (arith, below, known, few)), get_or-take n xs j d (omega (arith, known, few))) (apart i j d below (omega (arith, known, few)))

@@ -1,5 +1,5 @@
 -- Two tags are one where both halves are, each read as a number.
-use Rattle.std.proofs.Common.{◌≡◌, ◌&&◌, replicate, ℕ, ◌+◌, ◌<◌, ◌≤◌, List, ◌++◌, length, get_or, take, drop, refl, sym, ap, ◌∙◌, nat_eq, inl, inr, arith}
+use Rattle.std.proofs.Common.{◌≡◌, ◌&&◌, replicate, ℕ, ◌+◌, ◌<◌, ◌≤◌, List, ◌++◌, length, get_or, take, drop, refl, sym, ap, ◌∙◌, nat_eq, inl, inr, arith, length-drop}
 use Rattle.std.specs.Int.{from_le_bytes, to_le_bytes, w64}
 use Rattle.std.specs.Cmp.Lexicographic.{same_text}
 use Rattle.std.proofs.lemmas.Bool.{and_parts, cases_Bool, cases_lt, eqb-true, eq-eqb, ne_eqb}
@@ -7,7 +7,6 @@ use Rattle.std.proofs.lemmas.Cmp.{nat_list_eq_equiv}
 use Rattle.std.proofs.lemmas.List.{get_or-drop, get_or-replicate, get_or-take, get_or_past, length-take, take-append-drop, take_all}
 use Rattle.std.proofs.lemmas.Nat.{le_bytes_8, le_or_l}
 use Rattle.std.specs.Int.Bits.{bit_or, or_zero_l}
-use Rattle.std.proofs.Common.{length-drop}
 use lib.Pointwise.{pointwise}
 
 -- sixteen bytes

@@ -199,21 +199,6 @@ impl ExtentList {
         }
     }
 
-    /// How many extents the list would have without the range of `bytes` bytes from `start` on, which is cut out of the
-    /// first extent in which it lies, and of none where it lies in none.
-    ///
-    /// The range ends below 2^64, or that extent ends at 2^64 or below.
-    pub fn len_without(&self, start: u64, bytes: u64) -> usize
-        requires { IsCutInAddresses start bytes self.now.extents }
-        ensures value { result ≡ length (cut start bytes self.now.extents) }
-        ensures few { result ≤ length self.now.extents + 1 }
-    {
-        match self.holder_of(start, bytes) {
-            None => self.len(),
-            Some(index) => len_cut_at(&self.kept, index, start, bytes),
-        }
-    }
-
     /// The same, where the first extent in which the range lies is known to be the one at the index.
     pub fn len_without_at(&self, index: usize, start: u64, bytes: u64) -> usize
         requires index { holder_of start bytes self.now.extents ≡ Some index }

@@ -138,7 +138,3 @@ counted_all p xs first n within alike =
 pub most_if : (b : Bool) (n : ℕ) → cond b n 0 ≤ n
 most_if true n = omega arith
 most_if false n = omega arith
-
-pub one_at_most : (b : Bool) → cond b 1 0 ≤ 1
-one_at_most true = omega arith
-one_at_most false = omega arith

@@ -1,9 +1,7 @@
 -- Runs of numbers that pass a test, from the highest number down.
-use Rattle.std.proofs.Common.{◌≡◌, ℕ, ◌+◌, ◌-◌, ◌<◌, ◌≤◌, Bool, true, false, cond, List, [], ◌∷◌, Option, Some, None, max, map, refl, ap, sym, ◌∙◌, leb, arith, inl, inr, IfSome, subst}
+use Rattle.std.proofs.Common.{◌≡◌, ℕ, ◌+◌, ◌-◌, ◌<◌, Bool, true, false, cond, List, [], ◌∷◌, Option, Some, None, max, map, refl, ap, ◌∙◌, leb, arith, inl, inr}
 use Rattle.std.specs.List.{fold, find, prefix_len, range_with_len}
-use Rattle.std.proofs.lemmas.Bool.{cases_Bool, cond_both, leb-true, leb-false, lt-leb}
-use Rattle.std.proofs.lemmas.List.Sums.{prefix_len-le-length}
-use Rattle.std.proofs.lemmas.List.FromFn.{length-range_with_len}
+use Rattle.std.proofs.lemmas.Bool.{cases_Bool, leb-false, lt-leb}
 use Rattle.granule_map.specs.Choices.{longest_run, lowest_run, run_from}
 use Rattle.granule_map.proofs.Ranges.{range_done, range_more}
 
@@ -13,13 +11,6 @@ longest_from p n k = fold max 0 (map (run_from p n) (range_with_len k (n - k)))
 
 abbrev pub lowest_start : (ℕ → Bool) → ℕ → ℕ → ℕ → Option ℕ
 lowest_start p n least k = find (λ j. leb least (run_from p n j)) (range_with_len k (n - k))
-
--- a run ends at the limit
-pub run_within : (p : ℕ → Bool) (n k : ℕ) → run_from p n k ≤ n - k
-run_within p n k = omega (arith, prefix_len-le-length p (range_with_len k (n - k)), length-range_with_len k (n - k))
-
-pub run_done : (p : ℕ → Bool) (n : ℕ) → run_from p n n ≡ 0
-run_done p n = ap (prefix_len p) (range_done n n (omega arith))
 
 one_more : (b : Bool) (m : ℕ) → cond b (1 + m) 0 ≡ cond b (m + 1) 0
 one_more b m = elim b as (λ b. cond b (1 + m) 0 ≡ cond b (m + 1) 0) [ true ↦ omega arith | false ↦ refl ]
@@ -66,25 +57,3 @@ below_from_none p n least some none = longest_from_none (run_from p n) least (ra
 
 pub none_from_below : (p : ℕ → Bool) (n least : ℕ) → longest_run p n < least → lowest_run p n least ≡ None
 none_from_below p n least below = none_from_longest (run_from p n) least (range_with_len 0 n) below
-
--- one number further down: the run, the longest and the lowest as a pass from the limit down keeps them
-pub run_down : (p : ℕ → Bool) (n k above : ℕ) (passes : Bool) (run new : ℕ) → above ≡ k + 1 → k < n → passes ≡ p k → run ≡ run_from p n above
-    → new ≡ cond passes (run + 1) 0 → new ≡ run_from p n k
-run_down p n k above passes run new step below is run_is new_is =
-    new_is ∙ ap (λ b. cond b (run + 1) 0) is ∙ ap (λ r. cond (p k) (r + 1) 0) (run_is ∙ ap (run_from p n) step) ∙ sym (run_more p n k below)
-
-pub longest_down : (p : ℕ → Bool) (n k above run longest new : ℕ) → above ≡ k + 1 → k < n → run ≡ run_from p n k → longest ≡ longest_from p n above
-    → new ≡ max longest run → new ≡ longest_from p n k
-longest_down p n k above run longest new step below run_is longest_is new_is =
-    new_is ∙ ap (max longest) run_is ∙ ap (λ m. max m (run_from p n k)) (longest_is ∙ ap (longest_from p n) step) ∙ sym (longest_more p n k below)
-
-pub lowest_down : (p : ℕ → Bool) (n least k above run : ℕ) (lowest new : Option ℕ) → above ≡ k + 1 → k < n → run ≡ run_from p n k → lowest ≡ lowest_start p n least above
-    → new ≡ cond (leb least run) (Some k) lowest → new ≡ lowest_start p n least k
-lowest_down p n least k above run lowest new step below run_is lowest_is new_is =
-    new_is ∙ ap (λ r. cond (leb least r) (Some k) lowest) run_is ∙ ap (λ o. cond (leb least (run_from p n k)) (Some k) o) (lowest_is ∙ ap (lowest_start p n least) step) ∙ sym (lowest_more p n least k below)
-
-pub lowest_within : (n least k run : ℕ) (lowest new : Option ℕ) → k < n → run ≤ n - k → IfSome lowest (λ j. j + least ≤ n)
-    → new ≡ cond (leb least run) (Some k) lowest → IfSome new (λ j. j + least ≤ n)
-lowest_within n least k run lowest new below ends within new_is =
-    let P : Option ℕ → Type 0 = λ o. IfSome o (λ j. j + least ≤ n) in
-    subst P (sym new_is) (cond_both (leb least run) (Some k) lowest P (λ begins. let long : least ≤ run = leb-true least run begins in omega (arith, below, ends, long)) (λ not. within))

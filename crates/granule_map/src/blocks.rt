@@ -2,7 +2,6 @@
 
 ghost use Rattle.granule_map.specs.Blocks.{IsArea, block_count, free_block_count, is_block_free, longest_free_run, lowest_free_run};
 ghost use Rattle.granule_map.specs.Stretches.{BlocksBetween, NextStretch};
-ghost use Rattle.std.specs.List.{find, prefix_len, range_with_len};
 ghost use Rattle.std.specs.Prelude.{◌≡◌, ◌+◌, ◌-◌, ◌*◌, ◌<◌, ◌≤◌, ℕ, IfSome};
 
 use crate::map::GranuleMap;
@@ -25,30 +24,6 @@ impl GranuleMap {
     {
         next_blocks(self, &area, per_block, from)
     }
-}
-
-/// The lowest free block from one on; None exactly where none is free from there on.
-pub(crate) fn next_free(map: &GranuleMap, area: &Run, per_block: u32, from: u32) -> Option<u32>
-    requires area { IsArea map.now.states area.now per_block }
-    ensures { result ≡ find (is_block_free map.now.states area.now per_block) (range_with_len from (block_count area.now per_block - from)) }
-{
-    match next_blocks(map, area, per_block, from) {
-        Some(blocks) => Some(blocks.first),
-        None => None,
-    }
-}
-
-/// How many blocks are free from one on up to the first that is not, at most so many.
-pub(crate) fn free_from(map: &GranuleMap, area: &Run, per_block: u32, from: u32, most: u32) -> u32
-    requires area { IsArea map.now.states area.now per_block }
-    requires within { from + most ≤ block_count area.now per_block }
-    ensures count { result ≡ prefix_len (is_block_free map.now.states area.now per_block) (range_with_len from most) }
-    ensures few { result ≤ most }
-{
-    let _granules = map.len();
-    let first = area.first.0 + from * per_block;
-    let taken = map.next_taken(first, first + most * per_block);
-    (taken - first) / per_block
 }
 
 /// The number of the first granule of an area.

@@ -1,14 +1,14 @@
 //! The map from granules to states.
 
-ghost use Rattle.granule_map.specs.Blocks.{IsArea, block_count, free_block_count, is_block_free, longest_free_run, lowest_run_in};
+ghost use Rattle.granule_map.specs.Blocks.{IsArea, free_block_count, longest_free_run, lowest_run_in};
 ghost use Rattle.granule_map.specs.StateLists.{count_of, dirty_from, is_dirty_at, is_dirty_state, is_free_at, is_free_state, part_of, with_run};
 ghost use Rattle.granule_map.specs.Stretches.{IsNext, fails};
-ghost use Rattle.std.specs.List.{find, list_all, prefix_len, range_with_len};
+ghost use Rattle.std.specs.List.{list_all, prefix_len, range_with_len};
 ghost use Rattle.std.specs.Prelude.{◌≡◌, ◌↔◌, ◌+◌, ◌-◌, ◌<◌, ◌≤◌, IfOk, IsNone, OnErr, OnOk, Some, length, replicate, slice_get, slice_set, count_by, ◌++◌, take, drop};
 
-use crate::blocks::{count_free_blocks, free_from, longest_run_of, lowest_block, next_free};
+use crate::blocks::{count_free_blocks, longest_run_of, lowest_block};
 use crate::lowest::{lowest_after, next_behind};
-use crate::marks::{count_with, next_other, next_with};
+use crate::marks::{next_other, next_with};
 use crate::replacing::{Replaced, replace_both, write_tag};
 use crate::states::{DIRTY, FREE, GranuleState, is_same_state, told};
 use dcd_base::{Granule, NoMemory, Run, Tag};
@@ -185,24 +185,6 @@ impl GranuleMap {
         }
     }
 
-    /// The lowest free block of the area from one on; None exactly where none is free from there on.
-    pub fn next_free_block(&self, area: Run, per_block: u32, from: u32) -> Option<u32>
-        requires { IsArea self.now.states area per_block }
-        ensures { result ≡ find (is_block_free self.now.states area per_block) (range_with_len from (block_count area per_block - from)) }
-    {
-        next_free(self, &area, per_block, from)
-    }
-
-    /// How many blocks of the area are free from one on up to the first that is not, at most so many.
-    pub fn free_blocks_from(&self, area: Run, per_block: u32, from: u32, most: u32) -> u32
-        requires area { IsArea self.now.states area per_block }
-        requires within { from + most ≤ block_count area per_block }
-        ensures count { result ≡ prefix_len (is_block_free self.now.states area per_block) (range_with_len from most) }
-        ensures few { result ≤ most }
-    {
-        free_from(self, &area, per_block, from, most)
-    }
-
     /// Whether so many granules from the first on are free.
     pub fn are_free(&self, first: u32, count: u32) -> bool
         requires { first + count ≤ length self.now.states }
@@ -223,22 +205,6 @@ impl GranuleMap {
             }
         }
         count
-    }
-
-    /// How many granules of the run are free.
-    pub fn free_in(&self, run: Run) -> u32
-        requires { run.first + run.count ≤ length self.now.states }
-        ensures { result ≡ count_by is_free_state (part_of self.now.states run) }
-    {
-        count_with(self.marks.as_slice(), FREE, &run)
-    }
-
-    /// How many granules of the run are dirty.
-    pub fn dirty_in(&self, run: Run) -> u32
-        requires { run.first + run.count ≤ length self.now.states }
-        ensures { result ≡ count_by is_dirty_state (part_of self.now.states run) }
-    {
-        count_with(self.marks.as_slice(), DIRTY, &run)
     }
 
     /// The lowest dirty granule from the number `from` on; None exactly where none is dirty from there on.

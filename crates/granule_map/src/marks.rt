@@ -2,9 +2,8 @@
 
 ghost use Rattle.granule_map.specs.Stretches.{AreAlike, IsNext, fails};
 ghost use Rattle.memchr.specs.Find.{is_byte};
-ghost use Rattle.std.specs.Prelude.{◌≡◌, ◌+◌, ◌<◌, ◌≤◌, ℕ, IsTrue, ◌++◌, count_by, drop, false, length, replicate, slice_index, take};
+ghost use Rattle.std.specs.Prelude.{◌≡◌, ◌+◌, ◌<◌, ◌≤◌, ℕ, IsTrue, ◌++◌, drop, false, length, replicate, slice_index, take};
 
-use dcd_base::Run;
 use memchr::memchr;
 use std::simd::prelude::*;
 
@@ -208,16 +207,4 @@ pub fn are_few_alike(marks: &[u8], from: usize, count: usize) -> bool
     count <= LANES
         && marks.len() - from >= LANES
         && other_of_16(marks, marks[from], from) >= from + count
-}
-
-/// How many places of the run have the mark.
-pub(crate) fn count_with(marks: &[u8], mark: u8, run: &Run) -> u32
-    requires { run.now.first + run.now.count ≤ length marks.now }
-    ensures { result ≡ count_by (is_byte mark) (take run.now.count (drop run.now.first marks.now)) }
-{
-    let first = run.first.0 as usize;
-    marks[first..first + run.count as usize]
-        .iter()
-        .filter(|found| **found == mark)
-        .count() as u32
 }

@@ -240,7 +240,6 @@ fn byte_of(flag: bool) -> u8
     if flag { 1 } else { 0 }
 }
 
-/// The flag of a place.
 fn is_set(flags: &[u8], place: usize) -> bool
     requires { place < length flags.now }
     ensures { slice_index_or (flags_in flags.now) place true ≡ result }

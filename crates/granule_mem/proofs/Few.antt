@@ -142,7 +142,3 @@ same_more few old new done d known same puts w =
     ∙ sym (puts_front e (drop (i + 1) few) w)
     ∙ ap (λ es. word_among es w) (sym (drop_at few i d within))
     ∙ ap (λ n. word_among (drop n few) w) (sym here)
-
--- a store into the map of a row
-pub puts_in_map : (few old new : List (ℕ × ℕ)) (word value : ℕ) → HasSameWords old few → PutsWord old new word value → PutsWord few new word value
-puts_in_map few old new word value same puts w = puts w ∙ ap (λ x. cond (eqb word w) value x) (same w)

@@ -1,7 +1,7 @@
 -- What one store, one clearing and one change of a holder leave, granule by granule.
 use Rattle.std.proofs.Common.{◌≡◌, ℕ, ◌+◌, ◌<◌, ◌≤◌, Bool, true, false, cond, List, [], length, get_or, set, refl, ap, sym, ◌∙◌, eqb, leb, ltb, inl, inr, arith}
 use Rattle.std.specs.Prelude.{◌&&◌}
-use Rattle.std.proofs.lemmas.Bool.{and_right, cases_eq, cases_lt, eq-eqb, le-leb, le-ltb, lt-leb, lt-ltb, ne_eqb}
+use Rattle.std.proofs.lemmas.Bool.{cases_eq, cases_lt, eq-eqb, le-leb, le-ltb, lt-ltb, ne_eqb}
 use Rattle.std.proofs.lemmas.List.{get_or_default, get_or-set_other, get_or-set_same, set-get_or}
 use Rattle.granule_mem.specs.Contents.{word_among}
 use Rattle.granule_mem.specs.Words.{PutsWord}
@@ -52,11 +52,4 @@ run_more first i g new old base from is = elim (cases_eq i g) [
     | inl below ↦ (let high : g < i + 1 = omega (arith, below) in rw (ne_eqb i g apart, lt-ltb g (i + 1) high) (rw (lt-ltb g i below) at is))
     | inr above ↦ (let past : i + 1 ≤ g = omega (arith, above, apart) in rw (ne_eqb i g apart, le-ltb g (i + 1) past) (rw (le-ltb g i above) at is))
   ]
-]
-
--- at the start no place has it
-pub run_none : (first g new base : ℕ) → base ≡ cond (leb first g && ltb g first) new base
-run_none first g new base = elim (cases_lt g first) [
-  | inl below ↦ rw (lt-leb first g below) refl
-  | inr above ↦ rw (le-ltb g first above, and_right (leb first g) false refl) refl
 ]

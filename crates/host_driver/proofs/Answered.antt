@@ -91,9 +91,6 @@ module _ (s : Seen) (d : Driven) (a : Agrees s d) where
 
   -- ---- its records are cleared
 
-  abbrev page_at_clear : d.due ≡ Due.Clear → HasPage a.done d.records d.handles
-  page_at_clear is = (at_hand Due.Clear is).0
-
   -- the handles are those of the records in front
   pub cleared_front : d.due ≡ Due.Clear → (s.records ≡ a.done ++ a.unread) × (d.handles ≡ handles_of a.done)
   cleared_front is =
@@ -141,10 +138,6 @@ module _ (s : Seen) (d : Driven) (a : Agrees s d) where
   -- the offer that is due is the oldest
   pub oldest : d.due ≡ Due.Response → s.offers ≡ d.offered ∷ offers_in [] (d.records ++ a.unread)
   oldest is = offers_are Due.Response is
-
-  -- these extents are all that are offered, or none
-  abbrev IsTaken : List Extent → Type 0
-  IsTaken xs = AllByRecursion (λ p. AreBeside p xs) (forced_in (d.records ++ a.unread))
 
   pub beside_all : AllByRecursion (λ p. AreBeside p d.offered) (forced_in (d.records ++ a.unread))
   beside_all = behind_each d.offered [] (d.records ++ a.unread) (subst (λ g. AreBehind g (d.records ++ a.unread)) (sym (append-nil d.offered)) a.goes.behind)

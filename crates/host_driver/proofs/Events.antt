@@ -2,19 +2,10 @@
 use Rattle.std.proofs.Common.{◌≡◌, ℕ, zero, suc, ◌+◌, ◌-◌, ◌<◌, ◌≤◌, List, take, drop, slice_index, Some, None, refl, arith}
 use Rattle.event_records.specs.Records.{IsEventIn, kind_number, record_fault}
 use Rattle.event_records.specs.declared.events.Event.{Event}
-use Rattle.event_records.specs.declared.events.EventKind.{EventKind}
-use Rattle.event_records.proofs.Records.{same_event}
+use Rattle.event_records.proofs.Records.{same_event, kind_small as kind_up_to}
 use Rattle.field_bytes.specs.Layouts.{pieces}
 use Rattle.host_driver.specs.Pages.{bad_at, bad_record, event_in, kind_in}
 use Rattle.host_driver.specs.declared.faults.DriverFault.{DriverFault}
-
-kind_up_to : (k : EventKind) → kind_number k ≤ 5
-kind_up_to EventKind.Add = omega arith
-kind_up_to EventKind.Release = omega arith
-kind_up_to EventKind.Forced = omega arith
-kind_up_to EventKind.RegionUpdated = omega arith
-kind_up_to EventKind.AddResponse = omega arith
-kind_up_to EventKind.Released = omega arith
 
 kind_back : (n : ℕ) → n ≤ 5 → kind_number (kind_in n) ≡ n
 kind_back zero few = refl

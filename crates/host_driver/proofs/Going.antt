@@ -1,11 +1,11 @@
 -- The records of a page, treated one by one.
-use Rattle.std.proofs.Common.{◌≡◌, ℕ, Bool, ◌+◌, ◌<◌, ◌≤◌, List, [], ◌∷◌, length, get_or, drop, Option, Some, None, refl, ap, subst, ◌∙◌, sym, arith, length-drop}
-use Rattle.std.proofs.lemmas.List.{drop_all, drop_more}
+use Rattle.std.proofs.Common.{◌≡◌, ℕ, Bool, ◌+◌, ◌<◌, ◌≤◌, List, ◌∷◌, length, get_or, drop, Option, None, refl, ap, subst, ◌∙◌, sym, arith, length-drop}
+use Rattle.std.proofs.lemmas.List.{drop_more}
 use Rattle.dcd_base.specs.declared.capacity.Extent.{Extent}
 use Rattle.event_records.specs.declared.events.Event.{Event}
 use Rattle.event_records.specs.declared.events.EventKind.{EventKind}
 use Rattle.extent_list.specs.Rooms.{Room}
-use Rattle.host_driver.specs.Driving.{Driven, behind_page, due_behind, gone_on, noted, offer_ended, request_ended, treated, unless_due}
+use Rattle.host_driver.specs.Driving.{Driven, due_behind, gone_on, noted, offer_ended, request_ended, treated, unless_due}
 use Rattle.host_driver.specs.Keeping.{HasSpare, kept_in}
 use Rattle.host_driver.specs.declared.due.Due.{Due}
 use Rattle.host_driver.specs.declared.kept.Kept.{Kept}
@@ -27,30 +27,11 @@ goes d e rest is none =
     ap (treated (treated_one d e rest)) (records_stay (record d { records = rest }) e.extent e.kind)
     ∙ sym (ap (treated d) is ∙ ap (λ o. unless_due o (treated_one d e rest) (treated (treated_one d e rest) rest)) none)
 
-pub stops : (d : Driven) (e : Event) (rest : List Event) (due : Due) → d.records ≡ e ∷ rest → due_behind e ≡ Some due
-    → record (treated_one d e rest) { due = due } ≡ gone_on d
-stops d e rest due is some =
-    sym (ap (treated d) is ∙ ap (λ o. unless_due o (treated_one d e rest) (treated (treated_one d e rest) rest)) some)
-
-pub ends : (d : Driven) → d.records ≡ [] → record d { due = behind_page d.handles } ≡ gone_on d
-ends d none = (λ i. record d { due = behind_page d.handles; records = none i }) ∙ sym (ap (treated d) none)
-
 -- ---- the same of the lists and the index that are kept
-
--- the record at the index, and those behind it
-pub one_more_record : (page : List Event) (at : ℕ) (e : Event) → at < length page → e ≡ get_or page at e → drop at page ≡ e ∷ drop (at + 1) page
-one_more_record page at e within is = drop_more page at e within ∙ ap (λ (x : Event). x ∷ drop (at + 1) page) (sym is)
 
 module _ (k : Kept) (room : HasSpare (length (drop k.at k.page)) k) (within : k.at < length k.page) where
   fewer : length (drop (k.at + 1) k.page) + 1 ≤ length (drop k.at k.page)
   fewer = omega (arith, length-drop k.at k.page, length-drop (k.at + 1) k.page, within)
-
-  pub room_for_one : HasSpare 1 (record k { at = k.at + 1 })
-  room_for_one = record {
-    table = omega (arith, room.table, fewer);
-    offered = omega (arith, room.offered, fewer);
-    asked = omega (arith, room.asked, fewer);
-  }
 
   pub room_for_rest : (next : Kept) → ((n : ℕ) → HasSpare (n + 1) (record k { at = k.at + 1 }) → HasSpare n next) → next.page ≡ k.page → next.at ≡ k.at + 1
       → HasSpare (length (kept_in next).records) next
@@ -66,9 +47,6 @@ module _ (k next : Kept) (e : Event) (is : drop k.at k.page ≡ e ∷ drop (k.at
   pub kept_goes : due_behind e ≡ None → gone_on (kept_in next) ≡ gone_on (kept_in k)
   kept_goes none = ap gone_on noted_is ∙ goes (kept_in k) e (drop (k.at + 1) k.page) is none
 
-  pub kept_stops : (due : Due) → due_behind e ≡ Some due → record (kept_in next) { due = due } ≡ gone_on (kept_in k)
-  kept_stops due some = ap (λ (d : Driven). record d { due = due }) noted_is ∙ stops (kept_in k) e (drop (k.at + 1) k.page) due is some
-
 -- one record more, where nothing is due behind it
 pub goes_on : (k next : Kept) (page : List Event) (count : ℕ) (other : Event) (due : Option Due) (first : Driven) → page ≡ k.page → count ≡ length k.page → k.at < count
     → HasSpare (length (kept_in k).records) k → gone_on (kept_in k) ≡ first
@@ -80,9 +58,6 @@ goes_on k next page count other due first page_is count_is within room ahead not
     let split : drop k.at k.page ≡ get_or page k.at other ∷ drop (k.at + 1) k.page =
     drop_more k.page k.at other inside ∙ ap (λ (p : List Event). get_or p k.at other ∷ drop (k.at + 1) k.page) (sym page_is) in
     (room_for_rest k room inside next keeps page_next at_next, kept_goes k next (get_or page k.at other) split noted_is (sym due_is ∙ none) ∙ ahead)
-
-pub kept_ends : (k : Kept) → length k.page ≤ k.at → record (kept_in k) { due = behind_page k.handles } ≡ gone_on (kept_in k)
-kept_ends k past = ends (kept_in k) (drop_all k.at k.page past)
 
 -- ---- room behind an answer
 

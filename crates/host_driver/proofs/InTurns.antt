@@ -1,5 +1,5 @@
 -- The driver asks until it is idle, and the others have their lines between.
-use Rattle.std.proofs.Common.{◌≡◌, ℕ, ◌+◌, ◌<◌, Bool, true, false, List, [], ◌∷◌, ◌++◌, None, length, get_or, take, refl, sym, ap, subst, ◌∙◌, append-nil, inl, inr, arith}
+use Rattle.std.proofs.Common.{◌≡◌, ℕ, ◌+◌, ◌<◌, Bool, true, false, List, [], ◌∷◌, ◌++◌, None, length, get_or, take, refl, sym, ap, subst, ◌∙◌, append-nil, inl, inr}
 use Rattle.std.specs.Prelude.{IsFalse, IsTrue, if◌then◌else◌}
 use Rattle.std.specs.List.{list_all}
 use Rattle.std.proofs.lemmas.Bool.{and_from, and_parts, cases_Bool, false≢true}
@@ -27,11 +27,11 @@ use Rattle.device_plain.specs.device_rules.specs.Views.{view_of}
 use Rattle.device_plain.specs.isolation_laws.specs.Solo.{acts_for}
 use Rattle.host_driver.specs.Driving.{gives, reply_fault}
 use Rattle.host_driver.specs.Journals.{IsDrive, IsUnlined, driver_of, ends_with, entries_of_others, is_at_rest, is_fitting, line_of_others, lines_of_others}
-use Rattle.host_driver.specs.Running.{EndsSpelled, GoInTurns, HasAsked, HasGone, HasLine, HasLines, work_of}
+use Rattle.host_driver.specs.Running.{EndsSpelled, GoInTurns, HasAsked, HasGone, HasLine, HasLines}
 use Rattle.host_driver.specs.Standing.{Standing, first_standing, taking, took_fault}
 use Rattle.host_driver.proofs.Following.{Holding, all_hold, table_is}
 use Rattle.host_driver.proofs.Lines.{lines-push}
-use Rattle.host_driver.proofs.Turns.{IsEntry, goes_again, has_asked, has_no_fault, is_answered, other_goes, other_ran, then_busy}
+use Rattle.host_driver.proofs.Turns.{IsEntry, has_asked, has_no_fault, is_answered, other_goes, other_ran, then_busy}
 
 -- what was entered is the entry behind the others
 entry_of : (old new : Plain) (pass line : ℕ) (actor : Actor) (act : Act) (reply : Reply) (x : Enters old new pass line actor act reply) → EndsSpelled new → IsEntry old new x.entry
@@ -47,16 +47,9 @@ entry_of old new pass line actor act reply x ends = record {
 pub as_own : (h : HostId) (most : ℕ) (device : Plain) (driver : Standing) → GoInTurns h most device driver → GoInTurns driver.host driver.most device driver
 as_own h most device driver t = subst (λ (k : Standing). GoInTurns k.host k.most device driver) (sym t.standing) t
 
-pub busy_own : (h : HostId) (most : ℕ) (device : Plain) (driver : Standing) → GoInTurns h most device driver → IsFalse (is_at_rest h most device.journal)
-    → IsFalse (is_at_rest driver.host driver.most device.journal)
-busy_own h most device driver t busy = subst (λ (k : Standing). IsFalse (is_at_rest k.host k.most device.journal)) (sym t.standing) busy
-
 pub rest_own : (h : HostId) (most : ℕ) (device : Plain) (driver : Standing) → GoInTurns h most device driver → IsTrue (is_at_rest h most device.journal)
     → IsTrue (is_at_rest driver.host driver.most device.journal)
 rest_own h most device driver t rest = subst (λ (k : Standing). IsTrue (is_at_rest k.host k.most device.journal)) (sym t.standing) rest
-
-asked_own : (h : HostId) (most : ℕ) (old new : Plain) (driver next : Standing) → GoInTurns h most old driver → HasAsked driver.host driver.most old new next → HasAsked h most old new next
-asked_own h most old new driver next t asked = subst (λ (k : Standing). HasAsked k.host k.most old new next) t.standing asked
 
 line_own : (h : HostId) (most : ℕ) (line : ℕ × Line) (old new : Plain) (driver next : Standing) → GoInTurns h most old driver
     → HasLine driver.host driver.most line old new next → HasLine h most line old new next
@@ -92,37 +85,6 @@ module _ (old new : Plain) (driver : Standing) (t : GoInTurns driver.host driver
 abbrev pub left_to_do : ℕ → Bool → ℕ
 left_to_do work true = 0
 left_to_do work false = work + 1
-
-module _ (h : HostId) (most : ℕ) (first old new : Plain) (driver next : Standing) where
-  -- one request more
-  pub gone_more : HasGone h most first old driver → HasAsked driver.host driver.most old new next → HasGone h most first new next
-  gone_more gone asked =
-      let again : HasAsked h most old new next = asked_own h most old new driver next gone.turns asked in
-      record {
-        turns = again.gone.turns;
-        config = again.gone.config ∙ gone.config;
-        others = again.gone.others ∙ gone.others;
-        some = again.gone.some;
-        last = again.gone.last;
-      }
-
-  pub less_more : HasGone h most first old driver → IsFalse driver.driven.idle → HasAsked driver.host driver.most old new next
-      → left_to_do (work_of h most new.journal) next.driven.idle < left_to_do (work_of h most old.journal) driver.driven.idle
-  less_more gone busy asked = by next.driven.idle refl
-    where
-      less : IsFalse next.driven.idle → work_of h most new.journal < work_of h most old.journal
-      less idle = (asked_own h most old new driver next gone.turns asked).less idle
-
-      by : (idle : Bool) → next.driven.idle ≡ idle → left_to_do (work_of h most new.journal) idle < left_to_do (work_of h most old.journal) driver.driven.idle
-      by true is = subst (λ b. 0 < left_to_do (work_of h most old.journal) b) (sym busy) (omega arith)
-      by false is =
-          let fewer : work_of h most new.journal < work_of h most old.journal = less is in
-          subst (λ b. left_to_do (work_of h most new.journal) false < left_to_do (work_of h most old.journal) b) (sym busy) (omega (arith, fewer))
-
-pub still_busy : (h : HostId) (most : ℕ) (first old : Plain) (driver : Standing) → HasGone h most first old driver → IsFalse driver.driven.idle
-    → IsFalse (is_at_rest driver.host driver.most old.journal)
-still_busy h most first old driver gone busy =
-    busy_own h most old driver gone.turns (goes_again h most old driver gone.turns gone.last gone.some busy)
 
 -- ---- a line of the others
 
@@ -164,9 +126,6 @@ module _ (device : Plain) (driver : Standing) (t : GoInTurns driver.host driver.
   pub own_line : (actor : Actor) (lane : ℕ) (act : Act) → acts_for driver.host actor ≡ true → HasLine driver.host driver.most (number, Line.Do actor lane act) device device driver
   own_line actor lane act own =
       no_line (Line.Do actor lane act) (ap (λ b. if b then [] else (record { pass = pass_of device.config.hosts 1 actor 0; line = number; actor = actor; act = act }) ∷ []) own)
-
-  pub mark_line : HasLine driver.host driver.most (number, Line.Mark) device device driver
-  mark_line = no_line Line.Mark refl
 
 -- ---- all lines
 

@@ -199,14 +199,8 @@ module _ (c : Configuration) (h : HostId) (v : View) (most : ℕ) (d : Driven) w
     module _ (is : d.due ≡ Due.Response) (xs : List Extent) (taken : taken_by most d ≡ xs) (few : length xs ≤ 64) (fits : AllByRecursion FitsListed xs)
         (row : host_rule c h v (HostRequest.AddResponse false (map bare xs)) ≡ None)
         (back : map (marked d.offered) (map bare xs) ≡ xs) (beside : AllByRecursion (λ p. AreBeside p xs) (forced_in (d.records ++ a.unread))) where
-      abbrev later : List (List Extent)
-      later = offers_in [] (d.records ++ a.unread)
-
       first : v.offers ≡ d.offered ∷ offers_in [] (d.records ++ a.unread)
       first = oldest (seen_in v) d a is
-
-      abbrev made : List Effect
-      made = Effect.Answer h (map (marked d.offered) (map bare xs)) ∷ map (λ x. Effect.Take h (run_of c h x)) (map bare xs)
 
       changes_are : respond_changes c h v.offers v.responses false (map bare xs)
           ≡ Effect.Answer h (map (marked d.offered) (map bare xs)) ∷ map (λ x. Effect.Take h (run_of c h x)) (map bare xs)

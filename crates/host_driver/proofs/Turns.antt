@@ -52,9 +52,6 @@ pub record IsEntry (old new : Plain) (e : Entry) : Type 0 where
   pub spelled : AreSpelledIn e.effects
 
 module _ (h : HostId) (most : ℕ) (old new : Plain) (driver : Standing) (t : GoInTurns h most old driver) (e : Entry) (is : IsEntry old new e) where
-  abbrev c : Configuration
-  c = old.config
-
   legal_now : Legal old.config (old.journal ++ e ∷ [])
   legal_now = subst (Legal old.config) is.journal (subst (λ k. Legal k new.journal) is.config is.legal)
 
@@ -151,10 +148,3 @@ rests h most new driver t last idle =
     or_true : (b : Bool) → (b || true) ≡ true
     or_true true = refl
     or_true false = refl
-
--- and it is not where it has acted and is not
-pub goes_again : (h : HostId) (most : ℕ) (new : Plain) (driver : Standing) → GoInTurns h most new driver → ends_with h new.journal ≡ true → is_empty new.journal ≡ false
-    → IsFalse driver.driven.idle → IsFalse (is_at_rest h most new.journal)
-goes_again h most new driver t last some busy =
-    let here : (driver_of h most new.journal).idle ≡ false = sym (ap (λ (k : Standing). k.driven.idle) t.standing) ∙ busy in
-    λ i. some i || (last i && here i)

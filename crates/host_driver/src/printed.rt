@@ -4,7 +4,6 @@ use dcd_base::Bytes;
 use device_plain::Device;
 use report::script_codec::ScriptFault;
 
-/// What is printed.
 #[derive(Drop)]
 pub(crate) enum Printed {
     /// The text of the journal of the device, and the lines of the driver's table behind it.

@@ -32,7 +32,6 @@ fn put_extent(text: &mut Bytes, extent: &Extent) -> Result<(), NoMemory>
     text.push(b'\n')
 }
 
-/// The lines of a table.
 #[tactic(auto, unfolding(crate::specs::Planning::extent_lines))]
 pub(crate) fn extent_lines(alloc: Global, table: &[Extent]) -> Result<Bytes, NoMemory>
     ensures { IfOk result (λ text. text ≡ extent_lines table.now) }

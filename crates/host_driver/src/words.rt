@@ -28,7 +28,6 @@ pub(crate) fn chosen(words: &[String]) -> Option<DriveChoice>
     found_in(words)
 }
 
-/// What is found in the words.
 fn found_in(words: &[String]) -> Option<DriveChoice>
     ensures { result ≡ drive_choice (words_of words.now) }
 {

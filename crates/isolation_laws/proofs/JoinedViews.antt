@@ -23,12 +23,9 @@ use Rattle.device_commands.specs.device_laws.proofs.LogHistories.{leaves_logs, l
 use Rattle.device_commands.specs.device_laws.proofs.ViewCommands.{only_logs, view_after-logs}
 use Rattle.device_commands.specs.device_laws.proofs.ViewsLeft.{is_other_log, leaves_view, others_records, view_after-left}
 use Rattle.isolation_laws.specs.Solo.{with_log_records}
+use Rattle.list_rules.proofs.EachTag.{or_false as or_none}
 
 -- ---- two lists of effects
-
-or_none : (b : Bool) → (b || false) ≡ b
-or_none true = refl
-or_none false = refl
 
 -- An entry counts once, so the second list must not change the accepted one.
 pub view_after-append : (c : Configuration) (h : HostId) (v : View) (front new : List Effect) → list_any (moves h) new ≡ false → view_after c h v (front ++ new) ≡ view_after c h (view_after c h v front) new

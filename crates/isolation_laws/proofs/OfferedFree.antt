@@ -20,8 +20,7 @@ use Rattle.device_commands.specs.device_laws.proofs.AddChoices.{contiguous_reach
 use Rattle.device_commands.specs.device_laws.proofs.Adding.{IsRow}
 use Rattle.device_commands.specs.device_laws.proofs.OneOffer.{reaches}
 use Rattle.device_commands.specs.device_laws.proofs.Overlaps.{neither, not_broken}
-use Rattle.device_commands.specs.device_rules.specs.Adding.{is_free_now, offered, present, with_tag}
-use Rattle.device_commands.specs.device_rules.specs.Adding.{region_longest_free as blocks_together}
+use Rattle.device_commands.specs.device_rules.specs.Adding.{is_free_now, offered, present, with_tag, region_longest_free as blocks_together}
 use Rattle.device_commands.specs.device_rules.specs.Tags.{Dirty, Free, Held, Offered, Tagged, is_free, is_held, is_offered, is_tagged, status}
 
 -- ---- a free granule was not taken since it was zeroed

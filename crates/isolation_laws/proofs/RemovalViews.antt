@@ -85,7 +85,7 @@ ends_within c h [] own = All-nil (λ (x : Extent). x.start + x.length < 2 ^ 64)
 ends_within c h (x ∷ xs) own = All-cons (λ (y : Extent). y.start + y.length < 2 ^ 64) x xs own.0.ends (ends_within c h xs own.1)
 
 -- no block size is set
-abbrev no_block : Effect → Bool
+abbrev pub no_block : Effect → Bool
 no_block (Effect.Block r size) = false
 no_block e = true
 

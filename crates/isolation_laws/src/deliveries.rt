@@ -33,7 +33,6 @@ fn put_items(alloc: Global, entry: &Entry, host: &HostId, items: &mut Items) -> 
     put_delivered(alloc, entry.effects.as_slice(), host, items)
 }
 
-/// Whether the actor is the host.
 fn acts_for(host: &HostId, actor: &Actor) -> bool
     ensures { result ≡ acts_for host.now actor.now }
 {
@@ -135,7 +134,6 @@ fn told_by(host: &HostId, kind: &EventKind, effect: &Effect) -> Option<Extent>
     }
 }
 
-/// The number of the kind.
 fn number_of(kind: &EventKind) -> u8
     ensures { result ≡ kind_number kind.now }
 {

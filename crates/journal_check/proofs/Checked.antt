@@ -1,5 +1,5 @@
 -- The answer of a check, over the device that took the steps which the text claims.
-use Rattle.std.proofs.Common.{◌≡◌, Ok, Err, Option, Some, None, Bool, true, false, ℕ, ◌+◌, ◌≤◌, min, List, length, take, sym, subst, arith}
+use Rattle.std.proofs.Common.{◌≡◌, Ok, Err, Option, Bool, true, false, ℕ, ◌+◌, ◌≤◌, min, List, length, take, sym, subst, arith}
 use Rattle.std.specs.Prelude.{IfOk}
 use Rattle.std.specs.declared.result.Result.{Result}
 use Rattle.std.proofs.lemmas.List.Sums.{count_by-le-length}

@@ -100,7 +100,7 @@ all_false p (y ∷ xs) (suc n) each =
 
 -- ---- lines of entries
 -- the pass of a line, where it is no mark
-abbrev in_pass : ℕ → ℕ → Line → ℕ
+abbrev pub in_pass : ℕ → ℕ → Line → ℕ
 in_pass hosts lanes (Line.Do actor lane act) = pass_of hosts lanes actor lane
 in_pass hosts lanes Line.Mark = 0
 

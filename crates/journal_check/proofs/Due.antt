@@ -24,11 +24,11 @@ pub mark_read : (s : Script) (lines : List Line) (i : ℕ) (line : Line) → lin
 mark_read s lines i line same within read is =
     ap (λ ls. slice_get ls i) (sym same) ∙ slice_get_read lines (length lines) i line refl within read ∙ ap (λ l. Some l) is
 
-abbrev actor_of : Actor → Line → Actor
+abbrev pub actor_of : Actor → Line → Actor
 actor_of d (Line.Do actor lane act) = actor
 actor_of d Line.Mark = d
 
-abbrev lane_of : Line → ℕ
+abbrev pub lane_of : Line → ℕ
 lane_of (Line.Do actor lane act) = lane
 lane_of Line.Mark = 0
 

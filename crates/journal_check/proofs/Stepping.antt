@@ -10,6 +10,7 @@ use Rattle.report.specs.script_codec.specs.declared.script_line.Line.{Line}
 use Rattle.report.specs.script_codec.specs.declared.scripts.Script.{Script}
 use Rattle.report.specs.script_codec.specs.Covering.{pass_of}
 use Rattle.journal_check.specs.Following.{IsNumbered, StepsLine}
+use Rattle.journal_check.proofs.Due.{actor_of, lane_of}
 
 apart : (actor : Actor) (lane : ℕ) (act : Act) → Line.Mark ≡ Line.Do actor lane act → ⊥
 apart actor lane act same = cc
@@ -17,14 +18,6 @@ apart actor lane act same = cc
 pub mark_no_act : (s : Script) (number pass : ℕ) → IsNumbered s number pass → slice_get s.lines (number - 1) ≡ Some Line.Mark → ⊥
 mark_no_act s number pass is mark =
     apart is.actor is.lane is.act (same_Some Line.Mark (Line.Do is.actor is.lane is.act) (sym mark ∙ is.line))
-
-abbrev actor_of : Actor → Line → Actor
-actor_of d (Line.Do actor lane act) = actor
-actor_of d Line.Mark = d
-
-abbrev lane_of : Line → ℕ
-lane_of (Line.Do actor lane act) = lane
-lane_of Line.Mark = 0
 
 entered : (s : Script) (old new : Plain) (number pass : ℕ) (actor : Actor) (lane : ℕ) (act copy : Act) → IsNumbered s number pass → slice_get s.lines (number - 1) ≡ Some (Line.Do actor lane act)
     → copy ≡ act → Appends old new pass number actor copy → StepsLine s old new number pass

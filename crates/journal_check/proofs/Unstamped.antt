@@ -25,9 +25,11 @@ use Rattle.journal_core.specs.declared.entries.Entry.{Entry}
 use Rattle.journal_core.specs.Entries.{effects, EachFrom}
 use Rattle.report.specs.script_codec.specs.declared.script_line.Line.{Line}
 use Rattle.report.specs.script_codec.specs.declared.scripts.Script.{Script}
-use Rattle.report.specs.script_codec.specs.Covering.{IsOfLine, pass_of}
+use Rattle.report.specs.script_codec.specs.Covering.{IsOfLine}
 use Rattle.device_plain.specs.device_rules.specs.Legal.{Legal, Meets, right_answer, word_of, word_after, access_at}
 use Rattle.journal_check.specs.Following.{left_by_entry, without_line, FollowsPasses}
+use Rattle.journal_check.proofs.CoveringOrders.{in_pass as pass_in}
+use Rattle.journal_check.proofs.Due.{actor_of as actor_in}
 
 abbrev pub unstamped : Entry → Entry
 unstamped e = record e { stamp = record { number = 0; count = 0 } }
@@ -83,17 +85,9 @@ pub legal_unstamped : (c : Configuration) (journal : List Entry) → Legal c jou
 legal_unstamped c journal legal = each_unstamped c [] journal legal
 
 -- ---- two journals of the same lines are the same but for their stamps
-abbrev actor_in : Actor → Line → Actor
-actor_in d (Line.Do actor lane act) = actor
-actor_in d Line.Mark = d
-
 abbrev act_in : Act → Line → Act
 act_in d (Line.Do actor lane act) = act
 act_in d Line.Mark = d
-
-abbrev pass_in : ℕ → ℕ → Line → ℕ
-pass_in hosts lanes (Line.Do actor lane act) = pass_of hosts lanes actor lane
-pass_in hosts lanes Line.Mark = 0
 
 -- two entries of one line that meet what the same entries ask
 pub same_entry : (c : Configuration) (s : Script) (before : List Entry) (e f : Entry) → e.line ≡ f.line → IsOfLine s e → IsOfLine s f

@@ -42,7 +42,6 @@ fn agreeing(text: &[u8], piece: &[u8]) -> usize
     }
 }
 
-/// Whether the text begins with the piece.
 fn begins_with(text: &[u8], piece: &[u8]) -> bool
     ensures within { IsTrue result → length piece.now ≤ length text.now }
     ensures same { IsTrue result → take (length piece.now) text.now ≡ piece.now }

@@ -8,7 +8,6 @@ use itoa::Buffer;
 use report::script_codec::ScriptFault;
 use std::alloc::Global;
 
-/// What is printed.
 #[derive(Drop)]
 pub(crate) enum Printed {
     /// A line, or nothing.

@@ -152,7 +152,6 @@ fn check_frame(alloc: Global, input: &[u8]) -> Result<(CheckStatus, Printed), No
     }
 }
 
-/// Checks the text.
 fn answer(alloc: Global, script: &Script, text: &[u8]) -> Result<(CheckStatus, Printed), NoMemory>
     requires { IsWritable script.now }
     ensures answered { IfOk result (λ end. IsAnswered script.now text.now end.0 (bytes_of end.1)) }

@@ -1,16 +1,14 @@
 -- A journal with one more entry: its effects, its commands and the calls of a pass.
-use Rattle.std.proofs.Common.{◌≡◌, ℕ, ◌+◌, Bool, true, false, cond, List, [], ◌∷◌, ◌++◌, refl, ap, ◌∙◌, append-nil, zero-add}
-use Rattle.std.specs.Prelude.{fold, map, IsFalse, if◌then◌else◌, ◌==◌}
-use Rattle.std.specs.List.{filter, All}
+use Rattle.std.proofs.Common.{◌≡◌, ◌+◌, cond, List, [], ◌∷◌, ◌++◌, ap, ◌∙◌, append-nil, zero-add}
+use Rattle.std.specs.Prelude.{fold, IsFalse, if◌then◌else◌}
+use Rattle.std.specs.List.{All}
 use Rattle.std.proofs.lemmas.List.Quantifiers.{all_pairs_push}
 use Rattle.std.proofs.lemmas.Grind.{flat_map-append}
-use Rattle.std.proofs.lemmas.List.{map-append}
-use Rattle.std.proofs.lemmas.List.Elements.{filter-append}
 use Rattle.std.proofs.lemmas.List.Sums.{fold-append, sum_by-append}
 use Rattle.journal_core.specs.declared.outcome.Effect.{Effect}
 use Rattle.journal_core.specs.declared.entries.Entry.{Entry}
 use Rattle.journal_core.specs.Entries.{effects, is_control}
-use Rattle.journal_core.specs.Merging.{commands_in, call_of, calls_of, is_later, Rising, IsStamped, Numbered}
+use Rattle.journal_core.specs.Merging.{commands_in, is_later, Rising, IsStamped, Numbered}
 use Rattle.journal_core.proofs.EachSteps.{Each-push}
 
 -- the effects of one more entry come last
@@ -29,17 +27,6 @@ pub commands_in-push : (journal : List Entry) (e : Entry) → commands_in (journ
 commands_in-push journal e =
     sum_by-append (λ (x : Entry). cond (is_control x.act) 1 0) journal (e ∷ [])
     ∙ ap (λ n. commands_in journal + n) (zero-add (cond (is_control e.act) 1 0))
-
--- the pass of the entry has one more call, and the other passes have none
-pub calls_of-push : (pass : ℕ) (journal : List Entry) (e : Entry) → calls_of pass (journal ++ e ∷ []) ≡ calls_of pass journal ++ (if e.pass == pass then call_of e ∷ [] else [])
-calls_of-push pass journal e =
-    ap (map call_of) (filter-append (λ (x : Entry). x.pass == pass) journal (e ∷ []))
-    ∙ map-append call_of (filter (λ (x : Entry). x.pass == pass) journal) (filter (λ (x : Entry). x.pass == pass) (e ∷ []))
-    ∙ ap (λ calls. calls_of pass journal ++ calls) (one (e.pass == pass))
-  where
-    one : (b : Bool) → map call_of (cond b (e ∷ []) []) ≡ (if b then call_of e ∷ [] else [])
-    one true = refl
-    one false = refl
 
 -- A journal whose stamps do not come later than that of the entry goes on with it.
 pub Rising-push : (journal : List Entry) (e : Entry) → Rising journal → All (λ (f : Entry). IsFalse (is_later f.stamp e.stamp)) journal → Rising (journal ++ e ∷ [])

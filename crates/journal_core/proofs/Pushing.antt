@@ -1,6 +1,6 @@
 -- One more entry in a merge.
 use Rattle.std.proofs.Common.{◌≡◌, Bool, true, false, cond, List, [], ◌∷◌, ◌++◌, refl, sym, ap, ◌∙◌, append-nil, append_assoc}
-use Rattle.std.specs.Prelude.{fold, All, IsFalse}
+use Rattle.std.specs.Prelude.{All, IsFalse}
 use Rattle.std.proofs.lemmas.List.Elements.{All-cons, All-head, All-nil, All-tail}
 use Rattle.std.proofs.lemmas.List.Sums.{fold-append}
 use Rattle.journal_core.specs.declared.entries.Entry.{Entry}

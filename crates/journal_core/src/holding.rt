@@ -7,7 +7,6 @@ ghost use Rattle.std.specs.Prelude.{◌≡◌};
 use crate::outcome::Effect;
 use region_config::dcd_base::{Granule, HostId, Run};
 
-/// Whether the run has the granule.
 fn has(run: &Run, granule: Granule) -> bool
     ensures { result ≡ has_granule run.now granule }
 {

@@ -199,7 +199,6 @@ impl Access {
         }
     }
 
-    /// What kind of act it is.
     fn act_kind(&self) -> ActKind
         ensures { result ≡ kind_of self.now.act }
     {

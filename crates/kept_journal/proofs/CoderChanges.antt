@@ -1,5 +1,5 @@
 -- The bytes of a slot, told one after another.
-use Rattle.std.proofs.Common.{◌≡◌, ◌≢◌, ℕ, suc, ◌+◌, ◌*◌, ◌^◌, ◌<◌, ◌≤◌, Bool, true, false, cond, eqb, List, [], ◌∷◌, ◌++◌, length, get_or, take, set, refl, sym, ap, ◌∙◌, arith}
+use Rattle.std.proofs.Common.{◌≡◌, ◌≢◌, ℕ, ◌+◌, ◌*◌, ◌^◌, ◌<◌, ◌≤◌, Bool, true, false, cond, eqb, List, [], ◌∷◌, ◌++◌, length, get_or, take, set, refl, sym, ap, ◌∙◌, arith}
 use Rattle.std.specs.Int.{w64, from_le_bytes, to_le_bytes}
 use Rattle.std.proofs.lemmas.Bool.{eqb-true}
 use Rattle.std.proofs.lemmas.List.{get_or-set_other, get_or-set_same, length-set, take-set, take_more}
@@ -8,7 +8,7 @@ use Rattle.field_bytes.proofs.Fields.{IsBytes}
 use Rattle.kept_journal.specs.declared.coding.Coder.{Coder}
 use Rattle.kept_journal.specs.Coding.{AddsBytes, AddsChange, CodesTo}
 use Rattle.kept_journal.specs.Slots.{slots_in, with_slot}
-use Rattle.kept_journal.proofs.CoderSteps.{codes_byte, codes_none, codes_number, codes_still}
+use Rattle.kept_journal.proofs.CoderSteps.{codes_byte, codes_none, codes_still}
 use Rattle.kept_journal.proofs.Slotting.{IsBytes-set, bytes_small, with_slot-same}
 
 -- From coder a on the first bytes of slot k were told, whose bytes were the old ones and are to be the wanted ones.
@@ -86,9 +86,3 @@ change_goes_on {a} {b} {c} {k} {i} {old} {wanted} h in_slots lt adds = by (eqb (
     by : (t : Bool) → eqb (get_or wanted i 0) (get_or old i 0) ≡ t → AddsBytes b c (cond t [] ((8 * k + i) ∷ get_or wanted i 0 ∷ [])) → InChange a c k (i + 1) old wanted
     by true same none = change_skips h lt (sym (eqb-true (get_or wanted i 0) (get_or old i 0) same)) none
     by false other some = change_tells h in_slots lt some
-
-pub change_ends : {a b : Coder} {k i : ℕ} {old wanted : List ℕ} (n : ℕ) → InChange a b k i old wanted → i ≡ 8 → wanted ≡ to_le_bytes w64 n → n < 2 ^ 64 → CodesTo a b (with_slot (slots_in a.slots) k n) []
-change_ends {a} {b} {k} {i} {old} {wanted} n h e is fits =
-    codes_number a b k n h.bytes wanted h.eight h.eight_wanted
-    (ap (λ m. take m h.bytes) (sym e) ∙ h.same ∙ ap (λ m. take m wanted) e)
-    (ap (from_le_bytes w64) is ∙ from_le_bytes-to_le_bytes_8 n fits) h.coded

@@ -1,5 +1,5 @@
 -- Effects told as tokens and gathered from them.
-use Rattle.std.proofs.Common.{◌≡◌, ℕ, List, [], ◌∷◌, ◌++◌, None, Some, length, map, suc, arith, refl, sym, ap, ◌∙◌, append_assoc, append-nil}
+use Rattle.std.proofs.Common.{◌≡◌, ℕ, List, [], ◌∷◌, ◌++◌, None, length, map, suc, arith, refl, sym, ap, ◌∙◌, append_assoc, append-nil}
 use Rattle.std.specs.Prelude.{◌==◌, IsFalse, filter_map, flat_map, true}
 use Rattle.std.proofs.lemmas.Bool.{eqb-true}
 use Rattle.dcd_base.specs.declared.capacity.Extent.{Extent}

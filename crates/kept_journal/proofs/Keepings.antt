@@ -35,9 +35,6 @@ pub none_kept : (before : ℕ) (all : List Kept) (bytes : List ℕ) → length a
 none_kept before [] bytes none = no_entries before bytes
 none_kept before (k ∷ all) bytes none = absurd (omega (arith, none))
 
-pub kept_within : (all kept : List Kept) (k : Kept) (n : ℕ) → all ≡ k ∷ kept → widths all ≤ n → width_of k ≤ n
-kept_within all kept k n is within = omega (arith, ap widths is, within)
-
 -- behind the first the rest can be lent
 pub lent_on : (before : ℕ) (all kept : List Kept) (k : Kept) (bytes : List ℕ) → all ≡ k ∷ kept → CanBeLent before all bytes → CanBeLent (before + 1) kept (drop (width_of k) bytes)
 lent_on before all kept k bytes is can = record {

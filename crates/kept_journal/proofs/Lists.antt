@@ -1,5 +1,5 @@
 -- The first entry of a list and what is behind it.
-use Rattle.std.proofs.Common.{◌≡◌, ◌+◌, ◌<◌, ◌≤◌, List, [], ◌∷◌, ◌++◌, drop, get_or, length, length-append, refl, sym, ap, subst, ◌∙◌, append-nil, append_assoc, arith}
+use Rattle.std.proofs.Common.{◌≡◌, ◌+◌, ◌<◌, List, [], ◌∷◌, ◌++◌, drop, get_or, length, length-append, refl, sym, ap, subst, ◌∙◌, append_assoc, arith}
 use Rattle.std.proofs.Math.Seq.{get_or-append_seam}
 use Rattle.std.specs.Prelude.{All, Some, None}
 use Rattle.journal_core.specs.declared.entries.Entry.{Entry}
@@ -16,15 +16,6 @@ no_entry (e ∷ entries) none = absurd (omega (arith, none))
 pub none_left : (entries : List Entry) → length entries ≡ 0 → entries ≡ drop 1 entries
 none_left [] none = refl
 none_left (e ∷ entries) none = absurd (omega (arith, none))
-
-pub one_stamp : (entries rest : List Entry) (e : Entry) → entries ≡ e ∷ rest → Some e.stamp ≡ first_stamp entries
-one_stamp entries rest e is = sym (ap first_stamp is)
-
-pub one_entry : (entries rest : List Entry) (e : Entry) → entries ≡ e ∷ rest → Some e ≡ first_entry entries
-one_entry entries rest e is = sym (ap first_entry is)
-
-pub some_left : (entries rest : List Entry) (e : Entry) → entries ≡ e ∷ rest → rest ≡ drop 1 entries
-some_left entries rest e is = sym (ap (drop 1) is)
 
 -- ---- entries that are taken one after another
 
@@ -54,20 +45,9 @@ one_more_done done entries left whole e is left_is so_far =
     ∙ ap (λ l. done ++ l) (sym (next_and_left entries e is))
     ∙ so_far
 
-pub fewer_left : (entries left : List Entry) (e : Entry) → Some e ≡ first_entry entries → left ≡ drop 1 entries → length left < length entries
-fewer_left entries left e is left_is = omega (arith, ap length left_is, ap length (next_and_left entries e is))
-
-pub all_done : (done entries whole : List Entry) → None ≡ first_entry entries → done ++ entries ≡ whole → done ≡ whole
-all_done done entries whole is so_far = sym (append-nil done) ∙ ap (λ l. done ++ l) (sym (nothing_left entries is)) ∙ so_far
-
 -- what all entries are, the next one is
 pub next_has : (P : Entry → Type 0) (done entries whole : List Entry) (e : Entry) → Some e ≡ first_entry entries → done ++ entries ≡ whole → All P whole → P e
 next_has P done entries whole e is parts all =
     let its : whole ≡ done ++ e ∷ drop 1 entries = sym parts ∙ ap (λ l. done ++ l) (next_and_left entries e is) in
     let under : length done < length whole = omega (arith, ap length its, length-append done (e ∷ drop 1 entries)) in
     subst P (ap (λ l. get_or l (length done) e) its ∙ get_or-append_seam done e (drop 1 entries) e) (all (length done) e under)
-
--- with it there are no more than all
-pub next_within : (done entries whole : List Entry) (e : Entry) → Some e ≡ first_entry entries → done ++ entries ≡ whole → length done + 1 ≤ length whole
-next_within done entries whole e is parts =
-    omega (arith, ap length parts, length-append done entries, ap length (next_and_left entries e is))

@@ -1,9 +1,8 @@
 -- What is next of two lists that rise, put in order as one.
-use Rattle.std.proofs.Common.{◌≡◌, ◌+◌, Bool, true, false, cond, not, List, [], ◌∷◌, ◌++◌, drop, length, refl, sym, ap, ◌∙◌, length-append}
-use Rattle.std.specs.Prelude.{fold, All, IsFalse, Option}
+use Rattle.std.proofs.Common.{◌≡◌, ◌+◌, Bool, true, false, cond, not, List, [], ◌∷◌, ◌++◌, drop, length, refl, sym, ap, ◌∙◌, length-append, arith}
+use Rattle.std.specs.Prelude.{IsFalse, Option}
 use Rattle.std.proofs.lemmas.Bool.Decides.{nat_tests}
-use Rattle.std.proofs.Common.{arith}
-use Rattle.std.proofs.lemmas.List.Elements.{All-append, All-cons, All-head, All-tail, All-weaker}
+use Rattle.std.proofs.lemmas.List.Elements.{All-append, All-cons, All-weaker}
 use Rattle.std.proofs.lemmas.List.Sums.{fold-append}
 use Rattle.dcd_base.specs.declared.steps.Stamp.{Stamp}
 use Rattle.kept_journal.specs.declared.both.Side.{Side}

@@ -2,13 +2,13 @@
 use Rattle.std.proofs.Common.{◌≡◌, ℕ, zero, suc, ◌<◌, Bool, true, false, cond, List, [], ◌∷◌, ◌++◌, length, get_or, take, drop, set, refl, sym, ap, ◌∙◌, arith, inl, inr, eqb, take-append-drop}
 use Rattle.std.specs.Int.{w64, from_le_bytes, to_le_bytes}
 use Rattle.std.specs.List.{list_all}
-use Rattle.std.proofs.lemmas.Bool.{and_parts, cases_eq, eq-eqb, eqb-true, ltb-true, ne_eqb}
+use Rattle.std.proofs.lemmas.Bool.{and_parts, cases_eq, eq-eqb, eqb-true, ltb-true}
 use Rattle.std.proofs.lemmas.List.{get_or-set_other, get_or-set_same, length-drop, length-take}
 use Rattle.std.proofs.lemmas.Nat.{le_bytes_8}
 use Rattle.field_bytes.specs.Layouts.{is_byte, number_at}
 use Rattle.field_bytes.proofs.Widths.{IsBytes-drop, IsBytes-take, wide_64}
 use Rattle.field_bytes.proofs.Fields.{IsBytes}
-use Rattle.kept_journal.specs.Slots.{slots_in, with_byte, with_slot}
+use Rattle.kept_journal.specs.Slots.{with_byte, with_slot}
 
 cond_again : (t : Bool) (a b n : ℕ) → cond t b (cond t a n) ≡ cond t b n
 cond_again true a b n = refl
@@ -29,20 +29,6 @@ with_slot-same s k = λ i j. same_at s j k (eqb j k) (eqb-true j k) i
 -- the number of a slot that is set
 pub with_slot-there : (s : ℕ → ℕ) (k n : ℕ) → with_slot s k n k ≡ n
 with_slot-there s k n = ap (λ t. cond t n (s k)) (eq-eqb k k refl)
-
-set_at : (numbers : List ℕ) (k n j : ℕ) → k < length numbers → get_or (set numbers k n) j 0 ≡ cond (eqb j k) n (get_or numbers j 0)
-set_at numbers k n j lt =
-    elim (cases_eq j k) [
-      | inl e ↦
-          ap (λ m. get_or (set numbers k n) m 0) e
-          ∙ get_or-set_same numbers k n 0 lt
-          ∙ sym (ap (λ t. cond t n (get_or numbers j 0)) (eq-eqb j k e))
-      | inr ne ↦ get_or-set_other numbers k j n 0 ne ∙ sym (ap (λ t. cond t n (get_or numbers j 0)) (ne_eqb j k ne))
-    ]
-
--- a number of an array that is set
-pub slots_in-set : (numbers : List ℕ) (k n : ℕ) → k < length numbers → slots_in (set numbers k n) ≡ with_slot (slots_in numbers) k n
-slots_in-set numbers k n lt = λ i j. set_at numbers k n j lt i
 
 -- a slot whose number is one of eight bytes, of which another one is set
 pub with_slot-byte : (s : ℕ → ℕ) (k place byte : ℕ) (bytes : List ℕ) → length bytes ≡ 8 → IsBytes bytes → with_slot (with_slot s k (from_le_bytes w64 bytes)) k (with_byte (with_slot s k (from_le_bytes w64 bytes) k) place byte) ≡ with_slot s k (from_le_bytes w64 (set bytes place byte))

@@ -1,5 +1,5 @@
 -- What a coder has written.
-use Rattle.std.specs.Prelude.{◌≡◌, ◌==◌, ℕ, ◌++◌, List, [], ◌∷◌, None, Some, IsFalse, if◌then◌else◌}
+use Rattle.std.specs.Prelude.{◌≡◌, ◌==◌, ℕ, ◌++◌, List, [], ◌∷◌, None, IsFalse, if◌then◌else◌}
 use Rattle.journal_core.specs.declared.outcome.Effect.{Effect}
 use Rattle.kept_journal.specs.declared.coding.Coder.{Coder}
 use Rattle.kept_journal.specs.declared.tokens.Token.{Token}

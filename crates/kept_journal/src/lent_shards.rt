@@ -45,7 +45,6 @@ fn two<'a>(lists: &'a [Accesses], at: usize) -> Two<'a>
     Both::new(one(lists, at), one(lists, at + 1))
 }
 
-/// Four.
 #[tactic(auto, using(crate::proofs::Parts::pair_of_parts))]
 fn four<'a>(lists: &'a [Accesses], at: usize) -> Four<'a>
     requires rise { AllRise lists.now }
@@ -55,7 +54,6 @@ fn four<'a>(lists: &'a [Accesses], at: usize) -> Four<'a>
     Both::new(two(lists, at), two(lists, at + 2))
 }
 
-/// Eight.
 #[tactic(auto, using(crate::proofs::Parts::pair_of_parts))]
 fn eight<'a>(lists: &'a [Accesses], at: usize) -> Eight<'a>
     requires rise { AllRise lists.now }

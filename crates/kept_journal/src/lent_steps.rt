@@ -123,7 +123,6 @@ impl<'a> LentStep<'a> {
         }
     }
 
-    /// The actor.
     pub(crate) fn actor(&self) -> Actor
         ensures { result ≡ (step_entry self.now.number self.now.step.now self.now.bytes.now).actor }
     {

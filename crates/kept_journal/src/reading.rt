@@ -35,7 +35,6 @@ impl<'a> Model for Tokens<'a> {
 }
 
 impl<'a> Tokens<'a> {
-    /// All tokens of the bytes.
     pub(crate) fn new(bytes: &'a [u8]) -> Tokens<'a>
         ensures { result ≡ tokens_in no_slots None bytes.now }
     {

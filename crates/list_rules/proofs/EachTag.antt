@@ -17,17 +17,13 @@ use Rattle.extent_list.specs.ExtentLists.{has_extent_of, tags_of}
 abbrev add : List Tag → Tag → List Tag
 add seen t = if has_tag seen t then seen else seen ++ t ∷ []
 
-or_false : (b : Bool) → (b || false) ≡ b
+pub or_false : (b : Bool) → (b || false) ≡ b
 or_false true = refl
 or_false false = refl
 
-or_assoc : (a b c : Bool) → (a || (b || c)) ≡ ((a || b) || c)
+pub or_assoc : (a b c : Bool) → (a || (b || c)) ≡ ((a || b) || c)
 or_assoc true b c = refl
 or_assoc false b c = refl
-
-or_true : (a : Bool) → (a || true) ≡ true
-or_true true = refl
-or_true false = refl
 
 same-congr : (t u : Tag) (seen : List Tag) → same_tag t u ≡ true → has_tag seen t ≡ has_tag seen u
 same-congr t u [] same = refl

@@ -1,7 +1,7 @@
 -- Extents that fit into owners which stand apart, each in the owner before that of the last one.
 use Rattle.std.proofs.Common.{◌≡◌, ℕ, ◌+◌, ◌-◌, ◌<◌, ◌≤◌, Bool, true, false, not, ◌&&◌, inl, inr, List, Option, None, length, get_or, take, refl, sym, ap, ◌∙◌, arith, suc, zero, le-ltb, subst}
 use Rattle.std.specs.Prelude.{◌==◌, nat_le, nat_lt}
-use Rattle.std.proofs.lemmas.Bool.{and_from, and_left, and_parts, and_right, cases_Bool, cases_lt, leb-true, lt-ltb, ne_eqb}
+use Rattle.std.proofs.lemmas.Bool.{and_from, and_left, and_parts, and_right, cases_lt, leb-true, lt-ltb, ne_eqb}
 use Rattle.std.proofs.lemmas.List.{get_or_default}
 use Rattle.std.proofs.lemmas.List.Folds.{list_any_at}
 use Rattle.dcd_codes.specs.dcd_base.specs.declared.capacity.Extent.{Extent}
@@ -109,22 +109,6 @@ fits_placed c h r x sound host known holds =
     let second = and_parts (not (x.length == 0)) _ first.0 in
     let range = and_parts (nat_le (base_of c h r) x.start) _ second.1 in
     placed_in c h r x sound host known (some_of x.length second.0) (and_from _ _ (and_from _ _ (lt-ltb _ _ known) range.0) range.1) first.1
-
--- the other way round
-pub placed_fits : (c : Configuration) (h : HostId) (r n : ℕ) (x : Extent) → misplaced c h r n x ≡ None → fits_area (area_of c h r) x ≡ true
-placed_fits c h r n x none = elim (cases_Bool (x.length == 0)) [
-  | inl empty ↦ absurd (cc (rw empty at none))
-  | inr some ↦ elim (cases_Bool (lies_in_region c h r x)) [
-    | inr outside ↦ absurd (cc (rw (some, outside) at none))
-    | inl within ↦ elim (cases_Bool (is_aligned c h r x)) [
-      | inr loose ↦ absurd (cc (rw (some, within, loose) at none))
-      | inl aligned ↦
-          let ends = and_parts (nat_lt r (length c.regions) && nat_le (base_of c h r) x.start) _ within in
-          let begins = and_parts (nat_lt r (length c.regions)) _ ends.0 in
-          and_from _ _ (and_from _ _ (ap not some) (and_from _ _ begins.1 ends.1)) aligned
-    ]
-  ]
-]
 
 module _ (c : Configuration) (h : HostId) (owners before : List Extent) (x : Extent) (r : ℕ) (at : region_at c h x.start ≡ r) where
   shareable_is : is_shareable_at c h x ≡ (region_spec c r).shareable

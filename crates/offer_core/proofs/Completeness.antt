@@ -27,7 +27,7 @@ use Rattle.offer_core.specs.Responses.{extent_rule, respond_rule}
 
 -- ---- no address twice
 
-position_from-none : (p : Extent → Bool) (n : ℕ) (xs : List Extent) → list_any p xs ≡ false → position_from p n xs ≡ None
+pub position_from-none : (p : Extent → Bool) (n : ℕ) (xs : List Extent) → list_any p xs ≡ false → position_from p n xs ≡ None
 position_from-none p n [] e = refl
 position_from-none p n (x ∷ xs) e = let parts = or_parts (p x) (list_any p xs) e in rw parts.0 (position_from-none p (n + 1) xs parts.1)
 

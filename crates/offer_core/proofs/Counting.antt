@@ -1,7 +1,6 @@
 -- How many extents stand in offers.
-use Rattle.std.proofs.Common.{◌≡◌, ◌+◌, ◌≤◌, List, [], ◌∷◌, ◌++◌, length, refl, ap, ◌∙◌, drop, arith}
-use Rattle.std.proofs.lemmas.List.{map-append}
-use Rattle.std.proofs.lemmas.List.Sums.{sum_by-cons, sum_by_push}
+use Rattle.std.proofs.Common.{◌≡◌, ◌+◌, ◌≤◌, List, [], ◌∷◌, length, refl, drop, arith}
+use Rattle.std.proofs.lemmas.List.Sums.{sum_by-cons}
 use Rattle.list_rules.specs.dcd_codes.specs.dcd_base.specs.declared.capacity.Extent.{Extent}
 use Rattle.list_rules.specs.extent_list.specs.ExtentLists.{count_in}
 use Rattle.offer_core.specs.declared.offer.Offer.{Offer}
@@ -18,9 +17,3 @@ count_in_parts (xs ∷ later) = count_in-cons xs later
 -- the offers behind one have no more than it and they
 pub fewer_behind : (offer : Offer) (later : List Offer) → count_in (lists_of later) ≤ count_in (lists_of (offer ∷ later))
 fewer_behind offer later = omega (arith, count_in-cons offer.extents (lists_of later))
-
--- one more offer
-pub count_in_push : (offers : List Offer) (offer : Offer) → count_in (lists_of (offers ++ offer ∷ [])) ≡ count_in (lists_of offers) + length offer.extents
-count_in_push offers offer =
-    ap count_in (map-append (λ (o : Offer). o.extents) offers (offer ∷ []))
-    ∙ sum_by_push (λ (ys : List Extent). length ys) (lists_of offers) offer.extents

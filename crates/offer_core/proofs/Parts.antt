@@ -44,10 +44,6 @@ count_parted (n ∷ ns) xs parts = omega (
   parts.0,
 )
 
-pub first_parted : (ns : List ℕ) (xs : List Extent) → drop 1 (parted ns xs) ≡ parted (drop 1 ns) (drop (get_or ns 0 0) xs)
-first_parted [] xs = refl
-first_parted (n ∷ ns) xs = refl
-
 -- ---- the offer at an index
 
 -- So many extents stand before an offer.
@@ -55,9 +51,6 @@ pub record IsAt (ns : List ℕ) (xs : List Extent) (i from : ℕ) : Type 0 where
   pub within : from ≤ length xs
   pub parts : AreParts (drop i ns) (drop from xs)
   pub rest : drop i (parted ns xs) ≡ parted (drop i ns) (drop from xs)
-
-pub at_first : (ns : List ℕ) (xs : List Extent) → AreParts ns xs → IsAt ns xs 0 0
-at_first ns xs parts = record { within = omega arith; parts = parts; rest = refl }
 
 -- the one at an index has its extents there
 pub at_holds : (ns : List ℕ) (xs : List Extent) (i from : ℕ) → i < length ns → IsAt ns xs i from →

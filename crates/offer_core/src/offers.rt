@@ -224,7 +224,6 @@ fn copied<T: Copy>(alloc: Global, items: &[T]) -> Result<Vec<T>, NoMemory>
     Ok(copy)
 }
 
-/// The part at an index of extents that are parted so.
 fn part_at<'a>(counts: &[usize], extents: &'a [Extent], index: usize) -> &'a [Extent]
     requires parts { AreParts counts.now extents.now }
     requires index { index < length counts.now }

@@ -1,8 +1,8 @@
 -- Extents that may leave their host break none of the rules of a list of such extents.
 use Rattle.std.proofs.Common.{◌≡◌, ℕ, ◌+◌, Bool, true, false, not, ◌&&◌, ◌||◌, List, [], ◌∷◌, ◌++◌, length, None, refl, ap, ◌∙◌, arith, eqb, leb, ltb}
 use Rattle.std.specs.Prelude.{Option}
-use Rattle.std.specs.List.{AllByRecursion, list_any, position, position_from}
-use Rattle.std.proofs.lemmas.Bool.{ne_eqb, or_from, or_parts}
+use Rattle.std.specs.List.{AllByRecursion, list_any, position}
+use Rattle.std.proofs.lemmas.Bool.{ne_eqb, or_from}
 use Rattle.std.proofs.lemmas.List.Folds.{list_any-append}
 use Rattle.std.proofs.lemmas.Iterator.Adapters.{position_from-zero}
 use Rattle.dcd_base.specs.declared.capacity.Extent.{Extent}
@@ -23,12 +23,9 @@ use Rattle.isolation_laws.specs.device_laws.proofs.Holding.{made_aligned, made_l
 use Rattle.isolation_laws.specs.device_laws.proofs.Homes.{base_same, length_same, region_at_same, regions_same, shareable_same}
 use Rattle.isolation_laws.specs.device_laws.proofs.LeftStanding.{going_rule}
 use Rattle.isolation_laws.specs.device_laws.proofs.Overlaps.{Spread}
+use Rattle.offer_core.proofs.Completeness.{position_from-none}
 
 -- ---- a row over a list that is spread out
-
-position_from-none : (p : Extent → Bool) (n : ℕ) (xs : List Extent) → list_any p xs ≡ false → position_from p n xs ≡ None
-position_from-none p n [] e = refl
-position_from-none p n (x ∷ xs) e = let parts = or_parts (p x) (list_any p xs) e in rw parts.0 (position_from-none p (n + 1) xs parts.1)
 
 position-none : (p : Extent → Bool) (xs : List Extent) → list_any p xs ≡ false → position p xs ≡ None
 position-none p xs e = position_from-zero p xs ∙ position_from-none p 0 xs e

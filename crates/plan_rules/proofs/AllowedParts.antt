@@ -55,10 +55,6 @@ unbroken_both c journal [] more none rest = rest
 unbroken_both c journal (s ∷ first) more none rest = (none.0, unbroken_both c (journal_behind c journal s) first more none.1 rest)
 
 module _ (c : Configuration) (sound : IsSound c) where
-  -- the log of a host
-  abbrev log_at : HostId → List Entry → List Event
-  log_at h journal = records_in (log_of (LogId.Host h) (effects journal))
-
   module _ (h : HostId) (host : h < c.hosts) where
     -- ---- its log is cleared
 

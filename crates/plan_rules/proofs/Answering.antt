@@ -40,9 +40,6 @@ module _ (c : Configuration) (journal : List Entry) (q : Request) where
         effects = ap (λ r. effects_with c past (dropped h v q.opcode) (host_result c h v r)) read ∙ ap (λ rule. effects_with c past (dropped h v q.opcode) (unless rule o)) row;
       }
 
-  abbrev views : HostId → View
-  views k = view_of c k journal
-
   pub manager_does : (request : FmRequest) → manager_request q.opcode q.payload ≡ Ok request → manager_rule c (effects journal) (λ k. view_of c k journal) request ≡ None
       → (manager_outcome c (effects journal) (λ k. view_of c k journal) request).payload ≡ [] → Does c journal Actor.Manager q (manager_outcome c (effects journal) (λ k. view_of c k journal) request)
   manager_does request read row empty =

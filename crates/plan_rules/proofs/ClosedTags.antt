@@ -2,7 +2,7 @@
 use Rattle.std.proofs.Common.{◌≡◌, ◌⊎◌, ℕ, ◌<◌, Bool, true, false, not, ◌&&◌, ◌||◌, ◌==◌, List, [], ◌∷◌, ◌++◌, length, map, refl, ap, sym, subst, ◌∙◌, inl, inr, arith, append_assoc}
 use Rattle.std.specs.Prelude.{drop, flat_map, if◌then◌else◌}
 use Rattle.std.specs.List.{AllByRecursion, list_all}
-use Rattle.std.proofs.lemmas.Bool.{and_from, cases_Bool, cases_lt, eqb-true, false≢true, false_from_ne_true, not_from_false, or_left}
+use Rattle.std.proofs.lemmas.Bool.{and_from, cases_Bool, cases_lt, eqb-true, false≢true, false_from_ne_true, not_from_false, or_left, and_parts}
 use Rattle.std.proofs.lemmas.List.Folds.{list_any-append}
 use Rattle.dcd_base.specs.declared.capacity.Extent.{Extent}
 use Rattle.dcd_base.specs.declared.capacity.Tag.{Tag}
@@ -24,15 +24,13 @@ use Rattle.isolation_laws.specs.device_rules.proofs.TagSteps.{open_before, same_
 use Rattle.isolation_laws.specs.device_laws.specs.Pictures.{Picture, extents_at, is_with_a_host, lives, picture_after, picture_of}
 use Rattle.isolation_laws.specs.device_laws.specs.Standing.{IsHome, IsMade, Sound}
 use Rattle.isolation_laws.specs.device_laws.proofs.CutSteps.{lies}
-use Rattle.isolation_laws.specs.device_laws.proofs.Holding.{no_extents}
+use Rattle.isolation_laws.specs.device_laws.proofs.Holding.{no_extents, present_whole}
 use Rattle.isolation_laws.specs.device_laws.proofs.OneAnswer.{IsAnswer, answer_picture, q}
 use Rattle.isolation_laws.specs.device_laws.proofs.OneOffer.{IsFresh, IsOffer, IsShared}
 use Rattle.isolation_laws.specs.device_laws.proofs.Pictures.{picture-outcome}
 use Rattle.isolation_laws.specs.device_laws.proofs.Quiet.{is_quiet, quiet_front}
 use Rattle.isolation_laws.specs.device_laws.proofs.Settling.{each-tagged, host_keeps, is_host}
 use Rattle.isolation_laws.specs.device_laws.proofs.Homes.{made_region}
-use Rattle.isolation_laws.specs.device_laws.proofs.Holding.{present_whole}
-use Rattle.std.proofs.lemmas.Bool.{and_parts}
 use Rattle.plan_rules.proofs.Parts.{ArePartsOf, cut_parts, is_part, is_part_of, marked_part, parts_behind, parts_in_front, parts_join, parts_self, parts_then}
 
 abbrev pub IsClosed : Configuration → Picture → HostId → Extent → Type 0

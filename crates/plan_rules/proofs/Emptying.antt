@@ -1,11 +1,10 @@
 -- A removal by force of all extents of a host in a region is never refused, and leaves all others.
 use Rattle.plan_rules.proofs.Filters.{each_filtered, fewer, none_stay, others_stay}
-use Rattle.std.proofs.Common.{◌≡◌, ℕ, ◌+◌, ◌<◌, ◌≤◌, Bool, true, false, not, List, [], ◌∷◌, ◌++◌, length, map, None, refl, ap, sym, subst, ◌∙◌, arith, leb, ltb}
+use Rattle.std.proofs.Common.{◌≡◌, ℕ, ◌+◌, ◌<◌, ◌≤◌, Bool, true, false, not, List, [], ◌∷◌, ◌++◌, length, map, None, refl, ap, sym, subst, ◌∙◌, arith, leb, ltb, length-append}
 use Rattle.std.specs.Prelude.{fold, flat_map, Option}
 use Rattle.std.specs.List.{AllByRecursion, filter, list_all}
 use Rattle.std.proofs.lemmas.Bool.{eqb-true, le-ltb, lt-leb, ne_eqb}
 use Rattle.std.proofs.lemmas.List.Concat.{length-flat_map}
-use Rattle.std.proofs.Common.{length-append}
 use Rattle.dcd_base.specs.Limits.{extents_listed, extents_supported}
 use Rattle.dcd_base.specs.Words.{◌or◌, is_empty}
 use Rattle.dcd_base.specs.declared.capacity.Extent.{Extent}
@@ -95,9 +94,6 @@ module _ (c : Configuration) (sound : IsSound c) (p : Picture) (before : Sound c
   -- ---- those of a region
 
   module _ (r : ℕ) where
-    abbrev test : Extent → Bool
-    test = begins_in c h r
-
     pub marks_kept : map (marked (p.accepted h)) (filter (begins_in c h r) (p.accepted h)) ≡ filter (begins_in c h r) (p.accepted h)
     marks_kept = own_marks (p.accepted h) (filter (begins_in c h r) (p.accepted h)) (some_owned c sound p (loose c p s) h host (begins_in c h r))
 

@@ -36,7 +36,7 @@ heard : (q : HostRequest) → lists_untagged q ≡ true → AllByRecursion FitsF
 heard q untagged fits = host_only (spelling (host_fields q)) q untagged (Agrees-spelled (host_fields q) fits)
 
 -- what is listed has no tag, and the numbers of the extent
-listed_untagged : (xs : List Extent) → list_all is_untagged (map listed xs) ≡ true
+pub listed_untagged : (xs : List Extent) → list_all is_untagged (map listed xs) ≡ true
 listed_untagged [] = refl
 listed_untagged (x ∷ xs) = listed_untagged xs
 

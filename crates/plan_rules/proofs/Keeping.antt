@@ -18,6 +18,7 @@ use Rattle.isolation_laws.specs.device_rules.specs.Outcomes.{Outcome, effects_of
 use Rattle.isolation_laws.specs.device_rules.proofs.Leaving.{over-leaving}
 use Rattle.isolation_laws.specs.device_rules.proofs.OutcomeSteps.{after-outcome}
 use Rattle.plan_rules.specs.Kept.{KeepsHost, KeepsOthers}
+use Rattle.isolation_laws.proofs.RemovalViews.{no_block as leaves_blocks}
 
 -- the effect changes no list of the host
 abbrev pub leaves_host : HostId → Effect → Bool
@@ -33,10 +34,6 @@ abbrev pub leaves_held : Effect → Bool
 leaves_held (Effect.Hold k kind xs) = false
 leaves_held (Effect.Unhold k kind) = false
 leaves_held e = true
-
-abbrev pub leaves_blocks : Effect → Bool
-leaves_blocks (Effect.Block r size) = false
-leaves_blocks e = true
 
 other : (k h : HostId) → not (k == h) ≡ true → (k == h) ≡ false
 other k h e = not-true (k == h) e

@@ -25,7 +25,7 @@ last_parts n (x ∷ xs) =
     else if nat_le x.length n then listed x ∷ last_parts (n - x.length) xs
     else record (listed x) { start = x.start + (x.length - n); length = n } ∷ []
 
-none_last : (xs : List Extent) → last_bytes 0 xs ≡ []
+pub none_last : (xs : List Extent) → last_bytes 0 xs ≡ []
 none_last [] = refl
 none_last (x ∷ xs) = refl
 

@@ -2,7 +2,7 @@
 use Rattle.std.proofs.Common.{◌≡◌, ℕ, ◌+◌, ◌<◌, Bool, true, false, not, ◌&&◌, ◌==◌, List, [], ◌∷◌, ◌++◌, length, map, None, refl, ap, sym, subst, ◌∙◌, inl, arith, append-nil, length-drop}
 use Rattle.std.specs.Prelude.{drop, fold, if◌then◌else◌, option_map}
 use Rattle.std.specs.List.{list_all}
-use Rattle.std.proofs.lemmas.List.{drop_all, length-map}
+use Rattle.std.proofs.lemmas.List.{drop_all, length-map, length-take}
 use Rattle.std.proofs.lemmas.List.Sums.{fold-append}
 use Rattle.std.proofs.lemmas.Bool.{eq-eqb, eqb-true}
 use Rattle.dcd_base.specs.declared.capacity.Extent.{Extent}
@@ -28,7 +28,6 @@ use Rattle.isolation_laws.specs.device_rules.specs.Tags.{dirty_granules}
 use Rattle.isolation_laws.specs.device_rules.proofs.Leaving.{over-leaving}
 use Rattle.isolation_laws.specs.device_laws.proofs.LogHistories.{leaves_logs, log-left}
 use Rattle.plan_rules.proofs.KeptLogs.{other_log, response_kept}
-use Rattle.std.proofs.lemmas.List.{length-take}
 use Rattle.journal_core.specs.declared.acts.Reply.{Reply}
 use Rattle.isolation_laws.specs.device_rules.specs.Outcomes.{Outcome, effects_of}
 use Rattle.isolation_laws.specs.device_rules.specs.ResponseOutcomes.{answered, respond_changes, unhold}

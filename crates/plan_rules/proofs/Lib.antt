@@ -15,7 +15,7 @@ pub mod Filters
 pub mod FreeBlocks
 pub mod FreeOffers
 pub mod GivingBack
-mod Heard
+pub mod Heard
 pub mod Keeping
 pub mod KeptLogs
 pub mod LastBytes

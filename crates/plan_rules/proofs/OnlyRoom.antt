@@ -147,9 +147,6 @@ module _ (c : Configuration) (sound : IsSound c) (past : List Effect) where
     fits_now : gain c past x * block_of c x.region (effects journal) < 2 ^ 64
     fits_now = rw is.block is.fits
 
-    same_offer : offering c x (gain c past x) (effects journal) ≡ by_manager (FmRequest.Add x.host 0 x.region (gain c past x * block_of c x.region past) zero_tag [])
-    same_offer = λ i. by_manager (FmRequest.Add x.host 0 x.region (gain c past x * is.block i) zero_tag [])
-
     provided_wants : 0 < gain c past x → gain c past x ≤ blocks_free_now c x.region (effects journal) → WantsRoomOnly c journal (providing c x (gain c past x) journal)
     unfolding WantsRoomOnly
     provided_wants some free =

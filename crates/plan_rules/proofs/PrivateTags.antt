@@ -12,10 +12,9 @@ use Rattle.dcd_base.specs.declared.steps.Actor.{Actor}
 use Rattle.dcd_base.specs.declared.steps.LogId.{LogId}
 use Rattle.dcd_base.specs.Words.{has_tag}
 use Rattle.dcd_codes.specs.declared.rules.Rule.{Rule}
-use Rattle.field_bytes.specs.declared.faults.PayloadFault.{PayloadFault as ManagerFault}
+use Rattle.field_bytes.specs.declared.faults.PayloadFault.{PayloadFault as ManagerFault, PayloadFault as HostFault}
 use Rattle.fm_payloads.specs.declared.requests.FmRequest.{FmRequest}
 use Rattle.fm_payloads.specs.ManagerPayloads.{manager_request}
-use Rattle.field_bytes.specs.declared.faults.PayloadFault.{PayloadFault as HostFault}
 use Rattle.host_payloads.specs.declared.requests.HostRequest.{HostRequest}
 use Rattle.host_payloads.specs.HostPayloads.{host_request}
 use Rattle.media_map.specs.Places.{run_of}
@@ -44,7 +43,7 @@ use Rattle.isolation_laws.specs.device_laws.proofs.Holding.{first_is_sound}
 use Rattle.isolation_laws.specs.device_laws.proofs.LegalSound.{clear_quiet, dropped_quiet, entry_keeps}
 use Rattle.isolation_laws.specs.device_laws.proofs.Overlaps.{neither, not_broken}
 use Rattle.isolation_laws.specs.device_laws.proofs.Quiet.{hold_quiet, is_quiet, quiet_front, quiet_picture, unhold_quiet, zeroes_quiet}
-use Rattle.extent_list.specs.ExtentLists.{marked}
+use Rattle.extent_list.specs.ExtentLists.{marked, real_tags}
 use Rattle.list_rules.specs.Listing.{too_many_listed}
 use Rattle.offer_core.specs.Responses.{respond_rule, response_list_rule}
 use Rattle.isolation_laws.specs.device_laws.proofs.Adding.{IsAdded, added, row_of}
@@ -53,9 +52,7 @@ use Rattle.isolation_laws.specs.device_laws.proofs.Responding.{answer_of}
 use Rattle.plan_rules.proofs.ClosedTags.{AreClosed, IsClosed, IsLess, answer_less, leaves_are, less_self, offer_closed, outcome_less, removals_less}
 use Rattle.plan_rules.proofs.TagsKept.{TagsKept, less_kept, offer_few, outcome_kept}
 use Rattle.dcd_base.specs.Limits.{tags_supported}
-use Rattle.extent_list.specs.ExtentLists.{real_tags}
-use Rattle.std.proofs.lemmas.List.Elements.{All-contains}
-use Rattle.std.proofs.lemmas.List.Elements.{All-from_recursion}
+use Rattle.std.proofs.lemmas.List.Elements.{All-contains, All-from_recursion}
 use Rattle.plan_rules.specs.PrivateTags.{PrivateTagsClosed}
 
 module _ (c : Configuration) (sound : IsSound c) (journal : List Entry) (before : Sound c (picture_of c (effects journal))) (kept : TagsKept c (picture_of c (effects journal))) where

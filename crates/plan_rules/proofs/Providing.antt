@@ -37,13 +37,12 @@ use Rattle.isolation_laws.specs.device_laws.specs.Standing.{IsHome}
 use Rattle.isolation_laws.specs.device_laws.proofs.LegalSound.{legal_is_sound}
 use Rattle.plan_rules.specs.declared.demands.Demand.{Demand}
 use Rattle.plan_rules.specs.Kept.{KeepsOthers, bytes_in}
-use Rattle.plan_rules.specs.Listing.{listed}
+use Rattle.plan_rules.specs.Listing.{listed, offer_taken}
 use Rattle.plan_rules.specs.Taking.{IsOfferTaken, IsOfferedFree, blocks_free_now, free_offer_of}
 use Rattle.plan_rules.proofs.Filters.{fewer}
 use Rattle.plan_rules.proofs.FreeOffers.{offers_free_blocks}
 use Rattle.plan_rules.proofs.WholeOffers.{takes_whole_offers}
 use Rattle.plan_rules.specs.Holding.{extents_in_region, stepped}
-use Rattle.plan_rules.specs.Listing.{offer_taken}
 use Rattle.plan_rules.specs.ActsLeft.{BytesCome, IsPlain, Unbroken, journal_behind, offering, providing}
 use Rattle.plan_rules.proofs.Acts.{behind_is}
 use Rattle.plan_rules.proofs.PartsGivenBack.{ends_low}
@@ -93,9 +92,6 @@ sum_of : List Extent → ℕ
 sum_of xs = sum_by (λ (x : Extent). x.length) xs
 
 module _ (c : Configuration) (sound : IsSound c) (journal : List Entry) (legal : Legal c journal) (x : Demand) (n : ℕ) (plain : IsPlain c x) (fits : n * block_of c x.region (effects journal) < 2 ^ 64) where
-  bytes : ℕ
-  bytes = n * block_of c x.region (effects journal)
-
   abbrev offered_then : List Entry
   offered_then = journal_behind c journal (offering c x n (effects journal))
 

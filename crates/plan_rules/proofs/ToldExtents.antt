@@ -91,9 +91,6 @@ if_kept : {B : Type 0} (P : B → Type 0) (test : Bool) (x y : B) → P x → P 
 if_kept P true x y p q = p
 if_kept P false x y p q = q
 
-ArePlain : List Extent → Type 0
-ArePlain xs = list_all is_tellable xs ≡ true
-
 module _ (c : Configuration) (h : HostId) where
   accepted_step : (xs : List Extent) (e : Effect) → is_told e ≡ true → list_all is_tellable xs ≡ true → list_all is_tellable (accepted_after c h xs e) ≡ true
   accepted_step xs (Effect.Answer k ys) told all = if_kept (λ zs. list_all is_tellable zs ≡ true) (k == h) (xs ++ ys) xs (both_tellable xs ys all told) all

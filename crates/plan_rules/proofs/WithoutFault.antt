@@ -87,9 +87,6 @@ module _ (c : Configuration) (journal : List Entry) (q : Demands) (named : named
   not_open : (h : ℕ) → h < c.hosts → is_open (effects journal) q h ≡ false
   not_open h below = none_below (is_open (effects journal) q) c.hosts (map_none PlanFault.Open _ shut) h below
 
-  demand_at : ℕ → Demand
-  demand_at i = get_or q.demands i no_demand
-
   record IsGood (i : ℕ) : Type 0 where
     plain : IsPlain c (get_or q.demands i no_demand)
     first : list_any (same_place (get_or q.demands i no_demand)) (take i q.demands) ≡ false

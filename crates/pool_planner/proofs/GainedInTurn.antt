@@ -1,6 +1,6 @@
 -- Demands that are gained one after another.
-use Rattle.std.proofs.Common.{◌≡◌, ℕ, ◌+◌, ◌<◌, ◌≤◌, List, [], ◌∷◌, ◌++◌, length, get_or, drop, Some, refl, sym, ap, subst, ◌∙◌, append_assoc, append-nil, add-one, arith, drop-cons}
-use Rattle.std.specs.Prelude.{flat_map, slice_get, take}
+use Rattle.std.proofs.Common.{◌≡◌, ℕ, ◌+◌, ◌<◌, ◌≤◌, List, [], ◌∷◌, ◌++◌, length, get_or, drop, Some, sym, ap, ◌∙◌, append_assoc, add-one, arith, drop-cons}
+use Rattle.std.specs.Prelude.{flat_map, slice_get}
 use Rattle.std.proofs.lemmas.List.{length-append}
 use Rattle.std.proofs.lemmas.Option.{none-some, same_Some}
 use Rattle.dcd_base.specs.declared.capacity.Extent.{Extent}
@@ -11,10 +11,7 @@ use Rattle.plan_rules.specs.Holding.{Step, stepped}
 use Rattle.plan_rules.specs.Listing.{gained, gaining}
 use Rattle.pool_planner.specs.Trials.{GoesOnTo, TriesMore}
 use Rattle.pool_planner.specs.declared.trial.Trial.{Trial}
-use Rattle.pool_planner.proofs.Taking.{takes_none, takes_then}
-
-pub goes_first : (t : Trial) (whole rest : List Step) → whole ≡ rest → GoesOnTo t t whole rest
-goes_first t whole rest is = record { done = []; takes = takes_none t; parts = is }
+use Rattle.pool_planner.proofs.Taking.{takes_then}
 
 pub goes_more : (c : Configuration) (past : List Effect) (old now new : Trial) (whole : List Step) (xs : List Demand) (i : ℕ) (z : Demand) →
     now.control.config ≡ c → i < length xs → GoesOnTo old now whole (gaining c past now.control.entries (drop i xs)) →
@@ -28,18 +25,6 @@ goes_more c past old now new whole xs i z config below on takes = record {
       ∙ ap (λ journal. (on.done ++ gained c past now.control.entries (get_or xs i z)) ++ gaining c past journal (drop (i + 1) xs))
       (sym (takes.entries ∙ ap (λ d. stepped d now.control.entries (gained c past now.control.entries (get_or xs i z))) config));
 }
-
-pub goes_last : (old now : Trial) (whole rest : List Step) → rest ≡ [] → GoesOnTo old now whole rest → TriesMore old now whole
-goes_last old now whole rest none on = subst (TriesMore old now) (sym (on.parts ∙ ap (λ more. on.done ++ more) none ∙ append-nil on.done)) on.takes
-
--- the oldest offer
-pub offer_first : (offers : List (List Extent)) (o : List Extent) → slice_get offers 0 ≡ Some o → flat_map (λ (xs : List Extent). xs) (take 1 offers) ≡ o
-offer_first [] o is = absurd (none-some o is)
-offer_first (x ∷ offers) o is = append-nil x ∙ same_Some x o is
-
-pub offer_none : (offers : List (List Extent)) → length offers ≡ 0 → flat_map (λ (xs : List Extent). xs) (take 1 offers) ≡ []
-offer_none [] none = refl
-offer_none (x ∷ offers) none = absurd (omega (arith, none))
 
 pub offer_short : (offers : List (List Extent)) (o : List Extent) → slice_get offers 0 ≡ Some o → length o ≤ length (flat_map (λ (xs : List Extent). xs) offers)
 offer_short [] o is = absurd (none-some o is)

@@ -6,9 +6,6 @@ use Rattle.dcd_base.specs.declared.failures.NoMemory.{NoMemory}
 use Rattle.region_config.specs.Configurations.{Configuration}
 use Rattle.journal_core.specs.Entries.{effects}
 use Rattle.journal_core.specs.declared.entries.Entry.{Entry}
-use Rattle.report.specs.script_codec.specs.Scripts.{ReadsScript}
-use Rattle.report.specs.script_codec.specs.declared.scripts.Script.{Script}
-use Rattle.plan_rules.specs.DemandTexts.{IsReadAsDemands}
 use Rattle.plan_rules.specs.declared.demands.Demands.{Demands}
 use Rattle.plan_rules.specs.Holding.{Step, stepped}
 use Rattle.plan_rules.specs.Listing.{planned}
@@ -20,7 +17,7 @@ use Rattle.plan_rules.proofs.AlikePlans.{plan_fault_same, planned_same}
 use Rattle.plan_rules.proofs.AlikeSteps.{alike_stepped}
 use Rattle.plan_rules.proofs.Succeeding.{all_succeed}
 use Rattle.pool_planner.specs.PlanPrinting.{plan_text}
-use Rattle.pool_planner.specs.PlanEnds.{IsDemandsEnd, IsPlanEnd, IsPlanFrame, IsPlannedEnd, IsScriptEnd, frame_rest, frame_script}
+use Rattle.pool_planner.specs.PlanEnds.{IsPlannedEnd}
 use Rattle.pool_planner.specs.declared.status.PlanStatus.{PlanStatus}
 
 -- ---- over a device
@@ -53,29 +50,3 @@ module _ (c : Configuration) (entries journal : List Entry) (q : Demands) (alike
   fault_end (PlanFault.Refused i rule) known plan = sym (plan_fault_same c entries journal q alike) ∙ plan
 
 -- ---- over a script
-
-pub demands_end : (s : Script) (rest : List ℕ) (q : Demands) → IsReadAsDemands rest (Ok q) → (status : PlanStatus) (printed : List ℕ)
-    → IsDemandsEnd s q status printed → IsScriptEnd s rest status printed
-demands_end s rest q states PlanStatus.Done printed e = (q, states, e)
-demands_end s rest q states (PlanStatus.Plan fault) printed e = (q, states, e)
-demands_end s rest q states (PlanStatus.Demands fault) printed e = absurd e.ends
-demands_end s rest q states PlanStatus.Usage printed e = absurd e.ends
-demands_end s rest q states (PlanStatus.ScriptRefused fault) printed e = absurd e.ends
-demands_end s rest q states PlanStatus.NoMemory printed e = absurd e.ends
-demands_end s rest q states PlanStatus.ReadFault printed e = absurd e.ends
-demands_end s rest q states PlanStatus.WriteFault printed e = absurd e.ends
-demands_end s rest q states (PlanStatus.InputShort need have) printed e = absurd e.ends
-demands_end s rest q states PlanStatus.InputLong printed e = absurd e.ends
-
-pub script_end : (input : List ℕ) (s : Script) → IsPlanFrame input → ReadsScript (frame_script input) s → (status : PlanStatus) (printed : List ℕ)
-    → IsScriptEnd s (frame_rest input) status printed → IsPlanEnd input status printed
-script_end input s frame reads PlanStatus.Done printed e = record { frame = frame; script = s; reads = reads; ends = e }
-script_end input s frame reads (PlanStatus.Plan fault) printed e = record { frame = frame; script = s; reads = reads; ends = e }
-script_end input s frame reads (PlanStatus.Demands fault) printed e = record { frame = frame; script = s; reads = reads; ends = e }
-script_end input s frame reads PlanStatus.Usage printed e = absurd e
-script_end input s frame reads (PlanStatus.ScriptRefused fault) printed e = absurd e
-script_end input s frame reads PlanStatus.NoMemory printed e = absurd e
-script_end input s frame reads PlanStatus.ReadFault printed e = absurd e
-script_end input s frame reads PlanStatus.WriteFault printed e = absurd e
-script_end input s frame reads (PlanStatus.InputShort need have) printed e = absurd e
-script_end input s frame reads PlanStatus.InputLong printed e = absurd e

@@ -39,12 +39,6 @@ module _ (c : Configuration) (journal : List Entry) (q : Demands) where
 
   -- ---- the first faults
 
-  pub fault_named : (fault : PlanFault) → named_fault c q ≡ Some fault → plan_fault c journal q ≡ Some fault
-  fault_named fault is = ap (λ first. first or open_fault (effects journal) or short_fault c journal q or refused_in c journal (planned c journal q)) is
-
-  pub fault_open : (fault : PlanFault) → named_fault c q ≡ None → open_fault (effects journal) ≡ Some fault → plan_fault c journal q ≡ Some fault
-  fault_open fault named is = λ i. named i or is i or short_fault c journal q or refused_in c journal (planned c journal q)
-
   -- ---- the trial
 
   -- what is lost and zeroed

@@ -1,8 +1,7 @@
 -- The device behind a script and behind a list: one more line, and one more step.
-use Rattle.std.proofs.Common.{◌≡◌, ℕ, ◌+◌, true, false, List, [], ◌∷◌, ◌++◌, length, refl, sym, ap, subst, ◌∙◌, arith, append-nil}
+use Rattle.std.proofs.Common.{◌≡◌, ℕ, ◌+◌, true, List, [], ◌∷◌, ◌++◌, length, refl, sym, ap, subst, ◌∙◌, arith, append-nil, inl, inr}
 use Rattle.std.specs.List.{list_any}
-use Rattle.std.specs.Prelude.{if◌then◌else◌, IsFalse, IsTrue}
-use Rattle.std.proofs.Common.{inl, inr}
+use Rattle.std.specs.Prelude.{if◌then◌else◌, IsFalse}
 use Rattle.std.proofs.lemmas.Bool.{cases_Bool}
 use Rattle.std.proofs.lemmas.List.{length_push}
 use Rattle.std.proofs.lemmas.List.Sums.{fold_push}
@@ -80,9 +79,6 @@ one_more_step start old new acts s behind step =
           ∙ sym (ap length push ∙ length_push (stepped c start.journal acts) (entry_of_step c (stepped c start.journal acts) s));
     }
 
-pub no_step : (device : Plain) → IsBehindList device device []
-no_step device = record { config = refl; alike = record { past = refl; changes = λ h. refl }; count = refl }
-
 -- ---- the commands and scrubs of a journal alone
 
 -- how often a host's list has changed, with one more entry
@@ -100,9 +96,6 @@ alike_alone a b e alike none = record {
   past = alike.past ∙ sym (effects-push b e ∙ ap (λ new. effects b ++ new) none ∙ append-nil (effects b));
   changes = λ h. alike.changes h ∙ sym (changes-push h b e ∙ ap (moved h (changes_of h b)) none);
 }
-
-never : IsTrue false → ⊥
-never e = cc
 
 not_true : IsFalse true → ⊥
 not_true e = cc

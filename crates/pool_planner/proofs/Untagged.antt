@@ -1,14 +1,10 @@
 -- What a host's message lists has no tags.
 use Rattle.std.proofs.Common.{◌≡◌, ℕ, ◌-◌, Bool, true, false, List, [], ◌∷◌, refl}
-use Rattle.std.specs.Prelude.{◌==◌, if◌then◌else◌, map}
+use Rattle.std.specs.Prelude.{◌==◌, if◌then◌else◌}
 use Rattle.std.specs.List.{list_all}
 use Rattle.dcd_base.specs.declared.capacity.Extent.{Extent}
 use Rattle.host_payloads.specs.HostPayloads.{is_untagged}
-use Rattle.plan_rules.specs.Listing.{last_bytes, last_part, listed}
-
-pub listed_untagged : (xs : List Extent) → list_all is_untagged (map listed xs) ≡ true
-listed_untagged [] = refl
-listed_untagged (x ∷ xs) = listed_untagged xs
+use Rattle.plan_rules.specs.Listing.{last_bytes, last_part}
 
 pub last_untagged : (n : ℕ) (xs : List Extent) → list_all is_untagged (last_bytes n xs) ≡ true
 last_untagged n [] = refl

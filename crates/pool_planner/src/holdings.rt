@@ -9,7 +9,6 @@ use media_map::region_at;
 use region_config::Config;
 use std::alloc::Global;
 
-/// Whether the extent lies in the region.
 fn lies_in(config: &Config, host: HostId, region: RegionId, extent: &Extent) -> bool
     requires { host < config.now.hosts }
     ensures { result ≡ (region_with config.now host extent.now.start == region) }

@@ -69,7 +69,6 @@ fn is_sound(hosts: u8, step: &(Actor, Act)) -> bool
     fits(hosts, &step.0, &step.1) && is_short(&step.1)
 }
 
-/// Whether it is so of all acts.
 pub(crate) fn are_sound(hosts: u8, acts: &[(Actor, Act)]) -> bool
     ensures { IsTrue result → All (IsSoundStep hosts) acts.now }
 {

@@ -14,8 +14,7 @@ use Rattle.region_config.specs.Granules.{base_of, first_granule, granule_size, g
 use Rattle.region_config.specs.Setups.{bad_base, bad_count, bad_length, bad_order, bad_sizes, base_fault, config_fault, count_fault, decode_end, each_region, each_seat, faults, largest_size, length_fault, order_fault, sizes_fault, total_fault, unit}
 use Rattle.region_config.specs.Soundness.{IsSound, IsSoundRegion, IsSoundSeat}
 use Rattle.region_config.proofs.Powers.{largest_is, supported, top_bit}
-use Rattle.region_config.proofs.Searches.{fails, no_fault, none_at, none_from}
-use Rattle.region_config.proofs.Searches.{or_parts as neither}
+use Rattle.region_config.proofs.Searches.{fails, no_fault, none_at, none_from, or_parts as neither}
 
 -- a configuration in which no test finds a fault
 pub record Faultless (c : Configuration) : Type 0 where

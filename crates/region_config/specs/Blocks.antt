@@ -1,6 +1,5 @@
 -- How the block size of a region is changed.
-use Rattle.dcd_base.specs.Words.{flag_of}
-use Rattle.dcd_base.specs.Words.{◌or◌}
+use Rattle.dcd_base.specs.Words.{flag_of, ◌or◌}
 use Rattle.std.specs.declared.result.Result.{Result}
 use Rattle.std.specs.Prelude.{◌≡◌, ℕ, Bool, not, ◌==◌, MatchResult, None, Option, Some, slice_set}
 use Rattle.region_config.specs.Configurations.{Configuration}

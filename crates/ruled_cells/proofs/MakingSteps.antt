@@ -11,7 +11,7 @@ use Rattle.ruled_cells.specs.declared.about.SeatView.{SeatView}
 use Rattle.ruled_cells.specs.declared.cell_value.CellValue.{CellValue}
 use Rattle.ruled_cells.specs.declared.cell_value.CellValue.TheVariants.{Rest}
 use Rattle.ruled_cells.specs.declared.turns.seat_state.SeatState.{SeatState}
-use Rattle.ruled_cells.specs.Turning.{HasTurn, NoTurn, Seated, IsGiven, IsResting, enrolled, newcomer, opener}
+use Rattle.ruled_cells.specs.Turning.{HasTurn, NoTurn, Seated, IsGiven, enrolled, newcomer, opener}
 use Rattle.ruled_cells.specs.Telling.{fresh_seat, next_view, values}
 use Rattle.ruled_cells.specs.Making.{IsMaker, IsFilling, fills}
 use Rattle.ruled_cells.specs.declared.seat.Seat.{Seat}
@@ -37,10 +37,6 @@ each_front P a l here others zero b e = subst (P 0) (some-injective a b e) here
 each_front P a l here others (suc k) b e = others k b e
 
 module _ {F S : Type 0} where
-  -- seat 0 between two steps
-  pub maker_rests : (among made : ℕ) (about : About) (m : Seated (CellValue F S) SeatView) → IsMaker among made about m → IsResting 0 m
-  maker_rests among made about m h = record { number = h.number; live = h.live; still = h.still; bare = h.bare }
-
   pub maker_gave : (among made k : ℕ) (about : About) (x : CellValue F S) (m n : Seated (CellValue F S) SeatView) → IsMaker among made about m → IsGiven fills k m x n → IsMaker among made about n
   maker_gave among made k about x m n h g = subst (IsMaker among made about) (sym g.3) record { number = h.number; among_is = h.among_is; live = h.live; still = refl; makes = h.makes; made_is = h.made_is; client = g.4 ∙ h.client; bare = refl }
 
@@ -70,14 +66,6 @@ module _ {F S : Type 0} where
 
   pub filling_turn : (rest more : List S) (y : S) (m : Seated (CellValue F S) SeatView) → more ≡ rest ++ y ∷ [] → IsFilling more m → HasTurn m.0.taken (suc (length rest)) (Rest y)
   filling_turn rest more y m is h = h.turn (length rest) y (ap (λ (l : List S). get_elem? l (length rest)) is ∙ at_last rest y (length rest) refl)
-
-  pub filled : (rest : List S) (m : Seated (CellValue F S) SeatView) → rest ≡ [] → IsFilling rest m → NoTurn m.0.taken 0 → (k : ℕ) → NoTurn m.0.taken k
-  filled rest m is h free zero = free
-  filled rest m is h free (suc k) = let l : length rest ≡ 0 = ap length is in h.no_turn (suc k) (omega (arith, l))
-
-  -- at first seat 0 has all turns
-  pub opener_makes : (among : ℕ) (about : About) (first : F) (rest : List S) (m : Seated (CellValue F S) SeatView) → m ≡ (opener among (values first rest) (fresh_seat 0 about), []) → IsMaker among 1 about m
-  opener_makes among about first rest m e = subst (IsMaker among 1 about) (sym e) record { number = refl; among_is = refl; live = refl; still = refl; makes = refl; made_is = refl; client = refl; bare = refl }
 
   -- a seat is made
   pub maker_enrolled : (among made : ℕ) (about : About) (m n : Seated (CellValue F S) SeatView) → IsMaker among made about m → n ≡ (enrolled m.0, m.1) → IsMaker among (made + 1) about n × (n.0.taken ≡ m.0.taken)

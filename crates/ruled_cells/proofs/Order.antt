@@ -8,10 +8,6 @@ use Rattle.journal_core.specs.declared.entries.Entry.{Entry}
 use Rattle.ruled_cells.specs.Stamps.{Below, Rise, has_index, pending}
 use Rattle.ruled_cells.proofs.Places.{at_below, at_push}
 
-pub two : (b : Bool) → (b ≡ true) ⊎ (b ≡ false)
-two true = inl refl
-two false = inr refl
-
 pub never : {A : Type 0} (b : Bool) → b ≡ true → b ≡ false → A
 never b t f = absurd (let e : true ≡ false = sym t ∙ f in (cc))
 

@@ -19,7 +19,8 @@ use Rattle.ruled_cells.specs.Laws.{EntersOne, AccessEnters, ChangeIs, Stays, Acc
 use Rattle.ruled_cells.specs.Ruling.{Names, IsOwn, IsShard, Ruled}
 use Rattle.ruled_cells.specs.Telling.{next_view, begun, noted_view, changed_view, entered_view, joint_view, spent_view, MayNote, MayGiveFirst, Alike, MayEnter}
 use Rattle.ruled_cells.proofs.Places.{at_below, at_same, at_push}
-use Rattle.ruled_cells.proofs.Order.{two, never, below_trans, below_itself, below_after, rise_push, pending_more, pending_done, pending_new}
+use Rattle.journal_core.proofs.Sorting.{two}
+use Rattle.ruled_cells.proofs.Order.{never, below_trans, below_itself, below_after, rise_push, pending_more, pending_done, pending_new}
 
 -- what holds of the item that is put in a list and of the others holds of each
 pub each_set : {A : Type 0} (P : ℕ → A → Type 0) (l : List A) (i : ℕ) (a : A) → P i a → ((j : ℕ) (b : A) → j ≢ i → get_elem? l j ≡ some b → P j b) → (j : ℕ) (b : A) → get_elem? (set l i a) j ≡ some b → P j b

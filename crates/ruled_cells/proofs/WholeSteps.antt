@@ -16,7 +16,8 @@ use Rattle.ruled_cells.specs.Ruling.{Names, Ruled}
 use Rattle.ruled_cells.specs.Booking.{weight_one, total, Whole}
 use Rattle.ruled_cells.specs.Telling.{next_view, begun, noted_view, changed_view, entered_view, joint_view, spent_view, took_first, took_shard, noted_as, MayNote, MayGiveFirst, gave_first, Alike, MayEnter, MayGive, gave_shard}
 use Rattle.ruled_cells.proofs.Places.{at_below, at_same}
-use Rattle.ruled_cells.proofs.Order.{two, pending_some}
+use Rattle.journal_core.proofs.Sorting.{two}
+use Rattle.ruled_cells.proofs.Order.{pending_some}
 use Rattle.ruled_cells.proofs.Weights.{keeps_same, keeps_put, gains_put, gains_noted}
 use Rattle.ruled_cells.proofs.RuleSteps.{Laws, first_same, took_first_rule, took_shard_rule, same_pending, gave_first_rule, gave_alike_rule, gave_access_rule, gave_change_rule, noted_count, noted_rule, admitted_rule, merged_rule}
 use Rattle.ruled_cells.proofs.BookSteps.{books_keep, books_gain, books_admit, books_merge}

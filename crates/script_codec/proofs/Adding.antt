@@ -8,9 +8,6 @@ use Rattle.cci_codec.specs.field_bytes.specs.Layouts.{Field, spell, spelling}
 use Rattle.cci_codec.specs.field_bytes.proofs.Agreement.{fits-append}
 use Rattle.script_codec.specs.Writing.{AppendsLines}
 
-pub appends_nothing : (old : List ℕ) → AppendsLines old old []
-appends_nothing old = record { fits = tt; is = sym (append-nil old) }
-
 pub appends_then : {old mid new : List ℕ} {fs gs : List Field} → AppendsLines old mid fs → AppendsLines mid new gs → AppendsLines old new (fs ++ gs)
 appends_then {old} {mid} {new} {fs} {gs} a b = record {
   fits = fits-append fs gs a.fits b.fits;

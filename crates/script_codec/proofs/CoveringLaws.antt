@@ -62,7 +62,7 @@ rising hosts lanes number (Line.Do actor lane act ∷ lines) (e ∷ entries) run
     (rising hosts lanes (number + 1) lines entries runs.1)
 
 -- the line at its place
-placed : (front : List Line) (line : Line) (lines : List Line) → slice_get (front ++ line ∷ lines) (length front) ≡ Some line
+pub placed : (front : List Line) (line : Line) (lines : List Line) → slice_get (front ++ line ∷ lines) (length front) ≡ Some line
 placed [] line lines = refl
 placed (l ∷ front) line lines = placed front line lines
 

@@ -35,13 +35,6 @@ module _ {A : Type 0} (field : List ℕ → ℕ → Result (A × ℕ) ScriptFaul
   many_done xs n bytes place whole none is =
       sym is ∙ ap (λ m. with_fields xs (many_from field m bytes place)) none ∙ ap (λ ys. Ok (ys, place)) (append-nil xs)
 
-  pub many_begins : (n : ℕ) (bytes : List ℕ) (place : ℕ) → with_fields [] (many_from field n bytes place) ≡ many_from field n bytes place
-  many_begins n bytes place = by (many_from field n bytes place)
-    where
-      by : (r : Result (List A × ℕ) ScriptFault) → with_fields [] r ≡ r
-      by (Ok rest) = refl
-      by (Err fault) = refl
-
 -- these lines before those that are still to come
 abbrev pub with_lines : List Line → Result (List Line) ScriptFault → Result (List Line) ScriptFault
 with_lines lines (Ok rest) = Ok (lines ++ rest)
@@ -73,16 +66,6 @@ too_many n hosts lanes bytes place kind none e goes = ap (λ m. lines_from m hos
 
 -- ---- lines that were read stand before those that are still to come
 
-pub lines_begin : (rest : Result (List Line) ScriptFault) → with_lines [] rest ≡ rest
-lines_begin (Ok lines) = refl
-lines_begin (Err fault) = refl
-
 pub lines_go_on : (lines : List Line) (line : Line) (rest : Result (List Line) ScriptFault) → with_lines (lines ++ line ∷ []) rest ≡ with_lines lines (line_then line rest)
 lines_go_on lines line (Ok rest) = ap Ok (append_assoc lines (line ∷ []) rest)
 lines_go_on lines line (Err fault) = refl
-
-pub lines_end : (lines : List Line) (rest whole : Result (List Line) ScriptFault) → with_lines lines rest ≡ whole → rest ≡ Ok [] → whole ≡ Ok lines
-lines_end lines rest whole is none = sym is ∙ ap (with_lines lines) none ∙ ap Ok (append-nil lines)
-
-pub lines_fail : (lines : List Line) (rest whole : Result (List Line) ScriptFault) (fault : ScriptFault) → with_lines lines rest ≡ whole → rest ≡ Err fault → whole ≡ Err fault
-lines_fail lines rest whole fault is bad = sym is ∙ ap (with_lines lines) bad

@@ -1,5 +1,5 @@
 -- What a script that may be written is, line by line.
-use Rattle.std.proofs.Common.{◌≡◌, ℕ, ◌+◌, ◌*◌, ◌<◌, ◌≤◌, ◌⊎◌, inl, inr, Bool, true, false, ◌&&◌, ◌==◌, List, [], ◌∷◌, length, Some, None, refl, sym, ◌∙◌, arith}
+use Rattle.std.proofs.Common.{◌≡◌, ℕ, ◌+◌, ◌*◌, ◌<◌, ◌≤◌, inl, inr, Bool, true, false, ◌&&◌, ◌==◌, List, [], ◌∷◌, length, Some, None, refl, sym, ◌∙◌, arith}
 use Rattle.std.specs.Prelude.{IsTrue, nat_lt}
 use Rattle.std.specs.List.{list_all, All}
 use Rattle.std.proofs.lemmas.Bool.Decides.{nat_tests}
@@ -16,6 +16,7 @@ use Rattle.script_codec.specs.Scripts.{is_sound_line, are_lanes, bad_version}
 use Rattle.script_codec.specs.Writing.{IsWritable, has_spelling, has_short_message}
 use Rattle.region_config.proofs.Faultless.{GoodCount, count_found, good_count}
 use Rattle.std.proofs.lemmas.List.Elements.{All-cons}
+use Rattle.journal_core.proofs.Sorting.{two}
 
 -- both tests hold
 pub both_first : (a b : Bool) → (a && b) ≡ true → a ≡ true
@@ -25,10 +26,6 @@ both_first false b e = cc
 pub both_second : (a b : Bool) → (a && b) ≡ true → b ≡ true
 both_second true b e = e
 both_second false b e = cc
-
-two : (b : Bool) → (b ≡ true) ⊎ (b ≡ false)
-two true = inl refl
-two false = inr refl
 
 -- a configuration without fault has so many hosts and regions
 pub count_good : (c : Configuration) → config_fault c ≡ None → bad_count c.hosts (length c.regions) ≡ false

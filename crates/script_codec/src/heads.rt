@@ -117,7 +117,6 @@ fn lanes_at(version: u16, bytes: &[u8], at: usize) -> Result<(u8, usize), Script
     }
 }
 
-/// A region.
 #[tactic(auto, unfolding(crate::specs::Heads::region_from))]
 fn region_at(bytes: &[u8], at: usize) -> Result<(RegionSpec, usize), ScriptFault>
     requires { at ≤ length bytes.now }

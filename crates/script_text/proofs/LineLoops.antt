@@ -99,10 +99,6 @@ hosts_fail regions turn done u old us fault whole here begun read is =
     sym is ∙ ap (λ vs. hosts_behind done (host_lines_at regions turn vs)) here ∙ ap (hosts_behind done) (hosts_step regions turn u us begun) ∙ hosts_bad regions turn done us (host_line_ahead regions turn u) fault read
 
 -- ---- the lines of the script
-pub lines_begin : (read : Result (List Line) TextFault) → lines_behind [] read ≡ read
-lines_begin (Ok x) = refl
-lines_begin (Err fault) = refl
-
 pub lines_end : (left : ℕ) (frame : Frame) (done : List Line) (us : List UnreadWords) (whole : Result (List Line) TextFault) → us ≡ [] → lines_behind done (lines_at left frame us) ≡ whole → whole ≡ Ok done
 unfolding lines_at
 lines_end left frame done [] whole none is = sym is ∙ ap (λ ls. Ok ls) (append-nil done)

@@ -16,14 +16,11 @@ use Rattle.text_lines.specs.Layouts.{line_parts, most_64}
 use Rattle.text_lines.specs.Parts.{Form, Part, parts_words}
 use Rattle.text_lines.specs.declared.actors.Frame.{Frame}
 use Rattle.script_text.specs.LinePrinting.{AddsLine, AddsParts, PrintsLine, printed_words}
-use Rattle.script_text.proofs.PrintLaws.{adds_then}
+use Rattle.script_text.proofs.PrintLaws.{adds_then, each_then as all_then}
 use Rattle.script_text.specs.Layouts.{ReadsLines, Says, SaysLines, base_parts, frame_of_script, head_parts, host_parts, hosts_parts, region_parts, regions_parts}
 use Rattle.script_text.specs.Printing.{AddsLines, AddsScriptLines, printed_line, printed_script_line, script_text, text_parts}
 
 -- ---- lines of the head
-pub lines_none : (old : List ℕ) → AddsLines old old []
-lines_none old = record { is = sym (append-nil old); reads = tt; each = tt }
-
 reads_then : (ps qs : List (List Part)) → ReadsLines (map parts_words ps) ps → ReadsLines (map parts_words qs) qs → ReadsLines (map parts_words (ps ++ qs)) (ps ++ qs)
 reads_then [] qs a b = b
 reads_then (p ∷ ps) qs a b = (a.0, reads_then ps qs a.1 b)
@@ -93,9 +90,6 @@ base_is h n bases i under = get_or-take n (drop (h * n) bases) i 0 under ∙ get
 
 -- ---- lines of the script
 module _ (frame : Frame) where
-  pub script_lines_none : (old : List ℕ) → AddsScriptLines frame old old []
-  script_lines_none old = record { is = sym (append-nil old); says = tt; each = tt }
-
   says_then : (xs ys : List Line) → SaysLines frame (map (printed_words frame) xs) xs → SaysLines frame (map (printed_words frame) ys) ys → SaysLines frame (map (printed_words frame) (xs ++ ys)) (xs ++ ys)
   says_then [] ys a b = b
   says_then (x ∷ xs) ys a b = (a.0, says_then xs ys a.1 b)
@@ -124,10 +118,6 @@ flat_of_map f g (x ∷ xs) = ap (λ text. f (g x) ++ text) (flat_of_map f g xs)
 map_of_map : {X Y Z : Type 0} (f : Y → Z) (g : X → Y) (xs : List X) → map f (map g xs) ≡ map (λ x. f (g x)) xs
 map_of_map f g [] = refl
 map_of_map f g (x ∷ xs) = ap (λ ys. f (g x) ∷ ys) (map_of_map f g xs)
-
-all_then : {X : Type 0} (P : X → Type 0) (xs ys : List X) → AllByRecursion P xs → AllByRecursion P ys → AllByRecursion P (xs ++ ys)
-all_then P [] ys a b = b
-all_then P (x ∷ xs) ys a b = (a.0, all_then P xs ys a.1 b)
 
 -- what was printed is the text of the script
 pub printed_text : (s : Script) (old mid new : List ℕ) → AddsLines old mid (head_parts s) → AddsScriptLines (frame_of_script s) mid new s.lines → new ≡ old ++ script_text s

@@ -9,7 +9,6 @@ use Rattle.field_bytes.specs.Layouts.{Field, Number, spell, spelling}
 use Rattle.region_config.specs.declared.region_spec.RegionSpec.{RegionSpec}
 use Rattle.text_lines.specs.script_codec.specs.Scripts.{lanes_fields, line_fields, region_fields, script_head, start_fields}
 use Rattle.text_lines.specs.script_codec.specs.Writing.{script_bytes}
-use Rattle.text_lines.specs.script_codec.specs.declared.script_line.Line.{Line}
 use Rattle.text_lines.specs.script_codec.specs.declared.scripts.Script.{Script}
 
 joined_size : (fs gs : List Field) → length (spelling (fs ++ gs)) ≡ length (spelling fs) + length (spelling gs)
@@ -47,14 +46,6 @@ head_told s regions hosts r h all =
     (λ i. 16 + 40 * r i + 8 * h i * r i) ∙ omega (arith, times, size)
 
 -- ---- the lines
-
--- one line more
-pub size_more : (lines : List Line) (line : Line) (size next : ℕ) → size ≡ min (length (spelling (flat_map line_fields lines))) 18446744073709551615
-    → next ≡ min (size + length (spelling (line_fields line))) 18446744073709551615 → next ≡ min (length (spelling (flat_map line_fields (lines ++ line ∷ [])))) 18446744073709551615
-size_more lines line size next is more =
-    let both = ap (λ fs. length (spelling fs)) (flat_map-append line_fields lines (line ∷ [])) ∙ joined_size (flat_map line_fields lines) (line_fields line ++ []) in
-    let one = joined_size (line_fields line) [] in
-    omega (arith, is, more, both, one)
 
 -- ---- the whole
 whole_size : (s : Script) → length (script_bytes s) ≡ length (spelling (script_head s)) + length (spelling (flat_map line_fields s.lines)) + 1

@@ -54,7 +54,6 @@ fn put_listing(more: bool, extents: &[Extent], out: &mut Bytes) -> Result<(), No
     Ok(())
 }
 
-/// The command of a request.
 fn host_command_of(request: &HostRequest) -> HostCommand
     ensures { result ≡ command_said request.now }
 {

@@ -107,7 +107,6 @@ fn put_remove(
     Ok(())
 }
 
-/// The command of a request.
 fn manager_command_of(request: &FmRequest) -> ManagerCommand
     ensures { result ≡ command_said request.now }
 {

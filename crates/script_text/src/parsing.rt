@@ -71,7 +71,6 @@ fn short(end: u64, script: Script) -> Result<Script, TextFault>
     Ok(script)
 }
 
-/// The script of the lines of a text.
 #[tactic(auto, unfolding(crate::specs::Texts::script_of_lines))]
 fn script_of(alloc: Global, lines: &mut TextLines<'_>) -> Result<Script, TextFault>
     ensures { GivesLast (λ script. script) result (script_of_lines lines.old.end lines.old.lines) }

@@ -1,5 +1,5 @@
 -- An extent that is not misplaced in a region is made of granules of it.
-use Rattle.std.proofs.Common.{◌≡◌, ℕ, zero, suc, List, [], ◌∷◌, ◌+◌, ◌-◌, ◌*◌, ◌/◌, ◌%◌, ◌<◌, ◌≤◌, Bool, true, false, eqb, leb, ltb, length, Some, None, refl, ap, sym, subst, ◌∙◌, inl, inr, arith, div-add-mod'}
+use Rattle.std.proofs.Common.{◌≡◌, ℕ, zero, suc, List, ◌∷◌, ◌+◌, ◌-◌, ◌*◌, ◌/◌, ◌%◌, ◌<◌, ◌≤◌, Bool, true, false, eqb, leb, ltb, length, Some, None, refl, ap, sym, subst, ◌∙◌, inl, inr, arith, div-add-mod'}
 use Rattle.std.specs.Prelude.{All, ◌&&◌}
 use Rattle.std.proofs.lemmas.Bool.{and_parts, cases_Bool, eqb-false, eqb-true, leb-true, ltb-true}
 use Rattle.std.proofs.lemmas.Option.{none-some}
@@ -12,12 +12,11 @@ use Rattle.list_rules.specs.Listing.{is_aligned, lies_in_region, misplaced}
 use Rattle.list_rules.specs.media_map.specs.Places.{IsRun, is_granular, region_at, run_in, run_of}
 use Rattle.list_rules.specs.media_map.proofs.PlaceLemmas.{has}
 use Rattle.list_rules.specs.media_map.proofs.RunLemmas.{IsGranular, granular_from, is_run, region_at_is}
-use Rattle.selection.specs.Selections.{AreBetween}
 use Rattle.list_rules.specs.media_map.specs.region_config.specs.Configurations.{Configuration}
 use Rattle.list_rules.specs.media_map.specs.region_config.specs.Granules.{base_of, first_granule, granule_size, granule_total, region_of, region_spec}
 use Rattle.list_rules.specs.media_map.specs.region_config.specs.Soundness.{IsSound}
 use Rattle.list_rules.specs.media_map.specs.region_config.proofs.Faultless.{granules_rise}
-use Rattle.list_rules.specs.media_map.specs.region_config.proofs.GranuleLemmas.{of_region, region_is}
+use Rattle.list_rules.specs.media_map.specs.region_config.proofs.GranuleLemmas.{of_region}
 
 -- The extent lies in the region, and blocks of it begin and end where the extent does.
 pub record IsPlaced (c : Configuration) (h : HostId) (r : ℕ) (x : Extent) : Type 0 where
@@ -58,7 +57,7 @@ placed c h r i x none = elim (cases_Bool (eqb x.length 0)) [
 ]
 
 -- what is made of blocks is made of their granules
-of_parts : (n block size : ℕ) → block % size ≡ 0 → n % block ≡ 0 → n % size ≡ 0
+pub of_parts : (n block size : ℕ) → block % size ≡ 0 → n % block ≡ 0 → n % size ≡ 0
 of_parts n block size whole ends =
     let blocks : n ≡ n / block * block = omega (arith, div-add-mod' n block, ends) in
     let granules : block ≡ block / size * size = omega (arith, div-add-mod' block size, whole) in
@@ -108,22 +107,3 @@ pub run_below : (c : Configuration) (run : Run) → IsRun c run → run.first + 
 run_below c run is =
     let region = of_region c run.first is.known in
     omega (arith, is.within, granules_rise c (suc (region_of c run.first)) (length c.regions) region.known)
-
-ends_at : (from to : ℕ) (runs : List Run) → AreBetween from to runs → from ≤ to
-ends_at from to [] rises = rises
-ends_at from to (run ∷ runs) rises = omega (arith, rises.0, ends_at (run.first + run.count) to runs rises.2)
-
--- runs one behind another among the granules of a region are runs of the device
-pub region_runs : (c : Configuration) (r from to : ℕ) (runs : List Run) → r < length c.regions → first_granule c r ≤ from → to ≤ first_granule c (suc r)
-    → AreBetween from to runs → All (IsRun c) runs
-region_runs c r from to [] known low high rises = λ k d below. absurd (omega (arith, below))
-region_runs c r from to (run ∷ runs) known low high rises =
-    let ends = ends_at (run.first + run.count) to runs rises.2 in
-    let region : region_of c run.first ≡ r = region_is c run.first r known (omega (arith, low, rises.0)) (omega (arith, rises.1, ends, high)) in
-    let here : IsRun c run = record {
-      some = rises.1;
-      known = omega (arith, rises.1, ends, high, granules_rise c (suc r) (length c.regions) known);
-      within = subst (λ k. run.first + run.count ≤ first_granule c (suc k)) (sym region) (omega (arith, ends, high));
-    } in
-    let rest = region_runs c r (run.first + run.count) to runs known (omega (arith, low, rises.0)) high rises.2 in
-    all_cons (IsRun c) run runs here rest

@@ -23,7 +23,7 @@ use Rattle.selection.specs.Selections.{AreApart, all_free, are_free, free_extent
 use Rattle.selection.proofs.Placed.{IsPlaced, all_cons, bytes_of, its_run, placed, run_is_run, starts_at}
 
 -- neither of two rules is broken
-neither : (a b : Option Rule) → (a or b) ≡ None → (a ≡ None) × (b ≡ None)
+pub neither : (a b : Option Rule) → (a or b) ≡ None → (a ≡ None) × (b ≡ None)
 neither None b none = (refl, none)
 neither (Some r) b none = absurd (none-some r (sym none))
 
@@ -56,7 +56,7 @@ none_from p i (y ∷ front) x back none = elim (cases_Bool (p y)) [
   | inr fails ↦ none_from p (i + 1) front x back (rw fails at none)
 ]
 
-option_none : (f : ℕ → Rule) (o : Option ℕ) → option_map f o ≡ None → o ≡ None
+pub option_none : (f : ℕ → Rule) (o : Option ℕ) → option_map f o ≡ None → o ≡ None
 option_none f None none = refl
 option_none f (Some j) none = absurd (none-some (f j) (sym none))
 

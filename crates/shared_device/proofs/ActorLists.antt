@@ -8,9 +8,6 @@ use Rattle.std.proofs.lemmas.List.Concat.{flat_map-cons}
 use Rattle.std.proofs.lemmas.List.FromFn.{length-range_with_len}
 use Rattle.std.proofs.Math.Nat.{suc-mul}
 use Rattle.dcd_base.specs.declared.steps.Actor.{Actor}
-use Rattle.region_config.specs.Configurations.{Configuration}
-use Rattle.region_config.specs.Granules.{hosts_of}
-use Rattle.shared_device.specs.Commanding.{actors_of}
 
 range_more : (a n : ℕ) → range_with_len a (suc n) ≡ range_with_len a n ++ (a + n) ∷ []
 range_more a zero = let e : a ≡ a + 0 = omega arith in ap (λ x. x ∷ []) e
@@ -42,9 +39,3 @@ lanes_count lanes (h ∷ hosts) =
 -- as many as the hosts have lanes
 pub lanes_below : (lanes n : ℕ) → length (lanes_of lanes (range_with_len 0 n)) ≡ n * lanes
 lanes_below lanes n = lanes_count lanes (range_with_len 0 n) ∙ ap (λ m. m * lanes) (length-range_with_len 0 n)
-
-pub actors_count : (c : Configuration) (lanes : ℕ) → length (actors_of c lanes) ≡ c.hosts * lanes + 2
-actors_count c lanes =
-    let a = length-append (lanes_of lanes (hosts_of c)) (Actor.Manager ∷ Actor.Sanitizer ∷ []) in
-    let b = lanes_below lanes c.hosts in
-    omega (arith, a, b)

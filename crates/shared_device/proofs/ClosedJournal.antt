@@ -10,8 +10,7 @@ use Rattle.dcd_base.specs.declared.steps.Stamp.{Stamp}
 use Rattle.control_core.specs.device_rules.specs.Legal.{Legal}
 use Rattle.control_core.specs.device_laws.proofs.ExclusiveHolding.{legal_exclusive}
 use Rattle.block_shard.specs.journal_core.specs.declared.entries.Entry.{Entry}
-use Rattle.block_shard.specs.journal_core.specs.Merging.{AllRise}
-use Rattle.block_shard.specs.journal_core.specs.Merging.{Numbered, Rising, call_of, calls_of, is_later, merged}
+use Rattle.block_shard.specs.journal_core.specs.Merging.{AllRise, Numbered, Rising, call_of, calls_of, is_later, merged}
 use Rattle.block_shard.specs.journal_core.proofs.Filters.{all_flat}
 use Rattle.block_shard.specs.journal_core.proofs.MergedFilters.{merged-all}
 use Rattle.block_shard.specs.journal_core.proofs.Splits.{all_at, all_from_places}

@@ -8,7 +8,6 @@ use lib.ListN.{get_elem?}
 use Rattle.atomic_table.proofs.Lists.{set_else}
 use Rattle.control_core.specs.declared.plan.Plan.{Plan}
 use Rattle.control_core.specs.device_rules.specs.ChangedRuns.{AreChanges}
-use Rattle.control_core.specs.device_rules.specs.Legal.{Legal}
 use Rattle.block_shard.specs.journal_core.specs.declared.entries.Entry.{Entry}
 use Rattle.block_shard.specs.journal_core.specs.Entries.{effects}
 use Rattle.region_config.specs.Configurations.{Configuration}
@@ -17,21 +16,21 @@ use Rattle.block_shard.specs.ruled_cells.specs.declared.cell_value.CellValue.{Ce
 use Rattle.block_shard.specs.ruled_cells.specs.declared.cell_value.CellValue.TheVariants.{Rest}
 use Rattle.block_shard.specs.ruled_cells.specs.declared.cells.Cells.{Cells}
 use Rattle.block_shard.specs.ruled_cells.specs.declared.seat.Seat.{Seat}
-use Rattle.block_shard.specs.ruled_cells.specs.Calls.{GaveIn, IsOf, MayGiveFirstIn, MayGiveIn, MayNoteIn, row_of}
+use Rattle.block_shard.specs.ruled_cells.specs.Calls.{GaveIn, IsOf, MayGiveIn, MayNoteIn, row_of}
 use Rattle.block_shard.specs.ruled_cells.specs.Reads.{about_of}
 use Rattle.block_shard.specs.ruled_cells.specs.Ruling.{Names, names}
 use Rattle.block_shard.specs.ruled_cells.specs.Seats.{HasCell, HasFirst, IsSameSeat, NoCell, NoTurns, seat_number, seat_view, turns_of}
-use Rattle.block_shard.specs.ruled_cells.specs.Stamps.{Below, has_index, pending, stamp, stamps_after}
+use Rattle.block_shard.specs.ruled_cells.specs.Stamps.{Below, has_index, pending, stamp}
 use Rattle.block_shard.specs.ruled_cells.specs.Telling.{GaveCell, MayNote, changed_view, entered_view, last_of, noted_view}
 use Rattle.block_shard.specs.ruled_cells.specs.Turning.{HasTurn}
-use Rattle.block_shard.specs.ruled_cells.proofs.Order.{never, two}
+use Rattle.block_shard.specs.ruled_cells.proofs.Order.{never}
 use Rattle.block_shard.specs.shard_laws.specs.Belonging.{touches_shard}
 use Rattle.block_shard.specs.shard_laws.specs.Changing.{ChangedBy, MakesChanges}
 use Rattle.block_shard.specs.shard_laws.specs.Owed.{FollowsEffects}
 use Rattle.block_shard.specs.shard_laws.specs.Right.{stripe_reads}
 use Rattle.block_shard.specs.shard_laws.specs.Stripes.{Stripe}
 use Rattle.shared_device.specs.Commanding.{Commanding, commanding_reads}
-use Rattle.shared_device.specs.Entering.{AreApart, HasNoted, HasOneMore, HasOnlyFirst, HasTouched, MayEnterStep}
+use Rattle.shared_device.specs.Entering.{AreApart, HasNoted, HasOneMore, HasTouched, MayEnterStep}
 use Rattle.shared_device.proofs.Turns.{same_cell, still_there}
 use Rattle.shared_device.proofs.TurnsBack.{last_given}
 
@@ -235,39 +234,6 @@ noted_till index at e v v' le apart noted = record {
 }
 
 -- ---- the control is given back
-
-none_waits : (e : Entry) (changed : List ℕ) → ((k : ℕ) → 0 ≤ k → k < 16 → touches_shard k e ≡ true → has_index (suc k) changed ≡ true) → (k : ℕ) → 0 < k → k < 17 → pending w.touches (Some e) changed k ≡ false
-none_waits e changed done zero pos lt = refl
-none_waits e changed done (suc k) pos lt = ⊎_elim
-    (λ (t : touches_shard k e ≡ true). let h = done k (omega arith) (omega (arith, lt)) t in (λ i. t i && not (h i)))
-    (λ (f : touches_shard k e ≡ false). (λ i. f i && not (has_index (suc k) changed)))
-    (two (touches_shard k e))
-
-pub may_end : (cells : Cells Commanding Stripe) (s t : Worker) (c d : Commanding) (plan : Plan) → row_of cells ≡ 16 → MayEnterStep s c plan → turns_of t ≡ turns_of s
-    → HasNoted 0 plan.entry (seat_view s) (seat_view t) → HasOneMore c d plan.entry → MayGiveFirstIn commanding_reads stripe_reads cells t d
-may_end cells s t c d plan sixteen may turns noted more =
-    let e : Entry = plan.entry in (
-      may.taken,
-      ap (λ l. get_elem? l 0) turns ∙ may.turn,
-      record {
-        about_is = same_about s c d plan may more;
-        sound = more.legal;
-        journal_is = longer_by s c d plan may more ∙ ap (λ (u : SeatView). stamps_after may.taken.entries u.entry) (sym noted.view_is);
-        none_left = λ k pos lt. ap (λ (u : SeatView). pending w.touches u.entry u.changed k) noted.view_is ∙ none_waits e noted.changed noted.done k pos (omega (arith, lt, sixteen));
-      },
-    )
-
-pub may_give_up : (cells : Cells Commanding Stripe) (s : Worker) (c : Commanding) → (seat_view s).entry ≡ None → HasOnlyFirst s c → MayGiveFirstIn commanding_reads stripe_reads cells s c
-may_give_up cells s c idle only = (
-  only.taken,
-  only.turn,
-  record {
-    about_is = λ i. record { config = only.same.config_is i; actors = only.same.actors_are i };
-    sound = subst (λ (l : List Entry). Legal c.config l) (sym only.same.entries_are) (subst (λ (d : Configuration). Legal d only.taken.entries) (sym only.same.config_is) only.legal);
-    journal_is = only.same.entries_are ∙ ap (stamps_after only.taken.entries) (sym idle);
-    none_left = λ k pos lt. ap (λ o. pending w.touches o (seat_view s).changed k) idle;
-  },
-)
 
 -- with the last turn no other is left
 pub bare_after : (s t u : Worker) → turns_of t ≡ turns_of s → ((k : ℕ) → NoCell s k) → turns_of u ≡ set (turns_of t) 0 None → NoTurns u

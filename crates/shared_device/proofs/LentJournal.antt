@@ -7,7 +7,6 @@ use Rattle.std.specs.declared.result.Result.TheVariants.{Ok, Err}
 use Rattle.std.proofs.lemmas.Bool.{cases_Bool}
 use Rattle.std.proofs.lemmas.List.Elements.{All-cons, All-head, All-nil, All-tail, All-weaker}
 use Rattle.std.proofs.lemmas.List.Kept.{AllPairs-filter}
-use Rattle.cci_codec.specs.declared.messages.Request.{Request}
 use Rattle.control_core.specs.Deciding.{AreShort, IsShort}
 use Rattle.dcd_base.specs.declared.failures.AccessFault.{AccessFault}
 use Rattle.dcd_base.specs.declared.ids.HostId.{HostId}

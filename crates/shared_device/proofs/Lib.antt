@@ -6,7 +6,7 @@ mod LentJournal
 mod NewPasses
 mod Rests
 mod ToldCalls
-mod Turns
+pub mod Turns
 mod TurnsBack
 mod Visits
 mod WeighedCalls

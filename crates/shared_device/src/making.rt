@@ -77,7 +77,6 @@ fn fresh_shards(alloc: Global, config: &Config) -> Result<Vec<ShardCell>, NoMemo
     Ok(row)
 }
 
-/// The fresh shard of an index.
 fn fresh_shard(alloc: Global, index: u32, config: &Config) -> Result<ShardCell, NoMemory>
     requires { index < 16 }
     ensures { IfOk result (λ cell. IsFreshStripe config.now index cell × IsRight index cell []) }

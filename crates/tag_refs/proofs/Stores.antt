@@ -1,5 +1,5 @@
 -- What a write of the entry of a tag, and its removal, make of the table as it is stored.
-use Rattle.std.proofs.Common.{◌≡◌, true, false, List, [], ◌∷◌, ◌++◌, Option, Some, None, is_some, MutBor, refl, sym, ◌∙◌, ap, subst, true≢false}
+use Rattle.std.proofs.Common.{◌≡◌, false, List, [], ◌∷◌, ◌++◌, Option, Some, None, is_some, MutBor, refl, sym, ◌∙◌, ap, subst, true≢false}
 use Rattle.std.specs.List.{IsDistinct}
 use Rattle.std.specs.Map.{lookup, set_value, remove_entry, values_of, keys_of}
 use Rattle.std.specs.Option.{option_copied_mut}

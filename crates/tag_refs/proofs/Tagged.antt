@@ -1,5 +1,5 @@
 -- What a change of one tag makes of the entries, none of which has the tag of another.
-use Rattle.std.proofs.Common.{ℕ, zero, suc, ◌≡◌, Bool, true, false, true≢false, cond, List, [], ◌∷◌, ◌++◌, map, take, slice_get, Option, Some, None, is_some, refl, sym, ◌∙◌, ap, subst}
+use Rattle.std.proofs.Common.{ℕ, zero, suc, ◌≡◌, Bool, true, false, true≢false, cond, List, [], ◌∷◌, ◌++◌, map, take, slice_get, Some, refl, sym, ◌∙◌, ap, subst}
 use Rattle.std.specs.Cmp.Lexicographic.{same_text}
 use Rattle.std.specs.List.{AllByRecursion, IsDistinct}
 use Rattle.std.specs.Map.{lookup, set_value, remove_entry, values_of, keys_of}
@@ -9,7 +9,7 @@ use Rattle.dcd_base.specs.Words.{same_tag}
 use Rattle.dcd_base.specs.declared.capacity.Tag.{Tag}
 use Rattle.tag_refs.specs.declared.entries.TagEntry.{TagEntry}
 use Rattle.tag_refs.specs.Stored.{stored}
-use Rattle.tag_refs.specs.Tables.{entries_changed, entries_without, entry_with, has_entry, is_entry_of, passes, some_passes}
+use Rattle.tag_refs.specs.Tables.{entries_changed, entries_without, entry_with, has_entry, is_entry_of}
 
 -- no two of the entries have one tag
 abbrev pub AreApart : List TagEntry → Type 0
@@ -39,10 +39,6 @@ lookup_stored t (x ∷ xs) = ap (cond (is_entry_of t x) (Some x)) (lookup_stored
 pub values_stored : (xs : List TagEntry) → values_of (stored xs) ≡ xs
 values_stored [] = refl
 values_stored (x ∷ xs) = ap (λ ys. x ∷ ys) (values_stored xs)
-
-found_none : (t : Tag) (xs : List TagEntry) → AreOthers t xs → entry_with t xs ≡ None
-found_none t [] others = refl
-found_none t (x ∷ xs) others = rw others.0 (found_none t xs others.1)
 
 the_same : (x e : TagEntry) → Some x ≡ Some e → x ≡ e
 the_same x e same = cc
@@ -139,11 +135,3 @@ none_left t (x ∷ xs) = by (is_entry_of t x) refl (none_left t xs)
     by : (b : Bool) → is_entry_of t x ≡ b → has_entry t (entries_without t xs) ≡ false → has_entry t (entries_without t (x ∷ xs)) ≡ false
     by true here rest = rw here rest
     by false here rest = rw here (rw here rest)
-
--- a tag with an entry that passes a test has one
-pub passes_there : (t : Tag) (test : TagEntry → Bool) (xs : List TagEntry) → passes t test xs ≡ true → has_entry t xs ≡ true
-passes_there t test xs it = by (entry_with t xs) it
-  where
-    by : (found : Option TagEntry) → some_passes test found ≡ true → is_some found ≡ true
-    by None none = none
-    by (Some e) it = refl

@@ -1,5 +1,5 @@
 -- The table of live tags, and what each call makes of it.
-use Rattle.std.specs.Prelude.{◌≡◌, ℕ, ◌==◌, Bool, true, false, if◌then◌else◌, not, ◌||◌, Option, Some, None, is_some, List, map, filter}
+use Rattle.std.specs.Prelude.{ℕ, ◌==◌, Bool, true, false, if◌then◌else◌, not, ◌||◌, Option, Some, None, is_some, List, map, filter}
 use Rattle.std.specs.List.{find, IsDistinct}
 use Rattle.dcd_base.specs.Words.{same_tag}
 use Rattle.dcd_base.specs.declared.capacity.Tag.{Tag}

@@ -1,5 +1,5 @@
 -- The steps of the loops over the words of a list, and over the words of a message.
-use Rattle.std.proofs.Common.{◌≡◌, ℕ, zero, suc, ◌+◌, ◌-◌, ◌<◌, ◌≤◌, true, false, ◌==◌, nat_lt, ◌⊎◌, List, [], ◌∷◌, ◌++◌, length, Option, Some, None, Result, Ok, Err, refl, sym, ap, ◌∙◌, inl, inr, arith, append-nil, append_assoc}
+use Rattle.std.proofs.Common.{◌≡◌, ℕ, ◌+◌, ◌-◌, ◌<◌, ◌≤◌, true, false, ◌==◌, nat_lt, ◌⊎◌, List, [], ◌∷◌, ◌++◌, length, Option, Some, None, Result, Ok, Err, refl, sym, ap, ◌∙◌, inl, inr, arith, append-nil, append_assoc}
 use lib.Pointwise.{pointwise}
 use Rattle.std.proofs.lemmas.Bool.{cond-false, cond-true, le-ltb, lt-ltb}
 use Rattle.text_lines.specs.Pairs.{AppendsPairs, pairs_said}
@@ -67,19 +67,6 @@ module _ {A : Type 0} (read : List ℕ → Result A Cause) where
       let step : told u (and_room left (read (first_unread u))) ≡ Err fault = sym (one_told wanted u (and_room left (read (first_unread u))) some) ∙ here in
       sym is ∙ ap (list_behind xs) (steps_at left u.line u.word u.words some other
       ∙ ap (item_then left) step)
-
-  room_is : (left : ℕ) (r : Result A Cause) (x : A) → and_room left r ≡ Ok x → 0 < left
-  room_is zero (Ok y) x is = cc
-  room_is (suc n) (Ok y) x is = omega arith
-  room_is left (Err cause) x is = cc
-
-  told_room : (u v : UnreadWords) (left : ℕ) (x : A) (r : Result A Cause) → and_room left (read (first_unread u)) ≡ r → told u r ≡ Ok (x, v) → 0 < left
-  told_room u v left x (Ok y) e is = room_is left (read (first_unread u)) y e
-  told_room u v left x (Err cause) e is = cc
-
-  -- a word is taken only where there is room
-  pub some_room : (wanted : Wanted) (left : ℕ) (u v : UnreadWords) (x : A) → is_done u ≡ false → one_word wanted u (and_room left (read (first_unread u))) ≡ Ok (x, v) → 0 < left
-  some_room wanted left u v x some here = told_room u v left x (and_room left (read (first_unread u))) refl (sym (one_told wanted u (and_room left (read (first_unread u))) some) ∙ here)
 
 -- ---- the bytes of a message
 bytes_end_at : (before : List ℕ) (line word : ℕ) (words : List (List ℕ)) → none_left words ≡ true → bytes_at before line word words ≡ Ok (before, record { line = line; word = word; words = words })

@@ -99,7 +99,6 @@ pub fn command(alloc: Global, words: &mut Words<'_>, frame: Frame) -> Result<Lin
     Ok(line_by(speaker, Act::Command(request)))
 }
 
-/// The opcode of a request of a host.
 fn host_opcode_of(request: &HostRequest) -> u16
     ensures { result ≡ host_opcode request.now }
 {
@@ -128,7 +127,6 @@ fn host_message(alloc: Global, tag: u8, request: &HostRequest) -> Result<Request
     })
 }
 
-/// The opcode of a request of the manager.
 fn manager_opcode_of(request: &FmRequest) -> u16
     ensures { result ≡ manager_opcode request.now }
 {

@@ -20,7 +20,6 @@ fn size_of(piece: &[u8]) -> Option<u64>
     }
 }
 
-/// The mask with a size.
 fn with_size(mask: u64, size: u64) -> Option<u64>
     requires { 0 < size }
     ensures { result ≡ mask_with mask size }

@@ -38,20 +38,6 @@ abbrev pub with_fabric_lines : List FabricLine → Result (List FabricLine) Scri
 with_fabric_lines lines (Ok rest) = Ok (lines ++ rest)
 with_fabric_lines lines (Err fault) = Err fault
 
-pub fabric_lines_begin : (rest : Result (List FabricLine) ScriptFault) → with_fabric_lines [] rest ≡ rest
-fabric_lines_begin (Ok lines) = refl
-fabric_lines_begin (Err fault) = refl
-
-pub fabric_lines_go_on : (lines : List FabricLine) (line : FabricLine) (rest : Result (List FabricLine) ScriptFault) → with_fabric_lines (lines ++ line ∷ []) rest ≡ with_fabric_lines lines (fabric_line_then line rest)
-fabric_lines_go_on lines line (Ok rest) = ap Ok (append_assoc lines (line ∷ []) rest)
-fabric_lines_go_on lines line (Err fault) = refl
-
-pub fabric_lines_end : (lines : List FabricLine) (rest whole : Result (List FabricLine) ScriptFault) → with_fabric_lines lines rest ≡ whole → rest ≡ Ok [] → whole ≡ Ok lines
-fabric_lines_end lines rest whole is none = sym is ∙ ap (with_fabric_lines lines) none ∙ ap Ok (append-nil lines)
-
-pub fabric_lines_fail : (lines : List FabricLine) (rest whole : Result (List FabricLine) ScriptFault) (fault : ScriptFault) → with_fabric_lines lines rest ≡ whole → rest ≡ Err fault → whole ≡ Err fault
-fabric_lines_fail lines rest whole fault is bad = sym is ∙ ap (with_fabric_lines lines) bad
-
 -- ---- devices
 
 -- these devices before those that are still to come
@@ -81,10 +67,3 @@ pub devices_done : (xs : List Configuration) (n : ℕ) (bytes : List ℕ) (place
 unfolding devices_from
 devices_done xs n bytes place whole none is =
     sym is ∙ ap (λ m. with_devices xs (devices_from m bytes place)) none ∙ ap (λ ys. Ok (ys, place)) (append-nil xs)
-
-pub devices_begin : (n : ℕ) (bytes : List ℕ) (place : ℕ) → with_devices [] (devices_from n bytes place) ≡ devices_from n bytes place
-devices_begin n bytes place = by (devices_from n bytes place)
-  where
-    by : (r : Result (List Configuration × ℕ) FabricFault) → with_devices [] r ≡ r
-    by (Ok rest) = refl
-    by (Err fault) = refl

@@ -1,5 +1,5 @@
 -- The payload around the response of a device.
-use Rattle.std.proofs.Common.{◌≡◌, ℕ, suc, ◌≤◌, List, [], ◌++◌, length, refl, ap, arith, append-nil}
+use Rattle.std.proofs.Common.{◌≡◌, ℕ, suc, ◌≤◌, [], ◌++◌, length, refl, ap, arith, append-nil}
 use Rattle.field_bytes.specs.Layouts.{spelling}
 use Rattle.cci_codec.specs.declared.messages.Response.{Response}
 use Rattle.cci_codec.specs.Messages.{response_bytes}

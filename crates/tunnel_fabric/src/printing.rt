@@ -53,7 +53,6 @@ fn put_reply(text: &mut Bytes, reply: &Replied) -> Result<(), NoMemory>
     text.push(b'\n')
 }
 
-/// The lines of all replies.
 #[tactic(auto, unfolding(crate::specs::Printing::tunnel_lines))]
 pub(crate) fn reply_lines(alloc: Global, replies: &[Replied]) -> Result<Bytes, NoMemory>
     requires { All IsShortReply replies.now }

@@ -57,7 +57,6 @@ fn run_tunnel(
     })
 }
 
-/// Runs a line.
 #[tactic(auto, using(crate::proofs::Fronts::line_local))]
 fn run_line(
     alloc: Global,

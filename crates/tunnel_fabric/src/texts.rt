@@ -8,6 +8,5 @@ use dcd_base::Bytes;
 pub(crate) enum FabricText {
     /// The lines of the replies to messages to the tunnel, and the texts of all devices behind them.
     Ran { lines: Bytes, fabric: Fabric },
-    /// One line.
     Line(Bytes),
 }

@@ -17,6 +17,7 @@ use Rattle.script_codec.specs.Scripts.{is_sound_line}
 use Rattle.workers.specs.Phases.{Task, task_of, tasks}
 use Rattle.workers.specs.Served.{AllServed, passes_of}
 use Rattle.workers.proofs.Parting.{is_pass}
+use Rattle.script_codec.proofs.CoveringLaws.{placed}
 
 -- ---- lists with or without one item
 keep_if : {X : Type 0} (P : X → Type 0) (b : Bool) (x : X) (xs : List X) → (b ≡ true → P x) → AllByRecursion P xs → AllByRecursion P (if b then x ∷ xs else xs)
@@ -92,10 +93,6 @@ record IsTaskOf (s : Script) (k : ℕ) (t : Task) : Type 0 where
   line : slice_get s.lines (t.line - 1) ≡ Some (Line.Do actor lane t.act)
   pass : pass_of s.config.hosts s.lanes actor lane ≡ k
   sound : IsTrue (is_sound_line s.config.hosts s.lanes (Line.Do actor lane t.act))
-
-placed : (front : List Line) (line : Line) (lines : List Line) → slice_get (front ++ line ∷ lines) (length front) ≡ Some line
-placed [] line lines = refl
-placed (l ∷ front) line lines = placed front line lines
 
 tasks_placed : (s : Script) (front lines : List Line) (k n : ℕ) → s.lines ≡ front ++ lines → n ≡ length front + 1 → IsTrue (list_all (is_sound_line s.config.hosts s.lanes) lines)
     → AllByRecursion (IsTaskOf s k) (tasks s.config.hosts s.lanes k n lines)

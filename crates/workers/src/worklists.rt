@@ -9,7 +9,6 @@ use dcd_base::NoMemory;
 use script_codec::{Line, pass_of};
 use std::alloc::Global;
 
-/// The lines of a phase.
 #[derive(Clone, Copy)]
 pub(crate) struct PhaseLines<'a> {
     /// How many hosts and lanes the lines may name.

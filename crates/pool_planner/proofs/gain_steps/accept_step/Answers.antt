@@ -1,4 +1,4 @@
-use Rattle.pool_planner.proofs.Untagged.{listed_untagged}
+use Rattle.plan_rules.proofs.Heard.{listed_untagged}
 use Rattle.pool_planner.proofs.gain_steps.accept_step.Goals as goal
 
 pub by_host-requires-clause-untagged : goal.by_host-requires-clause-untagged

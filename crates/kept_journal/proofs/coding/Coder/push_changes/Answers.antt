@@ -1,5 +1,5 @@
 use Rattle.std.proofs.Common.{rules, arith}
-use Rattle.kept_journal.proofs.CoderChanges.{change_ends, change_goes_on, change_starts}
+use Rattle.kept_journal.proofs.CoderChanges.{change_goes_on, change_starts}
 use Rattle.kept_journal.proofs.coding.Coder.push_changes.Goals as goal
 
 pub loop-place-init : goal.loop-place-init

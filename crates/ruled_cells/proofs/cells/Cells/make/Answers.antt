@@ -2,7 +2,6 @@ use Rattle.std.proofs.Common.{◌≡◌, ℕ, length, refl, sym, ap, ◌∙◌, 
 use lib.ListN.{get_elem?}
 use Rattle.ruled_cells.specs.Reads.{about_of}
 use Rattle.ruled_cells.specs.Ruling.{names}
-use Rattle.ruled_cells.specs.declared.about.About.{About}
 use Rattle.ruled_cells.specs.Turning.{NoTurn}
 use Rattle.ruled_cells.proofs.Opening.{opens_counted, count_is}
 use Rattle.ruled_cells.proofs.MakingSteps.{opener_fills, all_new, first_seat}

@@ -1,9 +1,8 @@
 use Rattle.std.proofs.Common.{◌≡◌, sym, ◌∙◌, ap, is_some, true}
-use Rattle.std.specs.Map.{values_of}
 use Rattle.tag_refs.specs.Changes.{entry_changed}
 use Rattle.tag_refs.proofs.Changing.{tag_stays}
-use Rattle.tag_refs.proofs.Stores.{Becomes, after_write, found_live, some_copied}
-use Rattle.tag_refs.specs.Tables.{TagTable, entries_changed, has_entry}
+use Rattle.tag_refs.proofs.Stores.{after_write, found_live, some_copied}
+use Rattle.tag_refs.specs.Tables.{TagTable, has_entry}
 use Rattle.tag_refs.proofs.tables.Tags.change.Goals as goal
 
 pub unwrap-requires : goal.unwrap-requires

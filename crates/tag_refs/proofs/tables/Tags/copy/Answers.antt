@@ -1,8 +1,6 @@
-use Rattle.std.proofs.Common.{◌≡◌, ◌<◌, true, length, refl, subst}
+use Rattle.std.proofs.Common.{◌<◌, length, refl}
 use Rattle.std.proofs.lemmas.List.{take_more}
 use Rattle.std.proofs.lemmas.Option.{get_or_from_slice_get, slice_get_within}
-use Rattle.tag_refs.specs.declared.entries.TagEntry.{TagEntry}
-use Rattle.tag_refs.specs.Tables.{is_used}
 use Rattle.tag_refs.proofs.Tagged.{absent_before}
 use Rattle.tag_refs.proofs.tables.Tags.copy.Goals as goal
 
