@@ -131,6 +131,11 @@ last_entry all kept k bytes is sum =
     at : widths kept ≡ length bytes - width_of k
     at = omega (arith, total)
 
+-- where there is a last one there are entries
+pub some_last : (all kept : List Kept) (k : Kept) (bytes : List ℕ) (entries : List Entry) → all ≡ kept ++ k ∷ [] → entries_of 0 all bytes ≡ entries → ¬ (entries ≡ [])
+some_last all kept k bytes entries is are none =
+    absurd (omega (arith, entries_of-length 0 all bytes, ap length (are ∙ none), ap length is, length-append kept (k ∷ [])))
+
 -- what is last is the last entry
 inner : (xs ys : List Entry) (x y : Entry) → xs ++ x ∷ [] ≡ ys ++ y ∷ [] → x ≡ y
 inner [] [] x y is = cc

@@ -5,7 +5,7 @@ ghost use Rattle.journal_core.specs.Merging.{Rising};
 ghost use Rattle.journal_core.specs.declared.entries.Entry.{Entry};
 ghost use Rattle.kept_journal.specs.Keeping.{HoldsStep, PutOrNot, asked_of, replied_of};
 ghost use Rattle.kept_journal.specs.Lending.{lent};
-ghost use Rattle.std.specs.Prelude.{◌≡◌, ◌+◌, ◌++◌, ◌^◌, ◌∷◌, ◌<◌, ◌≤◌, [], IfOk, List, OnErr, OnOk, Some, length};
+ghost use Rattle.std.specs.Prelude.{◌≡◌, ◌+◌, ◌++◌, ◌^◌, ◌∷◌, ◌<◌, ◌≤◌, [], IfOk, List, None, OnErr, OnOk, Some, length};
 ghost use Rattle.std.specs.Vec.{vec_capacity, vec_len};
 
 use crate::coding::Coder;
@@ -138,6 +138,7 @@ impl KeptEntries {
     pub fn make_room(&mut self) -> Result<(), NoMemory>
         ensures room { OnOk result (0 < self.new.spare) }
         ensures kept { self.new.entries ≡ self.old.entries }
+        ensures spare { self.old.spare ≤ self.new.spare }
     {
         if self.kept.len() < self.kept.capacity() {
             return Ok(());
@@ -149,6 +150,7 @@ impl KeptEntries {
     pub fn make_room_for(&mut self, entry: &Entry) -> Result<(), NoMemory>
         ensures room { OnOk result (0 < self.new.spare) }
         ensures kept { self.new.entries ≡ self.old.entries }
+        ensures spare { self.old.spare ≤ self.new.spare }
     {
         self.make_room()?;
         let payloads = payload_asked(&entry.act).len() + payload_replied(&entry.reply).len();
@@ -180,6 +182,7 @@ impl KeptEntries {
     ) -> Result<(), NoMemory>
         ensures appended { OnOk result (self.new.entries ≡ self.old.entries ++ next_entry self.old.entries pass line actor act.now (reply.now, effects.now) ∷ []) }
         ensures kept { OnErr result (self.new.entries ≡ self.old.entries) }
+        ensures spare { OnErr result (self.old.spare ≤ self.new.spare) }
     {
         self.make_room()?;
         // For `append_apart`, where the first call has taken the actor.
@@ -202,6 +205,7 @@ impl KeptEntries {
     ) -> Result<(), NoMemory>
         ensures appended { OnOk result (self.new.entries ≡ self.old.entries ++ next_entry self.old.entries pass line actor act.now (reply.now, []) ∷ []) }
         ensures kept { OnErr result (self.new.entries ≡ self.old.entries) }
+        ensures spare { OnErr result (self.old.spare ≤ self.new.spare) }
     {
         let none = Effects::new(self.alloc);
         self.append(pass, line, actor, act, reply, &none)
@@ -221,7 +225,8 @@ impl KeptEntries {
 
     /// The last entry, lent, or none where there is none.
     pub fn last(&self) -> Option<Lent<'_>>
-        ensures { (before : List Entry) (e : Entry) → self.now.entries ≡ before ++ e ∷ [] → lent result ≡ Some e }
+        ensures last { (before : List Entry) (e : Entry) → self.now.entries ≡ before ++ e ∷ [] → lent result ≡ Some e }
+        ensures none { self.now.entries ≡ [] → lent result ≡ None }
     {
         match self.kept.as_slice().split_last() {
             Some((last, before)) => {
@@ -306,6 +311,7 @@ impl KeptEntries {
         requires { 0 < self.old.spare }
         ensures appended { OnOk result (self.new.entries ≡ self.old.entries ++ next_entry self.old.entries pass line actor act.now (reply.now, effects.now) ∷ []) }
         ensures kept { OnErr result (self.new.entries ≡ self.old.entries) }
+        ensures spare { OnErr result (self.old.spare ≤ self.new.spare) }
     {
         let entry = Entry {
             pass,
