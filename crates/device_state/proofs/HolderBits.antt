@@ -45,13 +45,13 @@ lost_bit hosts h one =
     even : (q r : ℕ) → q ≡ r + 1 → q % 2 ≡ 1 → r % 2 ≡ 0
     even q r next odd = omega (arith, next, odd)
 
-with_same : (hosts k : ℕ) → k < 16 → has_host (with_host hosts k) k ≡ true
+pub with_same : (hosts k : ℕ) → k < 16 → has_host (with_host hosts k) k ≡ true
 with_same hosts k lt = has_one (with_host hosts k) k (ap (λ n. bit_at n k) (sym (or_host hosts k lt)) ∙ bit_at_set_same w16 hosts k lt)
 
 with_other : (hosts k h : ℕ) → k < 16 → h ≢ k → has_host (with_host hosts k) h ≡ has_host hosts h
 with_other hosts k h lt other = ap (λ d. d == 1) (ap (λ n. bit_at n h) (sym (or_host hosts k lt)) ∙ bit_at_set_other w16 hosts k lt h other)
 
-without_same : (hosts k : ℕ) → has_host (without_host hosts k) k ≡ false
+pub without_same : (hosts k : ℕ) → has_host (without_host hosts k) k ≡ false
 without_same hosts k = elim (cases_bit hosts k) [
   | inl one ↦ ap (λ b. has_host (if b then hosts - 2 ^ k else hosts) k) (has_one hosts k one) ∙ has_none (hosts - 2 ^ k) k (lost_bit hosts k one)
   | inr none ↦ ap (λ b. has_host (if b then hosts - 2 ^ k else hosts) k) (has_none hosts k none) ∙ has_none hosts k none

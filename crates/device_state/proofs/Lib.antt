@@ -7,6 +7,7 @@ pub mod HolderBits
 pub mod HolderSteps
 pub mod Keeping
 pub mod Listed
+pub mod Moved
 pub mod OfDevice
 pub mod OffersEntered
 pub mod PresentBlocks
@@ -15,3 +16,4 @@ pub mod RegionFound
 pub mod Rooms
 pub mod Stages
 pub mod TablesEntered
+pub mod ToldTwice

@@ -1,5 +1,7 @@
 -- What the effects of a step make of the hosts' parts: first of the logs, and then of lists and tags.
-use Rattle.std.specs.Prelude.{◌≡◌, ◌<◌, List, fold, length}
+use Rattle.std.specs.Prelude.{◌≡◌, ◌<◌, Bool, List, false, fold, length, slice_index_or}
+use Rattle.std.specs.List.{list_any}
+use Rattle.device_laws.specs.device_rules.specs.Hosts.{moves}
 use Rattle.cci_codec.specs.field_bytes.specs.dcd_base.specs.declared.ids.HostId.{HostId}
 use Rattle.cci_codec.specs.field_bytes.specs.dcd_base.specs.declared.steps.LogId.{LogId}
 use Rattle.host_lists.specs.Lists.{Lists}
@@ -43,3 +45,8 @@ pub record AreCounted (new : List Effect) (old now : State) : Type 0 where
   pub hosts : length now.hosts.items ≡ length old.hosts.items
   pub lists : (h : HostId) → h < length old.hosts.items → lists_of now h ≡ counted h new (lists_of old h)
   pub logs : (h : HostId) → (part_of now h).log ≡ (part_of old h).log
+
+-- Of each host it is marked whether an effect changes what it has accepted.
+pub record AreMoved (new : List Effect) (marks : List Bool) : Type 0 where
+  pub all : length marks ≡ 256
+  pub each : (h : HostId) → h < 256 → slice_index_or marks h false ≡ list_any (moves h) new

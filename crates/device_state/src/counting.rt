@@ -1,11 +1,11 @@
 //! How often the accepted lists changed.
 
 ghost use Rattle.device_state.specs.Entered.{with_lists};
-ghost use Rattle.device_state.specs.Stages.{AreCounted};
+ghost use Rattle.device_state.specs.Stages.{AreCounted, AreMoved};
 ghost use Rattle.device_state.specs.StateAfter.{part_of};
 ghost use Rattle.host_lists.specs.Lists.{next_generation};
 ghost use Rattle.std.specs.List.{list_any};
-ghost use Rattle.std.specs.Prelude.{◌≡◌, ◌<◌, ◌≤◌, length};
+ghost use Rattle.std.specs.Prelude.{◌≡◌, ◌==◌, ◌<◌, ◌≤◌, length, option_to_list};
 ghost use Rattle.device_laws.specs.device_rules.specs.Hosts.{moves};
 
 use crate::state::State;
@@ -19,10 +19,10 @@ impl State {
         ensures counted { AreCounted effects.now self.old self.new }
         ensures kept { self.new ≡ record self.old { hosts = self.new.hosts } }
     {
+        let moved = moved_hosts(effects);
         for i in 0..self.hosts.len() {
-            let host = HostId(i as u8);
-            if is_moved(host, effects) {
-                self.count_change(host);
+            if moved[i] {
+                self.count_change(HostId(i as u8));
             }
         }
     }
@@ -37,20 +37,44 @@ impl State {
     }
 }
 
-/// Whether an effect changes what the host has accepted.
-fn is_moved(host: HostId, effects: &[Effect]) -> bool
-    ensures { result ≡ list_any (moves host) effects.now }
+/// Of each host, by its number, whether an effect changes what it has accepted.
+fn moved_hosts(effects: &[Effect]) -> [bool; 256]
+    ensures { AreMoved effects.now result }
 {
-    effects.iter().any(|effect| moves(host, effect))
+    let mut moved = [false; 256];
+    for i in 0..effects.len() {
+        if let Some(host) = moved_host(&effects[i]) {
+            moved[usize::from(host.0)] = true;
+        }
+    }
+    moved
 }
 
-/// Whether the effect changes what the host has accepted.
-fn moves(host: HostId, effect: &Effect) -> bool
-    ensures { result ≡ moves host effect.now }
+/// The host of which the effect changes what it has accepted.
+fn moved_host(effect: &Effect) -> Option<HostId>
+    ensures { (h : HostId) → moves h effect.now ≡ list_any (λ k. k == h) (option_to_list result) }
 {
     match effect {
-        Effect::Answer(other, extents) => other.0 == host.0 && !extents.is_empty(),
-        Effect::Leave(other, _) => other.0 == host.0,
-        _ => false,
+        Effect::Answer(host, extents) => {
+            if extents.is_empty() {
+                return None;
+            }
+            Some(*host)
+        }
+        Effect::Leave(host, _) => Some(*host),
+        // These change no accepted list.
+        Effect::Offer(..)
+        | Effect::Take(..)
+        | Effect::Zero(..)
+        | Effect::Soil(..)
+        | Effect::Hold(..)
+        | Effect::Unhold(..)
+        | Effect::Logged(..)
+        | Effect::Missed(..)
+        | Effect::Cleared(..)
+        | Effect::Reset(..)
+        | Effect::Ref(..)
+        | Effect::TagEnd(..)
+        | Effect::Block(..) => None,
     }
 }

@@ -4,6 +4,8 @@ ghost use Rattle.device_state.specs.EnteredLists.{AreGranular, Fits, HasPlaces, 
 ghost use Rattle.device_state.specs.Entered.{with_lists};
 ghost use Rattle.device_state.specs.StateAfter.{part_of};
 ghost use Rattle.device_state.specs.declared.parts.HostPart.{HostPart};
+ghost use Rattle.cci_codec.specs.field_bytes.specs.dcd_base.specs.Words.{same_tag};
+ghost use Rattle.cci_codec.specs.field_bytes.specs.dcd_base.specs.declared.capacity.Extent.{Extent};
 ghost use Rattle.offer_core.specs.Offerings.{oldest_of};
 ghost use Rattle.device_state.specs.Stages.{IsListedAfter, IsListedOver};
 ghost use Rattle.device_state.specs.Updates.{IsOfDevice};
@@ -11,14 +13,16 @@ ghost use Rattle.journal_core.specs.declared.outcome.Effect.{Effect};
 ghost use Rattle.list_rules.specs.extent_list.specs.ExtentLists.{count_in, cut, has_range};
 ghost use Rattle.list_rules.specs.media_map.specs.Places.{is_granular, run_of};
 ghost use Rattle.std.specs.Option.{option_map};
-ghost use Rattle.std.specs.Prelude.{◌≡◌, ◌++◌, ◌∷◌, ◌+◌, ◌-◌, ◌^◌, ◌<◌, ◌≤◌, [], All, IfSome, IsTrue, drop, false, find, length, map, option_to_list, slice_index_or};
+ghost use Rattle.std.specs.Prelude.{◌≡◌, ◌++◌, ◌∷◌, ◌+◌, ◌-◌, ◌^◌, ◌<◌, ◌≤◌, [], All, IfSome, IsTrue, List, drop, false, true, find, length, map, option_to_list, slice_index_or, take};
 ghost use Rattle.tag_refs.specs.Tables.{has_entry, opened};
+ghost use Rattle.tag_refs.specs.declared.entries.TagEntry.{TagEntry};
 
 use crate::parts::HostPart;
 use crate::state::State;
 use cci_codec::field_bytes::dcd_base::{Extent, Granule, HostId, RegionId, Run, Tag, no_tag};
 use host_lists::HostLists;
 use journal_core::{Effect, HeldKind};
+use list_rules::extent_list::same_tag;
 use list_rules::media_map::region_config::Config;
 use tag_refs::Tags;
 
@@ -300,11 +304,12 @@ fn tell(tags: &mut Tags, host: HostId, lists: &HostLists, first: usize, tag: &Ta
     ensures told { tags.new.entries ≡ told host (record lists.now { offers = drop first lists.now.offers }) (tag.now ∷ []) tags.old.entries }
     ensures spare { tags.old.spare ≤ tags.new.spare }
 {
-    if tags.is_live(tag) {
-        let held = lists.has_accepted(tag);
-        let offered = lists.has_offered_from(first, tag);
-        tags.set_host(tag, host, held, offered);
+    if tags.is_empty() {
+        return;
     }
+    let held = lists.has_accepted(tag);
+    let offered = lists.has_offered_from(first, tag);
+    tags.set_host(tag, host, held, offered);
 }
 
 /// The same of the tag of each extent.
@@ -314,8 +319,36 @@ fn tell_all(tags: &mut Tags, host: HostId, lists: &HostLists, first: usize, exte
     ensures spare { tags.old.spare ≤ tags.new.spare }
 {
     for i in 0..extents.len() {
-        tell(tags, host, lists, first, &extents[i].tag);
+        tell_next(tags, host, lists, first, extents, i);
     }
+}
+
+/// What the host has of the tag of the extent at the index is told, where it is told of those before.
+fn tell_next(
+    tags: &mut Tags,
+    host: HostId,
+    lists: &HostLists,
+    first: usize,
+    extents: &[Extent],
+    index: usize,
+)
+    requires host { host < 16 }
+    requires index { index < length extents.now }
+    ensures told { (entries : List TagEntry) → tags.old.entries ≡ told host (record lists.now { offers = drop first lists.now.offers }) (each_tag (take index extents.now)) entries →
+        tags.new.entries ≡ told host (record lists.now { offers = drop first lists.now.offers }) (each_tag (take (index + 1) extents.now)) entries }
+    ensures spare { tags.old.spare ≤ tags.new.spare }
+{
+    if !has_tag_before(extents, index) {
+        tell(tags, host, lists, first, &extents[index].tag);
+    }
+}
+
+/// Whether the extent at the index has the tag of the one before it.
+fn has_tag_before(extents: &[Extent], index: usize) -> bool
+    requires { index < length extents.now }
+    ensures { (d : Extent) → result ≡ true → (0 < index) × IsTrue (same_tag (slice_index_or extents.now (index - 1) d).tag (slice_index_or extents.now index d).tag) }
+{
+    index > 0 && same_tag(&extents[index - 1].tag, &extents[index].tag)
 }
 
 /// The tag of an offer in a shareable region is told, or opened with the runs of the offer, which the lists have by now.
