@@ -98,18 +98,6 @@ pub untagged_more : (before xs : List Extent) (i : ℕ) (d : Extent) → i < len
     → tag_count (before ++ take (i + 1) xs) ≡ tag_count before
 untagged_more before xs i d known none same = tag_count_more before xs i d known ∙ rw none same
 
--- where none has a tag, so many of them make no tag more
-pub untagged_front : (before xs : List Extent) → list_all (λ (x : Extent). is_zero_tag x.tag) xs ≡ true → (n : ℕ) → n ≤ length xs → tag_count (before ++ take n xs) ≡ tag_count before
-untagged_front before xs none zero few = ap tag_count (append-nil before)
-untagged_front before xs none (suc n) few =
-    let next : n + 1 ≡ suc n = omega arith in
-    let known : n < length xs = omega (arith, few) in
-    let zero_at : is_zero_tag (get_or xs n no_extent).tag ≡ true = elim (cases_Bool (is_zero_tag (get_or xs n no_extent).tag)) [
-      | inl holds ↦ holds
-      | inr fails ↦ absurd (cc (none, list_all_at (λ (x : Extent). is_zero_tag x.tag) xs n no_extent known fails))
-    ] in
-    ap (λ k. tag_count (before ++ take k xs)) (sym next) ∙ untagged_more before xs n no_extent known zero_at (untagged_front before xs none n (omega (arith, few)))
-
 -- the capped count after one extent more
 pub capped_new : (n m tags more : ℕ) → m ≡ n + 1 → tags ≡ capped n → more ≡ min (tags + 1) (2 ^ 32 - 1) → more ≡ capped m
 capped_new n m tags more count is one = omega (arith, count, is, one)

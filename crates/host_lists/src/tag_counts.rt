@@ -7,7 +7,7 @@ ghost use Rattle.std.specs.Prelude.{◌≡◌, ◌++◌, ◌≤◌, List, flat_m
 
 use crate::offer_lists::OfferLists;
 use list_rules::dcd_codes::dcd_base::{Extent, Tag, no_tag};
-use list_rules::extent_list::{has_extent_of, has_no_tags, same_tag};
+use list_rules::extent_list::{has_extent_of, same_tag};
 
 /// Whether an extent of the first `count` offers has the tag.
 pub(crate) fn has_in_offers(tag: &Tag, offers: &OfferLists, count: usize) -> bool
@@ -70,13 +70,6 @@ fn untagged(extents: &[Extent]) -> usize
     ensures known { result ≤ length extents.now }
     ensures none { (before : List Extent) → tag_count (before ++ take result extents.now) ≡ tag_count before }
 {
-    match extents.first() {
-        Some(first) if !same_tag(&first.tag, &no_tag()) => return 0,
-        _ => (),
-    }
-    if has_no_tags(extents) {
-        return extents.len();
-    }
     for i in 0..extents.len() {
         if !same_tag(&extents[i].tag, &no_tag()) {
             return i;
