@@ -3,12 +3,12 @@ use Rattle.std.proofs.Common.{◌≡◌, ℕ, suc, ◌+◌, ◌-◌, ◌*◌, �
 use Rattle.std.specs.Int.{from_le_bytes}
 use Rattle.std.specs.List.{list_all}
 use Rattle.std.proofs.lemmas.Nat.{le_bytes_2, and_le_r, and_mask}
-use Rattle.field_bytes.proofs.Widths.{wide_16}
+use Rattle.dcd_base.proofs.Widths.{wide_16}
 use Rattle.cci_codec.specs.declared.messages.Request.{Request}
 use Rattle.cci_codec.specs.declared.faults.MessageFault.{MessageFault}
 use Rattle.cci_codec.specs.Messages.{message_fault, request_in, request_fields, request_bytes, length_field, ReadsRequest, WritesRequest}
-use Rattle.field_bytes.specs.Layouts.{is_byte}
-use Rattle.field_bytes.proofs.Fields.{IsBytes, all_bytes, length_of_fields, two_bytes, spelled_reads}
+use Rattle.dcd_base.specs.Layouts.{is_byte}
+use Rattle.dcd_base.proofs.Fields.{IsBytes, all_bytes, length_of_fields, two_bytes, spelled_reads}
 
 no_fault : (b : Bool) (f : MessageFault) (rest : Option MessageFault) → cond b (Some f) rest ≡ None → (b ≡ false) × (rest ≡ None)
 no_fault true f rest e = absurd cc

@@ -1,3 +1,3 @@
 pub mod Messages
 pub mod Payloads
-pub use Rattle.field_bytes
+pub use Rattle.dcd_base

@@ -4,7 +4,7 @@ use Rattle.std.specs.Int.{w8, w16}
 use Rattle.cci_codec.specs.declared.messages.Request.{Request}
 use Rattle.cci_codec.specs.declared.messages.Response.{Response}
 use Rattle.cci_codec.specs.declared.faults.MessageFault.{MessageFault}
-use Rattle.field_bytes.specs.Layouts.{Field, spelling, number_at, Number, Masked, Raw, Reserved, Reads, Writes}
+use Rattle.dcd_base.specs.Layouts.{Field, spelling, number_at, Number, Masked, Raw, Reserved, Reads, Writes}
 
 -- Bytes 0 to 7 of each message: bits 3:0 of byte 0 are the category, bits 20:0 of bytes 5 to 7 the length of the
 -- payload. Bit 23, the background operation, is ignored on input and 0 on output.

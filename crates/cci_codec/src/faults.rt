@@ -1,6 +1,6 @@
 //! Why bytes are no request.
 
-use field_bytes::dcd_base::NoMemory;
+use dcd_base::NoMemory;
 
 /// Why bytes are no request. The first three are tried in this order, and the first that is met is answered.
 #[derive(Clone, Copy, Debug, PartialEq, Eq)]

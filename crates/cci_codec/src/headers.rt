@@ -1,11 +1,11 @@
 //! The 12 bytes before the payload of a message.
 
 ghost use Rattle.cci_codec.specs.Messages.{front_fields};
-ghost use Rattle.field_bytes.specs.Layouts.{spelling, Number, Reserved};
+ghost use Rattle.dcd_base.specs.Layouts.{spelling, Number, Reserved};
 ghost use Rattle.std.specs.Int.{w16};
 ghost use Rattle.std.specs.Prelude.{◌≡◌, ◌++◌, ◌<◌, ◌≤◌, ◌^◌, [], ◌∷◌, length, take};
 
-use field_bytes::{put_byte, put_u8, put_u16, put_u24, put_zeros};
+use dcd_base::{put_byte, put_u8, put_u16, put_u24, put_zeros};
 
 /// Puts the header of a message of this category, before a payload of `size` bytes, at the start. Reserved bits and
 /// the vendor status are 0.

@@ -1,7 +1,7 @@
 //! Where the bytes of a payload lie.
 
 use crate::counted::Counted;
-use field_bytes::dcd_base::Bytes;
+use dcd_base::Bytes;
 use std::alloc::Global;
 
 /// Where the bytes of a payload lie.

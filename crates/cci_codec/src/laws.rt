@@ -5,7 +5,7 @@ ghost use Rattle.cci_codec.specs.declared.messages.Request.{Request};
 ghost use Rattle.std.specs.Prelude.{◌<◌, ◌^◌, List, length, ℕ};
 
 use crate::messages::Request;
-use field_bytes::are_bytes;
+use dcd_base::are_bytes;
 
 /// The bytes that `encode_request` appends are the one spelling of the request. The call does nothing.
 pub fn law_request_is_spelled(request: &Request)

@@ -1,7 +1,7 @@
 //! The form of a message between a host or the Fabric Manager and the device: a header of 12 bytes and a payload.
 #![tactic(auto)]
 
-pub use field_bytes;
+pub use dcd_base;
 
 mod counted;
 mod faults;

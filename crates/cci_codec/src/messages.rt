@@ -3,7 +3,7 @@
 ghost use Rattle.std.specs.Prelude.{◌≡◌, IfOk};
 
 use crate::payloads::Payload;
-use field_bytes::dcd_base::{Bytes, NoMemory};
+use dcd_base::{Bytes, NoMemory};
 
 /// A request (CXL 3.1, 7.6.3): a command and its input payload.
 #[derive(Debug, Drop)]

@@ -4,7 +4,7 @@ ghost use Rattle.std.specs.Prelude.{◌≡◌, ◌<◌, ◌≤◌, [], IfOk, OnE
 
 use crate::counted::Counted;
 use crate::held::Held;
-use field_bytes::dcd_base::{Bytes, NoMemory};
+use dcd_base::{Bytes, NoMemory};
 use std::alloc::Global;
 use std::marker::Model;
 

@@ -8,8 +8,7 @@ use crate::faults::MessageFault;
 use crate::headers::put_head;
 use crate::messages::Request;
 use crate::payloads::Payload;
-use field_bytes::dcd_base::{Bytes, NoMemory};
-use field_bytes::{put_bytes, u16_at, zeros};
+use dcd_base::{Bytes, NoMemory, put_bytes, u16_at, zeros};
 use std::alloc::Global;
 
 /// The payload length that a header says, whatever the bits above its 21 bits are.

@@ -1,7 +1,7 @@
 //! The headers of responses in bytes.
 
 ghost use Rattle.cci_codec.specs.Messages.{response_head_fields};
-ghost use Rattle.field_bytes.specs.Layouts.{spelling};
+ghost use Rattle.dcd_base.specs.Layouts.{spelling};
 ghost use Rattle.std.specs.Prelude.{◌≡◌, ◌<◌, ◌^◌};
 
 use crate::headers::put_head;

@@ -6,9 +6,9 @@ use Rattle.std.proofs.lemmas.Bool.{and_right, cases_lt, le-leb, le-ltb, lt-leb, 
 use Rattle.std.proofs.lemmas.List.Elements.{All-push}
 use Rattle.std.proofs.lemmas.List.Folds.{list_any-append}
 use Rattle.std.proofs.lemmas.List.Sums.{fold_push}
-use Rattle.cci_codec.specs.field_bytes.specs.dcd_base.specs.Words.{has_granule}
-use Rattle.cci_codec.specs.field_bytes.specs.dcd_base.specs.declared.media.Change.{Change}
-use Rattle.cci_codec.specs.field_bytes.specs.dcd_base.specs.declared.media.Run.{Run}
+use Rattle.cci_codec.specs.dcd_base.specs.Words.{has_granule}
+use Rattle.cci_codec.specs.dcd_base.specs.declared.media.Change.{Change}
+use Rattle.cci_codec.specs.dcd_base.specs.declared.media.Run.{Run}
 use Rattle.journal_core.specs.declared.outcome.Effect.{Effect}
 use Rattle.device_commands.specs.device_rules.specs.Legal.{is_zeroing}
 use Rattle.device_commands.specs.device_rules.specs.ChangedRuns.{LiesIn, holders_after, touches}

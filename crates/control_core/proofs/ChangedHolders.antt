@@ -7,18 +7,18 @@ use Rattle.std.specs.List.{list_all}
 use Rattle.std.proofs.lemmas.Bool.{and_parts, cases_Bool, cases_eq, cases_lt, eqb-true, false≢true, ne_eqb}
 use Rattle.std.proofs.Math.Nat.{div-eq_of_lt}
 use Rattle.std.proofs.lemmas.Nat.Bits.{and_pow, bit_at-lt, bit_at-pow_other, bit_at_or}
-use Rattle.cci_codec.specs.field_bytes.specs.dcd_base.specs.Words.{has_granule}
-use Rattle.cci_codec.specs.field_bytes.specs.dcd_base.specs.declared.ids.HostId.{HostId}
-use Rattle.cci_codec.specs.field_bytes.specs.dcd_base.specs.declared.media.Change.{Change}
+use Rattle.cci_codec.specs.dcd_base.specs.Words.{has_granule}
+use Rattle.cci_codec.specs.dcd_base.specs.declared.ids.HostId.{HostId}
+use Rattle.cci_codec.specs.dcd_base.specs.declared.media.Change.{Change}
 use Rattle.journal_core.specs.Entries.{effects}
 use Rattle.journal_core.specs.Holders.{holding_after, holds}
 use Rattle.journal_core.specs.declared.entries.Entry.{Entry}
 use Rattle.journal_core.specs.declared.outcome.Effect.{Effect}
 use Rattle.journal_core.proofs.HoldingSteps.{holds-append}
-use Rattle.list_rules.specs.media_map.specs.region_config.specs.Configurations.{Configuration}
-use Rattle.list_rules.specs.media_map.specs.region_config.specs.Granules.{granule_total}
-use Rattle.device_commands.specs.device_laws.proofs.HostBits.{with_has, without_has}
-use Rattle.cci_codec.specs.field_bytes.specs.dcd_base.specs.Hosts.{has_host, with_host, without_host}
+use Rattle.extent_list.specs.media_map.specs.region_config.specs.Configurations.{Configuration}
+use Rattle.extent_list.specs.media_map.specs.region_config.specs.Granules.{granule_total}
+use Rattle.device_commands.specs.device_rules.proofs.HostBits.{with_has, without_has}
+use Rattle.cci_codec.specs.dcd_base.specs.Hosts.{has_host, with_host, without_host}
 use Rattle.device_commands.specs.device_rules.specs.ChangedRuns.{AreChanges, IsSoundChange}
 use Rattle.device_commands.specs.device_state.specs.StateAfter.{IsStateAfter}
 use Rattle.control_core.specs.PutChanges.{AreOfOneHost, ArePut, NameNoOthers, bits_after, is_of_host}

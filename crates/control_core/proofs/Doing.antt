@@ -3,10 +3,10 @@ use Rattle.std.proofs.Common.{◌≡◌, ℕ, List, [], ◌++◌, map, flat_map,
 use Rattle.std.specs.List.{list_any}
 use Rattle.std.proofs.lemmas.List.Sums.{fold-append}
 use Rattle.cci_codec.specs.declared.messages.Request.{Request}
-use Rattle.cci_codec.specs.field_bytes.specs.dcd_base.specs.declared.ids.HostId.{HostId}
-use Rattle.list_rules.specs.dcd_codes.specs.declared.codes.Code.{Code}
-use Rattle.list_rules.specs.extent_list.specs.ExtentLists.{has_extent_of}
-use Rattle.list_rules.specs.media_map.specs.region_config.specs.Configurations.{Configuration}
+use Rattle.cci_codec.specs.dcd_base.specs.declared.ids.HostId.{HostId}
+use Rattle.extent_list.specs.dcd_codes.specs.declared.codes.Code.{Code}
+use Rattle.extent_list.specs.ExtentLists.{has_extent_of}
+use Rattle.extent_list.specs.media_map.specs.region_config.specs.Configurations.{Configuration}
 use Rattle.device_commands.specs.host_lists.specs.Lists.{Lists}
 use Rattle.journal_core.specs.Entries.{effects}
 use Rattle.journal_core.specs.declared.entries.Entry.{Entry}
@@ -19,7 +19,7 @@ use Rattle.device_commands.specs.device_rules.specs.Hosts.{accepted_after, accep
 use Rattle.device_commands.specs.device_rules.specs.Logs.{log_of}
 use Rattle.device_commands.specs.device_rules.specs.Outcomes.{Outcome, effects_of, ended, entered_all}
 use Rattle.device_commands.specs.device_rules.specs.Views.{view_after, view_of}
-use Rattle.device_commands.specs.device_laws.specs.TagTable.{IsTable, among, among_offers, ending}
+use Rattle.device_commands.specs.device_rules.specs.TagTable.{IsTable, among, among_offers, ending}
 use Rattle.tag_refs.specs.declared.entries.TagEntry.{TagEntry}
 use Rattle.control_core.specs.Doing.{IsDone, IsOfHost}
 use Rattle.control_core.specs.Recording.{records_entered}

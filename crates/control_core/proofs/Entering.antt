@@ -8,7 +8,7 @@ use Rattle.journal_core.specs.declared.entries.Entry.{Entry}
 use Rattle.journal_core.specs.declared.outcome.Effect.{Effect}
 use Rattle.journal_core.specs.Entries.{next_stamp}
 use Rattle.journal_core.proofs.EachSteps.{Each-push}
-use Rattle.list_rules.specs.media_map.specs.region_config.specs.Configurations.{Configuration}
+use Rattle.extent_list.specs.media_map.specs.region_config.specs.Configurations.{Configuration}
 use Rattle.device_commands.specs.device_rules.specs.Legal.{Meets}
 use Rattle.device_commands.specs.device_state.specs.Entered.{IsEntered}
 use Rattle.device_commands.specs.device_state.specs.EnteredLists.{Fits, lists_of}

@@ -1,8 +1,8 @@
 -- Which tags end by a host's command that breaks no rule.
 use Rattle.std.proofs.Common.{◌≡◌, ◌<◌, true, false, List, [], ◌++◌, None, refl, sym, ap, ◌∙◌}
-use Rattle.cci_codec.specs.field_bytes.specs.dcd_base.specs.declared.ids.HostId.{HostId}
-use Rattle.list_rules.specs.media_map.specs.region_config.specs.Configurations.{Configuration}
-use Rattle.list_rules.specs.media_map.specs.region_config.specs.Soundness.{IsSound}
+use Rattle.cci_codec.specs.dcd_base.specs.declared.ids.HostId.{HostId}
+use Rattle.extent_list.specs.media_map.specs.region_config.specs.Configurations.{Configuration}
+use Rattle.extent_list.specs.media_map.specs.region_config.specs.Soundness.{IsSound}
 use Rattle.host_payloads.specs.declared.requests.HostRequest.{HostRequest}
 use Rattle.journal_core.specs.Entries.{effects}
 use Rattle.journal_core.specs.declared.entries.Entry.{Entry}
@@ -12,8 +12,8 @@ use Rattle.device_commands.specs.device_rules.specs.Hosts.{accepted_of, offers_o
 use Rattle.device_commands.specs.device_rules.specs.Legal.{Legal}
 use Rattle.device_commands.specs.device_rules.specs.Outcomes.{Outcome, ended}
 use Rattle.device_commands.specs.device_rules.specs.Views.{View, view_of}
-use Rattle.device_commands.specs.device_laws.specs.TagTable.{IsTable, among, among_offers, ending}
-use Rattle.device_commands.specs.device_laws.proofs.GivingSteps.{table-release, table-response}
+use Rattle.device_commands.specs.device_rules.specs.TagTable.{IsTable, among, among_offers, ending}
+use Rattle.device_commands.specs.device_rules.proofs.GivingSteps.{table-release, table-response}
 use Rattle.tag_refs.specs.declared.entries.TagEntry.{TagEntry}
 use Rattle.control_core.specs.Doing.{IsOfHost}
 

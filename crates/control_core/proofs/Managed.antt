@@ -5,18 +5,18 @@ use Rattle.std.specs.List.{AllByRecursion, range_with_len}
 use Rattle.std.specs.declared.result.Result.TheVariants.{Ok, Err}
 use Rattle.std.proofs.lemmas.Bool.{false≢true}
 use Rattle.cci_codec.specs.declared.messages.Request.{Request}
-use Rattle.cci_codec.specs.field_bytes.specs.dcd_base.specs.declared.capacity.Tag.{Tag}
-use Rattle.cci_codec.specs.field_bytes.specs.dcd_base.specs.declared.steps.Actor.{Actor}
-use Rattle.cci_codec.specs.field_bytes.specs.dcd_base.specs.declared.steps.LogId.{LogId}
-use Rattle.list_rules.specs.dcd_codes.specs.Rules.{ByRow, code_of}
-use Rattle.list_rules.specs.dcd_codes.specs.declared.codes.Code.{Code}
-use Rattle.list_rules.specs.dcd_codes.specs.declared.refusals.Refusal.{Refusal}
-use Rattle.list_rules.specs.dcd_codes.specs.declared.rules.Rule.{Rule}
+use Rattle.cci_codec.specs.dcd_base.specs.declared.capacity.Tag.{Tag}
+use Rattle.cci_codec.specs.dcd_base.specs.declared.steps.Actor.{Actor}
+use Rattle.cci_codec.specs.dcd_base.specs.declared.steps.LogId.{LogId}
+use Rattle.extent_list.specs.dcd_codes.specs.Rules.{ByRow, code_of}
+use Rattle.extent_list.specs.dcd_codes.specs.declared.codes.Code.{Code}
+use Rattle.extent_list.specs.dcd_codes.specs.declared.refusals.Refusal.{Refusal}
+use Rattle.extent_list.specs.dcd_codes.specs.declared.rules.Rule.{Rule}
 use Rattle.event_records.specs.declared.events.Event.{Event}
 use Rattle.fm_payloads.specs.ManagerPayloads.{manager_request}
 use Rattle.fm_payloads.specs.declared.requests.FmRequest.{FmRequest}
-use Rattle.list_rules.specs.media_map.specs.region_config.specs.Configurations.{Configuration}
-use Rattle.list_rules.specs.media_map.specs.region_config.specs.Soundness.{IsSound}
+use Rattle.extent_list.specs.media_map.specs.region_config.specs.Configurations.{Configuration}
+use Rattle.extent_list.specs.media_map.specs.region_config.specs.Soundness.{IsSound}
 use Rattle.journal_core.specs.Entries.{effects}
 use Rattle.journal_core.specs.declared.acts.Act.{Act}
 use Rattle.journal_core.specs.declared.acts.Reply.{Reply}
@@ -31,9 +31,9 @@ use Rattle.device_commands.specs.device_rules.specs.Legal.{Legal}
 use Rattle.device_commands.specs.device_rules.specs.Logs.{log_of}
 use Rattle.device_commands.specs.device_rules.specs.Outcomes.{Outcome, ended, entered_all}
 use Rattle.device_commands.specs.device_rules.specs.Views.{view_of}
-use Rattle.device_commands.specs.device_laws.specs.QuietRequests.{is_quiet_manager}
-use Rattle.device_commands.specs.device_laws.proofs.ReferenceSteps.{ended-reference}
-use Rattle.device_commands.specs.device_laws.proofs.LegalSound.{legal_is_sound}
+use Rattle.device_commands.specs.device_rules.specs.QuietRequests.{is_quiet_manager}
+use Rattle.device_commands.specs.device_rules.proofs.ReferenceSteps.{ended-reference}
+use Rattle.device_commands.specs.device_rules.proofs.LegalSound.{legal_is_sound}
 use Rattle.tag_refs.specs.Tables.{is_used, passes, with_reference}
 use Rattle.control_core.specs.Deciding.{IsDecidedBy, IsShort}
 use Rattle.control_core.specs.Doing.{IsDone}

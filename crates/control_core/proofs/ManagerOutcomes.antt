@@ -1,11 +1,11 @@
 -- What a 5604h and a 5605h that break no rule come to.
 use Rattle.std.proofs.Common.{◌≡◌, ℕ, ◌<◌, List, None, length, map, refl, subst, sym}
 use Rattle.std.specs.Prelude.{All}
-use Rattle.cci_codec.specs.field_bytes.specs.dcd_base.specs.declared.capacity.Extent.{Extent}
-use Rattle.cci_codec.specs.field_bytes.specs.dcd_base.specs.declared.capacity.Tag.{Tag}
+use Rattle.cci_codec.specs.dcd_base.specs.declared.capacity.Extent.{Extent}
+use Rattle.cci_codec.specs.dcd_base.specs.declared.capacity.Tag.{Tag}
 use Rattle.fm_payloads.specs.declared.requests.FmRequest.{FmRequest}
-use Rattle.list_rules.specs.media_map.specs.region_config.specs.Configurations.{Configuration}
-use Rattle.list_rules.specs.media_map.specs.region_config.specs.Soundness.{IsSound}
+use Rattle.extent_list.specs.media_map.specs.region_config.specs.Configurations.{Configuration}
+use Rattle.extent_list.specs.media_map.specs.region_config.specs.Soundness.{IsSound}
 use Rattle.device_commands.specs.Drafts.{Drafts, IsOutcome, as_records}
 use Rattle.device_commands.specs.declared.draft.DraftParts.{DraftParts}
 use Rattle.device_commands.specs.declared.log_records.LogRecords.{LogRecords}
@@ -15,9 +15,9 @@ use Rattle.device_commands.specs.device_rules.specs.Answers.{manager_outcome, ma
 use Rattle.device_commands.specs.device_rules.specs.Legal.{Legal}
 use Rattle.device_commands.specs.device_rules.specs.Outcomes.{Outcome}
 use Rattle.device_commands.specs.device_rules.specs.Views.{View, view_of}
-use Rattle.device_commands.specs.device_laws.proofs.GivingSteps.{table-removal}
-use Rattle.device_commands.specs.device_laws.proofs.LeavingSteps.{removal_row}
-use Rattle.device_commands.specs.device_laws.proofs.Adding.{row_of}
+use Rattle.device_commands.specs.device_rules.proofs.GivingSteps.{table-removal}
+use Rattle.device_commands.specs.device_rules.proofs.LeavingSteps.{removal_row}
+use Rattle.device_commands.specs.device_rules.proofs.Adding.{row_of}
 use Rattle.control_core.specs.Doing.{IsOfHost}
 use Rattle.control_core.specs.Managing.{less_lists}
 use Rattle.device_commands.specs.device_state.specs.StateAfter.{IsStateAfter}

@@ -4,12 +4,12 @@ use Rattle.std.specs.Prelude.{count_by, flat_map, map, sum_by}
 use Rattle.std.specs.List.{AllByRecursion, range_with_len}
 use Rattle.std.proofs.lemmas.List.{length-append}
 use Rattle.std.proofs.lemmas.List.Sums.{length-filter, sum_by-cons}
-use Rattle.cci_codec.specs.field_bytes.specs.dcd_base.specs.declared.capacity.Extent.{Extent}
-use Rattle.cci_codec.specs.field_bytes.specs.dcd_base.specs.declared.ids.HostId.{HostId}
-use Rattle.cci_codec.specs.field_bytes.specs.dcd_base.specs.declared.steps.LogId.{LogId}
+use Rattle.cci_codec.specs.dcd_base.specs.declared.capacity.Extent.{Extent}
+use Rattle.cci_codec.specs.dcd_base.specs.declared.ids.HostId.{HostId}
+use Rattle.cci_codec.specs.dcd_base.specs.declared.steps.LogId.{LogId}
 use Rattle.event_log.specs.LogStates.{LogState}
 use Rattle.event_log.specs.Logs.{places_in, state_of}
-use Rattle.device_commands.specs.device_laws.specs.GranuleCells.{status_of}
+use Rattle.device_commands.specs.device_rules.specs.GranuleCells.{status_of}
 use Rattle.selection.specs.granule_map.specs.StateLists.{count_of, same_state}
 use Rattle.selection.specs.granule_map.specs.declared.states.GranuleState.{GranuleState}
 use Rattle.selection.specs.granule_map.specs.Tables.{cell_at}
@@ -19,23 +19,23 @@ use Rattle.journal_core.specs.Entries.{effects}
 use Rattle.journal_core.specs.declared.entries.Entry.{Entry}
 use Rattle.journal_core.specs.declared.outcome.Effect.{Effect}
 use Rattle.journal_core.specs.declared.outcome.HeldKind.{HeldKind}
-use Rattle.list_rules.specs.media_map.specs.Places.{run_of}
-use Rattle.list_rules.specs.media_map.proofs.RunLemmas.{granular_from}
-use Rattle.list_rules.specs.media_map.specs.region_config.specs.Configurations.{Configuration}
-use Rattle.list_rules.specs.media_map.specs.region_config.specs.Granules.{granule_total}
-use Rattle.list_rules.specs.media_map.specs.region_config.specs.Soundness.{IsSound}
+use Rattle.extent_list.specs.media_map.specs.Places.{run_of}
+use Rattle.extent_list.specs.media_map.proofs.RunLemmas.{granular_from}
+use Rattle.extent_list.specs.media_map.specs.region_config.specs.Configurations.{Configuration}
+use Rattle.extent_list.specs.media_map.specs.region_config.specs.Granules.{granule_total}
+use Rattle.extent_list.specs.media_map.specs.region_config.specs.Soundness.{IsSound}
 use Rattle.selection.proofs.Placed.{run_below}
-use Rattle.device_commands.specs.device_laws.proofs.Holding.{present_whole}
-use Rattle.device_commands.specs.device_laws.proofs.Homes.{made_granular, made_is_run, made_region}
-use Rattle.device_commands.specs.device_laws.proofs.LegalSound.{legal_is_sound}
-use Rattle.device_commands.specs.device_laws.specs.Pictures.{picture_of}
-use Rattle.device_commands.specs.device_laws.specs.Standing.{IsHome, Stands}
+use Rattle.device_commands.specs.device_rules.proofs.Holding.{present_whole}
+use Rattle.device_commands.specs.device_rules.proofs.Homes.{made_granular, made_is_run, made_region}
+use Rattle.device_commands.specs.device_rules.proofs.LegalSound.{legal_is_sound}
+use Rattle.device_commands.specs.device_rules.specs.Pictures.{picture_of}
+use Rattle.device_commands.specs.device_rules.specs.Standing.{IsHome, Stands}
 use Rattle.device_commands.proofs.FreeGranules.{free_at}
 use Rattle.device_commands.proofs.Reached.{total_kept}
 use Rattle.device_commands.specs.device_rules.specs.Adding.{area_of, is_free_now, per_block, present, region_free_blocks}
 use Rattle.selection.specs.granule_map.specs.Blocks.{free_block_count}
 use Rattle.selection.specs.granule_map.specs.StateLists.{is_free_at}
-use Rattle.list_rules.specs.media_map.specs.region_config.proofs.Faultless.{granules_within}
+use Rattle.extent_list.specs.media_map.specs.region_config.proofs.Faultless.{granules_within}
 use Rattle.selection.proofs.Agreeing.{free_blocks_agree}
 use Rattle.device_commands.specs.device_rules.specs.Counts.{dirty_count, extent_count, free_count, granules_held, missed_of, records_of}
 use Rattle.device_commands.specs.device_rules.specs.Hosts.{accepted_of, held_of, offers_of}

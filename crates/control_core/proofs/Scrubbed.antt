@@ -1,7 +1,7 @@
 -- A turn of the sanitizer is the answer to a scrub.
 use Rattle.std.proofs.Common.{ℕ, List, ap}
-use Rattle.cci_codec.specs.field_bytes.specs.dcd_base.specs.declared.steps.Actor.{Actor}
-use Rattle.list_rules.specs.media_map.specs.region_config.specs.Configurations.{Configuration}
+use Rattle.cci_codec.specs.dcd_base.specs.declared.steps.Actor.{Actor}
+use Rattle.extent_list.specs.media_map.specs.region_config.specs.Configurations.{Configuration}
 use Rattle.journal_core.specs.declared.acts.Act.{Act}
 use Rattle.journal_core.specs.declared.acts.Reply.{Reply}
 use Rattle.journal_core.specs.declared.outcome.Effect.{Effect}

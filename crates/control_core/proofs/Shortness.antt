@@ -8,35 +8,35 @@ use Rattle.std.proofs.lemmas.Grind.{flat_map-append}
 use Rattle.std.proofs.lemmas.List.{length-append, length-drop, length-map, length-take}
 use Rattle.std.proofs.lemmas.List.Elements.{All-drop, All-from_recursion, All-take, recursion_from_All}
 use Rattle.std.proofs.lemmas.List.FromFn.{length-range_with_len}
-use Rattle.cci_codec.specs.field_bytes.specs.Layouts.{Field, Number, Raw, Reserved, flag, spell, spelling}
-use Rattle.cci_codec.specs.field_bytes.specs.dcd_base.specs.declared.capacity.Extent.{Extent}
-use Rattle.cci_codec.specs.field_bytes.specs.dcd_base.specs.declared.capacity.Tag.{Tag}
-use Rattle.cci_codec.specs.field_bytes.specs.dcd_base.specs.declared.ids.HostId.{HostId}
-use Rattle.cci_codec.specs.field_bytes.specs.dcd_base.specs.declared.steps.LogId.{LogId}
-use Rattle.cci_codec.specs.field_bytes.specs.dcd_base.specs.declared.tags.TagView.{TagView}
+use Rattle.cci_codec.specs.dcd_base.specs.Layouts.{Field, Number, Raw, Reserved, flag, spell, spelling}
+use Rattle.cci_codec.specs.dcd_base.specs.declared.capacity.Extent.{Extent}
+use Rattle.cci_codec.specs.dcd_base.specs.declared.capacity.Tag.{Tag}
+use Rattle.cci_codec.specs.dcd_base.specs.declared.ids.HostId.{HostId}
+use Rattle.cci_codec.specs.dcd_base.specs.declared.steps.LogId.{LogId}
+use Rattle.cci_codec.specs.dcd_base.specs.declared.tags.TagView.{TagView}
 use Rattle.event_log.specs.LogStates.{LogState}
 use Rattle.event_log.specs.Logs.{Log, empty_log, records_in}
 use Rattle.event_records.specs.Records.{end_fields, record_head, record_fields}
 use Rattle.event_records.specs.declared.events.Event.{Event}
 use Rattle.fm_payloads.specs.ManagerPayloads.{info_fields, info_head_fields, info_payload, lists_head, regions_head, tag_fields, tags_fields, tags_head_fields, tags_payload}
 use Rattle.fm_payloads.specs.declared.requests.FmRequest.{FmRequest}
-use Rattle.list_rules.specs.dcd_codes.specs.Rules.{◌breaks◌}
-use Rattle.list_rules.specs.dcd_codes.specs.declared.rules.Rule.{Rule}
-use Rattle.device_commands.specs.device_laws.proofs.LogOutcomes.{whole as broken_not}
-use Rattle.list_rules.specs.media_map.specs.region_config.proofs.Searches.{or_parts}
-use Rattle.list_rules.specs.media_map.specs.region_config.specs.declared.region_spec.RegionSpec.{RegionSpec}
+use Rattle.extent_list.specs.dcd_codes.specs.Rules.{◌breaks◌}
+use Rattle.extent_list.specs.dcd_codes.specs.declared.rules.Rule.{Rule}
+use Rattle.device_commands.specs.device_rules.proofs.LogOutcomes.{whole as broken_not}
+use Rattle.extent_list.specs.media_map.specs.region_config.proofs.Searches.{or_parts}
+use Rattle.extent_list.specs.media_map.specs.region_config.specs.declared.region_spec.RegionSpec.{RegionSpec}
 use Rattle.journal_core.specs.declared.outcome.Effect.{Effect}
 use Rattle.tag_refs.specs.declared.entries.TagEntry.{TagEntry}
 use Rattle.device_commands.specs.host_lists.specs.Lists.{Lists}
 use Rattle.host_payloads.specs.HostPayloads.{configuration_fields, configuration_head_fields, configuration_payload, counts_bytes, counts_fields, events_fields, events_head_fields, events_payload, extents_payload, page_fields, region_bytes, view_fields}
-use Rattle.cci_codec.specs.field_bytes.specs.Extents.{extent_bytes, extent_fields}
+use Rattle.cci_codec.specs.dcd_base.specs.Extents.{extent_bytes, extent_fields}
 use Rattle.host_payloads.specs.declared.requests.HostRequest.{HostRequest}
 use Rattle.host_payloads.specs.declared.views.Counts.{Counts}
 use Rattle.host_payloads.specs.declared.views.RegionView.{RegionView}
 use Rattle.journal_core.specs.Entries.{effects}
 use Rattle.journal_core.specs.declared.entries.Entry.{Entry}
-use Rattle.list_rules.specs.media_map.specs.region_config.specs.Configurations.{Configuration}
-use Rattle.list_rules.specs.media_map.specs.region_config.specs.Granules.{regions_of}
+use Rattle.extent_list.specs.media_map.specs.region_config.specs.Configurations.{Configuration}
+use Rattle.extent_list.specs.media_map.specs.region_config.specs.Granules.{regions_of}
 use Rattle.device_commands.specs.device_rules.specs.Answers.{host_outcome, manager_outcome, manager_rule}
 use Rattle.device_commands.specs.device_rules.specs.EventCommands.{events_reply, log_named}
 use Rattle.device_commands.specs.device_rules.specs.Settings.{host_counts, host_flags, lists_reply, manager_flags, page, past_end, region_seen, regions_reply}

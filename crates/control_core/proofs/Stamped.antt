@@ -4,7 +4,7 @@ use Rattle.std.specs.Prelude.{IsFalse}
 use Rattle.std.proofs.lemmas.Bool.{and_left, le-ltb, ne_eqb, or_from}
 use Rattle.std.proofs.lemmas.List.{length_push}
 use Rattle.std.proofs.lemmas.List.Elements.{All-push}
-use Rattle.cci_codec.specs.field_bytes.specs.dcd_base.specs.declared.steps.Stamp.{Stamp}
+use Rattle.cci_codec.specs.dcd_base.specs.declared.steps.Stamp.{Stamp}
 use Rattle.journal_core.specs.declared.entries.Entry.{Entry}
 use Rattle.journal_core.specs.Entries.{next_stamp}
 use Rattle.journal_core.specs.Merging.{is_later}

@@ -3,14 +3,14 @@ use Rattle.std.specs.Prelude.{◌≡◌, ◌<◌, List, ◌++◌}
 use Rattle.std.specs.declared.result.Result.{Result}
 use Rattle.std.specs.declared.result.Result.TheVariants.{Err}
 use Rattle.cci_codec.specs.declared.messages.Request.{Request}
-use Rattle.cci_codec.specs.field_bytes.specs.dcd_base.specs.declared.ids.HostId.{HostId}
-use Rattle.list_rules.specs.dcd_codes.specs.declared.codes.Code.{Code}
-use Rattle.cci_codec.specs.field_bytes.specs.dcd_base.specs.declared.steps.Actor.{Actor}
-use Rattle.list_rules.specs.dcd_codes.specs.declared.refusals.Refusal.{Refusal}
-use Rattle.list_rules.specs.dcd_codes.specs.declared.rules.Rule.{Rule}
+use Rattle.cci_codec.specs.dcd_base.specs.declared.ids.HostId.{HostId}
+use Rattle.extent_list.specs.dcd_codes.specs.declared.codes.Code.{Code}
+use Rattle.cci_codec.specs.dcd_base.specs.declared.steps.Actor.{Actor}
+use Rattle.extent_list.specs.dcd_codes.specs.declared.refusals.Refusal.{Refusal}
+use Rattle.extent_list.specs.dcd_codes.specs.declared.rules.Rule.{Rule}
 use Rattle.journal_core.specs.declared.acts.Act.{Act}
 use Rattle.control_core.specs.Deciding.{IsDecidedBy}
-use Rattle.list_rules.specs.media_map.specs.region_config.specs.Configurations.{Configuration}
+use Rattle.extent_list.specs.media_map.specs.region_config.specs.Configurations.{Configuration}
 use Rattle.journal_core.specs.Entries.{effects}
 use Rattle.journal_core.specs.declared.entries.Entry.{Entry}
 use Rattle.device_commands.specs.HostMessages.{IsDrafted}
@@ -22,7 +22,7 @@ use Rattle.device_commands.specs.device_rules.specs.Hosts.{accepted_of, offers_o
 use Rattle.device_commands.specs.device_rules.specs.Legal.{Legal}
 use Rattle.device_commands.specs.device_rules.specs.Outcomes.{Outcome, effects_of, ended}
 use Rattle.device_commands.specs.device_rules.specs.Views.{view_of}
-use Rattle.device_commands.specs.device_laws.specs.TagTable.{IsTable, among, among_offers, ending}
+use Rattle.device_commands.specs.device_rules.specs.TagTable.{IsTable, among, among_offers, ending}
 use Rattle.tag_refs.specs.declared.entries.TagEntry.{TagEntry}
 use Rattle.control_core.specs.declared.decided.Decided.{Decided}
 use Rattle.device_commands.specs.device_state.specs.declared.state.State.{State}

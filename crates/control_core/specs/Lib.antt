@@ -9,8 +9,7 @@ pub mod Pasts
 pub mod PutChanges
 pub mod Recording
 pub mod Steps
-pub use Rattle.device_commands.specs.device_laws
-pub use Rattle.device_commands.specs.device_state
 pub use Rattle.device_commands.specs.device_rules
+pub use Rattle.device_commands.specs.device_state
 pub use Rattle.device_commands
 pub use Rattle.kept_journal

@@ -1,6 +1,6 @@
 -- The records of a step, by the logs that are kept.
 use Rattle.std.specs.Prelude.{ℕ, ◌-◌, ◌==◌, List, [], ◌∷◌, flat_map, if◌then◌else◌, ◌≡◌, ◌++◌, Bool, map, not}
-use Rattle.cci_codec.specs.field_bytes.specs.dcd_base.specs.declared.steps.LogId.{LogId}
+use Rattle.cci_codec.specs.dcd_base.specs.declared.steps.LogId.{LogId}
 use Rattle.event_log.specs.LogStates.{handle_after}
 use Rattle.event_records.specs.declared.events.Event.{Event}
 use Rattle.device_commands.specs.declared.log_records.LogRecords.{LogRecords}
@@ -8,14 +8,14 @@ use Rattle.journal_core.specs.declared.outcome.Effect.{Effect}
 use Rattle.device_commands.specs.device_rules.specs.Logs.{log_of}
 use Rattle.device_commands.specs.device_rules.specs.Outcomes.{entered_all}
 use Rattle.std.specs.List.{list_any}
-use Rattle.cci_codec.specs.field_bytes.specs.dcd_base.specs.declared.capacity.Tag.{Tag}
-use Rattle.cci_codec.specs.field_bytes.specs.dcd_base.specs.declared.ids.HostId.{HostId}
-use Rattle.list_rules.specs.extent_list.specs.ExtentLists.{has_extent_of}
+use Rattle.cci_codec.specs.dcd_base.specs.declared.capacity.Tag.{Tag}
+use Rattle.cci_codec.specs.dcd_base.specs.declared.ids.HostId.{HostId}
+use Rattle.extent_list.specs.ExtentLists.{has_extent_of}
 use Rattle.device_commands.specs.host_lists.specs.Lists.{Lists}
 use Rattle.journal_core.specs.Entries.{effects}
 use Rattle.journal_core.specs.declared.entries.Entry.{Entry}
-use Rattle.list_rules.specs.media_map.specs.region_config.specs.Configurations.{Configuration}
-use Rattle.device_commands.specs.device_laws.specs.TagTable.{ending}
+use Rattle.extent_list.specs.media_map.specs.region_config.specs.Configurations.{Configuration}
+use Rattle.device_commands.specs.device_rules.specs.TagTable.{ending}
 use Rattle.tag_refs.specs.Tables.{is_used, passes, set_by}
 use Rattle.tag_refs.specs.declared.entries.TagEntry.{TagEntry}
 use Rattle.device_commands.specs.device_state.specs.StateAfter.{IsStateAfter}

@@ -3,8 +3,8 @@
 ghost use Rattle.control_core.specs.Broken.{HasRow};
 ghost use Rattle.control_core.specs.Pasts.{ByEveryPast};
 ghost use Rattle.control_core.specs.Steps.{MayStep};
-ghost use Rattle.cci_codec.specs.field_bytes.specs.dcd_base.specs.declared.steps.Actor.{Actor};
-ghost use Rattle.list_rules.specs.dcd_codes.specs.declared.rules.Rule.{Rule as BrokenRule};
+ghost use Rattle.cci_codec.specs.dcd_base.specs.declared.steps.Actor.{Actor};
+ghost use Rattle.extent_list.specs.dcd_codes.specs.declared.rules.Rule.{Rule as BrokenRule};
 ghost use Rattle.device_commands.specs.ManagerMessages.{FewCleared, ManagerAnswers};
 ghost use Rattle.device_commands.specs.device_rules.specs.Answers.{broken as broken_by};
 ghost use Rattle.device_commands.specs.device_state.specs.StateAfter.{IsReached};
@@ -14,16 +14,16 @@ ghost use Rattle.std.specs.Prelude.{◌≡◌, ◌<◌, IfOk, Option};
 use crate::control::Control;
 use crate::live::LiveControl;
 use cci_codec::Request;
-use cci_codec::field_bytes::dcd_base::{Actor, HostId, NoMemory};
+use cci_codec::dcd_base::{Actor, HostId, NoMemory};
 use device_commands::device_state::State;
 use device_commands::{
     AddRequest, Draft, RemoveRequest, Room, add, add_reference, host_draft, quiet_draft, remove,
     remove_reference,
 };
+use extent_list::dcd_codes::{Refusal, Rule};
+use extent_list::media_map::region_config::Config;
 use fm_payloads::{FmRequest, PayloadFault, decode};
 use journal_core::Act;
-use list_rules::dcd_codes::{Refusal, Rule};
-use list_rules::media_map::region_config::Config;
 use std::alloc::Global;
 
 impl Control {

@@ -8,18 +8,18 @@ ghost use Rattle.device_commands.specs.device_rules.specs.Answers.{answer as ans
 ghost use Rattle.device_commands.specs.device_rules.specs.Legal.{Legal};
 ghost use Rattle.journal_core.specs.Entries.{effects};
 ghost use Rattle.journal_core.specs.Merging.{Rising};
-ghost use Rattle.list_rules.specs.media_map.specs.region_config.specs.Granules.{granule_total};
+ghost use Rattle.extent_list.specs.media_map.specs.region_config.specs.Granules.{granule_total};
 ghost use Rattle.std.specs.Prelude.{◌≡◌, ◌+◌, ◌++◌, ◌∷◌, ◌<◌, ◌≤◌, [], All, IfOk, OnErr, OnOk};
 
 use crate::decided::{Decided, Decision};
 use crate::live::LiveControl;
 use crate::plan::Plan;
 use crate::step_effects::{StepEffects, TakenStep};
-use cci_codec::field_bytes::dcd_base::{Actor, Boxed, Changes, NoMemory, Stamp};
+use cci_codec::dcd_base::{Actor, Boxed, Changes, NoMemory, Stamp};
 use device_commands::{DraftedStep, Room};
+use extent_list::media_map::region_config::Config;
 use journal_core::{Act, Effects, Entry, Reply};
 use kept_journal::KeptEntries;
-use list_rules::media_map::region_config::Config;
 use std::alloc::Global;
 use std::marker::Model;
 
@@ -63,11 +63,11 @@ impl Control {
         })
     }
 
-    /// The configuration.
-    pub fn config(&self) -> &Config
+    /// The configuration that it was made with, whose blocks are the first ones.
+    pub fn first_config(&self) -> &Config
         ensures { result.now ≡ self.now.config }
     {
-        self.live.config()
+        self.live.first_config()
     }
 
     /// Its commands and scrubs, in order, with rising stamps. The payload of each response has at most 2,048 bytes.

@@ -1,15 +1,15 @@
 //! What a step comes to.
 
 ghost use Rattle.control_core.specs.Decisions.{decided_by, decided_where, only_replied};
-ghost use Rattle.list_rules.specs.dcd_codes.specs.declared.codes.Code.{Code};
+ghost use Rattle.extent_list.specs.dcd_codes.specs.declared.codes.Code.{Code};
 ghost use Rattle.device_commands.specs.device_rules.specs.Answers.{response};
 ghost use Rattle.std.specs.Prelude.{◌≡◌, IfOk};
 
 use cci_codec::Request;
-use cci_codec::field_bytes::dcd_base::{Bytes, NoMemory, Seq};
+use cci_codec::dcd_base::{Bytes, NoMemory, Seq};
 use device_commands::{DraftedStep, ListsUpdate, Room, ShortList, answer};
+use extent_list::dcd_codes::Code;
 use journal_core::{Effects, Reply};
-use list_rules::dcd_codes::Code;
 use std::alloc::Global;
 use std::marker::Model;
 use std::mem::replace;

@@ -1,12 +1,12 @@
 //! Tags that the device keeps have sixteen bytes each, so that pages of them are short. To say so does nothing.
 
 ghost use Rattle.control_core.specs.Fitting.{AcceptedFit, PartFits, RequestFits, TagFits};
-ghost use Rattle.cci_codec.specs.field_bytes.specs.dcd_base.specs.declared.capacity.Extent.{Extent};
+ghost use Rattle.cci_codec.specs.dcd_base.specs.declared.capacity.Extent.{Extent};
 ghost use Rattle.event_records.specs.declared.events.Event.{Event};
 ghost use Rattle.std.specs.Prelude.{All};
 ghost use Rattle.tag_refs.specs.declared.entries.TagEntry.{TagEntry};
 
-use cci_codec::field_bytes::dcd_base::{Extent, Tag};
+use cci_codec::dcd_base::{Extent, Tag};
 use device_commands::device_state::{HostPart, State};
 use event_log::EventLog;
 use fm_payloads::FmRequest;

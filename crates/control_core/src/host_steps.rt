@@ -6,12 +6,12 @@ ghost use Rattle.control_core.specs.Doing.{Does, Drafted, Refuses};
 ghost use Rattle.control_core.specs.Decisions.{decided_by};
 ghost use Rattle.device_commands.specs.DraftContents.{draft_in};
 ghost use Rattle.device_commands.specs.ListsUpdates.{left_by};
-ghost use Rattle.list_rules.specs.dcd_codes.specs.declared.codes.Code.{Code};
+ghost use Rattle.extent_list.specs.dcd_codes.specs.declared.codes.Code.{Code};
 ghost use Rattle.device_commands.specs.device_rules.specs.Answers.{response};
 ghost use Rattle.device_commands.specs.device_state.specs.StateAfter.{IsReached, part_of};
 ghost use Rattle.device_commands.specs.device_state.specs.Updates.{IsOfLog};
 ghost use Rattle.device_commands.specs.host_lists.specs.Changes.{changed_by};
-ghost use Rattle.cci_codec.specs.field_bytes.specs.dcd_base.specs.declared.steps.Actor.{Actor};
+ghost use Rattle.cci_codec.specs.dcd_base.specs.declared.steps.Actor.{Actor};
 ghost use Rattle.device_commands.specs.declared.log_records.LogRecords.{LogRecords};
 ghost use Rattle.journal_core.specs.declared.acts.Act.{Act};
 ghost use Rattle.journal_core.specs.declared.outcome.Effect.{Effect};
@@ -22,15 +22,15 @@ use crate::ending::ending;
 use crate::fitting::part_fits;
 use crate::recording::{put_ends, put_records_of_logs};
 use cci_codec::Request;
-use cci_codec::field_bytes::dcd_base::{Bytes, HostId, NoMemory, Seq, Tag};
+use cci_codec::dcd_base::{Bytes, HostId, NoMemory, Seq, Tag};
 use device_commands::device_state::State;
 use device_commands::host_lists::{Changed, HostLists, ListsChange};
 use device_commands::{
     Content, Draft, DraftedStep, ListsUpdate, Room, answer, dropped, host_draft, refused,
 };
+use extent_list::dcd_codes::{Code, Refusal, Rule, number_of};
+use extent_list::media_map::region_config::Config;
 use journal_core::{Effects, Reply};
-use list_rules::dcd_codes::{Code, Refusal, Rule, number_of};
-use list_rules::media_map::region_config::Config;
 use std::alloc::Global;
 use std::mem::{replace, swap};
 

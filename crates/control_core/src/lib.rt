@@ -24,7 +24,7 @@ mod step_effects;
 pub use control::Control;
 pub use decided::{Decided, Decision};
 pub use device_commands;
-pub use device_commands::{device_laws, device_rules, device_state};
+pub use device_commands::{device_rules, device_state};
 pub use kept_journal;
 pub use live::LiveControl;
 pub use plan::Plan;

@@ -5,7 +5,7 @@ ghost use Rattle.control_core.specs.Pasts.{ByEveryPast, EntersStep, IsOfStep, Is
 ghost use Rattle.control_core.specs.Steps.{MayStep};
 ghost use Rattle.device_commands.specs.device_rules.specs.ChangedRuns.{AreChanges, LiesIn};
 ghost use Rattle.journal_core.specs.Entries.{effects};
-ghost use Rattle.list_rules.specs.media_map.specs.region_config.specs.Granules.{granule_total};
+ghost use Rattle.extent_list.specs.media_map.specs.region_config.specs.Granules.{granule_total};
 ghost use Rattle.std.specs.Prelude.{◌≡◌, ◌+◌, ◌<◌, ◌≤◌, [], All, IfOk, OnOk};
 
 use crate::changing::changes_of;
@@ -13,11 +13,11 @@ use crate::decided::Decision;
 use crate::host_steps::host_step;
 use crate::manager_steps::manager_step;
 use crate::scrub_steps::scrub_step;
-use cci_codec::field_bytes::dcd_base::{Actor, Changes, NoMemory};
+use cci_codec::dcd_base::{Actor, Changes, NoMemory};
 use device_commands::Room;
 use device_commands::device_state::State;
+use extent_list::media_map::region_config::Config;
 use journal_core::{Act, Effect, Effects};
-use list_rules::media_map::region_config::Config;
 use std::alloc::Global;
 use std::marker::Model;
 
@@ -59,8 +59,8 @@ impl LiveControl {
         })
     }
 
-    /// The configuration.
-    pub fn config(&self) -> &Config
+    /// The configuration that it was made with, whose blocks are the first ones.
+    pub fn first_config(&self) -> &Config
         ensures { result.now ≡ self.now.config }
     {
         &self.config

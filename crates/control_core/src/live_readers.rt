@@ -11,25 +11,25 @@ ghost use Rattle.device_commands.specs.device_rules.specs.Tags.{all_granules, st
 ghost use Rattle.device_commands.specs.device_state.specs.StateAfter.{part_of};
 ghost use Rattle.device_commands.specs.device_state.specs.Updates.{IsOfLog, log_in};
 ghost use Rattle.event_log.specs.Logs.{places_in, state_of};
-ghost use Rattle.device_commands.specs.device_laws.specs.GranuleCells.{status_of};
+ghost use Rattle.device_commands.specs.device_rules.specs.GranuleCells.{status_of};
 ghost use Rattle.journal_core.specs.Entries.{effects};
 ghost use Rattle.journal_core.specs.Holders.{holds};
 ghost use Rattle.journal_core.specs.declared.outcome.HeldKind.{HeldKind};
-ghost use Rattle.list_rules.specs.media_map.specs.Places.{run_of as run_with};
-ghost use Rattle.list_rules.specs.media_map.specs.region_config.specs.Granules.{granule_total};
+ghost use Rattle.extent_list.specs.media_map.specs.Places.{run_of as run_with};
+ghost use Rattle.extent_list.specs.media_map.specs.region_config.specs.Granules.{granule_total};
 ghost use Rattle.std.specs.Prelude.{◌≡◌, ◌<◌, Some, length, map, slice_get, sum_by};
 
 use crate::live::LiveControl;
-use cci_codec::field_bytes::dcd_base::{Extent, Granule, HostId, LogId, RegionId, host_bits};
+use cci_codec::dcd_base::{Extent, Granule, HostId, LogId, RegionId, host_bits};
 use device_commands::run_of;
 use event_log::EventLog;
 use event_records::Event;
-use list_rules::media_map::region_config::Config;
+use extent_list::media_map::region_config::Config;
 use selection::granule_map::GranuleMap;
 
 impl LiveControl {
-    /// The configuration with the present block size of each region; `config` answers the first ones.
-    pub fn present(&self) -> &Config
+    /// The configuration with the present block size of each region; `first_config` answers the first ones.
+    pub fn config(&self) -> &Config
         ensures { ByEveryPast self.now (λ past. result.now ≡ present_in self.now.config (effects past)) }
     {
         &self.state.present

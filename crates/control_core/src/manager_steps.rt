@@ -7,14 +7,14 @@ ghost use Rattle.device_commands.specs.DraftContents.{draft_in};
 ghost use Rattle.control_core.specs.Managing.{EntersDraft, Manages};
 ghost use Rattle.device_commands.specs.ManagerMessages.{FewCleared};
 ghost use Rattle.device_commands.specs.device_state.specs.Updates.{IsOfLog};
-ghost use Rattle.cci_codec.specs.field_bytes.specs.dcd_base.specs.declared.steps.Actor.{Actor};
+ghost use Rattle.cci_codec.specs.dcd_base.specs.declared.steps.Actor.{Actor};
 ghost use Rattle.fm_payloads.specs.ManagerPayloads.{manager_request};
 ghost use Rattle.fm_payloads.specs.declared.requests.FmRequest.{FmRequest};
 ghost use Rattle.device_commands.specs.declared.log_records.LogRecords.{LogRecords};
 ghost use Rattle.journal_core.specs.declared.acts.Act.{Act};
 ghost use Rattle.std.specs.Prelude.{◌≡◌, ◌<◌, ◌∷◌, [], All, IfOk, OnOk, false, if◌then◌else◌, length, not, true};
 ghost use Rattle.std.specs.declared.result.Result.TheVariants.{Ok};
-ghost use Rattle.device_commands.specs.device_laws.specs.QuietRequests.{is_quiet_manager};
+ghost use Rattle.device_commands.specs.device_rules.specs.QuietRequests.{is_quiet_manager};
 ghost use Rattle.tag_refs.specs.Tables.{is_used, passes, with_reference};
 
 use crate::decided::{Decision, replied};
@@ -22,15 +22,15 @@ use crate::fitting::request_fits;
 use crate::host_steps::{put_success, recorded};
 use crate::recording::{put_ends, put_records_of_logs};
 use cci_codec::Request;
-use cci_codec::field_bytes::dcd_base::{Extents, HostId, NoMemory, Seq, Tag};
+use cci_codec::dcd_base::{Extents, HostId, NoMemory, Seq, Tag};
 use device_commands::device_state::State;
 use device_commands::{
     AddRequest, Content, Draft, DraftedStep, RemoveRequest, Room, add, add_reference, quiet_draft,
     refused, remove, remove_reference,
 };
+use extent_list::dcd_codes::{Refusal, Rule};
+use extent_list::media_map::region_config::Config;
 use fm_payloads::{FmRequest, PayloadFault, decode};
-use list_rules::dcd_codes::{Refusal, Rule};
-use list_rules::media_map::region_config::Config;
 use std::alloc::Global;
 
 /// What a message of the manager comes to. What changes extents or tags stands apart, so that one that only reads makes no room for what that needs.

@@ -2,7 +2,7 @@
 
 ghost use Rattle.std.specs.Prelude.{◌≡◌};
 
-use cci_codec::field_bytes::dcd_base::{Boxed, Changes};
+use cci_codec::dcd_base::{Boxed, Changes};
 use journal_core::{Effects, Entry};
 
 /// A step of the control with all the memory that it needs: `Control::apply` takes it.

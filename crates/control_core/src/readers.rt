@@ -8,17 +8,17 @@ ghost use Rattle.device_commands.specs.device_rules.specs.Logs.{log_of};
 ghost use Rattle.device_commands.specs.device_rules.specs.Tags.{all_granules, status};
 ghost use Rattle.device_commands.specs.device_state.specs.Updates.{IsOfLog};
 ghost use Rattle.event_log.specs.Logs.{places_in, state_of};
-ghost use Rattle.device_commands.specs.device_laws.specs.GranuleCells.{status_of};
+ghost use Rattle.device_commands.specs.device_rules.specs.GranuleCells.{status_of};
 ghost use Rattle.journal_core.specs.Entries.{effects};
 ghost use Rattle.journal_core.specs.declared.outcome.HeldKind.{HeldKind};
 ghost use Rattle.std.specs.Prelude.{◌≡◌, ◌<◌, Some, length, map, slice_get};
 
 use crate::control::Control;
 use crate::live::LiveControl;
-use cci_codec::field_bytes::dcd_base::{Extent, HostId, LogId, RegionId};
+use cci_codec::dcd_base::{Extent, HostId, LogId, RegionId};
 use event_log::EventLog;
 use event_records::Event;
-use list_rules::media_map::region_config::Config;
+use extent_list::media_map::region_config::Config;
 use selection::granule_map::GranuleMap;
 
 impl Control {
@@ -30,11 +30,11 @@ impl Control {
         &self.live
     }
 
-    /// The configuration with the present block size of each region; `config` answers the first ones.
-    pub fn present(&self) -> &Config
+    /// The configuration with the present block size of each region; `first_config` answers the first ones.
+    pub fn config(&self) -> &Config
         ensures { result.now ≡ present_in self.now.config (effects self.now.entries) }
     {
-        self.live.present()
+        self.live.config()
     }
 
     /// The extents that the host has accepted, in the order of its list.

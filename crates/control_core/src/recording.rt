@@ -6,7 +6,7 @@ ghost use Rattle.device_commands.specs.declared.log_records.LogRecords.{LogRecor
 ghost use Rattle.journal_core.specs.declared.outcome.Effect.{Effect};
 ghost use Rattle.std.specs.Prelude.{◌≡◌, ◌++◌, ◌+◌, ◌-◌, ◌≤◌, ℕ, All, OnOk, length, map, vec_capacity, vec_len};
 
-use cci_codec::field_bytes::dcd_base::{Extent, LogId, NoMemory, Tag};
+use cci_codec::dcd_base::{Extent, LogId, NoMemory, Tag};
 use device_commands::device_state::State;
 use device_commands::{LogRecords, ShortList};
 use event_log::{EventLog, handle_after};

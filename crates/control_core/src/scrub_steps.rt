@@ -1,17 +1,17 @@
 //! A turn of the sanitizer, as a step.
 
 ghost use Rattle.control_core.specs.Deciding.{IsDecided};
-ghost use Rattle.cci_codec.specs.field_bytes.specs.dcd_base.specs.declared.steps.Actor.{Actor};
+ghost use Rattle.cci_codec.specs.dcd_base.specs.declared.steps.Actor.{Actor};
 ghost use Rattle.device_commands.specs.device_state.specs.StateAfter.{IsReached};
 ghost use Rattle.journal_core.specs.declared.acts.Act.{Act};
 ghost use Rattle.std.specs.Prelude.{IfOk};
 
 use crate::decided::Decision;
-use cci_codec::field_bytes::dcd_base::NoMemory;
+use cci_codec::dcd_base::NoMemory;
 use device_commands::device_state::State;
 use device_commands::{Room, zero_dirty};
+use extent_list::media_map::region_config::Config;
 use journal_core::Reply;
-use list_rules::media_map::region_config::Config;
 use std::alloc::Global;
 
 /// What a scrub of so many granules at most comes to.

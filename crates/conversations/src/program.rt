@@ -1,6 +1,8 @@
 //! The programs that conversations are with.
 
 use dcd_base::{MemSink, MemSource, NoGate};
+use explainer::journal_check::run_check;
+use explainer::run as run_text;
 use host_driver::run_driver;
 use pool_planner::run_plan;
 use script_runner::{chosen, run};
@@ -8,8 +10,6 @@ use std::alloc::{AllocGlobal, Global};
 use std::io::{self, ErrorKind};
 use std::sync::Wait;
 use std::thread::Threads;
-use text_converter::journal_check::run_check;
-use text_converter::run as run_text;
 use tunnel_fabric::run_fabric;
 
 /// A program that reads a script from a source and writes a text to a sink.

@@ -2,8 +2,8 @@
 
 use crate::conversation::Conversation;
 use dcd_base::{Bytes, NoMemory};
+use explainer::{Refusal, Task, convert};
 use std::alloc::Global;
-use text_converter::{Refusal, Task, convert};
 
 /// What a text or a script is turned into, or `None` where it is refused.
 fn turned(alloc: Global, task: Task, input: &[u8]) -> Result<Option<Bytes>, NoMemory> {

@@ -1,7 +1,11 @@
 pub mod Ends
+pub mod EventCommands
+pub mod Extents
 pub mod Failures
 pub mod Hosts
+pub mod Layouts
 pub mod Limits
+pub mod Payloads
 pub mod ShortLists
 pub mod Streams
 pub mod Words

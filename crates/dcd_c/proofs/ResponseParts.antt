@@ -4,7 +4,7 @@ use Rattle.std.proofs.lemmas.List.{append-nil, drop-drop, length-append, take-ap
 use Rattle.std.proofs.lemmas.Grind.{flat_map-append}
 use Rattle.cci_codec.specs.Messages.{response_bytes, response_head_fields}
 use Rattle.cci_codec.specs.declared.messages.Response.{Response}
-use Rattle.field_bytes.specs.Layouts.{Field, Raw, spell, spelling}
+use Rattle.dcd_base.specs.Layouts.{Field, Raw, spell, spelling}
 
 -- a response is its header and then its payload
 pub response_parts : (s : Response) (head payload : List ℕ) → head ≡ spelling (response_head_fields s.tag s.opcode s.code (length s.payload)) → payload ≡ s.payload

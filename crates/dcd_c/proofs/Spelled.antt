@@ -2,7 +2,7 @@
 use Rattle.std.proofs.Common.{◌≡◌, ℕ, List, ◌++◌, ◌%◌, sym, ap, ◌∙◌}
 use Rattle.std.proofs.lemmas.List.{append_assoc}
 use Rattle.std.specs.Prelude.{codes}
-use Rattle.field_bytes.specs.Layouts.{u32_bytes, u64_bytes}
+use Rattle.dcd_base.specs.Layouts.{u32_bytes, u64_bytes}
 use Rattle.dcd_c.specs.Opening.{region_spelled}
 use Rattle.dcd_c.specs.Texts.{cause_text, place_words, region_words}
 use Rattle.dcd_c.specs.declared.heads.RegionTold.{RegionTold}

@@ -1,6 +1,6 @@
 -- The device of hosts, regions and bases: that of the head that spells them.
 use Rattle.std.specs.Prelude.{◌≡◌, ℕ, ◌*◌, ◌%◌, ◌==◌, nat_lt, Bool, true, false, List, ◌++◌, codes, flat_map, length, replicate, Option, Some, None, Result, Err, if◌then◌else◌}
-use Rattle.field_bytes.specs.Layouts.{u8_bytes, u16_bytes, u32_bytes, u64_bytes}
+use Rattle.dcd_base.specs.Layouts.{u8_bytes, u16_bytes, u32_bytes, u64_bytes}
 use Rattle.dcd_c.specs.Calls.{OpensPlace}
 use Rattle.dcd_c.specs.Sessions.{IsIdle}
 use Rattle.dcd_c.specs.declared.faults.Fault.{Fault}

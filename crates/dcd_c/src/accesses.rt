@@ -13,7 +13,7 @@ use std::alloc::Global;
 fn load(session: &mut Session, host: u8, dpa: u64) -> Result<u64, Fault>
     ensures { AnswersLoad host dpa session.old session.new result }
 {
-    if host >= session.device.config().hosts() {
+    if host >= session.device.first_config().hosts() {
         session.rest();
         return Err(Fault::NoActor);
     }
@@ -29,7 +29,7 @@ fn load(session: &mut Session, host: u8, dpa: u64) -> Result<u64, Fault>
 fn store(session: &mut Session, host: u8, dpa: u64, value: u64) -> Result<(), Fault>
     ensures { AnswersStore host dpa value session.old session.new result }
 {
-    if host >= session.device.config().hosts() {
+    if host >= session.device.first_config().hosts() {
         session.rest();
         return Err(Fault::NoActor);
     }

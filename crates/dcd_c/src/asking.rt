@@ -104,7 +104,7 @@ fn state_of(device: &LiveDevice, host: u8) -> HostState
 fn memory_of(device: &LiveDevice) -> MemoryState
     ensures { ByEveryLife device.now (TellsMemoryState device.now result) }
 {
-    let config = device.config();
+    let config = device.first_config();
     let control = device.control();
     MemoryState {
         size: MEMORY_STATE,
@@ -123,7 +123,7 @@ fn memory_of(device: &LiveDevice) -> MemoryState
 fn host_of(device: &LiveDevice, host: u8) -> Result<HostState, Fault>
     ensures { AsksHost host device.now result }
 {
-    if host >= device.config().hosts() {
+    if host >= device.first_config().hosts() {
         return Err(Fault::NoActor);
     }
     Ok(state_of(device, host))

@@ -288,7 +288,7 @@ fn tell(session: &Session, room: &mut [RunTold], step: &mut StepTold) -> Result<
     if runs > room.len() {
         return Err(Fault::NoRoom(runs as u64));
     }
-    put_runs(session.device.config(), effects, room);
+    put_runs(session.device.first_config(), effects, room);
     Ok(runs as u64)
 }
 

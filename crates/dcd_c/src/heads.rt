@@ -5,15 +5,14 @@ ghost use Rattle.dcd_c.specs.Heads.{IsHeadRead};
 ghost use Rattle.dcd_c.specs.Opening.{OpensWith, StaysIdle, bases_fit, counts_spelled, head_spelled, region_spelled};
 ghost use Rattle.dcd_c.specs.Places.{has_device};
 ghost use Rattle.dcd_c.specs.declared.faults.Fault.{Fault};
-ghost use Rattle.field_bytes.specs.Layouts.{u64_bytes};
+ghost use Rattle.dcd_base.specs.Layouts.{u64_bytes};
 ghost use Rattle.std.specs.Prelude.{◌≡◌, ◌++◌, Err, IfErr, IfOk, IsTrue, OnOk, flat_map};
 
 use crate::faults::Fault;
 use crate::handles::{Handle, put_in, take_out};
 use crate::sessions::Session;
-use dcd_base::{Bytes, NoMemory};
+use dcd_base::{Bytes, NoMemory, add_u8, add_u16, add_u32, add_u64};
 use device_plain::LiveDevice;
-use field_bytes::{add_u8, add_u16, add_u32, add_u64};
 use journal_core::Effects;
 use region_config::Config;
 use script_codec::{Reader, ScriptFault};

@@ -77,7 +77,7 @@ fn put_accepted(device: &LiveDevice, host: u8, room: &mut [ExtentTold]) -> Resul
 fn accepted_of(device: &LiveDevice, host: u8, room: &mut [ExtentTold]) -> Result<u64, Fault>
     ensures { TellsHostItems host (accepted_told host) room.old room.new device.now result }
 {
-    if host >= device.config().hosts() {
+    if host >= device.first_config().hosts() {
         return Err(Fault::NoActor);
     }
     put_accepted(device, host, room)
@@ -89,7 +89,7 @@ fn offered_count(device: &LiveDevice, host: u8) -> usize
     ensures { ByEveryLife device.now (λ life. result ≡ length (offers_told host device.now life)) }
 {
     // Some legal journal leads to the device.
-    let _sound = device.config();
+    let _sound = device.first_config();
     let kept = device.control();
     let mut count = 0usize;
     for i in 0..kept.offers(HostId(host)) {
@@ -109,7 +109,7 @@ fn put_offers(device: &LiveDevice, host: u8, room: &mut [ExtentTold]) -> Result<
         return Err(Fault::NoRoom(count as u64));
     }
     // Some legal journal leads to the device.
-    let _sound = device.config();
+    let _sound = device.first_config();
     let kept = device.control();
     let mut at = 0;
     for i in 0..kept.offers(HostId(host)) {
@@ -124,7 +124,7 @@ fn put_offers(device: &LiveDevice, host: u8, room: &mut [ExtentTold]) -> Result<
 fn offers_of(device: &LiveDevice, host: u8, room: &mut [ExtentTold]) -> Result<u64, Fault>
     ensures { TellsHostItems host (offers_told host) room.old room.new device.now result }
 {
-    if host >= device.config().hosts() {
+    if host >= device.first_config().hosts() {
         return Err(Fault::NoActor);
     }
     put_offers(device, host, room)
@@ -180,7 +180,7 @@ fn put_records(device: &LiveDevice, log: LogId, room: &mut [u8]) -> Result<u64, 
 fn records_of(device: &LiveDevice, number: u8, room: &mut [u8]) -> Result<u64, Fault>
     ensures { TellsLog number room.old room.new device.now result }
 {
-    match log_of(device.config().hosts(), number) {
+    match log_of(device.first_config().hosts(), number) {
         None => Err(Fault::NoActor),
         Some(log) => put_records(device, log, room),
     }
@@ -211,7 +211,7 @@ fn region_told(spec: &RegionSpec) -> RegionTold
 fn regions_of(device: &LiveDevice, room: &mut [RegionTold]) -> Result<u64, Fault>
     ensures { TellsItems regions_told room.old room.new device.now result }
 {
-    let config = device.control().present();
+    let config = device.control().config();
     let count = config.regions();
     if usize::from(count) > room.len() {
         return Err(Fault::NoRoom(u64::from(count)));
@@ -246,7 +246,7 @@ fn bases_before(config: &Config, hosts: u8) -> usize
 fn bases_of(device: &LiveDevice, room: &mut [u64]) -> Result<u64, Fault>
     ensures { TellsItems bases_told room.old room.new device.now result }
 {
-    let config = device.config();
+    let config = device.first_config();
     let count = bases_before(config, config.hosts());
     if count > room.len() {
         return Err(Fault::NoRoom(count as u64));

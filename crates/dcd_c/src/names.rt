@@ -4,7 +4,7 @@ ghost use Rattle.dcd_c.specs.Words.{PutsName, code_word, fault_word, status_word
 ghost use Rattle.std.specs.Prelude.{◌≡◌};
 
 use crate::faults::Fault;
-use field_bytes::{put_byte, put_bytes};
+use dcd_base::{put_byte, put_bytes};
 
 /// Puts the name and a NUL at the start of the room, and answers how many bytes the name has.
 pub(crate) fn put_name(name: &[u8], room: &mut [u8]) -> Result<u64, Fault>

@@ -98,7 +98,7 @@ fn rule_broken(
 ) -> Result<Option<Rule>, Fault>
     ensures { AsksRule number message.now device.now result }
 {
-    match actor_of(device.config().hosts(), number) {
+    match actor_of(device.first_config().hosts(), number) {
         None => Err(Fault::NoActor),
         Some(actor) => {
             let request = request_of(alloc, message)?;

@@ -4,7 +4,7 @@ ghost use Rattle.cci_codec.specs.Messages.{response_bytes};
 ghost use Rattle.std.specs.Prelude.{◌≡◌, ◌+◌, ◌++◌, ◌≤◌, drop, length};
 
 use cci_codec::{Response, response_head};
-use field_bytes::put_bytes;
+use dcd_base::put_bytes;
 
 /// Puts the response at the start of the room, and answers how many bytes it has.
 pub(crate) fn put_response(response: &Response, room: &mut [u8]) -> u64

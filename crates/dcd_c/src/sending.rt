@@ -81,7 +81,7 @@ fn answered(
 ) -> Result<u64, Fault>
     ensures { SendsMessage number message.now room.old room.new session.old session.new result }
 {
-    match actor_of(session.device.config().hosts(), number) {
+    match actor_of(session.device.first_config().hosts(), number) {
         None => {
             session.rest();
             Err(Fault::NoActor)

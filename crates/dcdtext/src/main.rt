@@ -3,8 +3,8 @@
 #![tactic(auto)]
 
 use edge_io::{StdSink, StdSource, words};
+use explainer::{Status, run};
 use std::process::ExitCode;
-use text_converter::{Status, run};
 
 /// Hands `run` the words of the command line, standard input and standard output, and exits with its status.
 fn main(rt: HostRuntime) -> ExitCode {

@@ -4,17 +4,17 @@ use Rattle.std.specs.Prelude.{All, fold, if◌then◌else◌}
 use Rattle.std.specs.List.{list_any}
 use Rattle.std.proofs.lemmas.Bool.{eq-eqb}
 use Rattle.std.proofs.Math.Bool.{or-false}
-use Rattle.cci_codec.specs.field_bytes.specs.dcd_base.specs.declared.ids.HostId.{HostId}
-use Rattle.cci_codec.specs.field_bytes.specs.dcd_base.specs.declared.capacity.Extent.{Extent}
-use Rattle.cci_codec.specs.field_bytes.specs.dcd_base.specs.declared.steps.LogId.{LogId}
-use Rattle.cci_codec.specs.field_bytes.specs.dcd_base.specs.Words.{is_empty}
-use Rattle.list_rules.specs.media_map.specs.region_config.specs.Configurations.{Configuration}
-use Rattle.list_rules.specs.media_map.specs.region_config.specs.Granules.{with_blocks}
-use Rattle.list_rules.specs.media_map.specs.region_config.specs.Soundness.{IsSound}
+use Rattle.cci_codec.specs.dcd_base.specs.declared.ids.HostId.{HostId}
+use Rattle.cci_codec.specs.dcd_base.specs.declared.capacity.Extent.{Extent}
+use Rattle.cci_codec.specs.dcd_base.specs.declared.steps.LogId.{LogId}
+use Rattle.cci_codec.specs.dcd_base.specs.Words.{is_empty}
+use Rattle.extent_list.specs.media_map.specs.region_config.specs.Configurations.{Configuration}
+use Rattle.extent_list.specs.media_map.specs.region_config.specs.Granules.{with_blocks}
+use Rattle.extent_list.specs.media_map.specs.region_config.specs.Soundness.{IsSound}
 use Rattle.journal_core.specs.declared.outcome.Effect.{Effect}
 use Rattle.journal_core.specs.declared.outcome.HeldKind.{HeldKind}
-use Rattle.list_rules.specs.media_map.specs.Places.{run_of}
-use Rattle.list_rules.specs.extent_list.specs.ExtentLists.{count_in, marked, tags_of}
+use Rattle.extent_list.specs.media_map.specs.Places.{run_of}
+use Rattle.extent_list.specs.ExtentLists.{count_in, marked, tags_of}
 use Rattle.offer_core.specs.Offerings.{oldest_of}
 use Rattle.offer_core.specs.Responses.{respond_rule}
 use Rattle.device_state.specs.host_lists.specs.Answers.{IsAccepted, generation_after}
@@ -23,7 +23,7 @@ use Rattle.device_state.specs.host_lists.specs.declared.lists_change.ListsChange
 use Rattle.device_state.specs.device_rules.specs.Hosts.{accepted_after, held_after, moves, offers_after}
 use Rattle.device_state.specs.device_rules.specs.ResponseOutcomes.{answered, hold, respond_changes, respond_outcome, response_records, unhold}
 use Rattle.device_state.specs.device_rules.specs.Views.{View, generation_in, view_after}
-use Rattle.device_state.specs.device_laws.proofs.Homes.{run_same}
+use Rattle.device_state.specs.device_rules.proofs.Homes.{run_same}
 use Rattle.device_commands.specs.declared.draft.DraftParts.{DraftParts}
 use Rattle.device_commands.specs.Drafts.{Drafts}
 use Rattle.device_commands.specs.ListsUpdates.{left_by}

@@ -1,19 +1,19 @@
 -- Free blocks as they are chosen: by what is kept, and as runs of the device.
 use Rattle.std.proofs.Common.{◌≡◌, ℕ, zero, suc, ◌+◌, ◌%◌, ◌/◌, ◌<◌, ◌≤◌, Bool, true, false, not, ◌==◌, ◌||◌, List, [], ◌∷◌, length, Result, Ok, IfOk, sym, ap, subst, ◌∙◌, arith}
 use Rattle.std.specs.Prelude.{All, if◌then◌else◌}
-use Rattle.cci_codec.specs.field_bytes.specs.dcd_base.specs.Words.{◌or◌}
-use Rattle.cci_codec.specs.field_bytes.specs.dcd_base.specs.declared.media.Run.{Run}
-use Rattle.list_rules.specs.dcd_codes.specs.Rules.{◌breaks◌, ByRow}
-use Rattle.list_rules.specs.dcd_codes.specs.declared.refusals.Refusal.{Refusal}
-use Rattle.list_rules.specs.dcd_codes.specs.declared.rules.Rule.{Rule}
+use Rattle.cci_codec.specs.dcd_base.specs.Words.{◌or◌}
+use Rattle.cci_codec.specs.dcd_base.specs.declared.media.Run.{Run}
+use Rattle.extent_list.specs.dcd_codes.specs.Rules.{◌breaks◌, ByRow}
+use Rattle.extent_list.specs.dcd_codes.specs.declared.refusals.Refusal.{Refusal}
+use Rattle.extent_list.specs.dcd_codes.specs.declared.rules.Rule.{Rule}
 use Rattle.selection.specs.granule_map.specs.Blocks.{free_block_count, longest_free_run}
 use Rattle.selection.specs.granule_map.specs.StateLists.{is_free_at}
 use Rattle.selection.specs.granule_map.specs.declared.states.GranuleState.{GranuleState}
-use Rattle.list_rules.specs.media_map.specs.Places.{IsRun}
-use Rattle.list_rules.specs.media_map.specs.region_config.specs.Configurations.{Configuration}
-use Rattle.list_rules.specs.media_map.specs.region_config.specs.Granules.{first_granule, region_granules, region_of, region_spec}
-use Rattle.list_rules.specs.media_map.specs.region_config.proofs.Faultless.{granules_within}
-use Rattle.list_rules.specs.media_map.specs.region_config.proofs.GranuleLemmas.{region_is}
+use Rattle.extent_list.specs.media_map.specs.Places.{IsRun}
+use Rattle.extent_list.specs.media_map.specs.region_config.specs.Configurations.{Configuration}
+use Rattle.extent_list.specs.media_map.specs.region_config.specs.Granules.{first_granule, region_granules, region_of, region_spec}
+use Rattle.extent_list.specs.media_map.specs.region_config.proofs.Faultless.{granules_within}
+use Rattle.extent_list.specs.media_map.specs.region_config.proofs.GranuleLemmas.{region_is}
 use Rattle.selection.specs.Selections.{AreBetween, contiguous_runs, free_runs, too_few_free}
 use Rattle.device_state.specs.device_rules.specs.Adding.{area_of, by_length_rule, region_free_blocks, region_longest_free, per_block}
 use Rattle.device_commands.specs.InitiateDynamicCapacityAdd.{block_runs, by_length_runs}

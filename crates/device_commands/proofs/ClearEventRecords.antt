@@ -1,9 +1,9 @@
 -- What clears a log clears its history.
 use Rattle.std.proofs.Common.{◌≡◌, ℕ, Bool, true, false, List, sym, subst}
-use Rattle.cci_codec.specs.field_bytes.specs.dcd_base.specs.declared.steps.LogId.{LogId}
+use Rattle.cci_codec.specs.dcd_base.specs.declared.steps.LogId.{LogId}
 use Rattle.std.specs.declared.result.Result.{Result}
-use Rattle.list_rules.specs.dcd_codes.specs.declared.refusals.Refusal.{Refusal}
-use Rattle.list_rules.specs.dcd_codes.specs.Rules.{ByRow}
+use Rattle.extent_list.specs.dcd_codes.specs.declared.refusals.Refusal.{Refusal}
+use Rattle.extent_list.specs.dcd_codes.specs.Rules.{ByRow}
 use Rattle.event_log.specs.Logs.{Log, places_in, state_of}
 use Rattle.event_log.specs.LogStates.{LogState}
 use Rattle.device_state.specs.device_rules.specs.EventCommands.{clear_outcome, clear_rule}

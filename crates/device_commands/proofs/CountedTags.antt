@@ -4,21 +4,21 @@ use Rattle.std.specs.Prelude.{count_by}
 use Rattle.std.specs.List.{AllByRecursion}
 use Rattle.std.proofs.lemmas.Bool.{cases_eq, le-leb, lt-ltb, or_left, or_right}
 use Rattle.std.proofs.lemmas.List.Sums.{sum_by-cons}
-use Rattle.cci_codec.specs.field_bytes.specs.dcd_base.specs.Words.{has_granule, has_in_runs, has_tag, same_tag}
-use Rattle.cci_codec.specs.field_bytes.specs.dcd_base.specs.declared.capacity.Extent.{Extent}
-use Rattle.cci_codec.specs.field_bytes.specs.dcd_base.specs.declared.capacity.Tag.{Tag}
-use Rattle.cci_codec.specs.field_bytes.specs.dcd_base.specs.declared.ids.HostId.{HostId}
-use Rattle.cci_codec.specs.field_bytes.specs.dcd_base.specs.declared.media.Run.{Run}
-use Rattle.list_rules.specs.media_map.specs.Places.{run_of}
-use Rattle.list_rules.specs.media_map.specs.region_config.specs.Configurations.{Configuration}
-use Rattle.list_rules.specs.media_map.specs.region_config.specs.Granules.{granule_total}
-use Rattle.list_rules.specs.media_map.specs.region_config.specs.Soundness.{IsSound}
-use Rattle.list_rules.specs.media_map.specs.region_config.proofs.Faultless.{granules_rise}
+use Rattle.cci_codec.specs.dcd_base.specs.Words.{has_granule, has_in_runs, has_tag, same_tag}
+use Rattle.cci_codec.specs.dcd_base.specs.declared.capacity.Extent.{Extent}
+use Rattle.cci_codec.specs.dcd_base.specs.declared.capacity.Tag.{Tag}
+use Rattle.cci_codec.specs.dcd_base.specs.declared.ids.HostId.{HostId}
+use Rattle.cci_codec.specs.dcd_base.specs.declared.media.Run.{Run}
+use Rattle.extent_list.specs.media_map.specs.Places.{run_of}
+use Rattle.extent_list.specs.media_map.specs.region_config.specs.Configurations.{Configuration}
+use Rattle.extent_list.specs.media_map.specs.region_config.specs.Granules.{granule_total}
+use Rattle.extent_list.specs.media_map.specs.region_config.specs.Soundness.{IsSound}
+use Rattle.extent_list.specs.media_map.specs.region_config.proofs.Faultless.{granules_rise}
 use Rattle.device_state.specs.device_rules.specs.Tags.{tag_runs}
-use Rattle.device_state.specs.device_laws.specs.Pictures.{Picture}
-use Rattle.device_state.specs.device_laws.specs.Standing.{IsMade, IsOpen, Stands}
-use Rattle.device_state.specs.device_laws.proofs.BlockRuns.{block_run}
-use Rattle.device_state.specs.device_laws.proofs.Homes.{supported_whole}
+use Rattle.device_state.specs.device_rules.specs.Pictures.{Picture}
+use Rattle.device_state.specs.device_rules.specs.Standing.{IsMade, IsOpen, Stands}
+use Rattle.device_state.specs.device_rules.proofs.BlockRuns.{block_run}
+use Rattle.device_state.specs.device_rules.proofs.Homes.{supported_whole}
 use Rattle.device_state.specs.device_rules.proofs.TagSteps.{same_tag-self}
 
 abbrev sum_below : (ℕ → ℕ) → ℕ → ℕ

@@ -2,11 +2,11 @@
 use Rattle.std.proofs.Common.{◌<◌, ◌≤◌, List, flat_map, sym, subst, arith}
 use Rattle.std.proofs.lemmas.List.{length-append}
 use Rattle.std.proofs.lemmas.List.Concat.{length-flat_map}
-use Rattle.cci_codec.specs.field_bytes.specs.dcd_base.specs.declared.capacity.Extent.{Extent}
-use Rattle.cci_codec.specs.field_bytes.specs.dcd_base.specs.declared.ids.HostId.{HostId}
+use Rattle.cci_codec.specs.dcd_base.specs.declared.capacity.Extent.{Extent}
+use Rattle.cci_codec.specs.dcd_base.specs.declared.ids.HostId.{HostId}
 use Rattle.device_state.specs.host_lists.specs.Lists.{Lists, extent_total}
-use Rattle.list_rules.specs.media_map.specs.region_config.specs.Configurations.{Configuration}
-use Rattle.device_state.specs.device_laws.proofs.LegalSound.{legal_is_sound}
+use Rattle.extent_list.specs.media_map.specs.region_config.specs.Configurations.{Configuration}
+use Rattle.device_state.specs.device_rules.proofs.LegalSound.{legal_is_sound}
 use Rattle.device_state.specs.device_rules.specs.Views.{View, view_of}
 use Rattle.device_state.specs.StateAfter.{IsReached, part_of}
 use Rattle.device_state.specs.declared.state.State.{State}

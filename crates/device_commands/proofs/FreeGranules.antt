@@ -7,10 +7,10 @@ use Rattle.std.proofs.lemmas.List.Sums.{length-filter}
 use Rattle.selection.specs.granule_map.specs.StateLists.{count_of, is_free_state, same_state}
 use Rattle.selection.specs.granule_map.specs.declared.states.GranuleState.{GranuleState}
 use Rattle.selection.specs.granule_map.specs.Tables.{CellTable, cell_at}
-use Rattle.device_state.specs.device_laws.specs.GranuleCells.{IsCell, status_of}
+use Rattle.device_state.specs.device_rules.specs.GranuleCells.{IsCell, status_of}
 use Rattle.journal_core.specs.declared.outcome.Effect.{Effect}
-use Rattle.list_rules.specs.media_map.specs.region_config.specs.Configurations.{Configuration}
-use Rattle.list_rules.specs.media_map.specs.region_config.specs.Granules.{granule_total}
+use Rattle.extent_list.specs.media_map.specs.region_config.specs.Configurations.{Configuration}
+use Rattle.extent_list.specs.media_map.specs.region_config.specs.Granules.{granule_total}
 use Rattle.selection.proofs.Agreeing.{Agree}
 use Rattle.device_state.specs.device_rules.specs.Tags.{Status, dirty_granules, free_granules, is_dirty, is_free, status}
 

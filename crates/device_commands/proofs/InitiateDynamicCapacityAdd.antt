@@ -8,16 +8,16 @@ use Rattle.std.proofs.lemmas.List.{length-append, length-map}
 use Rattle.std.proofs.lemmas.List.Concat.{length-flat_map}
 use Rattle.std.proofs.lemmas.List.Folds.{list_any-append}
 use Rattle.std.proofs.lemmas.List.Sums.{length-filter}
-use Rattle.cci_codec.specs.field_bytes.specs.dcd_base.specs.Words.{◌or◌, has_granule, has_tag, is_zero_tag, same_tag, where_true}
-use Rattle.cci_codec.specs.field_bytes.specs.dcd_base.specs.declared.capacity.Extent.{Extent}
-use Rattle.cci_codec.specs.field_bytes.specs.dcd_base.specs.declared.capacity.Tag.{Tag}
-use Rattle.cci_codec.specs.field_bytes.specs.dcd_base.specs.declared.ids.HostId.{HostId}
-use Rattle.cci_codec.specs.field_bytes.specs.dcd_base.specs.declared.media.Run.{Run}
-use Rattle.cci_codec.specs.field_bytes.specs.dcd_base.specs.declared.steps.LogId.{LogId}
+use Rattle.cci_codec.specs.dcd_base.specs.Words.{◌or◌, has_granule, has_tag, is_zero_tag, same_tag, where_true}
+use Rattle.cci_codec.specs.dcd_base.specs.declared.capacity.Extent.{Extent}
+use Rattle.cci_codec.specs.dcd_base.specs.declared.capacity.Tag.{Tag}
+use Rattle.cci_codec.specs.dcd_base.specs.declared.ids.HostId.{HostId}
+use Rattle.cci_codec.specs.dcd_base.specs.declared.media.Run.{Run}
+use Rattle.cci_codec.specs.dcd_base.specs.declared.steps.LogId.{LogId}
 use Rattle.event_records.specs.declared.events.EventKind.{EventKind}
-use Rattle.list_rules.specs.dcd_codes.specs.Rules.{◌breaks◌}
-use Rattle.list_rules.specs.dcd_codes.specs.declared.rules.Rule.{Rule}
-use Rattle.list_rules.specs.extent_list.specs.ExtentLists.{has_extent_of, real_tags}
+use Rattle.extent_list.specs.dcd_codes.specs.Rules.{◌breaks◌}
+use Rattle.extent_list.specs.dcd_codes.specs.declared.rules.Rule.{Rule}
+use Rattle.extent_list.specs.ExtentLists.{has_extent_of, real_tags}
 use Rattle.selection.specs.granule_map.specs.StateLists.{is_free_at}
 use Rattle.device_commands.specs.Drafts.{Drafts}
 use Rattle.device_commands.specs.ListsUpdates.{left_by}
@@ -27,29 +27,29 @@ use Rattle.device_state.specs.host_lists.specs.Lists.{Lists, extent_total}
 use Rattle.journal_core.specs.Entries.{effects}
 use Rattle.journal_core.specs.declared.entries.Entry.{Entry}
 use Rattle.journal_core.specs.declared.outcome.Effect.{Effect}
-use Rattle.list_rules.specs.Listing.{too_many_extents}
-use Rattle.list_rules.specs.media_map.specs.Places.{IsRun, run_of}
-use Rattle.list_rules.specs.media_map.specs.region_config.specs.Configurations.{Configuration}
-use Rattle.list_rules.specs.media_map.specs.region_config.specs.Granules.{first_granule, granule_size, granule_total, hosts_of, region_of, region_spec}
-use Rattle.list_rules.specs.media_map.specs.region_config.specs.Soundness.{IsSound}
-use Rattle.list_rules.specs.media_map.specs.region_config.specs.declared.region_spec.RegionSpec.{RegionSpec}
-use Rattle.list_rules.specs.media_map.specs.region_config.proofs.Faultless.{granules_within}
+use Rattle.extent_list.specs.Listing.{too_many_extents}
+use Rattle.extent_list.specs.media_map.specs.Places.{IsRun, run_of}
+use Rattle.extent_list.specs.media_map.specs.region_config.specs.Configurations.{Configuration}
+use Rattle.extent_list.specs.media_map.specs.region_config.specs.Granules.{first_granule, granule_size, granule_total, hosts_of, region_of, region_spec}
+use Rattle.extent_list.specs.media_map.specs.region_config.specs.Soundness.{IsSound}
+use Rattle.extent_list.specs.media_map.specs.region_config.specs.declared.region_spec.RegionSpec.{RegionSpec}
+use Rattle.extent_list.specs.media_map.specs.region_config.proofs.Faultless.{granules_within}
 use Rattle.selection.proofs.Agreeing.{Agree, contiguous_runs_agree, free_blocks_agree, free_runs_agree, longest_free_agree, prescribed_rule_agree}
 use Rattle.selection.specs.Selections.{prescribed_rule, too_few_free}
 use Rattle.tag_refs.specs.Tables.{entry_with, has_entry, passes, some_passes}
 use Rattle.tag_refs.specs.declared.entries.TagEntry.{TagEntry}
-use Rattle.device_state.specs.device_laws.specs.TagTable.{IsEntry}
+use Rattle.device_state.specs.device_rules.specs.TagTable.{IsEntry}
 use Rattle.device_state.specs.device_rules.specs.Adding.{add_outcome, add_rule, area_of, by_length_rule, chosen, extents_of, region_free_blocks, is_free_now, is_open_in, region_longest_free, offered, per_block, present, with_tag, too_many_tags}
 use Rattle.device_state.specs.device_rules.specs.Hosts.{accepted_of, block_of, offers_of}
 use Rattle.device_state.specs.device_rules.specs.Legal.{Legal}
 use Rattle.device_state.specs.device_rules.specs.Outcomes.{log_full, records_of_extents}
 use Rattle.device_state.specs.device_rules.specs.Tags.{last_offer, open_tags, tag_runs, is_live as is_tag_live}
 use Rattle.device_state.specs.device_rules.specs.Views.{View, extents_in, view_after, view_of}
-use Rattle.device_state.specs.device_laws.specs.Pictures.{picture_of}
-use Rattle.device_state.specs.device_laws.specs.Standing.{IsMade, Stands}
-use Rattle.device_state.specs.device_laws.proofs.Homes.{first_same, made_is_run, region_of_same, supported_whole}
+use Rattle.device_state.specs.device_rules.specs.Pictures.{picture_of}
+use Rattle.device_state.specs.device_rules.specs.Standing.{IsMade, Stands}
+use Rattle.device_state.specs.device_rules.proofs.Homes.{first_same, made_is_run, region_of_same, supported_whole}
 use Rattle.device_state.specs.device_rules.proofs.ListSteps.{each-change, each-map}
-use Rattle.device_state.specs.device_laws.proofs.Overlaps.{neither, not_broken}
+use Rattle.device_state.specs.device_rules.proofs.Overlaps.{neither, not_broken}
 use Rattle.device_state.specs.device_rules.proofs.TagSteps.{same_tag-is}
 use Rattle.device_commands.proofs.CountedTags.{HasOne, no_more, own_first}
 use Rattle.device_commands.proofs.FreeGranules.{free_at}

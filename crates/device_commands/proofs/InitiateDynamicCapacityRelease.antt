@@ -7,41 +7,41 @@ use Rattle.std.proofs.lemmas.Bool.{eq-eqb, leb-false, ltb-false}
 use Rattle.std.proofs.lemmas.List.{length-append}
 use Rattle.std.proofs.lemmas.List.Concat.{length-flat_map}
 use Rattle.std.proofs.lemmas.List.Sums.{count_by-le-length, length-filter}
-use Rattle.cci_codec.specs.field_bytes.specs.dcd_base.specs.Words.{◌or◌, same_tag}
-use Rattle.cci_codec.specs.field_bytes.specs.dcd_base.specs.declared.capacity.Extent.{Extent}
-use Rattle.cci_codec.specs.field_bytes.specs.dcd_base.specs.declared.capacity.Tag.{Tag}
-use Rattle.cci_codec.specs.field_bytes.specs.dcd_base.specs.declared.ids.HostId.{HostId}
-use Rattle.cci_codec.specs.field_bytes.specs.dcd_base.specs.declared.steps.LogId.{LogId}
-use Rattle.list_rules.specs.dcd_codes.specs.Rules.{◌breaks◌, ByRow, each_in}
-use Rattle.list_rules.specs.dcd_codes.specs.declared.refusals.Refusal.{Refusal}
-use Rattle.list_rules.specs.dcd_codes.specs.declared.rules.Rule.{Rule}
-use Rattle.list_rules.specs.extent_list.specs.ExtentLists.{count_in, cut_all, is_in, is_whole, marked, overlaps, owner_of}
+use Rattle.cci_codec.specs.dcd_base.specs.Words.{◌or◌, same_tag}
+use Rattle.cci_codec.specs.dcd_base.specs.declared.capacity.Extent.{Extent}
+use Rattle.cci_codec.specs.dcd_base.specs.declared.capacity.Tag.{Tag}
+use Rattle.cci_codec.specs.dcd_base.specs.declared.ids.HostId.{HostId}
+use Rattle.cci_codec.specs.dcd_base.specs.declared.steps.LogId.{LogId}
+use Rattle.extent_list.specs.dcd_codes.specs.Rules.{◌breaks◌, ByRow, each_in}
+use Rattle.extent_list.specs.dcd_codes.specs.declared.refusals.Refusal.{Refusal}
+use Rattle.extent_list.specs.dcd_codes.specs.declared.rules.Rule.{Rule}
+use Rattle.extent_list.specs.ExtentLists.{count_in, cut_all, is_in, is_whole, marked, overlaps, owner_of}
 use Rattle.device_state.specs.host_lists.proofs.Departures.{cut_all-marked, leaves-marked}
 use Rattle.device_state.specs.host_lists.specs.Answers.{generation_after}
 use Rattle.device_state.specs.host_lists.specs.Lists.{Lists}
 use Rattle.journal_core.specs.declared.outcome.Effect.{Effect}
 use Rattle.journal_core.specs.declared.outcome.HeldKind.{HeldKind}
-use Rattle.list_rules.specs.Listing.{incomplete, too_many_extents}
-use Rattle.list_rules.specs.media_map.proofs.RunLemmas.{granular_from}
-use Rattle.list_rules.specs.media_map.specs.Places.{is_granular, region_at, run_of}
-use Rattle.list_rules.specs.media_map.specs.region_config.specs.Configurations.{Configuration}
-use Rattle.list_rules.specs.media_map.specs.region_config.specs.Granules.{region_spec, with_blocks}
-use Rattle.list_rules.specs.media_map.specs.region_config.specs.Soundness.{IsSound}
+use Rattle.extent_list.specs.Listing.{incomplete, too_many_extents}
+use Rattle.extent_list.specs.media_map.proofs.RunLemmas.{granular_from}
+use Rattle.extent_list.specs.media_map.specs.Places.{is_granular, region_at, run_of}
+use Rattle.extent_list.specs.media_map.specs.region_config.specs.Configurations.{Configuration}
+use Rattle.extent_list.specs.media_map.specs.region_config.specs.Granules.{region_spec, with_blocks}
+use Rattle.extent_list.specs.media_map.specs.region_config.specs.Soundness.{IsSound}
 use Rattle.release_core.specs.Leaving.{AllCanLeave, count_after}
 use Rattle.release_core.specs.Removals.{by_tag_rule, prescribed_removal_rule, extents_of_tag}
 use Rattle.device_state.specs.device_rules.specs.Hosts.{accepted_after, block_of, held_after, moves, offers_after}
 use Rattle.device_state.specs.device_rules.specs.Outcomes.{log_full, records_of_extents}
 use Rattle.device_state.specs.device_rules.specs.ReleaseOutcomes.{is_cleaning, is_forced, policy_in, remove_rule, removals, removed, soils}
 use Rattle.device_state.specs.device_rules.specs.Views.{View, view_after, view_of}
-use Rattle.device_state.specs.device_laws.specs.Pictures.{Picture, picture_of}
-use Rattle.device_state.specs.device_laws.specs.Standing.{IsMade, Stands}
-use Rattle.device_state.specs.device_laws.proofs.AllLeave.{Behind, all_leave}
-use Rattle.device_state.specs.device_laws.proofs.Going.{IsGoing, going_ready, own_whole, some_going, some_owned}
-use Rattle.device_state.specs.device_laws.proofs.Homes.{made_granular}
-use Rattle.device_state.specs.device_laws.proofs.LeftStanding.{going_of, going_rule}
+use Rattle.device_state.specs.device_rules.specs.Pictures.{Picture, picture_of}
+use Rattle.device_state.specs.device_rules.specs.Standing.{IsMade, Stands}
+use Rattle.device_state.specs.device_rules.proofs.AllLeave.{Behind, all_leave}
+use Rattle.device_state.specs.device_rules.proofs.Going.{IsGoing, going_ready, own_whole, some_going, some_owned}
+use Rattle.device_state.specs.device_rules.proofs.Homes.{made_granular}
+use Rattle.device_state.specs.device_rules.proofs.LeftStanding.{going_of, going_rule}
 use Rattle.device_state.specs.device_rules.proofs.ListSteps.{each-change, each-map}
-use Rattle.device_state.specs.device_laws.proofs.OneLeave.{loose, whole_blocks}
-use Rattle.device_state.specs.device_laws.proofs.Overlaps.{neither, not_broken}
+use Rattle.device_state.specs.device_rules.proofs.OneLeave.{loose, whole_blocks}
+use Rattle.device_state.specs.device_rules.proofs.Overlaps.{neither, not_broken}
 use Rattle.event_records.specs.declared.events.EventKind.{EventKind}
 use Rattle.journal_core.specs.Entries.{effects}
 use Rattle.journal_core.specs.declared.entries.Entry.{Entry}

@@ -4,23 +4,23 @@ use Rattle.std.specs.Prelude.{All}
 use Rattle.std.specs.List.{AllByRecursion}
 use Rattle.std.proofs.lemmas.Bool.{ltb-false}
 use Rattle.std.proofs.lemmas.List.{length-map}
-use Rattle.cci_codec.specs.field_bytes.specs.dcd_base.specs.declared.capacity.Extent.{Extent}
-use Rattle.cci_codec.specs.field_bytes.specs.dcd_base.specs.declared.ids.HostId.{HostId}
-use Rattle.cci_codec.specs.field_bytes.specs.dcd_base.specs.Limits.{extents_supported}
-use Rattle.list_rules.specs.dcd_codes.specs.declared.rules.Rule.{Rule}
-use Rattle.list_rules.specs.dcd_codes.specs.Rules.{◌breaks◌, each_in}
-use Rattle.list_rules.specs.media_map.specs.region_config.specs.Configurations.{Configuration}
-use Rattle.list_rules.specs.media_map.specs.region_config.specs.Soundness.{IsSound}
-use Rattle.list_rules.specs.media_map.specs.Places.{is_granular, region_at}
-use Rattle.list_rules.specs.extent_list.specs.ExtentLists.{count_in, is_in, marked}
-use Rattle.list_rules.specs.Listing.{incomplete, misplaced, not_whole, overlapping, too_many_extents, too_many_listed}
+use Rattle.cci_codec.specs.dcd_base.specs.declared.capacity.Extent.{Extent}
+use Rattle.cci_codec.specs.dcd_base.specs.declared.ids.HostId.{HostId}
+use Rattle.cci_codec.specs.dcd_base.specs.Limits.{extents_supported}
+use Rattle.extent_list.specs.dcd_codes.specs.declared.rules.Rule.{Rule}
+use Rattle.extent_list.specs.dcd_codes.specs.Rules.{◌breaks◌, each_in}
+use Rattle.extent_list.specs.media_map.specs.region_config.specs.Configurations.{Configuration}
+use Rattle.extent_list.specs.media_map.specs.region_config.specs.Soundness.{IsSound}
+use Rattle.extent_list.specs.media_map.specs.Places.{is_granular, region_at}
+use Rattle.extent_list.specs.ExtentLists.{count_in, is_in, marked}
+use Rattle.extent_list.specs.Listing.{incomplete, misplaced, not_whole, overlapping, too_many_extents, too_many_listed}
 use Rattle.offer_core.specs.Offerings.{oldest_of}
 use Rattle.offer_core.specs.Responses.{extent_rule, respond_rule}
 use Rattle.release_core.specs.Leaving.{count_after}
 use Rattle.release_core.specs.Releases.{give_back_rule}
 use Rattle.selection.proofs.Placed.{is_made_of_granules, placed}
-use Rattle.device_state.specs.device_laws.proofs.LeftStanding.{going_rule}
-use Rattle.device_state.specs.device_laws.proofs.Overlaps.{neither, not_broken, row_each}
+use Rattle.device_state.specs.device_rules.proofs.LeftStanding.{going_rule}
+use Rattle.device_state.specs.device_rules.proofs.Overlaps.{neither, not_broken, row_each}
 
 -- the extent is made of granules of one region
 abbrev pub Granular : Configuration → HostId → Extent → Type 0

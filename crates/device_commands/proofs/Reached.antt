@@ -5,24 +5,24 @@ use Rattle.std.specs.List.{enumerate_from}
 use Rattle.std.proofs.lemmas.List.{length-map, length-append}
 use Rattle.std.proofs.lemmas.List.Concat.{length-flat_map}
 use Rattle.std.proofs.lemmas.List.FromFn.{length-enumerate_from}
-use Rattle.cci_codec.specs.field_bytes.specs.dcd_base.specs.declared.ids.HostId.{HostId}
-use Rattle.list_rules.specs.media_map.specs.region_config.specs.Configurations.{Configuration}
-use Rattle.list_rules.specs.media_map.specs.region_config.specs.Granules.{first_granule, granule_total, region_spec, with_blocks}
-use Rattle.list_rules.specs.media_map.specs.region_config.specs.Soundness.{IsSound}
-use Rattle.list_rules.specs.media_map.specs.region_config.proofs.PresentBlocks.{first_granule-with_blocks, region_spec-with_blocks}
+use Rattle.cci_codec.specs.dcd_base.specs.declared.ids.HostId.{HostId}
+use Rattle.extent_list.specs.media_map.specs.region_config.specs.Configurations.{Configuration}
+use Rattle.extent_list.specs.media_map.specs.region_config.specs.Granules.{first_granule, granule_total, region_spec, with_blocks}
+use Rattle.extent_list.specs.media_map.specs.region_config.specs.Soundness.{IsSound}
+use Rattle.extent_list.specs.media_map.specs.region_config.proofs.PresentBlocks.{first_granule-with_blocks, region_spec-with_blocks}
 use Rattle.journal_core.specs.Entries.{effects}
 use Rattle.journal_core.specs.declared.entries.Entry.{Entry}
 use Rattle.journal_core.specs.declared.outcome.Effect.{Effect}
-use Rattle.cci_codec.specs.field_bytes.specs.dcd_base.specs.declared.capacity.Extent.{Extent}
-use Rattle.list_rules.specs.extent_list.specs.ExtentLists.{count_in}
+use Rattle.cci_codec.specs.dcd_base.specs.declared.capacity.Extent.{Extent}
+use Rattle.extent_list.specs.ExtentLists.{count_in}
 use Rattle.tag_refs.specs.declared.entries.TagEntry.{TagEntry}
 use Rattle.device_state.specs.host_lists.specs.Lists.{Lists, extent_total}
 use Rattle.device_state.specs.device_rules.specs.Hosts.{accepted_of, block_of, offers_of}
 use Rattle.device_state.specs.device_rules.specs.Legal.{Legal}
 use Rattle.device_state.specs.device_rules.specs.Views.{view_of}
-use Rattle.device_state.specs.device_laws.specs.Pictures.{picture_of}
-use Rattle.device_state.specs.device_laws.specs.Standing.{Stands}
-use Rattle.device_state.specs.device_laws.proofs.LegalSound.{legal_is_sound}
+use Rattle.device_state.specs.device_rules.specs.Pictures.{picture_of}
+use Rattle.device_state.specs.device_rules.specs.Standing.{Stands}
+use Rattle.device_state.specs.device_rules.proofs.LegalSound.{legal_is_sound}
 use Rattle.device_commands.proofs.CountedTags.{few_tags}
 use Rattle.device_state.specs.StateAfter.{IsStateAfter, IsReached, part_of}
 use Rattle.device_commands.specs.SetDcRegionConfiguration.{ListsAreOf, LogsAreOf}

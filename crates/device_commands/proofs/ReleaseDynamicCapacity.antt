@@ -3,19 +3,19 @@ use Rattle.std.proofs.Common.{◌≡◌, ◌≢◌, ℕ, ◌+◌, ◌%◌, ◌^�
 use Rattle.std.specs.Prelude.{All, fold, if◌then◌else◌}
 use Rattle.std.specs.List.{AllByRecursion, list_any}
 use Rattle.std.proofs.lemmas.Bool.{eq-eqb}
-use Rattle.cci_codec.specs.field_bytes.specs.dcd_base.specs.declared.steps.LogId.{LogId}
-use Rattle.cci_codec.specs.field_bytes.specs.dcd_base.specs.declared.ids.HostId.{HostId}
-use Rattle.cci_codec.specs.field_bytes.specs.dcd_base.specs.declared.capacity.Extent.{Extent}
+use Rattle.cci_codec.specs.dcd_base.specs.declared.steps.LogId.{LogId}
+use Rattle.cci_codec.specs.dcd_base.specs.declared.ids.HostId.{HostId}
+use Rattle.cci_codec.specs.dcd_base.specs.declared.capacity.Extent.{Extent}
 use Rattle.event_records.specs.declared.events.EventKind.{EventKind}
-use Rattle.list_rules.specs.media_map.specs.region_config.specs.Configurations.{Configuration}
-use Rattle.list_rules.specs.media_map.specs.region_config.specs.Granules.{with_blocks}
-use Rattle.list_rules.specs.media_map.specs.region_config.specs.Soundness.{IsSound}
+use Rattle.extent_list.specs.media_map.specs.region_config.specs.Configurations.{Configuration}
+use Rattle.extent_list.specs.media_map.specs.region_config.specs.Granules.{with_blocks}
+use Rattle.extent_list.specs.media_map.specs.region_config.specs.Soundness.{IsSound}
 use Rattle.journal_core.specs.declared.outcome.Effect.{Effect}
 use Rattle.journal_core.specs.declared.outcome.HeldKind.{HeldKind}
-use Rattle.list_rules.specs.media_map.specs.Places.{IsRunOf, bytes_of_run, run_of, start_of}
-use Rattle.list_rules.specs.media_map.proofs.RunLemmas.{run_told}
+use Rattle.extent_list.specs.media_map.specs.Places.{IsRunOf, bytes_of_run, run_of, start_of}
+use Rattle.extent_list.specs.media_map.proofs.RunLemmas.{run_told}
 use Rattle.selection.proofs.Placed.{granular_run}
-use Rattle.list_rules.specs.extent_list.specs.ExtentLists.{count_in, cut, cut_all, marked, tags_of}
+use Rattle.extent_list.specs.ExtentLists.{count_in, cut, cut_all, marked, tags_of}
 use Rattle.device_state.specs.host_lists.specs.Answers.{given_up}
 use Rattle.device_state.specs.host_lists.specs.Lists.{Lists}
 use Rattle.device_state.specs.host_lists.specs.declared.lists_change.ListsChange.{ListsChange}
@@ -25,7 +25,7 @@ use Rattle.device_state.specs.device_rules.specs.Outcomes.{records_of_extents}
 use Rattle.device_state.specs.device_rules.specs.ReleaseOutcomes.{give_back_changes, give_back_outcome, leaves, removals}
 use Rattle.device_state.specs.device_rules.specs.ResponseOutcomes.{hold, unhold}
 use Rattle.device_state.specs.device_rules.specs.Views.{View, view_after}
-use Rattle.device_state.specs.device_laws.proofs.Homes.{bytes_same, run_same, start_same}
+use Rattle.device_state.specs.device_rules.proofs.Homes.{bytes_same, run_same, start_same}
 use Rattle.device_commands.specs.declared.draft.DraftParts.{DraftParts}
 use Rattle.device_commands.specs.Drafts.{Drafts}
 use Rattle.device_commands.specs.ListsUpdates.{left_by}

@@ -1,11 +1,11 @@
 -- Rows of rules, rule by rule.
 use Rattle.std.proofs.Common.{◌≡◌, ℕ, ◌<◌, ◌≤◌, Bool, true, false, List, [], ◌∷◌, ◌++◌, Option, Some, None, Result, Ok, Err, inl, inr, refl, ap, ◌∙◌, arith, ltb, leb}
 use Rattle.std.proofs.lemmas.Bool.{cases_Bool, leb-true, ltb-true}
-use Rattle.cci_codec.specs.field_bytes.specs.dcd_base.specs.Words.{◌or◌}
-use Rattle.list_rules.specs.dcd_codes.proofs.RuleSteps.{first_by-append}
-use Rattle.list_rules.specs.dcd_codes.specs.Rules.{◌breaks◌, ByRow, each_in, first_by}
-use Rattle.list_rules.specs.dcd_codes.specs.declared.refusals.Refusal.{Refusal}
-use Rattle.list_rules.specs.dcd_codes.specs.declared.rules.Rule.{Rule}
+use Rattle.cci_codec.specs.dcd_base.specs.Words.{◌or◌}
+use Rattle.extent_list.specs.dcd_codes.proofs.RuleSteps.{first_by-append}
+use Rattle.extent_list.specs.dcd_codes.specs.Rules.{◌breaks◌, ByRow, each_in, first_by}
+use Rattle.extent_list.specs.dcd_codes.specs.declared.refusals.Refusal.{Refusal}
+use Rattle.extent_list.specs.dcd_codes.specs.declared.rules.Rule.{Rule}
 
 -- tests of numbers that fail
 pub not_below : (a b : ℕ) → b ≤ a → ltb a b ≡ false

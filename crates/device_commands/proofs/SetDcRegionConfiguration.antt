@@ -4,21 +4,21 @@ use Rattle.std.specs.Prelude.{count_by, if◌then◌else◌, option_map}
 use Rattle.std.specs.List.{range_with_len}
 use Rattle.std.proofs.lemmas.Bool.{le-leb, lt-ltb, ne_eqb}
 use Rattle.std.proofs.lemmas.List.Sums.{length-filter}
-use Rattle.cci_codec.specs.field_bytes.specs.dcd_base.specs.Words.{flag_of, ◌or◌}
-use Rattle.cci_codec.specs.field_bytes.specs.dcd_base.specs.declared.ids.HostId.{HostId}
-use Rattle.list_rules.specs.dcd_codes.specs.Rules.{◌breaks◌, each_in}
-use Rattle.list_rules.specs.dcd_codes.specs.declared.rules.Rule.{Rule}
+use Rattle.cci_codec.specs.dcd_base.specs.Words.{flag_of, ◌or◌}
+use Rattle.cci_codec.specs.dcd_base.specs.declared.ids.HostId.{HostId}
+use Rattle.extent_list.specs.dcd_codes.specs.Rules.{◌breaks◌, each_in}
+use Rattle.extent_list.specs.dcd_codes.specs.declared.rules.Rule.{Rule}
 use Rattle.selection.specs.granule_map.specs.StateLists.{is_free_at}
 use Rattle.journal_core.specs.Entries.{effects}
 use Rattle.journal_core.specs.declared.entries.Entry.{Entry}
-use Rattle.list_rules.specs.media_map.specs.region_config.specs.Blocks.{block_fault}
-use Rattle.list_rules.specs.media_map.specs.region_config.specs.Configurations.{Configuration}
-use Rattle.list_rules.specs.media_map.specs.region_config.specs.Granules.{first_granule, granule_total, region_granules, hosts_of, is_supported, region_spec, sizes_in}
-use Rattle.list_rules.specs.media_map.specs.region_config.specs.Soundness.{IsSound}
-use Rattle.list_rules.specs.media_map.specs.region_config.specs.declared.faults.BlockFault.{BlockFault}
-use Rattle.list_rules.specs.media_map.specs.region_config.specs.declared.region_spec.RegionSpec.{RegionSpec}
-use Rattle.list_rules.specs.media_map.specs.region_config.proofs.Faultless.{granules_within}
-use Rattle.list_rules.specs.media_map.specs.region_config.proofs.PresentBlocks.{granules_in-with_blocks}
+use Rattle.extent_list.specs.media_map.specs.region_config.specs.Blocks.{block_fault}
+use Rattle.extent_list.specs.media_map.specs.region_config.specs.Configurations.{Configuration}
+use Rattle.extent_list.specs.media_map.specs.region_config.specs.Granules.{first_granule, granule_total, region_granules, hosts_of, is_supported, region_spec, sizes_in}
+use Rattle.extent_list.specs.media_map.specs.region_config.specs.Soundness.{IsSound}
+use Rattle.extent_list.specs.media_map.specs.region_config.specs.declared.faults.BlockFault.{BlockFault}
+use Rattle.extent_list.specs.media_map.specs.region_config.specs.declared.region_spec.RegionSpec.{RegionSpec}
+use Rattle.extent_list.specs.media_map.specs.region_config.proofs.Faultless.{granules_within}
+use Rattle.extent_list.specs.media_map.specs.region_config.proofs.PresentBlocks.{granules_in-with_blocks}
 use Rattle.selection.proofs.Agreeing.{Agree}
 use Rattle.device_state.specs.device_rules.specs.Adding.{is_free_now}
 use Rattle.device_state.specs.device_rules.specs.Hosts.{block_of}

@@ -1,16 +1,16 @@
 -- A region is shown the same by the configuration with the present blocks as by a view.
 use Rattle.std.proofs.Common.{◌≡◌, ℕ, ◌<◌, ◌≤◌, Some, None, length, refl, ap, ◌∙◌}
 use Rattle.std.proofs.lemmas.Bool.{le-leb, lt-leb}
-use Rattle.cci_codec.specs.field_bytes.specs.dcd_base.specs.declared.ids.HostId.{HostId}
-use Rattle.list_rules.specs.dcd_codes.specs.declared.rules.Rule.{Rule}
-use Rattle.list_rules.specs.media_map.specs.region_config.specs.declared.region_spec.RegionSpec.{RegionSpec}
-use Rattle.list_rules.specs.media_map.specs.region_config.specs.Configurations.{Configuration}
-use Rattle.list_rules.specs.media_map.specs.region_config.specs.Granules.{base_of, region_spec, with_blocks}
-use Rattle.list_rules.specs.media_map.specs.region_config.proofs.PresentBlocks.{region_spec-with_blocks}
+use Rattle.cci_codec.specs.dcd_base.specs.declared.ids.HostId.{HostId}
+use Rattle.extent_list.specs.dcd_codes.specs.declared.rules.Rule.{Rule}
+use Rattle.extent_list.specs.media_map.specs.region_config.specs.declared.region_spec.RegionSpec.{RegionSpec}
+use Rattle.extent_list.specs.media_map.specs.region_config.specs.Configurations.{Configuration}
+use Rattle.extent_list.specs.media_map.specs.region_config.specs.Granules.{base_of, region_spec, with_blocks}
+use Rattle.extent_list.specs.media_map.specs.region_config.proofs.PresentBlocks.{region_spec-with_blocks}
 use Rattle.host_payloads.specs.declared.views.RegionView.{RegionView}
 use Rattle.device_state.specs.device_rules.specs.Settings.{no_such_region, region_seen}
 use Rattle.device_state.specs.device_rules.specs.Views.{View}
-use Rattle.device_state.specs.device_laws.proofs.Homes.{base_same}
+use Rattle.device_state.specs.device_rules.proofs.Homes.{base_same}
 use Rattle.device_commands.specs.declared.pages.Flags.{Flags}
 use Rattle.device_commands.specs.ShownFlags.{flags_of}
 

@@ -4,13 +4,13 @@ use Rattle.std.specs.Prelude.{if◌then◌else◌}
 use Rattle.std.specs.List.{enumerate_from}
 use Rattle.std.proofs.lemmas.List.{length-map, length-take-le, map-append, take_more}
 use Rattle.std.proofs.lemmas.List.FromFn.{length-enumerate_from}
-use Rattle.cci_codec.specs.field_bytes.specs.dcd_base.specs.Words.{zero_tag}
-use Rattle.cci_codec.specs.field_bytes.specs.dcd_base.specs.declared.capacity.Extent.{Extent}
-use Rattle.cci_codec.specs.field_bytes.specs.dcd_base.specs.declared.capacity.Tag.{Tag}
-use Rattle.cci_codec.specs.field_bytes.specs.dcd_base.specs.declared.media.Run.{Run}
+use Rattle.cci_codec.specs.dcd_base.specs.Words.{zero_tag}
+use Rattle.cci_codec.specs.dcd_base.specs.declared.capacity.Extent.{Extent}
+use Rattle.cci_codec.specs.dcd_base.specs.declared.capacity.Tag.{Tag}
+use Rattle.cci_codec.specs.dcd_base.specs.declared.media.Run.{Run}
 use Rattle.device_state.specs.device_rules.specs.Adding.{extents_of, with_tag}
 use Rattle.device_state.specs.declared.state.State.{State}
-use Rattle.list_rules.specs.media_map.specs.Places.{extent_of}
+use Rattle.extent_list.specs.media_map.specs.Places.{extent_of}
 use Rattle.device_commands.proofs.ListPages.{numbered_more}
 use Rattle.device_commands.specs.InitiateDynamicCapacityAdd.{tagged_runs}
 use Rattle.device_commands.specs.declared.choosing.Asked.{Asked}

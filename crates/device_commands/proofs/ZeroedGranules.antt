@@ -5,10 +5,10 @@ use Rattle.std.specs.List.{filter, range_with_len}
 use Rattle.std.proofs.Math.Seq.{drop-length}
 use Rattle.std.proofs.lemmas.List.{drop_more, get_or_default, take_min}
 use Rattle.std.proofs.lemmas.List.Sums.{length-filter, sum_by-cons}
-use Rattle.cci_codec.specs.field_bytes.specs.dcd_base.specs.declared.media.Run.{Run}
-use Rattle.list_rules.specs.media_map.specs.region_config.specs.Configurations.{Configuration}
-use Rattle.list_rules.specs.media_map.specs.region_config.specs.Granules.{granule_total, same_region}
-use Rattle.device_state.specs.device_laws.specs.GranuleCells.{IsCell, status_of}
+use Rattle.cci_codec.specs.dcd_base.specs.declared.media.Run.{Run}
+use Rattle.extent_list.specs.media_map.specs.region_config.specs.Configurations.{Configuration}
+use Rattle.extent_list.specs.media_map.specs.region_config.specs.Granules.{granule_total, same_region}
+use Rattle.device_state.specs.device_rules.specs.GranuleCells.{IsCell, status_of}
 use Rattle.selection.specs.granule_map.specs.Choices.{joined}
 use Rattle.selection.specs.granule_map.specs.StateLists.{count_of, is_dirty_at, is_dirty_state, same_state}
 use Rattle.selection.specs.granule_map.specs.declared.states.GranuleState.{GranuleState}

@@ -1,16 +1,16 @@
 -- What a response that is answered takes and tells, 4802h.
 use Rattle.std.specs.Prelude.{◌≡◌, Bool, false, List, [], ◌∷◌, map, ◌++◌}
-use Rattle.cci_codec.specs.field_bytes.specs.dcd_base.specs.declared.ids.HostId.{HostId}
-use Rattle.cci_codec.specs.field_bytes.specs.dcd_base.specs.declared.capacity.Extent.{Extent}
+use Rattle.cci_codec.specs.dcd_base.specs.declared.ids.HostId.{HostId}
+use Rattle.cci_codec.specs.dcd_base.specs.declared.capacity.Extent.{Extent}
 use Rattle.event_records.specs.declared.events.Event.{Event}
 use Rattle.event_records.specs.declared.events.EventKind.{EventKind}
-use Rattle.list_rules.specs.media_map.specs.region_config.specs.Configurations.{Configuration}
-use Rattle.list_rules.specs.media_map.specs.region_config.specs.Granules.{with_blocks}
+use Rattle.extent_list.specs.media_map.specs.region_config.specs.Configurations.{Configuration}
+use Rattle.extent_list.specs.media_map.specs.region_config.specs.Granules.{with_blocks}
 use Rattle.journal_core.specs.declared.outcome.Effect.{Effect}
-use Rattle.list_rules.specs.media_map.specs.Places.{run_of}
+use Rattle.extent_list.specs.media_map.specs.Places.{run_of}
 use Rattle.device_state.specs.device_rules.specs.Outcomes.{no_extent, record_for, records_of_extents}
 use Rattle.device_state.specs.device_rules.specs.Views.{View}
-use Rattle.list_rules.specs.extent_list.specs.ExtentLists.{tags_of}
+use Rattle.extent_list.specs.ExtentLists.{tags_of}
 use Rattle.offer_core.specs.Offerings.{oldest_of}
 use Rattle.journal_core.specs.declared.outcome.HeldKind.{HeldKind}
 use Rattle.device_state.specs.device_rules.specs.ResponseOutcomes.{respond_outcome, unhold}

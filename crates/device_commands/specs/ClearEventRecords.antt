@@ -1,14 +1,14 @@
 -- Why a log is not cleared, and what clearing it changes, by what the log is.
 use Rattle.std.specs.Prelude.{ℕ, Bool, true, false, ◌==◌, List, [], ◌∷◌, ◌++◌, Option, Some, None, if◌then◌else◌, length, option_map}
-use Rattle.cci_codec.specs.field_bytes.specs.dcd_base.specs.declared.steps.LogId.{LogId}
-use Rattle.list_rules.specs.dcd_codes.specs.declared.rules.Rule.{Rule}
-use Rattle.list_rules.specs.dcd_codes.specs.Rules.{◌breaks◌, ByRow}
+use Rattle.cci_codec.specs.dcd_base.specs.declared.steps.LogId.{LogId}
+use Rattle.extent_list.specs.dcd_codes.specs.declared.rules.Rule.{Rule}
+use Rattle.extent_list.specs.dcd_codes.specs.Rules.{◌breaks◌, ByRow}
 use Rattle.event_log.specs.LogStates.{LogState, clear_fault}
 use Rattle.journal_core.specs.declared.outcome.Effect.{Effect}
 use Rattle.device_state.specs.device_rules.specs.EventCommands.{cleared, rule_of, clear_outcome, clear_rule}
 use Rattle.device_state.specs.device_rules.specs.Outcomes.{Outcome}
 use Rattle.std.specs.declared.result.Result.{Result}
-use Rattle.list_rules.specs.dcd_codes.specs.declared.refusals.Refusal.{Refusal}
+use Rattle.extent_list.specs.dcd_codes.specs.declared.refusals.Refusal.{Refusal}
 use Rattle.event_log.specs.Logs.{Log}
 use Rattle.device_state.specs.StateAfter.{IsLogOf}
 use Rattle.device_commands.specs.Drafts.{IsOutcome}

@@ -1,9 +1,9 @@
 -- What a draft is: the outcome of a command, and what it changes of the lists of its host.
 use Rattle.std.specs.Prelude.{◌≡◌, List, map, Option, None}
-use Rattle.cci_codec.specs.field_bytes.specs.dcd_base.specs.declared.ids.HostId.{HostId}
-use Rattle.cci_codec.specs.field_bytes.specs.dcd_base.specs.declared.steps.LogId.{LogId}
+use Rattle.cci_codec.specs.dcd_base.specs.declared.ids.HostId.{HostId}
+use Rattle.cci_codec.specs.dcd_base.specs.declared.steps.LogId.{LogId}
 use Rattle.event_records.specs.declared.events.Event.{Event}
-use Rattle.list_rules.specs.media_map.specs.region_config.specs.Configurations.{Configuration}
+use Rattle.extent_list.specs.media_map.specs.region_config.specs.Configurations.{Configuration}
 use Rattle.device_state.specs.host_lists.specs.declared.lists_change.ListsChange.{ListsChange}
 use Rattle.device_state.specs.device_rules.specs.Outcomes.{Outcome}
 use Rattle.device_state.specs.device_rules.specs.Views.{View, view_after}

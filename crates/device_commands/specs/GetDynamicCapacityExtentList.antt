@@ -1,8 +1,8 @@
 -- What is answered of a host's accepted extents, 4801h.
 use Rattle.std.specs.Prelude.{◌≡◌, ℕ, length}
 use Rattle.std.specs.declared.result.Result.{Result}
-use Rattle.list_rules.specs.dcd_codes.specs.Rules.{ByRow}
-use Rattle.list_rules.specs.dcd_codes.specs.declared.refusals.Refusal.{Refusal}
+use Rattle.extent_list.specs.dcd_codes.specs.Rules.{ByRow}
+use Rattle.extent_list.specs.dcd_codes.specs.declared.refusals.Refusal.{Refusal}
 use Rattle.device_state.specs.host_lists.specs.Lists.{Lists}
 use Rattle.device_state.specs.device_rules.specs.Outcomes.{only}
 use Rattle.device_state.specs.device_rules.specs.Settings.{extents_reply, past_end}

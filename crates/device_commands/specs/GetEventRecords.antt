@@ -1,9 +1,9 @@
 -- What is answered of the records of a log, 0100h.
 use Rattle.std.specs.Prelude.{ℕ}
 use Rattle.std.specs.declared.result.Result.{Result}
-use Rattle.cci_codec.specs.field_bytes.specs.dcd_base.specs.declared.steps.LogId.{LogId}
-use Rattle.list_rules.specs.dcd_codes.specs.Rules.{ByRow}
-use Rattle.list_rules.specs.dcd_codes.specs.declared.refusals.Refusal.{Refusal}
+use Rattle.cci_codec.specs.dcd_base.specs.declared.steps.LogId.{LogId}
+use Rattle.extent_list.specs.dcd_codes.specs.Rules.{ByRow}
+use Rattle.extent_list.specs.dcd_codes.specs.declared.refusals.Refusal.{Refusal}
 use Rattle.event_log.specs.LogStates.{LogState}
 use Rattle.event_log.specs.Logs.{Log}
 use Rattle.device_state.specs.device_rules.specs.EventCommands.{events_reply, log_named, no_such_log}

@@ -1,7 +1,7 @@
 -- What is replied of the regions of a host, 5601h.
 use Rattle.std.specs.Prelude.{◌≡◌, ℕ, List}
-use Rattle.list_rules.specs.media_map.specs.region_config.specs.Configurations.{Configuration}
-use Rattle.list_rules.specs.media_map.specs.region_config.specs.Granules.{with_blocks}
+use Rattle.extent_list.specs.media_map.specs.region_config.specs.Configurations.{Configuration}
+use Rattle.extent_list.specs.media_map.specs.region_config.specs.Granules.{with_blocks}
 use Rattle.device_state.specs.device_rules.specs.Settings.{regions_reply}
 use Rattle.device_state.specs.device_rules.specs.Views.{View}
 use Rattle.device_state.specs.StateAfter.{lists_in, part_of}

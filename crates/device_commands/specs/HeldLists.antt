@@ -1,6 +1,6 @@
 -- What is held of the lists of several messages.
 use Rattle.std.specs.Prelude.{ℕ, ◌==◌, List, [], if◌then◌else◌}
-use Rattle.cci_codec.specs.field_bytes.specs.dcd_base.specs.declared.ids.HostId.{HostId}
+use Rattle.cci_codec.specs.dcd_base.specs.declared.ids.HostId.{HostId}
 use Rattle.journal_core.specs.declared.outcome.Effect.{Effect}
 use Rattle.journal_core.specs.declared.outcome.HeldKind.{HeldKind}
 use Rattle.device_state.specs.host_lists.specs.Lists.{Lists}

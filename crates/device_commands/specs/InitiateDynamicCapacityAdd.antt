@@ -1,17 +1,17 @@
 -- What an offer breaks, what it has, and what it comes to, by what is kept, 5604h.
 use Rattle.std.specs.Prelude.{◌≡◌, ℕ, ◌+◌, ◌/◌, Bool, ◌&&◌, not, ◌==◌, ◌||◌, nat_le, nat_lt, List, [], ◌∷◌, ◌++◌, Option, if◌then◌else◌, length, map}
 use Rattle.std.specs.List.{list_any}
-use Rattle.cci_codec.specs.field_bytes.specs.dcd_base.specs.Words.{◌or◌, is_zero_tag, where_true}
-use Rattle.cci_codec.specs.field_bytes.specs.dcd_base.specs.declared.capacity.Extent.{Extent}
-use Rattle.cci_codec.specs.field_bytes.specs.dcd_base.specs.declared.capacity.Tag.{Tag}
-use Rattle.cci_codec.specs.field_bytes.specs.dcd_base.specs.declared.ids.HostId.{HostId}
-use Rattle.cci_codec.specs.field_bytes.specs.dcd_base.specs.declared.media.Run.{Run}
-use Rattle.cci_codec.specs.field_bytes.specs.dcd_base.specs.declared.steps.LogId.{LogId}
-use Rattle.list_rules.specs.dcd_codes.specs.Rules.{◌breaks◌, ByRow}
-use Rattle.list_rules.specs.dcd_codes.specs.declared.rules.Rule.{Rule}
+use Rattle.cci_codec.specs.dcd_base.specs.Words.{◌or◌, is_zero_tag, where_true}
+use Rattle.cci_codec.specs.dcd_base.specs.declared.capacity.Extent.{Extent}
+use Rattle.cci_codec.specs.dcd_base.specs.declared.capacity.Tag.{Tag}
+use Rattle.cci_codec.specs.dcd_base.specs.declared.ids.HostId.{HostId}
+use Rattle.cci_codec.specs.dcd_base.specs.declared.media.Run.{Run}
+use Rattle.cci_codec.specs.dcd_base.specs.declared.steps.LogId.{LogId}
+use Rattle.extent_list.specs.dcd_codes.specs.Rules.{◌breaks◌, ByRow}
+use Rattle.extent_list.specs.dcd_codes.specs.declared.rules.Rule.{Rule}
 use Rattle.event_log.specs.Logs.{Log}
 use Rattle.event_records.specs.declared.events.EventKind.{EventKind}
-use Rattle.list_rules.specs.extent_list.specs.ExtentLists.{has_extent_of, real_tags}
+use Rattle.extent_list.specs.ExtentLists.{has_extent_of, real_tags}
 use Rattle.selection.specs.granule_map.specs.StateLists.{is_free_at}
 use Rattle.device_state.specs.StateAfter.{lists_in, part_of, IsLogOf}
 use Rattle.device_commands.specs.Drafts.{as_records}
@@ -19,8 +19,8 @@ use Rattle.device_commands.specs.ListsUpdates.{left_by}
 use Rattle.device_commands.specs.declared.draft.DraftParts.{DraftParts}
 use Rattle.device_state.specs.host_lists.specs.Lists.{Lists, extent_total, extents_of_lists}
 use Rattle.journal_core.specs.declared.outcome.Effect.{Effect}
-use Rattle.list_rules.specs.Listing.{too_many_extents}
-use Rattle.list_rules.specs.media_map.specs.region_config.specs.Granules.{hosts_of, region_spec}
+use Rattle.extent_list.specs.Listing.{too_many_extents}
+use Rattle.extent_list.specs.media_map.specs.region_config.specs.Granules.{hosts_of, region_spec}
 use Rattle.selection.specs.Selections.{contiguous_runs, free_runs, prescribed_rule}
 use Rattle.tag_refs.specs.Tables.{entry_referenced, passes}
 use Rattle.tag_refs.specs.declared.entries.TagEntry.{TagEntry}
@@ -29,7 +29,7 @@ use Rattle.device_state.specs.device_rules.specs.Outcomes.{log_full, records_of_
 use Rattle.device_state.specs.device_rules.specs.Views.{View}
 use Rattle.device_state.specs.Entered.{runs_in}
 use Rattle.device_state.specs.declared.state.State.{State}
-use Rattle.list_rules.specs.dcd_codes.specs.declared.refusals.Refusal.{Refusal}
+use Rattle.extent_list.specs.dcd_codes.specs.declared.refusals.Refusal.{Refusal}
 use Rattle.std.specs.declared.result.Result.{Result}
 use Rattle.fm_payloads.specs.declared.requests.FmRequest.{FmRequest}
 use Rattle.device_commands.specs.declared.choosing.Asked.{Asked}

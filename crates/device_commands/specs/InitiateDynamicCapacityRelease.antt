@@ -1,14 +1,14 @@
 -- What the manager takes from a host or asks it for, and what is told of it, 5605h.
 use Rattle.std.specs.Prelude.{◌≡◌, ℕ, ◌+◌, ◌≤◌, Bool, All, ◌&&◌, not, ◌==◌, nat_le, nat_lt, IsTrue, List, [], ◌∷◌, fold, Option, if◌then◌else◌, length, map}
-use Rattle.cci_codec.specs.field_bytes.specs.dcd_base.specs.Words.{◌or◌}
-use Rattle.cci_codec.specs.field_bytes.specs.dcd_base.specs.declared.capacity.Extent.{Extent}
-use Rattle.cci_codec.specs.field_bytes.specs.dcd_base.specs.declared.capacity.Tag.{Tag}
-use Rattle.cci_codec.specs.field_bytes.specs.dcd_base.specs.declared.ids.HostId.{HostId}
-use Rattle.cci_codec.specs.field_bytes.specs.dcd_base.specs.declared.steps.LogId.{LogId}
-use Rattle.list_rules.specs.dcd_codes.specs.Rules.{◌breaks◌, ByRow}
-use Rattle.list_rules.specs.dcd_codes.specs.declared.rules.Rule.{Rule}
+use Rattle.cci_codec.specs.dcd_base.specs.Words.{◌or◌}
+use Rattle.cci_codec.specs.dcd_base.specs.declared.capacity.Extent.{Extent}
+use Rattle.cci_codec.specs.dcd_base.specs.declared.capacity.Tag.{Tag}
+use Rattle.cci_codec.specs.dcd_base.specs.declared.ids.HostId.{HostId}
+use Rattle.cci_codec.specs.dcd_base.specs.declared.steps.LogId.{LogId}
+use Rattle.extent_list.specs.dcd_codes.specs.Rules.{◌breaks◌, ByRow}
+use Rattle.extent_list.specs.dcd_codes.specs.declared.rules.Rule.{Rule}
 use Rattle.event_records.specs.declared.events.EventKind.{EventKind}
-use Rattle.list_rules.specs.extent_list.specs.ExtentLists.{count_in, cut_all, tags_of}
+use Rattle.extent_list.specs.ExtentLists.{count_in, cut_all, tags_of}
 use Rattle.device_state.specs.StateAfter.{lists_in, IsStateAfter, part_of}
 use Rattle.device_commands.specs.Drafts.{Drafts, as_records}
 use Rattle.device_commands.specs.ListsUpdates.{left_by}
@@ -16,8 +16,8 @@ use Rattle.device_commands.specs.declared.draft.DraftParts.{DraftParts}
 use Rattle.device_state.specs.host_lists.specs.Answers.{generation_after}
 use Rattle.device_state.specs.host_lists.specs.Lists.{Lists}
 use Rattle.journal_core.specs.declared.outcome.Effect.{Effect}
-use Rattle.list_rules.specs.media_map.specs.Places.{is_granular}
-use Rattle.list_rules.specs.media_map.specs.region_config.specs.Configurations.{Configuration}
+use Rattle.extent_list.specs.media_map.specs.Places.{is_granular}
+use Rattle.extent_list.specs.media_map.specs.region_config.specs.Configurations.{Configuration}
 use Rattle.release_core.specs.Leaving.{AllCanLeave}
 use Rattle.release_core.specs.Removals.{by_tag_rule, prescribed_removal_rule}
 use Rattle.device_state.specs.device_rules.specs.Hosts.{accepted_after, offers_after}
@@ -25,7 +25,7 @@ use Rattle.device_state.specs.device_rules.specs.Outcomes.{Outcome, records_of_e
 use Rattle.device_state.specs.device_rules.specs.ReleaseOutcomes.{is_cleaning, is_forced, policy_in, removals, removed}
 use Rattle.device_state.specs.device_rules.specs.Views.{View, view_after, view_of}
 use Rattle.std.specs.declared.result.Result.{Result}
-use Rattle.list_rules.specs.dcd_codes.specs.declared.refusals.Refusal.{Refusal}
+use Rattle.extent_list.specs.dcd_codes.specs.declared.refusals.Refusal.{Refusal}
 use Rattle.fm_payloads.specs.declared.requests.FmRequest.{FmRequest}
 use Rattle.journal_core.specs.declared.entries.Entry.{Entry}
 use Rattle.device_state.specs.device_rules.specs.Legal.{Legal}

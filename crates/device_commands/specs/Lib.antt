@@ -19,6 +19,5 @@ pub mod Scrub
 pub mod SetDcRegionConfiguration
 pub mod ShownFlags
 pub use Rattle.device_state.specs.device_rules
-pub use Rattle.device_state.specs.device_laws
 pub use Rattle.device_state.specs.host_lists
 pub use Rattle.device_state

@@ -1,11 +1,11 @@
 -- What a request of the Fabric Manager is drafted as, by what the device keeps.
 use Rattle.std.specs.Prelude.{◌≤◌, List, length, Option}
 use Rattle.std.specs.declared.result.Result.{Result}
-use Rattle.list_rules.specs.dcd_codes.specs.Rules.{ByRow}
-use Rattle.list_rules.specs.dcd_codes.specs.declared.refusals.Refusal.{Refusal}
-use Rattle.list_rules.specs.dcd_codes.specs.declared.rules.Rule.{Rule}
+use Rattle.extent_list.specs.dcd_codes.specs.Rules.{ByRow}
+use Rattle.extent_list.specs.dcd_codes.specs.declared.refusals.Refusal.{Refusal}
+use Rattle.extent_list.specs.dcd_codes.specs.declared.rules.Rule.{Rule}
 use Rattle.fm_payloads.specs.declared.requests.FmRequest.{FmRequest}
-use Rattle.list_rules.specs.media_map.specs.region_config.specs.Configurations.{Configuration}
+use Rattle.extent_list.specs.media_map.specs.region_config.specs.Configurations.{Configuration}
 use Rattle.journal_core.specs.Entries.{effects}
 use Rattle.journal_core.specs.declared.entries.Entry.{Entry}
 use Rattle.device_state.specs.device_rules.specs.Answers.{manager_outcome, manager_rule}

@@ -1,14 +1,14 @@
 -- What a release that ends changes and tells, 4803h.
 use Rattle.std.specs.Prelude.{◌≡◌, ◌++◌, Bool, false, List}
-use Rattle.cci_codec.specs.field_bytes.specs.dcd_base.specs.declared.capacity.Extent.{Extent}
-use Rattle.cci_codec.specs.field_bytes.specs.dcd_base.specs.declared.ids.HostId.{HostId}
+use Rattle.cci_codec.specs.dcd_base.specs.declared.capacity.Extent.{Extent}
+use Rattle.cci_codec.specs.dcd_base.specs.declared.ids.HostId.{HostId}
 use Rattle.event_records.specs.declared.events.EventKind.{EventKind}
-use Rattle.list_rules.specs.extent_list.specs.ExtentLists.{tags_of}
+use Rattle.extent_list.specs.ExtentLists.{tags_of}
 use Rattle.device_state.specs.host_lists.specs.Lists.{Lists}
 use Rattle.journal_core.specs.declared.outcome.Effect.{Effect}
 use Rattle.journal_core.specs.declared.outcome.HeldKind.{HeldKind}
-use Rattle.list_rules.specs.media_map.specs.region_config.specs.Configurations.{Configuration}
-use Rattle.list_rules.specs.media_map.specs.region_config.specs.Granules.{with_blocks}
+use Rattle.extent_list.specs.media_map.specs.region_config.specs.Configurations.{Configuration}
+use Rattle.extent_list.specs.media_map.specs.region_config.specs.Granules.{with_blocks}
 use Rattle.device_state.specs.device_rules.specs.Outcomes.{records_of_extents}
 use Rattle.device_state.specs.device_rules.specs.ReleaseOutcomes.{give_back_outcome, removals}
 use Rattle.device_state.specs.device_rules.specs.ResponseOutcomes.{unhold}

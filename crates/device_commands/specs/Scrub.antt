@@ -3,7 +3,7 @@ use Rattle.std.specs.Prelude.{◌≡◌, ℕ, List}
 use Rattle.journal_core.specs.declared.acts.Act.{Act}
 use Rattle.journal_core.specs.declared.acts.Reply.{Reply}
 use Rattle.journal_core.specs.declared.entries.Entry.{Entry}
-use Rattle.list_rules.specs.media_map.specs.region_config.specs.Configurations.{Configuration}
+use Rattle.extent_list.specs.media_map.specs.region_config.specs.Configurations.{Configuration}
 use Rattle.device_state.specs.device_rules.specs.Answers.{scrub_answer}
 use Rattle.device_state.specs.device_rules.specs.Legal.{Legal}
 use Rattle.device_state.specs.StateAfter.{IsStateAfter}

@@ -1,9 +1,9 @@
 -- What of a region is in use, what another block size breaks, and what hosts are told of it, 5602h.
-use Rattle.cci_codec.specs.field_bytes.specs.dcd_base.specs.Words.{flag_of, ◌or◌}
-use Rattle.cci_codec.specs.field_bytes.specs.dcd_base.specs.declared.ids.HostId.{HostId}
-use Rattle.cci_codec.specs.field_bytes.specs.dcd_base.specs.declared.steps.LogId.{LogId}
-use Rattle.list_rules.specs.dcd_codes.specs.Rules.{◌breaks◌, each_in}
-use Rattle.list_rules.specs.dcd_codes.specs.declared.rules.Rule.{Rule}
+use Rattle.cci_codec.specs.dcd_base.specs.Words.{flag_of, ◌or◌}
+use Rattle.cci_codec.specs.dcd_base.specs.declared.ids.HostId.{HostId}
+use Rattle.cci_codec.specs.dcd_base.specs.declared.steps.LogId.{LogId}
+use Rattle.extent_list.specs.dcd_codes.specs.Rules.{◌breaks◌, each_in}
+use Rattle.extent_list.specs.dcd_codes.specs.declared.rules.Rule.{Rule}
 use Rattle.device_state.specs.device_rules.specs.Outcomes.{no_extent, record_for, log_full}
 use Rattle.device_state.specs.device_rules.specs.Views.{View}
 use Rattle.device_state.specs.StateAfter.{IsLogOf, lists_in, part_of}
@@ -11,8 +11,8 @@ use Rattle.device_state.specs.declared.state.State.{State}
 use Rattle.event_records.specs.declared.events.Event.{Event}
 use Rattle.event_records.specs.declared.events.EventKind.{EventKind}
 use Rattle.selection.specs.granule_map.specs.StateLists.{is_free_at}
-use Rattle.list_rules.specs.media_map.specs.region_config.specs.Granules.{first_granule, region_granules, is_supported, hosts_of}
-use Rattle.list_rules.specs.media_map.specs.region_config.specs.declared.region_spec.RegionSpec.{RegionSpec}
+use Rattle.extent_list.specs.media_map.specs.region_config.specs.Granules.{first_granule, region_granules, is_supported, hosts_of}
+use Rattle.extent_list.specs.media_map.specs.region_config.specs.declared.region_spec.RegionSpec.{RegionSpec}
 use Rattle.std.specs.List.{range_with_len}
 use Rattle.std.specs.Prelude.{◌≡◌, ℕ, ◌<◌, Bool, List, [], Option, count_by, false, not, ◌==◌, nat_lt, ◌∷◌, map}
 use Rattle.device_state.specs.device_rules.specs.Settings.{set_outcome}

@@ -2,20 +2,18 @@
 
 ghost use Rattle.device_commands.specs.InitiateDynamicCapacityAdd.{length_rule, length_runs, new_offer, policy_rule, tagged_runs};
 ghost use Rattle.device_state.specs.Entered.{runs_in};
-ghost use Rattle.list_rules.specs.dcd_codes.specs.Rules.{ByRow};
+ghost use Rattle.extent_list.specs.dcd_codes.specs.Rules.{ByRow};
 ghost use Rattle.device_state.specs.device_rules.specs.Adding.{with_tag};
-ghost use Rattle.list_rules.specs.media_map.specs.Places.{IsRun, extent_of};
-ghost use Rattle.list_rules.specs.media_map.specs.region_config.specs.Granules.{granule_total};
+ghost use Rattle.extent_list.specs.media_map.specs.Places.{IsRun, extent_of};
+ghost use Rattle.extent_list.specs.media_map.specs.region_config.specs.Granules.{granule_total};
 ghost use Rattle.std.specs.Prelude.{◌≡◌, ◌^◌, ◌<◌, ◌≤◌, All, IfOk, if◌then◌else◌, length};
 
 use crate::initiate_dynamic_capacity_add::{CONTIGUOUS, PRESCRIPTIVE};
 use crate::rooms::Room;
-use cci_codec::field_bytes::dcd_base::{
-    Extent, Extents, HostId, NoMemory, RegionId, Run, Runs, Tag,
-};
+use cci_codec::dcd_base::{Extent, Extents, HostId, NoMemory, RegionId, Run, Runs, Tag};
 use device_state::State;
-use list_rules::dcd_codes::{Refusal, Rule};
-use list_rules::media_map::extent_of;
+use extent_list::dcd_codes::{Refusal, Rule};
+use extent_list::media_map::extent_of;
 use std::alloc::Global;
 use std::mem::replace;
 

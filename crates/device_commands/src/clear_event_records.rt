@@ -6,7 +6,7 @@
 ghost use Rattle.device_commands.specs.ClearEventRecords.{AnswersClear, changing, clearing_outcome, clearing_rule, empty_rule, listed_outcome};
 ghost use Rattle.device_commands.specs.ClearEventRecords.{log_handles_rule, whole_outcome, whole_rule};
 ghost use Rattle.device_commands.specs.DraftContents.{IsBlank, draft_in, no_draft};
-ghost use Rattle.list_rules.specs.dcd_codes.specs.Rules.{ByRow};
+ghost use Rattle.extent_list.specs.dcd_codes.specs.Rules.{ByRow};
 ghost use Rattle.device_state.specs.device_rules.specs.EventCommands.{cleared, rule_of};
 ghost use Rattle.device_commands.specs.Drafts.{IsOutcome};
 ghost use Rattle.journal_core.specs.declared.outcome.Effect.{Effect};
@@ -16,10 +16,10 @@ use crate::draft::{Draft, DraftedStep};
 use crate::get_event_records::{DYNAMIC_CAPACITY, LOGS};
 use crate::putting::put_effect;
 use crate::rooms::Room;
-use cci_codec::field_bytes::dcd_base::{LogId, NoMemory, ShortList};
+use cci_codec::dcd_base::{LogId, NoMemory, ShortList};
 use event_log::{ClearFault, EventLog};
+use extent_list::dcd_codes::{Refusal, Rule};
 use journal_core::{Effect, Effects};
-use list_rules::dcd_codes::{Refusal, Rule};
 
 /// Takes the records of these handles out of the log, or all of them.
 ///

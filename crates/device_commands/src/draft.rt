@@ -6,7 +6,7 @@ ghost use Rattle.std.specs.Prelude.{◌≡◌, [], IfOk, None};
 use crate::lists_update::ListsUpdate;
 use crate::log_records::LogRecords;
 use crate::rooms::Room;
-use cci_codec::field_bytes::dcd_base::{Bytes, NoMemory, Seq, ShortList, Tag};
+use cci_codec::dcd_base::{Bytes, NoMemory, Seq, ShortList, Tag};
 use device_state::host_lists::ListsChange;
 use journal_core::{Effects, Reply};
 use std::alloc::Global;

@@ -12,11 +12,11 @@ ghost use Rattle.tag_refs.specs.Tables.{entry_referenced, passes};
 
 use crate::draft::Draft;
 use crate::rooms::Room;
-use cci_codec::field_bytes::dcd_base::{NoMemory, Tag};
+use cci_codec::dcd_base::{NoMemory, Tag};
 use device_state::State;
+use extent_list::dcd_codes::{Refusal, Rule};
+use extent_list::media_map::region_config::Config;
 use journal_core::{Effect, Effects};
-use list_rules::dcd_codes::{Refusal, Rule};
-use list_rules::media_map::region_config::Config;
 use tag_refs::Tags;
 
 /// The manager refers to an open tag (profile). `NoSuchTag` comes exactly where the tag is not open.

@@ -12,12 +12,12 @@ ghost use Rattle.tag_refs.specs.Tables.{tag_view};
 
 use crate::draft::Draft;
 use crate::rooms::Room;
-use cci_codec::field_bytes::dcd_base::limits::PAGE_TAGS;
-use cci_codec::field_bytes::dcd_base::{NoMemory, Seq, TagView};
+use cci_codec::dcd_base::limits::PAGE_TAGS;
+use cci_codec::dcd_base::{NoMemory, Seq, TagView};
 use device_state::State;
+use extent_list::dcd_codes::{Refusal, Rule};
+use extent_list::media_map::region_config::Config;
 use fm_payloads::write_tags;
-use list_rules::dcd_codes::{Refusal, Rule};
-use list_rules::media_map::region_config::Config;
 use std::alloc::Global;
 use tag_refs::Tags;
 

@@ -10,11 +10,11 @@ ghost use Rattle.journal_core.specs.declared.outcome.Effect.{Effect};
 
 use crate::draft::{Draft, DraftParts};
 use crate::rooms::Room;
-use cci_codec::field_bytes::dcd_base::{Bytes, Seq, ShortList, Tag};
+use cci_codec::dcd_base::{Bytes, Seq, ShortList, Tag};
 use device_state::State;
+use extent_list::dcd_codes::{Refusal, Rule};
+use extent_list::media_map::region_config::Config;
 use journal_core::Effect;
-use list_rules::dcd_codes::{Refusal, Rule};
-use list_rules::media_map::region_config::Config;
 use std::alloc::Global;
 
 /// The manager refers to the tag no longer, which ends where nothing else keeps it (profile). `NoReference` comes

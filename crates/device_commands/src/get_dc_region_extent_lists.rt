@@ -13,12 +13,12 @@ ghost use Rattle.std.specs.Prelude.{◌<◌, ◌≤◌, IfOk, length};
 use crate::draft::Draft;
 use crate::pages::extents_page;
 use crate::rooms::Room;
-use cci_codec::field_bytes::dcd_base::{Bytes, HostId, NoMemory};
+use cci_codec::dcd_base::{Bytes, HostId, NoMemory};
 use device_state::State;
+use extent_list::dcd_codes::{Refusal, Rule};
+use extent_list::media_map::region_config::Config;
 use fm_payloads::lists_head;
 use host_payloads::with_extents;
-use list_rules::dcd_codes::{Refusal, Rule};
-use list_rules::media_map::region_config::Config;
 
 /// At most `count` accepted extents of the host from `first` on, 50 at most (profile).
 ///

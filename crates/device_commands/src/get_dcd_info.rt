@@ -11,11 +11,11 @@ ghost use Rattle.std.specs.Prelude.{◌≡◌, ◌≤◌, length, map};
 use crate::draft::Draft;
 use crate::few::Few;
 use crate::rooms::Room;
-use cci_codec::field_bytes::dcd_base::RegionId;
+use cci_codec::dcd_base::RegionId;
 use device_state::State;
+use extent_list::dcd_codes::Refusal;
+use extent_list::media_map::region_config::Config;
 use fm_payloads::write_info;
-use list_rules::dcd_codes::Refusal;
-use list_rules::media_map::region_config::Config;
 
 /// How many hosts and granules there are, how many granules are free and dirty, and the block sizes that each region
 /// supports (profile). It breaks no rule. The reply is written in the room.

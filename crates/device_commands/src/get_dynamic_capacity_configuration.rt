@@ -11,11 +11,11 @@ ghost use Rattle.std.specs.Prelude.{◌≡◌, ◌<◌, ◌≤◌, IfOk, None};
 use crate::draft::Draft;
 use crate::pages::{Flags, host_counts, regions_seen};
 use crate::rooms::Room;
-use cci_codec::field_bytes::dcd_base::HostId;
+use cci_codec::dcd_base::HostId;
 use device_state::host_lists::HostLists;
+use extent_list::dcd_codes::{Refusal, Rule};
+use extent_list::media_map::region_config::Config;
 use host_payloads::write_configuration;
-use list_rules::dcd_codes::{Refusal, Rule};
-use list_rules::media_map::region_config::Config;
 
 /// At most `count` regions from `first` on, as the host sees them, and what the host may have (CXL 3.1, 8.2.9.9.9.1).
 ///

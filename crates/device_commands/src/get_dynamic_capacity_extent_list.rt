@@ -12,8 +12,8 @@ use crate::draft::Draft;
 use crate::pages::extents_page;
 use crate::rooms::Room;
 use device_state::host_lists::HostLists;
+use extent_list::dcd_codes::{Refusal, Rule};
 use host_payloads::write_extents;
-use list_rules::dcd_codes::{Refusal, Rule};
 
 /// At most `count` accepted extents from `first` on, 50 at most, with how many there are and how often the list
 /// changed (CXL 3.1, 8.2.9.9.9.2). `PastEnd` comes exactly where the first index is above their number. The reply is written

@@ -10,12 +10,12 @@ ghost use Rattle.std.specs.Prelude.{◌≡◌, ◌≤◌, IfOk, None, [], length
 
 use crate::draft::Draft;
 use crate::rooms::Room;
-use cci_codec::field_bytes::dcd_base::limits::REPLY_RECORDS;
-use cci_codec::field_bytes::dcd_base::{Bytes, LogId, NoMemory, Seq};
+use cci_codec::dcd_base::limits::REPLY_RECORDS;
+use cci_codec::dcd_base::{Bytes, LogId, NoMemory, Seq};
 use event_log::EventLog;
 use event_records::Event;
+use extent_list::dcd_codes::{Refusal, Rule};
 use host_payloads::write_events;
-use list_rules::dcd_codes::{Refusal, Rule};
 use std::alloc::Global;
 
 /// How many logs there are; the one with number 4 is that of dynamic capacity, and the others are always empty.

@@ -14,12 +14,12 @@ ghost use Rattle.std.specs.Prelude.{◌≡◌, ◌++◌, ◌<◌, ◌≤◌, IfO
 use crate::draft::Draft;
 use crate::pages::{Flags, host_counts, regions_seen};
 use crate::rooms::Room;
-use cci_codec::field_bytes::dcd_base::{Bytes, HostId, NoMemory};
+use cci_codec::dcd_base::{Bytes, HostId, NoMemory};
 use device_state::State;
+use extent_list::dcd_codes::{Refusal, Rule};
+use extent_list::media_map::region_config::Config;
 use fm_payloads::regions_head;
 use host_payloads::{RegionView, counts_bytes, region_bytes};
-use list_rules::dcd_codes::{Refusal, Rule};
-use list_rules::media_map::region_config::Config;
 
 /// At most `count` regions of the host from `first` on, and what the host may have (profile).
 ///

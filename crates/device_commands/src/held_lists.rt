@@ -5,7 +5,7 @@ ghost use Rattle.std.specs.Prelude.{◌≡◌, ◌++◌, ◌<◌, IfOk, OnOk};
 ghost use Rattle.device_commands.specs.HeldLists.{unheld_by};
 
 use crate::rooms::Room;
-use cci_codec::field_bytes::dcd_base::{Extent, Extents, HostId, NoMemory};
+use cci_codec::dcd_base::{Extent, Extents, HostId, NoMemory};
 use device_state::host_lists::HostLists;
 use journal_core::{Effect, Effects, HeldKind};
 

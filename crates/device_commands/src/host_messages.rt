@@ -1,7 +1,7 @@
 //! A message of a host: which command it is, and what that drafts.
 
 ghost use Rattle.device_commands.specs.HostMessages.{DraftsHost};
-ghost use Rattle.cci_codec.specs.field_bytes.specs.dcd_base.specs.declared.steps.LogId.{LogId};
+ghost use Rattle.cci_codec.specs.dcd_base.specs.declared.steps.LogId.{LogId};
 ghost use Rattle.device_state.specs.host_lists.specs.Changes.{changed_by};
 ghost use Rattle.device_state.specs.host_lists.specs.Lists.{extent_total};
 ghost use Rattle.std.specs.Prelude.{◌≡◌, ◌<◌, ◌≤◌, IfOk, IfSome};
@@ -15,12 +15,12 @@ use crate::get_event_records::get_events;
 use crate::release_dynamic_capacity::give_back;
 use crate::rooms::Room;
 use cci_codec::Request;
-use cci_codec::field_bytes::dcd_base::{HostId, LogId, NoMemory};
+use cci_codec::dcd_base::{HostId, LogId, NoMemory};
 use device_state::host_lists::HostLists;
 use event_log::EventLog;
+use extent_list::dcd_codes::{Refusal, Rule};
+use extent_list::media_map::region_config::Config;
 use host_payloads::{HostRequest, PayloadFault, decode};
-use list_rules::dcd_codes::{Refusal, Rule};
-use list_rules::media_map::region_config::Config;
 use std::alloc::Global;
 
 /// The draft of a message of the host, or the first rule that it breaks.

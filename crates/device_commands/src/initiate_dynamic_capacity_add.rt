@@ -10,11 +10,11 @@ ghost use Rattle.device_commands.specs.InitiateDynamicCapacityAdd.{tag_rule};
 ghost use Rattle.device_commands.specs.DraftContents.{IsBlank, draft_in};
 ghost use Rattle.device_commands.specs.ListDrafts.{TellOf};
 ghost use Rattle.event_records.specs.declared.events.EventKind.{EventKind};
-ghost use Rattle.cci_codec.specs.field_bytes.specs.dcd_base.specs.Limits.{tags_supported};
-ghost use Rattle.list_rules.specs.extent_list.specs.ExtentLists.{has_extent_of, real_tags};
+ghost use Rattle.cci_codec.specs.dcd_base.specs.Limits.{tags_supported};
+ghost use Rattle.extent_list.specs.ExtentLists.{has_extent_of, real_tags};
 ghost use Rattle.journal_core.specs.declared.outcome.Effect.{Effect};
 ghost use Rattle.device_state.specs.StateAfter.{IsReached, part_of};
-ghost use Rattle.cci_codec.specs.field_bytes.specs.dcd_base.specs.declared.steps.LogId.{LogId};
+ghost use Rattle.cci_codec.specs.dcd_base.specs.declared.steps.LogId.{LogId};
 ghost use Rattle.device_state.specs.host_lists.specs.Lists.{extent_total, extents_of_lists};
 ghost use Rattle.std.specs.List.{list_any};
 ghost use Rattle.std.specs.Prelude.{◌≡◌, ◌++◌, ◌+◌, ◌-◌, ◌==◌, ◌^◌, ◌<◌, ◌≤◌, ◌∷◌, [], IfNone, IfOk, OnOk, length};
@@ -26,18 +26,17 @@ use crate::draft::{Draft, DraftedStep};
 use crate::log_records::{LogRecords, each_record, event_by_tags, log_full, one_record};
 use crate::putting::put_effect;
 use crate::rooms::Room;
-use cci_codec::field_bytes::dcd_base::limits::TAGS;
-use cci_codec::field_bytes::dcd_base::{
+use cci_codec::dcd_base::limits::TAGS;
+use cci_codec::dcd_base::{
     Extent, Extents, HostId, LogId, NoMemory, RegionId, ShortList, Tag, is_no_tag,
 };
 use device_state::State;
 use device_state::host_lists::{Changed, HostLists};
 use event_records::EventKind;
+use extent_list::dcd_codes::{Refusal, Rule};
+use extent_list::media_map::region_config::Config;
+use extent_list::{same_tag, too_many_extents};
 use journal_core::Effect;
-use list_rules::dcd_codes::{Refusal, Rule};
-use list_rules::extent_list::same_tag;
-use list_rules::media_map::region_config::Config;
-use list_rules::too_many_extents;
 use std::alloc::Global;
 
 /// The policies above 0 Free.

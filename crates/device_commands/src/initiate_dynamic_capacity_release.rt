@@ -9,7 +9,7 @@ ghost use Rattle.device_commands.specs.InitiateDynamicCapacityRelease.{flags_rul
 ghost use Rattle.device_commands.specs.DraftContents.{IsBlank, draft_in};
 ghost use Rattle.device_commands.specs.ListDrafts.{TellOf};
 ghost use Rattle.device_state.specs.StateAfter.{IsReached, part_of};
-ghost use Rattle.list_rules.specs.dcd_codes.specs.Rules.{ByRow};
+ghost use Rattle.extent_list.specs.dcd_codes.specs.Rules.{ByRow};
 ghost use Rattle.device_state.specs.device_rules.specs.Outcomes.{log_full};
 ghost use Rattle.device_state.specs.device_rules.specs.ReleaseOutcomes.{is_cleaning, is_forced};
 ghost use Rattle.event_records.specs.declared.events.EventKind.{EventKind};
@@ -21,14 +21,12 @@ use crate::leaves::put_leaves;
 use crate::log_records::{LogRecords, log_full, records_to};
 use crate::rooms::Room;
 use crate::tags::{put_tags_of, tags_of};
-use cci_codec::field_bytes::dcd_base::{
-    Bytes, Extents, HostId, LogId, NoMemory, RegionId, ShortList, Tag,
-};
+use cci_codec::dcd_base::{Bytes, Extents, HostId, LogId, NoMemory, RegionId, ShortList, Tag};
 use device_state::State;
 use device_state::host_lists::Changed;
 use event_records::EventKind;
-use list_rules::dcd_codes::{Refusal, Rule};
-use list_rules::media_map::region_config::Config;
+use extent_list::dcd_codes::{Refusal, Rule};
+use extent_list::media_map::region_config::Config;
 use release_core::{by_tag, removal};
 use std::alloc::Global;
 

@@ -2,13 +2,13 @@
 
 ghost use Rattle.device_state.specs.device_rules.specs.ReleaseOutcomes.{removals, soils};
 ghost use Rattle.journal_core.specs.declared.outcome.Effect.{Effect};
-ghost use Rattle.list_rules.specs.media_map.specs.Places.{is_granular};
+ghost use Rattle.extent_list.specs.media_map.specs.Places.{is_granular};
 ghost use Rattle.std.specs.Prelude.{◌≡◌, ◌++◌, ◌∷◌, ◌<◌, All, IsTrue, OnOk};
 
 use crate::runs::run_of;
-use cci_codec::field_bytes::dcd_base::{Extent, HostId, NoMemory, Run};
+use cci_codec::dcd_base::{Extent, HostId, NoMemory, Run};
+use extent_list::media_map::region_config::Config;
 use journal_core::{Effect, Effects};
-use list_rules::media_map::region_config::Config;
 use std::mem::replace;
 
 /// Each of the extents leaves the host; where the removal cleans, its granules are soiled at once.

@@ -39,9 +39,9 @@ mod scrub;
 mod set_dc_region_configuration;
 mod tags;
 
-pub use cci_codec::field_bytes::dcd_base::ShortList;
+pub use cci_codec::dcd_base::ShortList;
 pub use device_state;
-pub use device_state::{device_laws, device_rules, host_lists};
+pub use device_state::{device_rules, host_lists};
 pub use draft::{Content, Draft, DraftParts, DraftedStep};
 pub use dynamic_capacity_add_reference::add_reference;
 pub use dynamic_capacity_remove_reference::remove_reference;

@@ -6,7 +6,7 @@ ghost use Rattle.release_core.specs.Leaving.{AllCanLeave};
 ghost use Rattle.std.specs.Option.{option_copied};
 ghost use Rattle.std.specs.Prelude.{◌≡◌, ◌++◌, ◌∷◌, [], IfOk, IsSome, None, OnOk, false};
 
-use cci_codec::field_bytes::dcd_base::{Extent, Extents, NoMemory};
+use cci_codec::dcd_base::{Extent, Extents, NoMemory};
 use device_state::host_lists::{Changed, HostLists, ListsChange, Responded};
 use release_core::GivenBack;
 use std::marker::Model;

@@ -4,19 +4,19 @@ ghost use Rattle.device_state.specs.device_rules.specs.Outcomes.{record_for, rec
 ghost use Rattle.device_state.specs.device_rules.specs.Views.{View};
 ghost use Rattle.event_records.specs.declared.events.EventKind.{EventKind};
 ghost use Rattle.device_state.specs.StateAfter.{lists_in, part_of, IsLogOf};
-ghost use Rattle.cci_codec.specs.field_bytes.specs.dcd_base.specs.Limits.{tags_supported};
-ghost use Rattle.list_rules.specs.extent_list.specs.ExtentLists.{real_tags};
+ghost use Rattle.cci_codec.specs.dcd_base.specs.Limits.{tags_supported};
+ghost use Rattle.extent_list.specs.ExtentLists.{real_tags};
 ghost use Rattle.device_state.specs.host_lists.specs.Lists.{extent_total, extents_of_lists};
 ghost use Rattle.std.specs.Prelude.{◌≡◌, ◌-◌, ◌≤◌, ◌∷◌, [], IfOk, ◌<◌, length, map};
-ghost use Rattle.cci_codec.specs.field_bytes.specs.dcd_base.specs.declared.steps.LogId.{LogId};
+ghost use Rattle.cci_codec.specs.dcd_base.specs.declared.steps.LogId.{LogId};
 ghost use Rattle.device_commands.specs.Drafts.{as_records};
 ghost use Rattle.event_log.specs.Logs.{Log};
 
-use cci_codec::field_bytes::dcd_base::{Extent, HostId, LogId, NoMemory, Seq, ShortList, no_tag};
+use cci_codec::dcd_base::{Extent, HostId, LogId, NoMemory, Seq, ShortList, no_tag};
 use device_state::State;
 use device_state::host_lists::Changed;
 use event_records::{Event, EventKind};
-use list_rules::dcd_codes::Rule;
+use extent_list::dcd_codes::Rule;
 use std::alloc::Global;
 
 /// Records for one log, in order. The log gives each its handle.

@@ -3,7 +3,7 @@
 ghost use Rattle.device_commands.specs.ManagerMessages.{FewCleared, ManagerAnswers};
 ghost use Rattle.device_state.specs.StateAfter.{IsReached};
 ghost use Rattle.std.specs.Prelude.{◌≡◌, true};
-ghost use Rattle.device_state.specs.device_laws.specs.QuietRequests.{is_quiet_manager};
+ghost use Rattle.device_state.specs.device_rules.specs.QuietRequests.{is_quiet_manager};
 
 use crate::clear_event_records::clear_events;
 use crate::draft::Draft;
@@ -14,11 +14,11 @@ use crate::get_event_records::get_events;
 use crate::get_host_dc_region_configuration::get_regions;
 use crate::rooms::Room;
 use crate::set_dc_region_configuration::set_region;
-use cci_codec::field_bytes::dcd_base::LogId;
+use cci_codec::dcd_base::LogId;
 use device_state::State;
+use extent_list::dcd_codes::Refusal;
+use extent_list::media_map::region_config::Config;
 use fm_payloads::FmRequest;
-use list_rules::dcd_codes::Refusal;
-use list_rules::media_map::region_config::Config;
 use std::alloc::Global;
 
 /// The draft of a request that changes no extents and no tags, or the first rule that it breaks. A payload, changes and parts on

@@ -6,16 +6,16 @@ ghost use Rattle.device_state.specs.device_rules.specs.Views.{View};
 ghost use Rattle.device_state.specs.StateAfter.{lists_in};
 ghost use Rattle.device_state.specs.host_lists.specs.Lists.{extent_total};
 ghost use Rattle.host_payloads.specs.declared.views.RegionView.{RegionView};
-ghost use Rattle.list_rules.specs.media_map.specs.region_config.specs.Granules.{with_blocks};
-ghost use Rattle.list_rules.specs.media_map.specs.region_config.specs.Configurations.{Configuration};
+ghost use Rattle.extent_list.specs.media_map.specs.region_config.specs.Granules.{with_blocks};
+ghost use Rattle.extent_list.specs.media_map.specs.region_config.specs.Configurations.{Configuration};
 ghost use Rattle.std.specs.Prelude.{◌≡◌, ◌<◌, ◌≤◌, length, min};
 
 use crate::few::Few;
-use cci_codec::field_bytes::dcd_base::limits::{EXTENTS, PAGE_EXTENTS, TAGS};
-use cci_codec::field_bytes::dcd_base::{Extent, HostId, RegionId};
+use cci_codec::dcd_base::limits::{EXTENTS, PAGE_EXTENTS, TAGS};
+use cci_codec::dcd_base::{Extent, HostId, RegionId};
 use device_state::host_lists::HostLists;
+use extent_list::media_map::region_config::{Config, RegionSpec};
 use host_payloads::{Counts, RegionView};
-use list_rules::media_map::region_config::{Config, RegionSpec};
 
 /// What stands in the place of a region that is not shown.
 const NO_REGION: RegionView = RegionView {

@@ -2,7 +2,7 @@
 
 ghost use Rattle.std.specs.Prelude.{◌≡◌, ◌++◌, ◌∷◌, ◌<◌, [], OnOk, vec_capacity, vec_len};
 
-use cci_codec::field_bytes::dcd_base::NoMemory;
+use cci_codec::dcd_base::NoMemory;
 use journal_core::{Effect, Effects};
 use std::mem::{ManuallyDrop, replace};
 

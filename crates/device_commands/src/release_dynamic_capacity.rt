@@ -7,14 +7,14 @@ ghost use Rattle.device_commands.specs.ReleaseDynamicCapacity.{GivesBack, IsRele
 ghost use Rattle.device_commands.specs.HostMessages.{AnswersByLists};
 ghost use Rattle.host_payloads.specs.declared.requests.HostRequest.{HostRequest};
 ghost use Rattle.event_records.specs.declared.events.EventKind.{EventKind};
-ghost use Rattle.list_rules.specs.extent_list.specs.ExtentLists.{count_in};
+ghost use Rattle.extent_list.specs.ExtentLists.{count_in};
 ghost use Rattle.release_core.specs.Releases.{give_back_rule};
 ghost use Rattle.device_commands.specs.DraftContents.{IsBlank, draft_in};
 ghost use Rattle.device_commands.specs.ListsUpdates.{left_by};
 ghost use Rattle.device_state.specs.host_lists.specs.Changes.{changed_by};
 ghost use Rattle.device_state.specs.host_lists.specs.Lists.{extent_total};
 ghost use Rattle.journal_core.specs.declared.outcome.HeldKind.{HeldKind};
-ghost use Rattle.list_rules.specs.media_map.specs.Places.{is_granular};
+ghost use Rattle.extent_list.specs.media_map.specs.Places.{is_granular};
 ghost use Rattle.std.specs.Prelude.{◌≡◌, ◌++◌, ◌<◌, ◌≤◌, [], All, IfOk, IfSome, IsSome, IsTrue, None, OnOk};
 
 use crate::draft::{Draft, DraftedStep};
@@ -23,12 +23,12 @@ use crate::leaves::put_leaves;
 use crate::log_records::records_to;
 use crate::rooms::Room;
 use crate::tags::put_tags_of;
-use cci_codec::field_bytes::dcd_base::{Extent, Extents, HostId, LogId, NoMemory, ShortList};
+use cci_codec::dcd_base::{Extent, Extents, HostId, LogId, NoMemory, ShortList};
 use device_state::host_lists::HostLists;
 use event_records::EventKind;
+use extent_list::dcd_codes::Refusal;
+use extent_list::media_map::region_config::Config;
 use journal_core::HeldKind;
-use list_rules::dcd_codes::Refusal;
-use list_rules::media_map::region_config::Config;
 use release_core::{GivenBack, broken_rule};
 use std::alloc::Global;
 

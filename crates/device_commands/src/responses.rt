@@ -1,13 +1,13 @@
 //! Responses to messages.
 
-ghost use Rattle.list_rules.specs.dcd_codes.specs.Rules.{code_of as code_for};
+ghost use Rattle.extent_list.specs.dcd_codes.specs.Rules.{code_of as code_for};
 ghost use Rattle.device_state.specs.device_rules.specs.Answers.{response};
 ghost use Rattle.std.specs.Prelude.{◌≡◌, []};
 
-use cci_codec::field_bytes::dcd_base::Bytes;
+use cci_codec::dcd_base::Bytes;
 use cci_codec::{Request, Response};
+use extent_list::dcd_codes::{Code, Rule, code_of, number_of};
 use journal_core::Reply;
-use list_rules::dcd_codes::{Code, Rule, code_of, number_of};
 use std::alloc::Global;
 
 /// The response to a request, with its tag and opcode.

@@ -4,7 +4,7 @@ ghost use Rattle.device_commands.specs.DraftContents.{IsBlank, draft_in, no_draf
 ghost use Rattle.std.specs.Prelude.{◌≡◌, ◌≤◌, [], IfOk, OnOk, vec_capacity, vec_len};
 
 use crate::draft::DraftedStep;
-use cci_codec::field_bytes::dcd_base::{Bytes, Extent, Extents, NoMemory, Runs};
+use cci_codec::dcd_base::{Bytes, Extent, Extents, NoMemory, Runs};
 use journal_core::{Effect, Effects, Reply};
 use std::alloc::Global;
 use std::mem::{ManuallyDrop, replace, swap};

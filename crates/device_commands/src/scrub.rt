@@ -8,10 +8,10 @@ ghost use Rattle.sanitizer.specs.Turns.{granules_of_runs};
 ghost use Rattle.std.specs.Prelude.{◌≡◌, ◌<◌, ◌^◌, IfOk, map};
 
 use crate::rooms::Room;
-use cci_codec::field_bytes::dcd_base::{NoMemory, Run};
+use cci_codec::dcd_base::{NoMemory, Run};
 use device_state::State;
+use extent_list::media_map::region_config::Config;
 use journal_core::{Effect, Effects};
-use list_rules::media_map::region_config::Config;
 use sanitizer::dirty_runs;
 use std::alloc::Global;
 

@@ -10,23 +10,21 @@ ghost use Rattle.fm_payloads.specs.declared.requests.FmRequest.{FmRequest};
 ghost use Rattle.device_state.specs.device_rules.specs.Outcomes.{log_full};
 ghost use Rattle.selection.specs.granule_map.specs.StateLists.{is_free_at};
 ghost use Rattle.device_state.specs.host_lists.specs.Lists.{extent_total};
-ghost use Rattle.list_rules.specs.media_map.specs.region_config.specs.Granules.{granule_total, region_spec};
-ghost use Rattle.cci_codec.specs.field_bytes.specs.dcd_base.specs.declared.ids.HostId.{HostId};
+ghost use Rattle.extent_list.specs.media_map.specs.region_config.specs.Granules.{granule_total, region_spec};
+ghost use Rattle.cci_codec.specs.dcd_base.specs.declared.ids.HostId.{HostId};
 ghost use Rattle.std.specs.Prelude.{◌≡◌, ◌+◌, ◌<◌, ◌≤◌, IfOk, count_by, if◌then◌else◌, length, not};
 ghost use Rattle.std.specs.List.{range_with_len};
 
 use crate::draft::{Draft, DraftParts};
 use crate::log_records::{LogRecords, event_for, log_full, no_extent};
 use crate::rooms::Room;
-use cci_codec::field_bytes::dcd_base::{
-    Bytes, Granule, HostId, LogId, NoMemory, RegionId, Seq, ShortList,
-};
+use cci_codec::dcd_base::{Bytes, Granule, HostId, LogId, NoMemory, RegionId, Seq, ShortList};
 use device_state::State;
 use device_state::host_lists::Changed;
 use event_records::{Event, EventKind};
+use extent_list::dcd_codes::{Refusal, Rule};
+use extent_list::media_map::region_config::{BlockFault, Config};
 use journal_core::Effect;
-use list_rules::dcd_codes::{Refusal, Rule};
-use list_rules::media_map::region_config::{BlockFault, Config};
 use std::alloc::Global;
 
 /// Gives a region blocks of another size, in bytes (profile). Each host is told, also where the size is the old one.

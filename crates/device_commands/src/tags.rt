@@ -1,11 +1,11 @@
 //! The tags of extents.
 
-ghost use Rattle.cci_codec.specs.field_bytes.specs.dcd_base.specs.Words.{has_tag};
-ghost use Rattle.list_rules.specs.extent_list.specs.ExtentLists.{tags_of};
+ghost use Rattle.cci_codec.specs.dcd_base.specs.Words.{has_tag};
+ghost use Rattle.extent_list.specs.ExtentLists.{tags_of};
 ghost use Rattle.std.specs.Prelude.{◌≡◌, ◌++◌, ◌∷◌, [], IfOk, OnOk, if◌then◌else◌};
 
-use cci_codec::field_bytes::dcd_base::{Extent, NoMemory, Seq, Tag};
-use list_rules::extent_list::same_tag;
+use cci_codec::dcd_base::{Extent, NoMemory, Seq, Tag};
+use extent_list::same_tag;
 use std::alloc::Global;
 
 /// Each tag of the extents once, in the order of first appearance; sixteen zero bytes too.

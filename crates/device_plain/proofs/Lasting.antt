@@ -8,8 +8,8 @@ use Rattle.journal_core.specs.Entries.{effects}
 use Rattle.journal_core.specs.Holders.{holds}
 use Rattle.journal_core.specs.declared.entries.Entry.{Entry}
 use Rattle.journal_core.specs.declared.outcome.Effect.{Effect}
-use Rattle.control_core.specs.device_laws.specs.GranuleCells.{IsCell}
-use Rattle.control_core.specs.device_laws.specs.TagTable.{IsTable}
+use Rattle.control_core.specs.device_rules.specs.GranuleCells.{IsCell}
+use Rattle.control_core.specs.device_rules.specs.TagTable.{IsTable}
 use Rattle.control_core.specs.device_rules.specs.Adding.{present}
 use Rattle.control_core.specs.device_rules.specs.Logs.{log_of}
 use Rattle.control_core.specs.device_rules.specs.Views.{View, view_after, view_of}

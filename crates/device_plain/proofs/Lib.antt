@@ -1,8 +1,17 @@
+pub mod AloneCommands
+pub mod AloneItems
+pub mod BroughtLists
+pub mod FirstAlone
 pub mod Keeping
+pub mod KeptWords
 pub mod Lasting
 pub mod LifeSteps
 pub mod Living
+pub mod LogPuts
 pub mod MemorySteps
 pub mod Merged
+pub mod NewBlocks
 pub mod Numbered
+pub mod OwnChanges
+pub mod ToldAlone
 pub mod ZeroedWords

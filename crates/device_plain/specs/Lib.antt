@@ -1,8 +1,11 @@
 pub mod Accesses
+pub mod Acting
+pub mod Alone
 pub mod Devices
 pub mod Keeping
 pub mod Lives
 pub mod Numbering
+pub mod Telling
 pub use Rattle.control_core
 pub use Rattle.isolation_laws
 pub use Rattle.control_core.specs.device_rules

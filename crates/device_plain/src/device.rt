@@ -14,7 +14,7 @@ ghost use Rattle.std.specs.Prelude.{◌≡◌, ◌<◌, ◌^◌, [], IfOk, IfSom
 use crate::accesses::{reserve, stamp_of};
 use crate::{granted, refused_by, store_at, word_at, zero_all};
 use control_core::Control;
-use control_core::device_laws::law_exclusive;
+use control_core::device_rules::law_exclusive;
 use control_core::kept_journal::{LentEntries, Whole, whole};
 use dcd_base::{Actor, HostId, NoMemory};
 use granule_mem::GranuleWords;

@@ -3,7 +3,7 @@
 ghost use Rattle.device_plain.specs.Lives.{HasLived, IsLife, Living, TakesSteps, ToldStep};
 ghost use Rattle.std.specs.Prelude.{List, []};
 
-use control_core::device_laws::law_exclusive;
+use control_core::device_rules::law_exclusive;
 use isolation_laws::{law_clean, law_isolated};
 
 /// A fresh device that took steps one after another, each as `LiveDevice::step` says, has lived as it told: a legal journal

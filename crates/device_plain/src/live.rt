@@ -60,11 +60,11 @@ impl LiveDevice {
     }
 
     /// The configuration. Some legal journal leads to the device.
-    pub fn config(&self) -> &Config
+    pub fn first_config(&self) -> &Config
         ensures config { result.now ≡ self.now.config }
         ensures alive { IsAlive self.now }
     {
-        self.control.config()
+        self.control.first_config()
     }
 
     /// What it keeps, beside the words: who holds what, what is offered, and the records of the logs.

@@ -25,7 +25,7 @@ pub fn granted(control: &LiveControl, host: HostId, dpa: u64) -> Result<Place, A
     ensures inside { IfOk result (λ p. p.granule < granule_total control.now.config) }
     ensures placed { IfOk (locate control.now.config host dpa) (λ p. p.granule < granule_total control.now.config) }
 {
-    match locate(control.config(), host, dpa) {
+    match locate(control.first_config(), host, dpa) {
         Ok(place) => {
             if control.holds(host, place.granule) {
                 Ok(place)

@@ -4,12 +4,12 @@ use Rattle.std.specs.Prelude.{◌==◌, if◌then◌else◌, IsTrue}
 use Rattle.std.specs.declared.result.Result.{Result}
 use Rattle.std.specs.declared.result.Result.TheVariants.{Ok, Err}
 use Rattle.std.proofs.lemmas.Bool.{ltb-true}
-use Rattle.cci_codec.specs.field_bytes.specs.dcd_base.specs.declared.capacity.Extent.{Extent}
-use Rattle.cci_codec.specs.field_bytes.specs.dcd_base.specs.declared.ids.HostId.{HostId}
-use Rattle.cci_codec.specs.field_bytes.specs.dcd_base.specs.declared.steps.Actor.{Actor}
-use Rattle.list_rules.specs.dcd_codes.specs.declared.rules.Rule.{Rule}
+use Rattle.cci_codec.specs.dcd_base.specs.declared.capacity.Extent.{Extent}
+use Rattle.cci_codec.specs.dcd_base.specs.declared.ids.HostId.{HostId}
+use Rattle.cci_codec.specs.dcd_base.specs.declared.steps.Actor.{Actor}
+use Rattle.extent_list.specs.dcd_codes.specs.declared.rules.Rule.{Rule}
 use Rattle.fm_payloads.specs.ManagerPayloads.{manager_request}
-use Rattle.cci_codec.specs.field_bytes.specs.declared.faults.PayloadFault.{PayloadFault as ManagerFault, PayloadFault as HostFault}
+use Rattle.cci_codec.specs.dcd_base.specs.declared.faults.PayloadFault.{PayloadFault as ManagerFault, PayloadFault as HostFault}
 use Rattle.fm_payloads.specs.declared.requests.FmRequest.{FmRequest}
 use Rattle.host_payloads.specs.HostPayloads.{host_request}
 use Rattle.host_payloads.specs.declared.requests.HostRequest.{HostRequest}
@@ -19,7 +19,7 @@ use Rattle.journal_core.specs.declared.acts.Act.{Act}
 use Rattle.journal_core.specs.declared.entries.Entry.{Entry}
 use Rattle.journal_core.specs.declared.outcome.Effect.{Effect}
 use Rattle.journal_core.specs.declared.outcome.HeldKind.{HeldKind}
-use Rattle.list_rules.specs.media_map.specs.region_config.specs.Configurations.{Configuration}
+use Rattle.extent_list.specs.media_map.specs.region_config.specs.Configurations.{Configuration}
 use Rattle.device_rules.specs.Answers.{dropped, effects_with, host_outcome, host_result, host_rule, manager_outcome, manager_result, manager_rule, scrubbed, unless, zeroes}
 use Rattle.device_rules.specs.Legal.{Legal, Meets, right_answer}
 use Rattle.device_rules.specs.Outcomes.{Outcome, effects_of}

@@ -3,16 +3,16 @@ use Rattle.std.proofs.Common.{◌≡◌, ◌+◌, List, [], ◌∷◌, ◌++◌}
 use Rattle.std.specs.Prelude.{if◌then◌else◌}
 use Rattle.std.specs.List.{list_any}
 use Rattle.std.proofs.lemmas.List.Sums.{fold_push}
-use Rattle.list_rules.specs.media_map.specs.region_config.specs.Configurations.{Configuration}
-use Rattle.cci_codec.specs.field_bytes.specs.dcd_base.specs.declared.ids.HostId.{HostId}
+use Rattle.extent_list.specs.media_map.specs.region_config.specs.Configurations.{Configuration}
+use Rattle.cci_codec.specs.dcd_base.specs.declared.ids.HostId.{HostId}
 use Rattle.journal_core.specs.declared.entries.Entry.{Entry}
 use Rattle.journal_core.specs.declared.outcome.HeldKind.{HeldKind}
-use Rattle.cci_codec.specs.field_bytes.specs.dcd_base.specs.declared.steps.LogId.{LogId}
+use Rattle.cci_codec.specs.dcd_base.specs.declared.steps.LogId.{LogId}
 use Rattle.journal_core.proofs.JournalSteps.{over-push}
 use Rattle.device_rules.specs.Hosts.{offers_after, accepted_after, moves, held_after, block_after}
 use Rattle.event_log.specs.Logs.{empty_log}
 use Rattle.device_rules.specs.Logs.{log_after}
-use Rattle.list_rules.specs.media_map.specs.region_config.specs.Granules.{region_spec}
+use Rattle.extent_list.specs.media_map.specs.region_config.specs.Granules.{region_spec}
 use Rattle.device_rules.specs.Views.{view_of, view_after}
 
 -- the view after one more entry is one step from the view before it

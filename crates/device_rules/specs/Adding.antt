@@ -1,28 +1,28 @@
 -- The manager offers capacity to a host: 5604h.
-use Rattle.list_rules.specs.media_map.specs.Places.{extent_of}
-use Rattle.selection.specs.granule_map.specs.Blocks.{block_count}
-use Rattle.selection.specs.granule_map.specs.Choices.{longest_run, passing}
+use Rattle.extent_list.specs.media_map.specs.Places.{extent_of}
+use Rattle.granule_map.specs.Blocks.{block_count}
+use Rattle.granule_map.specs.Choices.{longest_run, passing}
 use Rattle.selection.specs.Selections.{contiguous_runs, free_runs, is_free_block, prescribed_rule, too_few_free}
-use Rattle.cci_codec.specs.field_bytes.specs.dcd_base.specs.Limits.{tags_supported}
-use Rattle.cci_codec.specs.field_bytes.specs.dcd_base.specs.Words.{zero_tag, has_tag, is_zero_tag, where_true, ◌or◌}
+use Rattle.cci_codec.specs.dcd_base.specs.Limits.{tags_supported}
+use Rattle.cci_codec.specs.dcd_base.specs.Words.{zero_tag, has_tag, is_zero_tag, where_true, ◌or◌}
 use Rattle.std.specs.Prelude.{ℕ, ◌+◌, ◌/◌, ◌%◌, Bool, ◌&&◌, ◌||◌, not, ◌==◌, nat_le, nat_lt, List, [], ◌∷◌, ◌++◌, length, map, Option, unwrap_or, if◌then◌else◌}
 use Rattle.std.specs.List.{enumerate_from}
-use Rattle.cci_codec.specs.field_bytes.specs.dcd_base.specs.declared.ids.HostId.{HostId}
-use Rattle.cci_codec.specs.field_bytes.specs.dcd_base.specs.declared.capacity.Tag.{Tag}
-use Rattle.cci_codec.specs.field_bytes.specs.dcd_base.specs.declared.capacity.Extent.{Extent}
-use Rattle.cci_codec.specs.field_bytes.specs.dcd_base.specs.declared.media.Run.{Run}
-use Rattle.cci_codec.specs.field_bytes.specs.dcd_base.specs.declared.steps.LogId.{LogId}
-use Rattle.list_rules.specs.dcd_codes.specs.declared.rules.Rule.{Rule}
+use Rattle.cci_codec.specs.dcd_base.specs.declared.ids.HostId.{HostId}
+use Rattle.cci_codec.specs.dcd_base.specs.declared.capacity.Tag.{Tag}
+use Rattle.cci_codec.specs.dcd_base.specs.declared.capacity.Extent.{Extent}
+use Rattle.cci_codec.specs.dcd_base.specs.declared.media.Run.{Run}
+use Rattle.cci_codec.specs.dcd_base.specs.declared.steps.LogId.{LogId}
+use Rattle.extent_list.specs.dcd_codes.specs.declared.rules.Rule.{Rule}
 use Rattle.event_records.specs.declared.events.EventKind.{EventKind}
-use Rattle.list_rules.specs.media_map.specs.region_config.specs.Configurations.{Configuration}
+use Rattle.extent_list.specs.media_map.specs.region_config.specs.Configurations.{Configuration}
 use Rattle.journal_core.specs.declared.outcome.Effect.{Effect}
-use Rattle.list_rules.specs.media_map.specs.region_config.specs.Granules.{first_granule, granule_size, region_granules, region_spec, with_blocks}
+use Rattle.extent_list.specs.media_map.specs.region_config.specs.Granules.{first_granule, granule_size, region_granules, region_spec, with_blocks}
 use Rattle.device_rules.specs.Hosts.{block_of}
 use Rattle.device_rules.specs.Views.{View, view_after, extents_in}
-use Rattle.list_rules.specs.extent_list.specs.ExtentLists.{real_tags, has_extent_of}
-use Rattle.list_rules.specs.dcd_codes.specs.Rules.{◌breaks◌}
+use Rattle.extent_list.specs.ExtentLists.{real_tags, has_extent_of}
+use Rattle.extent_list.specs.dcd_codes.specs.Rules.{◌breaks◌}
 use Rattle.device_rules.specs.Tags.{last_offer, tag_region, tag_runs, is_live, open_tags, status, is_free}
-use Rattle.list_rules.specs.Listing.{too_many_extents}
+use Rattle.extent_list.specs.Listing.{too_many_extents}
 use Rattle.device_rules.specs.Outcomes.{log_full, Outcome, records_of_extents}
 
 -- each with the tag, and in a shareable region numbered from 1

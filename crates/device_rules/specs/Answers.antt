@@ -3,28 +3,28 @@ use Rattle.std.specs.Prelude.{ℕ, ◌==◌, ◌++◌, List, [], length, map, ta
 use Rattle.std.specs.Result.{result_err}
 use Rattle.std.specs.declared.result.Result.{Result}
 use Rattle.std.specs.declared.result.Result.TheVariants.{Ok, Err}
-use Rattle.cci_codec.specs.field_bytes.specs.dcd_base.specs.declared.ids.HostId.{HostId}
-use Rattle.cci_codec.specs.field_bytes.specs.dcd_base.specs.declared.steps.Actor.{Actor}
-use Rattle.cci_codec.specs.field_bytes.specs.dcd_base.specs.declared.steps.LogId.{LogId}
-use Rattle.list_rules.specs.dcd_codes.specs.declared.codes.Code.{Code}
-use Rattle.list_rules.specs.dcd_codes.specs.declared.rules.Rule.{Rule}
+use Rattle.cci_codec.specs.dcd_base.specs.declared.ids.HostId.{HostId}
+use Rattle.cci_codec.specs.dcd_base.specs.declared.steps.Actor.{Actor}
+use Rattle.cci_codec.specs.dcd_base.specs.declared.steps.LogId.{LogId}
+use Rattle.extent_list.specs.dcd_codes.specs.declared.codes.Code.{Code}
+use Rattle.extent_list.specs.dcd_codes.specs.declared.rules.Rule.{Rule}
 use Rattle.cci_codec.specs.declared.messages.Request.{Request}
 use Rattle.host_payloads.specs.declared.requests.HostRequest.{HostRequest}
 use Rattle.fm_payloads.specs.declared.requests.FmRequest.{FmRequest}
-use Rattle.list_rules.specs.media_map.specs.region_config.specs.Configurations.{Configuration}
+use Rattle.extent_list.specs.media_map.specs.region_config.specs.Configurations.{Configuration}
 use Rattle.journal_core.specs.declared.acts.Act.{Act}
 use Rattle.journal_core.specs.declared.acts.Reply.{Reply}
 use Rattle.journal_core.specs.declared.outcome.HeldKind.{HeldKind}
 use Rattle.journal_core.specs.declared.outcome.Effect.{Effect}
 use Rattle.journal_core.specs.declared.entries.Entry.{Entry}
-use Rattle.list_rules.specs.media_map.specs.region_config.specs.Granules.{same_region, with_blocks}
+use Rattle.extent_list.specs.media_map.specs.region_config.specs.Granules.{same_region, with_blocks}
 use Rattle.journal_core.specs.Entries.{effects}
 use Rattle.device_rules.specs.Logs.{log_of}
 use Rattle.device_rules.specs.Views.{View, view_of}
-use Rattle.list_rules.specs.extent_list.specs.ExtentLists.{count_in}
-use Rattle.list_rules.specs.dcd_codes.specs.Rules.{code_of, number_of}
+use Rattle.extent_list.specs.ExtentLists.{count_in}
+use Rattle.extent_list.specs.dcd_codes.specs.Rules.{code_of, number_of}
 use Rattle.device_rules.specs.Tags.{dirty_granules}
-use Rattle.cci_codec.specs.field_bytes.specs.declared.faults.PayloadFault.{PayloadFault as HostFault, PayloadFault as ManagerFault}
+use Rattle.cci_codec.specs.dcd_base.specs.declared.faults.PayloadFault.{PayloadFault as HostFault, PayloadFault as ManagerFault}
 use Rattle.host_payloads.specs.HostPayloads.{host_request}
 use Rattle.fm_payloads.specs.ManagerPayloads.{manager_request}
 use Rattle.device_rules.specs.Outcomes.{Outcome, only, effects_of}
@@ -33,7 +33,7 @@ use Rattle.offer_core.specs.Responses.{respond_rule}
 use Rattle.device_rules.specs.ResponseOutcomes.{unhold, respond_outcome}
 use Rattle.release_core.specs.Releases.{give_back_rule}
 use Rattle.device_rules.specs.ReleaseOutcomes.{give_back_outcome, remove_rule, remove_outcome}
-use Rattle.selection.specs.granule_map.specs.Choices.{joined}
+use Rattle.granule_map.specs.Choices.{joined}
 use Rattle.device_rules.specs.Adding.{add_rule, add_outcome}
 use Rattle.device_rules.specs.Settings.{past_end, no_such_region, configuration_reply, extents_reply, info_reply, regions_rule, regions_reply, lists_rule, lists_reply, set_rule, set_outcome}
 use Rattle.device_rules.specs.TagCommands.{add_reference_rule, add_reference_outcome, remove_reference_rule, remove_reference_outcome, tags_rule, tags_reply}

@@ -1,16 +1,16 @@
 -- The lists of one host, each as the effects so far leave it.
 use Rattle.std.specs.Prelude.{ℕ, ◌+◌, Bool, true, false, ◌&&◌, not, ◌==◌, List, [], ◌∷◌, ◌++◌, fold, drop, if◌then◌else◌}
 use Rattle.std.specs.List.{list_any}
-use Rattle.cci_codec.specs.field_bytes.specs.dcd_base.specs.declared.ids.HostId.{HostId}
-use Rattle.cci_codec.specs.field_bytes.specs.dcd_base.specs.declared.capacity.Extent.{Extent}
-use Rattle.list_rules.specs.media_map.specs.region_config.specs.Configurations.{Configuration}
+use Rattle.cci_codec.specs.dcd_base.specs.declared.ids.HostId.{HostId}
+use Rattle.cci_codec.specs.dcd_base.specs.declared.capacity.Extent.{Extent}
+use Rattle.extent_list.specs.media_map.specs.region_config.specs.Configurations.{Configuration}
 use Rattle.journal_core.specs.declared.outcome.HeldKind.{HeldKind}
 use Rattle.journal_core.specs.declared.outcome.Effect.{Effect}
 use Rattle.journal_core.specs.declared.entries.Entry.{Entry}
-use Rattle.cci_codec.specs.field_bytes.specs.dcd_base.specs.Words.{is_empty}
-use Rattle.list_rules.specs.media_map.specs.region_config.specs.Granules.{region_spec}
-use Rattle.list_rules.specs.media_map.specs.Places.{start_of, bytes_of_run}
-use Rattle.list_rules.specs.extent_list.specs.ExtentLists.{cut}
+use Rattle.cci_codec.specs.dcd_base.specs.Words.{is_empty}
+use Rattle.extent_list.specs.media_map.specs.region_config.specs.Granules.{region_spec}
+use Rattle.extent_list.specs.media_map.specs.Places.{start_of, bytes_of_run}
+use Rattle.extent_list.specs.ExtentLists.{cut}
 
 -- an offer joins the last, and an answer takes the first away
 abbrev pub offers_after : HostId → List (List Extent) → Effect → List (List Extent)

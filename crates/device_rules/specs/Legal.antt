@@ -3,19 +3,19 @@ use Rattle.std.specs.Prelude.{◌≡◌, ℕ, Bool, false, ◌&&◌, ◌==◌, L
 use Rattle.std.specs.List.{list_any}
 use Rattle.std.specs.declared.result.Result.{Result}
 use Rattle.std.specs.declared.result.Result.TheVariants.{Ok, Err}
-use Rattle.cci_codec.specs.field_bytes.specs.dcd_base.specs.declared.ids.HostId.{HostId}
-use Rattle.cci_codec.specs.field_bytes.specs.dcd_base.specs.declared.capacity.Tag.{Tag}
-use Rattle.cci_codec.specs.field_bytes.specs.dcd_base.specs.declared.media.Place.{Place}
-use Rattle.cci_codec.specs.field_bytes.specs.dcd_base.specs.declared.steps.Actor.{Actor}
-use Rattle.cci_codec.specs.field_bytes.specs.dcd_base.specs.declared.failures.AccessFault.{AccessFault}
-use Rattle.list_rules.specs.media_map.specs.region_config.specs.Configurations.{Configuration}
+use Rattle.cci_codec.specs.dcd_base.specs.declared.ids.HostId.{HostId}
+use Rattle.cci_codec.specs.dcd_base.specs.declared.capacity.Tag.{Tag}
+use Rattle.cci_codec.specs.dcd_base.specs.declared.media.Place.{Place}
+use Rattle.cci_codec.specs.dcd_base.specs.declared.steps.Actor.{Actor}
+use Rattle.cci_codec.specs.dcd_base.specs.declared.failures.AccessFault.{AccessFault}
+use Rattle.extent_list.specs.media_map.specs.region_config.specs.Configurations.{Configuration}
 use Rattle.journal_core.specs.declared.acts.Act.{Act}
 use Rattle.journal_core.specs.declared.acts.Reply.{Reply}
 use Rattle.journal_core.specs.declared.outcome.Effect.{Effect}
 use Rattle.journal_core.specs.declared.entries.Entry.{Entry}
-use Rattle.cci_codec.specs.field_bytes.specs.dcd_base.specs.Words.{same_tag, has_granule, has_in_runs}
-use Rattle.list_rules.specs.media_map.specs.region_config.specs.Granules.{region_spec, region_of}
-use Rattle.list_rules.specs.media_map.specs.Places.{locate, run_of}
+use Rattle.cci_codec.specs.dcd_base.specs.Words.{same_tag, has_granule, has_in_runs}
+use Rattle.extent_list.specs.media_map.specs.region_config.specs.Granules.{region_spec, region_of}
+use Rattle.extent_list.specs.media_map.specs.Places.{locate, run_of}
 use Rattle.journal_core.specs.Entries.{effects, Each, fits}
 use Rattle.journal_core.specs.Holders.{holds}
 use Rattle.device_rules.specs.Hosts.{accepted_of}

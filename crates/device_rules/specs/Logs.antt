@@ -1,6 +1,6 @@
 -- The logs, as the effects so far leave them.
 use Rattle.std.specs.Prelude.{Bool, true, false, ◌==◌, List, [], ◌∷◌, ◌++◌, fold, if◌then◌else◌}
-use Rattle.cci_codec.specs.field_bytes.specs.dcd_base.specs.declared.steps.LogId.{LogId}
+use Rattle.cci_codec.specs.dcd_base.specs.declared.steps.LogId.{LogId}
 use Rattle.event_log.specs.Logs.{Log, cleared_of, empty_log, missed_by, reset}
 use Rattle.journal_core.specs.declared.outcome.Effect.{Effect}
 

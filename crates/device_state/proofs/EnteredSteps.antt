@@ -2,10 +2,10 @@
 use Rattle.std.proofs.Common.{List, [], ◌∷◌, ◌++◌}
 use Rattle.std.specs.Prelude.{All}
 use Rattle.journal_core.specs.declared.entries.Entry.{Entry}
-use Rattle.list_rules.specs.media_map.specs.region_config.specs.Configurations.{Configuration}
-use Rattle.list_rules.specs.media_map.specs.region_config.specs.Soundness.{IsSound}
-use Rattle.device_laws.proofs.GranuleCommands.{granules_kept}
-use Rattle.device_laws.specs.device_rules.specs.Legal.{Legal, Meets}
+use Rattle.extent_list.specs.media_map.specs.region_config.specs.Configurations.{Configuration}
+use Rattle.extent_list.specs.media_map.specs.region_config.specs.Soundness.{IsSound}
+use Rattle.device_rules.proofs.GranuleCommands.{granules_kept}
+use Rattle.device_rules.specs.Legal.{Legal, Meets}
 use Rattle.device_state.specs.Entered.{IsEntered}
 use Rattle.device_state.specs.StateAfter.{IsStateAfter}
 use Rattle.device_state.specs.Updates.{IsOfDevice}

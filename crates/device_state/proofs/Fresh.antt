@@ -5,22 +5,22 @@ use Rattle.std.specs.List.{enumerate_from, list_any}
 use Rattle.std.proofs.lemmas.List.{ext_get_or, get_or-replicate, length-map, length-replicate}
 use Rattle.std.proofs.lemmas.List.FromFn.{length-enumerate_from}
 use Rattle.std.proofs.lemmas.Nat.Bits.{bit_at-zero}
-use Rattle.cci_codec.specs.field_bytes.specs.dcd_base.specs.declared.ids.HostId.{HostId}
-use Rattle.cci_codec.specs.field_bytes.specs.dcd_base.specs.declared.steps.LogId.{LogId}
+use Rattle.cci_codec.specs.dcd_base.specs.declared.ids.HostId.{HostId}
+use Rattle.cci_codec.specs.dcd_base.specs.declared.steps.LogId.{LogId}
 use Rattle.event_log.proofs.Histories.{begins}
 use Rattle.event_log.specs.Logs.{empty_log}
-use Rattle.device_laws.specs.GranuleCells.{IsCell}
+use Rattle.device_rules.specs.GranuleCells.{IsCell}
 use Rattle.granule_map.specs.declared.states.GranuleState.{GranuleState}
 use Rattle.granule_map.specs.Tables.{CellTable, cell_at}
 use Rattle.device_state.specs.StateAfter.{IsLogOf, IsStateAfter, IsPart, no_part}
-use Rattle.list_rules.specs.media_map.specs.region_config.specs.Configurations.{Configuration}
-use Rattle.list_rules.specs.media_map.specs.region_config.specs.declared.region_spec.RegionSpec.{RegionSpec}
-use Rattle.list_rules.specs.media_map.specs.region_config.specs.Granules.{granule_total, hosts_of, no_region, region_of, region_spec, with_blocks}
-use Rattle.list_rules.specs.media_map.specs.region_config.proofs.PresentBlocks.{region_spec-with_blocks}
-use Rattle.device_laws.specs.device_rules.specs.Tags.{Dirty, Free, Held, Offered, Status, Tagged, is_offered, status}
-use Rattle.device_laws.specs.device_rules.specs.Views.{view_of}
-use Rattle.cci_codec.specs.field_bytes.specs.dcd_base.specs.Hosts.{has_host}
-use Rattle.device_laws.specs.TagTable.{IsTable}
+use Rattle.extent_list.specs.media_map.specs.region_config.specs.Configurations.{Configuration}
+use Rattle.extent_list.specs.media_map.specs.region_config.specs.declared.region_spec.RegionSpec.{RegionSpec}
+use Rattle.extent_list.specs.media_map.specs.region_config.specs.Granules.{granule_total, hosts_of, no_region, region_of, region_spec, with_blocks}
+use Rattle.extent_list.specs.media_map.specs.region_config.proofs.PresentBlocks.{region_spec-with_blocks}
+use Rattle.device_rules.specs.Tags.{Dirty, Free, Held, Offered, Status, Tagged, is_offered, status}
+use Rattle.device_rules.specs.Views.{view_of}
+use Rattle.cci_codec.specs.dcd_base.specs.Hosts.{has_host}
+use Rattle.device_rules.specs.TagTable.{IsTable}
 use Rattle.device_state.specs.declared.state.State.{State}
 
 -- the configuration with its own blocks

@@ -6,13 +6,13 @@ use Rattle.std.specs.List.{AllByRecursion}
 use Rattle.std.proofs.lemmas.Bool.{cases_eq, cases_lt, eq-eqb, ne_eqb}
 use Rattle.std.proofs.lemmas.Nat.Bits.{bit_at-lt, bit_at_set_other, bit_at_set_same}
 use Rattle.std.proofs.Math.Nat.{div-eq-sub-div, div-eq_of_lt}
-use Rattle.cci_codec.specs.field_bytes.specs.dcd_base.specs.Words.{has_granule}
-use Rattle.cci_codec.specs.field_bytes.specs.dcd_base.specs.declared.ids.HostId.{HostId}
+use Rattle.cci_codec.specs.dcd_base.specs.Words.{has_granule}
+use Rattle.cci_codec.specs.dcd_base.specs.declared.ids.HostId.{HostId}
 use Rattle.journal_core.specs.Holders.{holding_after}
 use Rattle.journal_core.specs.declared.outcome.Effect.{Effect}
-use Rattle.list_rules.specs.media_map.specs.region_config.specs.Configurations.{Configuration}
-use Rattle.cci_codec.specs.field_bytes.specs.dcd_base.specs.Hosts.{has_host, with_host, without_host}
-use Rattle.cci_codec.specs.field_bytes.specs.dcd_base.proofs.HostBits.{or_host}
+use Rattle.extent_list.specs.media_map.specs.region_config.specs.Configurations.{Configuration}
+use Rattle.cci_codec.specs.dcd_base.specs.Hosts.{has_host, with_host, without_host}
+use Rattle.cci_codec.specs.dcd_base.proofs.HostBits.{or_host}
 use Rattle.device_state.specs.Entered.{holders_by}
 use Rattle.device_state.specs.Updates.{IsOfDevice}
 use Rattle.device_state.proofs.HolderSteps.{held_in-at, length-held_in}

@@ -6,14 +6,14 @@ use Rattle.std.specs.List.{AllByRecursion, list_any}
 use Rattle.std.proofs.Math.Nat.{mod-add-mod}
 use Rattle.std.proofs.lemmas.Bool.{cases_eq, cases_lt, eq-eqb, false≢true, ne_eqb}
 use Rattle.std.proofs.lemmas.List.{get_or_past}
-use Rattle.cci_codec.specs.field_bytes.specs.dcd_base.specs.Words.{has_tag, same_tag}
-use Rattle.cci_codec.specs.field_bytes.specs.dcd_base.specs.declared.capacity.Tag.{Tag}
-use Rattle.cci_codec.specs.field_bytes.specs.dcd_base.specs.declared.ids.HostId.{HostId}
-use Rattle.cci_codec.specs.field_bytes.specs.dcd_base.specs.declared.steps.LogId.{LogId}
+use Rattle.cci_codec.specs.dcd_base.specs.Words.{has_tag, same_tag}
+use Rattle.cci_codec.specs.dcd_base.specs.declared.capacity.Tag.{Tag}
+use Rattle.cci_codec.specs.dcd_base.specs.declared.ids.HostId.{HostId}
+use Rattle.cci_codec.specs.dcd_base.specs.declared.steps.LogId.{LogId}
 use Rattle.event_log.specs.LogStates.{LogState}
 use Rattle.event_log.specs.Logs.{empty_log, places_in, state_of}
-use Rattle.device_laws.specs.GranuleCells.{IsCell}
-use Rattle.device_laws.specs.GranuleTable.{AreKnown, StaysRight}
+use Rattle.device_rules.specs.GranuleCells.{IsCell}
+use Rattle.device_rules.specs.GranuleTable.{AreKnown, StaysRight}
 use Rattle.granule_map.specs.Tables.{cell_at}
 use Rattle.device_state.specs.StateAfter.{IsLogOf, lists_in, IsStateAfter, IsPart, no_part, part_of}
 use Rattle.host_lists.specs.Lists.{Lists, next_generation}
@@ -25,27 +25,27 @@ use Rattle.journal_core.specs.declared.entries.Entry.{Entry}
 use Rattle.journal_core.specs.declared.outcome.Effect.{Effect}
 use Rattle.journal_core.specs.declared.outcome.HeldKind.{HeldKind}
 use Rattle.offer_core.specs.Offerings.{oldest_of}
-use Rattle.list_rules.specs.media_map.specs.region_config.proofs.PresentBlocks.{with_block-with_blocks}
-use Rattle.list_rules.specs.media_map.specs.region_config.specs.Configurations.{Configuration}
-use Rattle.list_rules.specs.media_map.specs.region_config.specs.Granules.{granule_total, region_spec, with_blocks}
-use Rattle.list_rules.specs.media_map.specs.region_config.specs.Soundness.{IsSound}
-use Rattle.device_laws.specs.TagTable.{IsEntry, IsTable}
-use Rattle.cci_codec.specs.field_bytes.specs.dcd_base.specs.Hosts.{has_host}
+use Rattle.extent_list.specs.media_map.specs.region_config.proofs.PresentBlocks.{with_block-with_blocks}
+use Rattle.extent_list.specs.media_map.specs.region_config.specs.Configurations.{Configuration}
+use Rattle.extent_list.specs.media_map.specs.region_config.specs.Granules.{granule_total, region_spec, with_blocks}
+use Rattle.extent_list.specs.media_map.specs.region_config.specs.Soundness.{IsSound}
+use Rattle.device_rules.specs.TagTable.{IsEntry, IsTable}
+use Rattle.cci_codec.specs.dcd_base.specs.Hosts.{has_host}
 use Rattle.tag_refs.specs.Tables.{entry_with}
 use Rattle.tag_refs.specs.declared.entries.TagEntry.{TagEntry}
-use Rattle.device_laws.proofs.LegalSound.{legal_is_sound}
-use Rattle.device_laws.specs.device_rules.proofs.ViewSteps.{view_of-push}
-use Rattle.device_laws.specs.device_rules.specs.Adding.{present}
-use Rattle.device_laws.specs.device_rules.specs.Hosts.{accepted_after, block_after, block_of, held_after, moves, offers_after, offers_of}
-use Rattle.device_laws.specs.device_rules.specs.Legal.{Legal, Meets}
-use Rattle.device_laws.specs.device_rules.specs.Logs.{log_after, log_of}
-use Rattle.device_laws.specs.device_rules.specs.Tags.{last_offer, open_tags, tag_runs}
-use Rattle.device_laws.specs.device_rules.specs.Views.{View, view_after, view_of}
-use Rattle.device_laws.proofs.LegalLogs.{legal_logs}
+use Rattle.device_rules.proofs.LegalSound.{legal_is_sound}
+use Rattle.device_rules.proofs.ViewSteps.{view_of-push}
+use Rattle.device_rules.specs.Adding.{present}
+use Rattle.device_rules.specs.Hosts.{accepted_after, block_after, block_of, held_after, moves, offers_after, offers_of}
+use Rattle.device_rules.specs.Legal.{Legal, Meets}
+use Rattle.device_rules.specs.Logs.{log_after, log_of}
+use Rattle.device_rules.specs.Tags.{last_offer, open_tags, tag_runs}
+use Rattle.device_rules.specs.Views.{View, view_after, view_of}
+use Rattle.device_rules.proofs.LegalLogs.{legal_logs}
 use Rattle.device_state.proofs.DeviceEffects.{each_of_device}
 use Rattle.device_state.proofs.HolderBits.{holding_over, length-over, none_over}
 use Rattle.device_state.proofs.RecordSteps.{log_all}
-use Rattle.device_state.proofs.Rooms.{room_for}
+use Rattle.device_rules.proofs.Rooms.{room_for}
 use Rattle.device_state.proofs.OffersEntered.{table_follows}
 use Rattle.device_state.proofs.TablesEntered.{Agree}
 use Rattle.device_state.specs.Entered.{IsEntered, log_by, oldest_in, present_by, runs_found, runs_in}

@@ -13,7 +13,6 @@ pub mod OffersEntered
 pub mod PresentBlocks
 pub mod RecordSteps
 pub mod RegionFound
-pub mod Rooms
 pub mod Stages
 pub mod TablesEntered
 pub mod ToldTwice

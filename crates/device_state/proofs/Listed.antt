@@ -4,18 +4,18 @@ use Rattle.std.specs.Option.{option_map}
 use Rattle.std.specs.Prelude.{fold, if◌then◌else◌, ◌==◌, option_to_list}
 use Rattle.std.specs.List.{list_any}
 use Rattle.std.proofs.lemmas.Bool.{cases_eq, cases_lt, eq-eqb, le-ltb, lt-ltb, ne_eqb}
-use Rattle.device_laws.specs.device_rules.specs.Hosts.{moves}
+use Rattle.device_rules.specs.Hosts.{moves}
 use Rattle.std.proofs.lemmas.List.{get_or-set_other, get_or-set_same, get_or_past, length-set, set-set, take_more}
 use Rattle.std.proofs.lemmas.List.Sums.{fold_more}
-use Rattle.cci_codec.specs.field_bytes.specs.dcd_base.specs.declared.capacity.Extent.{Extent}
-use Rattle.cci_codec.specs.field_bytes.specs.dcd_base.specs.declared.ids.HostId.{HostId}
-use Rattle.cci_codec.specs.field_bytes.specs.dcd_base.specs.declared.media.Run.{Run}
-use Rattle.list_rules.specs.extent_list.specs.ExtentLists.{cut}
+use Rattle.cci_codec.specs.dcd_base.specs.declared.capacity.Extent.{Extent}
+use Rattle.cci_codec.specs.dcd_base.specs.declared.ids.HostId.{HostId}
+use Rattle.cci_codec.specs.dcd_base.specs.declared.media.Run.{Run}
+use Rattle.extent_list.specs.ExtentLists.{cut}
 use Rattle.host_lists.specs.Lists.{Lists, next_generation}
 use Rattle.journal_core.specs.declared.outcome.Effect.{Effect}
 use Rattle.journal_core.specs.declared.outcome.HeldKind.{HeldKind}
-use Rattle.list_rules.specs.media_map.specs.Places.{bytes_of_run, start_of}
-use Rattle.list_rules.specs.media_map.specs.region_config.specs.Configurations.{Configuration}
+use Rattle.extent_list.specs.media_map.specs.Places.{bytes_of_run, start_of}
+use Rattle.extent_list.specs.media_map.specs.region_config.specs.Configurations.{Configuration}
 use Rattle.tag_refs.specs.declared.entries.TagEntry.{TagEntry}
 use Rattle.device_state.specs.Entered.{with_lists}
 use Rattle.device_state.specs.EnteredLists.{Fits, HasPlaces, all_lists_by, all_lists_over, counted, each_tag, held_of, lists_by, lists_of, room_by, table_by, tags_over, with_held}

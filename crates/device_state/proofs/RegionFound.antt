@@ -1,10 +1,10 @@
 -- What becomes of a granule by its region, looked for from the first region on.
 use Rattle.std.proofs.Common.{◌≡◌, ℕ, suc, ◌<◌, ◌≤◌, length, Some, None, refl, sym, ap, ◌∙◌, arith}
 use Rattle.std.proofs.lemmas.Bool.{le-ltb, lt-ltb}
-use Rattle.list_rules.specs.media_map.specs.region_config.specs.Configurations.{Configuration}
-use Rattle.list_rules.specs.media_map.specs.region_config.specs.Granules.{first_granule, granule_total, region_spec}
-use Rattle.list_rules.specs.media_map.specs.region_config.proofs.Faultless.{granules_rise}
-use Rattle.list_rules.specs.media_map.specs.region_config.proofs.GranuleLemmas.{region_is}
+use Rattle.extent_list.specs.media_map.specs.region_config.specs.Configurations.{Configuration}
+use Rattle.extent_list.specs.media_map.specs.region_config.specs.Granules.{first_granule, granule_total, region_spec}
+use Rattle.extent_list.specs.media_map.specs.region_config.proofs.Faultless.{granules_rise}
+use Rattle.extent_list.specs.media_map.specs.region_config.proofs.GranuleLemmas.{region_is}
 use Rattle.device_state.specs.Granules.{IsLastRegion, flags_found, flags_of}
 use Rattle.device_state.specs.declared.regions.LastRegion.{LastRegion}
 

@@ -5,30 +5,30 @@ use Rattle.std.specs.List.{AllByRecursion, list_all, list_any}
 use Rattle.std.proofs.lemmas.Bool.{and_parts, cases_Bool, eq-eqb, false≢true, or_parts}
 use Rattle.std.proofs.lemmas.List.Folds.{list_any-append}
 use Rattle.std.proofs.lemmas.List.Sums.{fold-append}
-use Rattle.cci_codec.specs.field_bytes.specs.dcd_base.specs.Words.{has_tag, same_tag}
-use Rattle.cci_codec.specs.field_bytes.specs.dcd_base.specs.declared.capacity.Extent.{Extent}
-use Rattle.cci_codec.specs.field_bytes.specs.dcd_base.specs.declared.capacity.Tag.{Tag}
-use Rattle.cci_codec.specs.field_bytes.specs.dcd_base.specs.declared.ids.HostId.{HostId}
-use Rattle.cci_codec.specs.field_bytes.specs.dcd_base.specs.declared.media.Run.{Run}
-use Rattle.list_rules.specs.extent_list.specs.ExtentLists.{cut, has_extent_of, has_range, piece}
+use Rattle.cci_codec.specs.dcd_base.specs.Words.{has_tag, same_tag}
+use Rattle.cci_codec.specs.dcd_base.specs.declared.capacity.Extent.{Extent}
+use Rattle.cci_codec.specs.dcd_base.specs.declared.capacity.Tag.{Tag}
+use Rattle.cci_codec.specs.dcd_base.specs.declared.ids.HostId.{HostId}
+use Rattle.cci_codec.specs.dcd_base.specs.declared.media.Run.{Run}
+use Rattle.extent_list.specs.ExtentLists.{cut, has_extent_of, has_range, piece}
 use Rattle.host_lists.specs.Lists.{Lists}
 use Rattle.journal_core.specs.declared.outcome.Effect.{Effect}
-use Rattle.list_rules.specs.media_map.specs.Places.{bytes_of_run, start_of}
+use Rattle.extent_list.specs.media_map.specs.Places.{bytes_of_run, start_of}
 use Rattle.offer_core.specs.Offerings.{oldest_of}
-use Rattle.list_rules.specs.media_map.specs.region_config.specs.Configurations.{Configuration}
+use Rattle.extent_list.specs.media_map.specs.region_config.specs.Configurations.{Configuration}
 use Rattle.tag_refs.specs.Tables.{entries_changed, entries_without, is_entry_of, set_by, with_reference}
 use Rattle.tag_refs.specs.declared.entries.TagEntry.{TagEntry}
-use Rattle.device_laws.specs.TagTable.{IsEntry, IsTable}
-use Rattle.device_laws.specs.device_rules.specs.Hosts.{accepted_after, accepted_of, offers_after, offers_of}
-use Rattle.device_laws.specs.device_rules.specs.Tags.{is_accepted_by, is_offered_to, is_referenced, last_offer, last_offer_after, open_tags, reference_after, tag_region, tag_runs, tags_after}
-use Rattle.device_laws.specs.device_rules.proofs.TagSteps.{same_tag-back, same_tag-is}
-use Rattle.device_laws.proofs.Pictures.{picture-append}
-use Rattle.device_laws.specs.Pictures.{Picture, picture_after, picture_of}
-use Rattle.device_laws.proofs.HostBits.{host_bits-same, set_by-twice}
-use Rattle.device_laws.proofs.HostOfTagsSet.{Told, tell, tell_tag, told_entry}
-use Rattle.device_laws.proofs.QuietSteps.{table_left}
-use Rattle.device_laws.proofs.SettledTags.{mapped}
-use Rattle.device_laws.proofs.TagEntries.{entry-moved}
+use Rattle.device_rules.specs.TagTable.{IsEntry, IsTable}
+use Rattle.device_rules.specs.Hosts.{accepted_after, accepted_of, offers_after, offers_of}
+use Rattle.device_rules.specs.Tags.{is_accepted_by, is_offered_to, is_referenced, last_offer, last_offer_after, open_tags, reference_after, tag_region, tag_runs, tags_after}
+use Rattle.device_rules.proofs.TagSteps.{same_tag-back, same_tag-is}
+use Rattle.device_rules.proofs.Pictures.{picture-append}
+use Rattle.device_rules.specs.Pictures.{Picture, picture_after, picture_of}
+use Rattle.device_rules.proofs.HostBits.{host_bits-same, set_by-twice}
+use Rattle.device_rules.proofs.HostOfTagsSet.{Told, tell, tell_tag, told_entry}
+use Rattle.device_rules.proofs.QuietSteps.{table_left}
+use Rattle.device_rules.proofs.SettledTags.{mapped}
+use Rattle.device_rules.proofs.TagEntries.{entry-moved}
 use Rattle.device_state.specs.EnteredLists.{all_lists_by, each_tag, lists_by, table_by, tag_left, tags_over, told}
 use Rattle.device_state.specs.Updates.{IsOfDevice}
 

@@ -4,14 +4,14 @@ use Rattle.std.specs.Prelude.{◌==◌, IsTrue, fold, if◌then◌else◌, map}
 use Rattle.std.specs.List.{list_any}
 use Rattle.std.proofs.lemmas.Bool.{eqb-true}
 use Rattle.std.proofs.lemmas.List.Sums.{fold_more}
-use Rattle.cci_codec.specs.field_bytes.specs.dcd_base.specs.Hosts.{has_host, with_host, without_host}
-use Rattle.cci_codec.specs.field_bytes.specs.dcd_base.specs.Words.{same_tag}
-use Rattle.cci_codec.specs.field_bytes.specs.dcd_base.specs.declared.capacity.Extent.{Extent}
-use Rattle.cci_codec.specs.field_bytes.specs.dcd_base.specs.declared.capacity.Tag.{Tag}
-use Rattle.cci_codec.specs.field_bytes.specs.dcd_base.specs.declared.ids.HostId.{HostId}
-use Rattle.device_laws.specs.device_rules.proofs.TagSearches.{one_tag}
+use Rattle.cci_codec.specs.dcd_base.specs.Hosts.{has_host, with_host, without_host}
+use Rattle.cci_codec.specs.dcd_base.specs.Words.{same_tag}
+use Rattle.cci_codec.specs.dcd_base.specs.declared.capacity.Extent.{Extent}
+use Rattle.cci_codec.specs.dcd_base.specs.declared.capacity.Tag.{Tag}
+use Rattle.cci_codec.specs.dcd_base.specs.declared.ids.HostId.{HostId}
+use Rattle.device_rules.proofs.TagSearches.{one_tag}
 use Rattle.host_lists.specs.Lists.{Lists}
-use Rattle.list_rules.specs.extent_list.specs.ExtentLists.{has_extent_of}
+use Rattle.extent_list.specs.ExtentLists.{has_extent_of}
 use Rattle.tag_refs.specs.Tables.{entries_changed, is_entry_of, set_by}
 use Rattle.tag_refs.specs.declared.entries.TagEntry.{TagEntry}
 use Rattle.device_state.specs.EnteredLists.{each_tag, told}

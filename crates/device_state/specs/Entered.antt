@@ -1,23 +1,23 @@
 -- What entering a step makes of what is kept, part by part.
 use Rattle.std.specs.Prelude.{◌≡◌, ℕ, ◌<◌, nat_lt, List, [], fold, length, map, Option, Some, None, if◌then◌else◌, Bool, ◌&&◌, nat_le, slice_index_or, slice_set}
 use Rattle.std.specs.List.{enumerate_from}
-use Rattle.cci_codec.specs.field_bytes.specs.dcd_base.specs.Words.{has_granule}
-use Rattle.cci_codec.specs.field_bytes.specs.dcd_base.specs.declared.capacity.Extent.{Extent}
-use Rattle.cci_codec.specs.field_bytes.specs.dcd_base.specs.declared.capacity.Tag.{Tag}
-use Rattle.cci_codec.specs.field_bytes.specs.dcd_base.specs.declared.ids.HostId.{HostId}
-use Rattle.cci_codec.specs.field_bytes.specs.dcd_base.specs.declared.media.Run.{Run}
-use Rattle.cci_codec.specs.field_bytes.specs.dcd_base.specs.declared.steps.LogId.{LogId}
+use Rattle.cci_codec.specs.dcd_base.specs.Words.{has_granule}
+use Rattle.cci_codec.specs.dcd_base.specs.declared.capacity.Extent.{Extent}
+use Rattle.cci_codec.specs.dcd_base.specs.declared.capacity.Tag.{Tag}
+use Rattle.cci_codec.specs.dcd_base.specs.declared.ids.HostId.{HostId}
+use Rattle.cci_codec.specs.dcd_base.specs.declared.media.Run.{Run}
+use Rattle.cci_codec.specs.dcd_base.specs.declared.steps.LogId.{LogId}
 use Rattle.event_log.specs.LogStates.{LogState, with_missed, with_record, without_oldest}
 use Rattle.event_records.specs.declared.events.Event.{Event}
-use Rattle.device_laws.specs.GranuleCells.{cell_over}
+use Rattle.device_rules.specs.GranuleCells.{cell_over}
 use Rattle.granule_map.specs.Tables.{cell_at}
 use Rattle.host_lists.specs.Lists.{Lists}
 use Rattle.journal_core.specs.declared.outcome.Effect.{Effect}
 use Rattle.offer_core.specs.Offerings.{oldest_of}
-use Rattle.list_rules.specs.media_map.specs.region_config.specs.Blocks.{with_block}
-use Rattle.list_rules.specs.media_map.specs.region_config.specs.Configurations.{Configuration}
-use Rattle.device_laws.specs.device_rules.specs.Logs.{same_log}
-use Rattle.cci_codec.specs.field_bytes.specs.dcd_base.specs.Hosts.{with_host, without_host}
+use Rattle.extent_list.specs.media_map.specs.region_config.specs.Blocks.{with_block}
+use Rattle.extent_list.specs.media_map.specs.region_config.specs.Configurations.{Configuration}
+use Rattle.device_rules.specs.Logs.{same_log}
+use Rattle.cci_codec.specs.dcd_base.specs.Hosts.{with_host, without_host}
 use Rattle.tag_refs.specs.Tables.{entry_with}
 use Rattle.tag_refs.specs.declared.entries.TagEntry.{TagEntry}
 use Rattle.device_state.specs.EnteredLists.{counted, lists_by, lists_of, tags_over}

@@ -1,19 +1,19 @@
 -- What entering a step makes of the hosts' lists and of the table of the open tags.
 use Rattle.std.specs.Prelude.{ℕ, ◌+◌, ◌-◌, ◌<◌, ◌≤◌, not, All, IsTrue, List, [], ◌∷◌, ◌++◌, Option, Some, None, find, fold, if◌then◌else◌, length, map, option_to_list}
 use Rattle.std.specs.List.{list_any}
-use Rattle.cci_codec.specs.field_bytes.specs.dcd_base.specs.declared.capacity.Extent.{Extent}
-use Rattle.cci_codec.specs.field_bytes.specs.dcd_base.specs.declared.capacity.Tag.{Tag}
-use Rattle.cci_codec.specs.field_bytes.specs.dcd_base.specs.declared.ids.HostId.{HostId}
-use Rattle.cci_codec.specs.field_bytes.specs.dcd_base.specs.declared.media.Run.{Run}
-use Rattle.list_rules.specs.extent_list.specs.ExtentLists.{count_in, has_extent_of, has_range}
+use Rattle.cci_codec.specs.dcd_base.specs.declared.capacity.Extent.{Extent}
+use Rattle.cci_codec.specs.dcd_base.specs.declared.capacity.Tag.{Tag}
+use Rattle.cci_codec.specs.dcd_base.specs.declared.ids.HostId.{HostId}
+use Rattle.cci_codec.specs.dcd_base.specs.declared.media.Run.{Run}
+use Rattle.extent_list.specs.ExtentLists.{count_in, has_extent_of, has_range}
 use Rattle.host_lists.specs.Lists.{Lists, next_generation}
 use Rattle.journal_core.specs.declared.outcome.Effect.{Effect}
 use Rattle.journal_core.specs.declared.outcome.HeldKind.{HeldKind}
-use Rattle.list_rules.specs.media_map.specs.Places.{IsRun, bytes_of_run, has_address, is_granular, run_of, start_of}
+use Rattle.extent_list.specs.media_map.specs.Places.{IsRun, bytes_of_run, has_address, is_granular, run_of, start_of}
 use Rattle.offer_core.specs.Offerings.{oldest_of}
-use Rattle.list_rules.specs.media_map.specs.region_config.specs.Configurations.{Configuration}
-use Rattle.list_rules.specs.media_map.specs.region_config.specs.Granules.{region_spec, regions_of}
-use Rattle.device_laws.specs.device_rules.specs.Hosts.{accepted_after, held_after, moves, offers_after}
+use Rattle.extent_list.specs.media_map.specs.region_config.specs.Configurations.{Configuration}
+use Rattle.extent_list.specs.media_map.specs.region_config.specs.Granules.{region_spec, regions_of}
+use Rattle.device_rules.specs.Hosts.{accepted_after, held_after, moves, offers_after}
 use Rattle.tag_refs.specs.Tables.{entries_changed, entries_without, has_entry, opened, set_by, with_reference}
 use Rattle.tag_refs.specs.declared.entries.TagEntry.{TagEntry}
 use Rattle.device_state.specs.StateAfter.{part_of}

@@ -1,13 +1,13 @@
 -- What the device keeps of its granules, changed granule by granule.
 use Rattle.std.specs.Prelude.{◌≡◌, ℕ, ◌<◌, ◌≤◌, ◌&&◌, Bool, true, not, nat_lt, if◌then◌else◌, length, List, Option, Some, None}
-use Rattle.cci_codec.specs.field_bytes.specs.dcd_base.specs.declared.capacity.Tag.{Tag}
-use Rattle.cci_codec.specs.field_bytes.specs.dcd_base.specs.declared.media.Run.{Run}
-use Rattle.list_rules.specs.media_map.specs.region_config.specs.Configurations.{Configuration}
-use Rattle.list_rules.specs.media_map.specs.region_config.specs.Granules.{granule_total, region_of, region_spec}
-use Rattle.list_rules.specs.media_map.specs.region_config.specs.declared.region_spec.RegionSpec.{RegionSpec}
-use Rattle.device_laws.specs.GranuleCells.{is_shareable_run, cell_after, cell_over}
+use Rattle.cci_codec.specs.dcd_base.specs.declared.capacity.Tag.{Tag}
+use Rattle.cci_codec.specs.dcd_base.specs.declared.media.Run.{Run}
+use Rattle.extent_list.specs.media_map.specs.region_config.specs.Configurations.{Configuration}
+use Rattle.extent_list.specs.media_map.specs.region_config.specs.Granules.{granule_total, region_of, region_spec}
+use Rattle.extent_list.specs.media_map.specs.region_config.specs.declared.region_spec.RegionSpec.{RegionSpec}
+use Rattle.device_rules.specs.GranuleCells.{is_shareable_run, cell_after, cell_over}
 use Rattle.granule_map.specs.Tables.{Cell, CellTable, cell_at, soiled, given}
-use Rattle.cci_codec.specs.field_bytes.specs.dcd_base.specs.declared.ids.HostId.{HostId}
+use Rattle.cci_codec.specs.dcd_base.specs.declared.ids.HostId.{HostId}
 use Rattle.granule_map.specs.declared.states.GranuleState.{GranuleState}
 use Rattle.journal_core.specs.declared.outcome.Effect.{Effect}
 use Rattle.device_state.specs.Entered.{oldest_in, runs_in}

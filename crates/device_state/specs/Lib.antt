@@ -2,10 +2,8 @@ pub mod Changes
 pub mod Entered
 pub mod EnteredLists
 pub mod Granules
-pub mod Rooms
 pub mod Stages
 pub mod StateAfter
 pub mod Updates
-pub use Rattle.device_laws.specs.device_rules
-pub use Rattle.device_laws
+pub use Rattle.device_rules
 pub use Rattle.host_lists

@@ -1,12 +1,12 @@
 -- What the effects of a step make of the hosts' parts: first of the logs, and then of lists and tags.
 use Rattle.std.specs.Prelude.{◌≡◌, ◌<◌, Bool, List, false, fold, length, slice_index_or}
 use Rattle.std.specs.List.{list_any}
-use Rattle.device_laws.specs.device_rules.specs.Hosts.{moves}
-use Rattle.cci_codec.specs.field_bytes.specs.dcd_base.specs.declared.ids.HostId.{HostId}
-use Rattle.cci_codec.specs.field_bytes.specs.dcd_base.specs.declared.steps.LogId.{LogId}
+use Rattle.device_rules.specs.Hosts.{moves}
+use Rattle.cci_codec.specs.dcd_base.specs.declared.ids.HostId.{HostId}
+use Rattle.cci_codec.specs.dcd_base.specs.declared.steps.LogId.{LogId}
 use Rattle.host_lists.specs.Lists.{Lists}
 use Rattle.journal_core.specs.declared.outcome.Effect.{Effect}
-use Rattle.list_rules.specs.media_map.specs.region_config.specs.Configurations.{Configuration}
+use Rattle.extent_list.specs.media_map.specs.region_config.specs.Configurations.{Configuration}
 use Rattle.device_state.specs.Entered.{log_by}
 use Rattle.device_state.specs.EnteredLists.{all_lists_by, all_lists_over, counted, lists_of, table_by, tags_over}
 use Rattle.device_state.specs.StateAfter.{part_of}

@@ -1,24 +1,24 @@
 -- That what the device keeps is what the journal says.
 use Rattle.std.specs.Prelude.{◌≡◌, ℕ, ◌<◌, ◌≤◌, false, List, length, slice_index, slice_index_or}
-use Rattle.cci_codec.specs.field_bytes.specs.dcd_base.specs.declared.ids.HostId.{HostId}
-use Rattle.cci_codec.specs.field_bytes.specs.dcd_base.specs.declared.steps.LogId.{LogId}
-use Rattle.list_rules.specs.media_map.specs.region_config.specs.Configurations.{Configuration}
-use Rattle.list_rules.specs.media_map.specs.region_config.specs.Granules.{granule_total}
-use Rattle.list_rules.specs.media_map.specs.region_config.specs.Soundness.{IsSound}
+use Rattle.cci_codec.specs.dcd_base.specs.declared.ids.HostId.{HostId}
+use Rattle.cci_codec.specs.dcd_base.specs.declared.steps.LogId.{LogId}
+use Rattle.extent_list.specs.media_map.specs.region_config.specs.Configurations.{Configuration}
+use Rattle.extent_list.specs.media_map.specs.region_config.specs.Granules.{granule_total}
+use Rattle.extent_list.specs.media_map.specs.region_config.specs.Soundness.{IsSound}
 use Rattle.event_log.specs.LogStates.{LogState, new_log}
 use Rattle.event_log.specs.Logs.{IsHistory, Log, places_in, state_of}
 use Rattle.journal_core.specs.Entries.{effects}
 use Rattle.journal_core.specs.Holders.{holds}
 use Rattle.journal_core.specs.declared.entries.Entry.{Entry}
-use Rattle.cci_codec.specs.field_bytes.specs.dcd_base.specs.Hosts.{has_host}
+use Rattle.cci_codec.specs.dcd_base.specs.Hosts.{has_host}
 use Rattle.granule_map.specs.Tables.{cell_at}
-use Rattle.device_laws.specs.GranuleCells.{IsCell}
-use Rattle.device_laws.specs.TagTable.{IsTable}
+use Rattle.device_rules.specs.GranuleCells.{IsCell}
+use Rattle.device_rules.specs.TagTable.{IsTable}
 use Rattle.host_lists.specs.Lists.{Lists, no_lists}
-use Rattle.device_laws.specs.device_rules.specs.Adding.{present}
-use Rattle.device_laws.specs.device_rules.specs.Legal.{Legal}
-use Rattle.device_laws.specs.device_rules.specs.Logs.{log_of}
-use Rattle.device_laws.specs.device_rules.specs.Views.{View, generation_in, view_of}
+use Rattle.device_rules.specs.Adding.{present}
+use Rattle.device_rules.specs.Legal.{Legal}
+use Rattle.device_rules.specs.Logs.{log_of}
+use Rattle.device_rules.specs.Views.{View, generation_in, view_of}
 use Rattle.device_state.specs.declared.parts.HostPart.{HostPart}
 use Rattle.device_state.specs.declared.state.State.{State}
 

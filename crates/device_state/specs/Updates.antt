@@ -1,15 +1,15 @@
 -- What a step asks of what is kept, and what entering it keeps.
 use Rattle.std.specs.Prelude.{◌≡◌, ℕ, ◌<◌, true, List, ◌++◌, length, ◌∷◌, []}
-use Rattle.cci_codec.specs.field_bytes.specs.dcd_base.specs.declared.ids.HostId.{HostId}
-use Rattle.cci_codec.specs.field_bytes.specs.dcd_base.specs.declared.steps.LogId.{LogId}
-use Rattle.list_rules.specs.media_map.specs.region_config.specs.Configurations.{Configuration}
-use Rattle.list_rules.specs.media_map.specs.region_config.specs.Granules.{is_supported, region_spec}
+use Rattle.cci_codec.specs.dcd_base.specs.declared.ids.HostId.{HostId}
+use Rattle.cci_codec.specs.dcd_base.specs.declared.steps.LogId.{LogId}
+use Rattle.extent_list.specs.media_map.specs.region_config.specs.Configurations.{Configuration}
+use Rattle.extent_list.specs.media_map.specs.region_config.specs.Granules.{is_supported, region_spec}
 use Rattle.journal_core.specs.Entries.{effects}
 use Rattle.journal_core.specs.declared.entries.Entry.{Entry}
 use Rattle.journal_core.specs.declared.outcome.Effect.{Effect}
 use Rattle.device_state.specs.StateAfter.{lists_in, part_of, IsStateAfter}
 use Rattle.host_lists.specs.Lists.{Lists}
-use Rattle.device_laws.specs.device_rules.specs.Views.{view_after, view_of}
+use Rattle.device_rules.specs.Views.{view_after, view_of}
 use Rattle.device_state.specs.Entered.{IsEntered}
 use Rattle.device_state.specs.EnteredLists.{Fits, lists_of}
 use Rattle.event_log.specs.LogStates.{LogState}

@@ -4,14 +4,14 @@ ghost use Rattle.device_state.specs.Entered.{holders_by, present_by};
 ghost use Rattle.device_state.specs.Granules.{CellsAfter, CellsOver, IsLastRegion};
 ghost use Rattle.device_state.specs.Stages.{ArePartsAfter, PartsOver};
 ghost use Rattle.device_state.specs.Updates.{IsOfDevice};
-ghost use Rattle.list_rules.specs.media_map.specs.region_config.specs.Granules.{granule_total};
+ghost use Rattle.extent_list.specs.media_map.specs.region_config.specs.Granules.{granule_total};
 ghost use Rattle.std.specs.Prelude.{◌≡◌, All, fold, length};
 
 use crate::granules::{leave, offer_all, soil, take};
 use crate::regions::LastRegion;
 use crate::state::State;
+use extent_list::media_map::region_config::Config;
 use journal_core::Effect;
-use list_rules::media_map::region_config::Config;
 
 impl State {
     /// Changes all but lists and tags, by each effect in turn. What an answer or the end of a tag makes of granules is told by the

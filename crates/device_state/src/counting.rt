@@ -6,10 +6,10 @@ ghost use Rattle.device_state.specs.StateAfter.{part_of};
 ghost use Rattle.host_lists.specs.Lists.{next_generation};
 ghost use Rattle.std.specs.List.{list_any};
 ghost use Rattle.std.specs.Prelude.{◌≡◌, ◌==◌, ◌<◌, ◌≤◌, length, option_to_list};
-ghost use Rattle.device_laws.specs.device_rules.specs.Hosts.{moves};
+ghost use Rattle.device_rules.specs.Hosts.{moves};
 
 use crate::state::State;
-use cci_codec::field_bytes::dcd_base::HostId;
+use cci_codec::dcd_base::HostId;
 use journal_core::Effect;
 
 impl State {

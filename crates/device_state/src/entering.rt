@@ -3,13 +3,13 @@
 ghost use Rattle.device_state.specs.Entered.{IsEntered};
 ghost use Rattle.device_state.specs.EnteredLists.{Fits, lists_of};
 ghost use Rattle.device_state.specs.Updates.{IsOfDevice};
-ghost use Rattle.list_rules.specs.media_map.specs.region_config.specs.Granules.{granule_total, region_spec, with_blocks};
+ghost use Rattle.extent_list.specs.media_map.specs.region_config.specs.Granules.{granule_total, region_spec, with_blocks};
 ghost use Rattle.std.specs.Prelude.{◌≡◌, ◌+◌, ◌<◌, ◌≤◌, All, OnOk, length};
 
 use crate::state::State;
-use cci_codec::field_bytes::dcd_base::NoMemory;
+use cci_codec::dcd_base::NoMemory;
+use extent_list::media_map::region_config::Config;
 use journal_core::Effect;
-use list_rules::media_map::region_config::Config;
 
 impl State {
     /// Takes the memory for the tag that a step may open. Nothing else of a step takes memory when it is entered.

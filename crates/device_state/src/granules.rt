@@ -2,17 +2,17 @@
 
 ghost use Rattle.device_state.specs.Granules.{held_by_taking, AreChanged, IsLastRegion, is_private, offered_in, soiled_by_taking, taken_in};
 ghost use Rattle.device_state.specs.Entered.{oldest_in, runs_in};
-ghost use Rattle.device_laws.specs.GranuleCells.{ended_run, in_run, left, offered_extent, offered_run, soiled_run, taken, unoffered_extent};
+ghost use Rattle.device_rules.specs.GranuleCells.{ended_run, in_run, left, offered_extent, offered_run, soiled_run, taken, unoffered_extent};
 ghost use Rattle.offer_core.specs.Offerings.{oldest_of};
-ghost use Rattle.list_rules.specs.media_map.specs.region_config.specs.Granules.{granule_total};
+ghost use Rattle.extent_list.specs.media_map.specs.region_config.specs.Granules.{granule_total};
 ghost use Rattle.std.specs.Prelude.{◌≡◌, ◌<◌, Some, fold, length, slice_index_or};
 
 use crate::parts::HostPart;
 use crate::regions::{LastRegion, RegionFlags};
 use crate::state::State;
-use cci_codec::field_bytes::dcd_base::{Extent, HostId, Run, Tag};
+use cci_codec::dcd_base::{Extent, HostId, Run, Tag};
+use extent_list::media_map::region_config::Config;
 use granule_map::{GranuleState, GranuleTable};
-use list_rules::media_map::region_config::Config;
 
 impl State {
     /// The host's oldest offer is offered to it alone no longer.
@@ -90,7 +90,7 @@ fn offer_one(
     ensures last { IsLastRegion config.now last.new }
     ensures offered { AreChanged (λ g cell. offered_extent config.now host g cell extent.now) granules.old granules.new }
 {
-    if let Some(run) = list_rules::media_map::run_of(config, host, extent.start, extent.length) {
+    if let Some(run) = extent_list::media_map::run_of(config, host, extent.start, extent.length) {
         offer_run(granules, config, last, host, &extent.tag, &run);
     }
 }
@@ -158,7 +158,7 @@ fn unoffer_one(
     ensures last { IsLastRegion config.now last.new }
     ensures unoffered { AreChanged (λ g cell. unoffered_extent config.now host g cell extent.now) granules.old granules.new }
 {
-    if let Some(run) = list_rules::media_map::run_of(config, host, extent.start, extent.length) {
+    if let Some(run) = extent_list::media_map::run_of(config, host, extent.start, extent.length) {
         leave(granules, config, last, &run);
     }
 }

@@ -2,10 +2,10 @@
 
 ghost use Rattle.device_state.specs.Entered.{bits_set, held_in};
 ghost use Rattle.std.specs.Prelude.{◌≡◌, ◌==◌, ◌<◌, ◌≤◌, IfOk, false, if◌then◌else◌, length, replicate, slice_index_or, ℕ};
-ghost use Rattle.cci_codec.specs.field_bytes.specs.dcd_base.specs.Hosts.{with_host, without_host};
+ghost use Rattle.cci_codec.specs.dcd_base.specs.Hosts.{with_host, without_host};
 
 use crate::alike::{held_so_up_to, other_from};
-use cci_codec::field_bytes::dcd_base::{Granule, HostId, NoMemory, Run, host_bits};
+use cci_codec::dcd_base::{Granule, HostId, NoMemory, Run, host_bits};
 use std::alloc::Global;
 use std::marker::Model;
 

@@ -1,10 +1,10 @@
 //! That what is kept stays right.
 
-ghost use Rattle.device_laws.specs.device_rules.specs.Legal.{Legal, Meets};
+ghost use Rattle.device_rules.specs.Legal.{Legal, Meets};
 ghost use Rattle.device_state.specs.Updates.{HasRoomFor, IsOfDevice, KeepsEntered};
 ghost use Rattle.journal_core.specs.declared.entries.Entry.{Entry};
-ghost use Rattle.list_rules.specs.media_map.specs.region_config.specs.Configurations.{Configuration};
-ghost use Rattle.list_rules.specs.media_map.specs.region_config.specs.Soundness.{IsSound};
+ghost use Rattle.extent_list.specs.media_map.specs.region_config.specs.Configurations.{Configuration};
+ghost use Rattle.extent_list.specs.media_map.specs.region_config.specs.Soundness.{IsSound};
 ghost use Rattle.std.specs.Prelude.{All, List};
 
 /// Where everything that is kept is what a legal journal says, there is a place for all that a legal step adds; and once its

@@ -18,8 +18,7 @@ mod records;
 mod regions;
 mod state;
 
-pub use device_laws;
-pub use device_laws::device_rules;
+pub use device_rules;
 pub use holders::Holders;
 pub use host_lists;
 pub use laws::law_kept_entered;

@@ -4,14 +4,14 @@ ghost use Rattle.device_state.specs.EnteredLists.{AreGranular, Fits, HasPlaces, 
 ghost use Rattle.device_state.specs.Entered.{with_lists};
 ghost use Rattle.device_state.specs.StateAfter.{part_of};
 ghost use Rattle.device_state.specs.declared.parts.HostPart.{HostPart};
-ghost use Rattle.cci_codec.specs.field_bytes.specs.dcd_base.specs.Words.{same_tag};
-ghost use Rattle.cci_codec.specs.field_bytes.specs.dcd_base.specs.declared.capacity.Extent.{Extent};
+ghost use Rattle.cci_codec.specs.dcd_base.specs.Words.{same_tag};
+ghost use Rattle.cci_codec.specs.dcd_base.specs.declared.capacity.Extent.{Extent};
 ghost use Rattle.offer_core.specs.Offerings.{oldest_of};
 ghost use Rattle.device_state.specs.Stages.{IsListedAfter, IsListedOver};
 ghost use Rattle.device_state.specs.Updates.{IsOfDevice};
 ghost use Rattle.journal_core.specs.declared.outcome.Effect.{Effect};
-ghost use Rattle.list_rules.specs.extent_list.specs.ExtentLists.{count_in, cut, has_range};
-ghost use Rattle.list_rules.specs.media_map.specs.Places.{is_granular, run_of};
+ghost use Rattle.extent_list.specs.ExtentLists.{count_in, cut, has_range};
+ghost use Rattle.extent_list.specs.media_map.specs.Places.{is_granular, run_of};
 ghost use Rattle.std.specs.Option.{option_map};
 ghost use Rattle.std.specs.Prelude.{◌≡◌, ◌++◌, ◌∷◌, ◌+◌, ◌-◌, ◌^◌, ◌<◌, ◌≤◌, [], All, IfSome, IsTrue, List, drop, false, true, find, length, map, option_to_list, slice_index_or, take};
 ghost use Rattle.tag_refs.specs.Tables.{has_entry, opened};
@@ -19,11 +19,11 @@ ghost use Rattle.tag_refs.specs.declared.entries.TagEntry.{TagEntry};
 
 use crate::parts::HostPart;
 use crate::state::State;
-use cci_codec::field_bytes::dcd_base::{Extent, Granule, HostId, RegionId, Run, Tag, no_tag};
+use cci_codec::dcd_base::{Extent, Granule, HostId, RegionId, Run, Tag, no_tag};
+use extent_list::media_map::region_config::Config;
+use extent_list::same_tag;
 use host_lists::HostLists;
 use journal_core::{Effect, HeldKind};
-use list_rules::extent_list::same_tag;
-use list_rules::media_map::region_config::Config;
 use tag_refs::Tags;
 
 impl State {
@@ -117,7 +117,7 @@ impl State {
         ensures spare { self.old.tags.spare ≤ self.new.tags.spare }
         ensures kept { self.new ≡ record self.old { hosts = self.new.hosts; tags = self.new.tags } }
     {
-        let range = list_rules::media_map::extent_of(config, host, run, no_tag(), 0);
+        let range = extent_list::media_map::extent_of(config, host, run, no_tag(), 0);
         let tag = tag_at(
             lists_in(self.hosts.as_slice(), host),
             range.start,
@@ -362,7 +362,7 @@ fn tell_offer(tags: &mut Tags, config: &Config, host: HostId, lists: &HostLists,
     ensures spare { tags.old.spare ≤ tags.new.spare + 1 }
 {
     if let Some(first) = extents.first() {
-        let region = list_rules::media_map::region_at(config, host, first.start);
+        let region = extent_list::media_map::region_at(config, host, first.start);
         tell_offer_in(tags, config, host, lists, region, &first.tag, extents);
     }
 }
@@ -434,7 +434,7 @@ fn run_of(config: &Config, host: HostId, extent: &Extent) -> Run
     requires granular { IsTrue (is_granular config.now host extent.now.start extent.now.length) }
     ensures { result ≡ run_of config.now host extent.now }
 {
-    match list_rules::media_map::run_of(config, host, extent.start, extent.length) {
+    match extent_list::media_map::run_of(config, host, extent.start, extent.length) {
         Some(run) => run,
         None => unreachable!(),
     }

@@ -1,17 +1,17 @@
 //! What effects make of the logs and the block sizes.
 
 ghost use Rattle.device_state.specs.Entered.{with_log, log_by, put_in};
-ghost use Rattle.device_laws.specs.device_rules.specs.Logs.{same_log};
+ghost use Rattle.device_rules.specs.Logs.{same_log};
 ghost use Rattle.device_state.specs.Changes.{AreLogged, log_changed, log_told};
 ghost use Rattle.device_state.specs.StateAfter.{part_of};
 ghost use Rattle.device_state.specs.Updates.{IsOfLog};
 ghost use Rattle.event_log.specs.LogStates.{with_missed};
-ghost use Rattle.list_rules.specs.media_map.specs.region_config.specs.Blocks.{with_block};
-ghost use Rattle.list_rules.specs.media_map.specs.region_config.specs.Granules.{is_supported, region_spec};
+ghost use Rattle.extent_list.specs.media_map.specs.region_config.specs.Blocks.{with_block};
+ghost use Rattle.extent_list.specs.media_map.specs.region_config.specs.Granules.{is_supported, region_spec};
 ghost use Rattle.std.specs.Prelude.{◌≡◌, ◌<◌, Some, length, true};
 
 use crate::state::State;
-use cci_codec::field_bytes::dcd_base::{HostId, LogId, RegionId};
+use cci_codec::dcd_base::{HostId, LogId, RegionId};
 use event_log::EventLog;
 use event_records::Event;
 use journal_core::Effect;

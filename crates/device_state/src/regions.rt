@@ -1,11 +1,11 @@
 //! The region of a granule, which most often is that of the granule before.
 
 ghost use Rattle.device_state.specs.Granules.{IsLastRegion, flags_found};
-ghost use Rattle.list_rules.specs.media_map.specs.region_config.specs.Configurations.{Configuration};
+ghost use Rattle.extent_list.specs.media_map.specs.region_config.specs.Configurations.{Configuration};
 ghost use Rattle.std.specs.Prelude.{◌≡◌, None, Some, if◌then◌else◌};
 
-use cci_codec::field_bytes::dcd_base::{Granule, RegionId};
-use list_rules::media_map::region_config::Config;
+use cci_codec::dcd_base::{Granule, RegionId};
+use extent_list::media_map::region_config::Config;
 
 /// What becomes of the granules of a region.
 #[derive(Clone, Copy)]

@@ -6,12 +6,12 @@ ghost use Rattle.std.specs.Prelude.{◌≡◌, ◌<◌, [], IfOk, length, replic
 
 use crate::holders::Holders;
 use crate::parts::HostPart;
-use cci_codec::field_bytes::dcd_base::limits::{HOST_RECORDS, MANAGER_RECORDS};
-use cci_codec::field_bytes::dcd_base::{HostId, LogId, NoMemory};
+use cci_codec::dcd_base::limits::{HOST_RECORDS, MANAGER_RECORDS};
+use cci_codec::dcd_base::{HostId, LogId, NoMemory};
 use event_log::EventLog;
+use extent_list::media_map::region_config::Config;
 use granule_map::GranuleTable;
 use host_lists::HostLists;
-use list_rules::media_map::region_config::Config;
 use std::alloc::Global;
 use tag_refs::Tags;
 

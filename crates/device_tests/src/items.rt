@@ -7,7 +7,8 @@ use cci_codec::{Payload, Request};
 use dcd_base::{
     AccessFault, Actor, Bytes, Extent, Extents, HostId, LogId, NoMemory, RegionId, Stamp, Tag,
 };
-use device_plain::isolation_laws::{Item, Items, SoloFault, SoloReply, own_items, solo_replies};
+use device_plain::isolation_laws::{Item, Items, SoloReply, own_items};
+use device_plain::{SoloFault, solo_replies};
 use event_records::{Event, EventKind};
 use journal_core::{Act, Effect, Effects, Entry, Journal, Reply};
 use region_config::{Config, ConfigFault, RegionSpec};

@@ -1,4 +1,7 @@
-mod Digits
+pub mod Endings
 pub mod Fronts
+pub mod Inputs
 pub mod Keeping
+pub mod NoWords
 pub mod WordNumbers
+mod Digits

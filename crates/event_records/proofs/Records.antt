@@ -8,11 +8,11 @@ use Rattle.event_records.specs.declared.events.Event.{Event}
 use Rattle.event_records.specs.declared.events.EventKind.{EventKind}
 use Rattle.event_records.specs.declared.faults.RecordFault.{RecordFault}
 use Rattle.event_records.specs.Records.{record_uuid, record_fault, kind_number, head_bytes, end_bytes, record_bytes, record_head, end_fields, record_fields, IsEventIn, ReadsRecord, WritesRecord}
-use Rattle.field_bytes.specs.Extents.{extent_bytes, extent_fields}
-use Rattle.field_bytes.specs.Layouts.{spell, spelling, is_byte}
-use Rattle.field_bytes.proofs.Fields.{IsBytes, spelled_reads}
-use Rattle.field_bytes.proofs.Widths.{wide_16, wide_32, wide_64}
-use Rattle.field_bytes.proofs.Places.{Reads-from, all_from, byte_found, byte_only, end_found, fixed_found, fixed_only, flag_fits, flag_found, flag_only, number_found, number_only, raw_found, raw_only, reserved_found, reserved_only}
+use Rattle.dcd_base.specs.Extents.{extent_bytes, extent_fields}
+use Rattle.dcd_base.specs.Layouts.{spell, spelling, is_byte}
+use Rattle.dcd_base.proofs.Fields.{IsBytes, spelled_reads}
+use Rattle.dcd_base.proofs.Widths.{wide_16, wide_32, wide_64}
+use Rattle.dcd_base.proofs.Places.{Reads-from, all_from, byte_found, byte_only, end_found, fixed_found, fixed_only, flag_fits, flag_found, flag_only, number_found, number_only, raw_found, raw_only, reserved_found, reserved_only}
 
 pub record_in_parts : (e : Event) → record_bytes e ≡ head_bytes e ++ extent_bytes e.extent ++ end_bytes e
 unfolding record_bytes head_bytes extent_bytes end_bytes

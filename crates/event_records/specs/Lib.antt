@@ -1,2 +1,2 @@
 pub mod Records
-pub use Rattle.field_bytes
+pub use Rattle.dcd_base

@@ -5,8 +5,8 @@ use Rattle.event_records.specs.declared.faults.RecordFault.{RecordFault}
 use Rattle.std.specs.Int.{w8, w16, w32, w64}
 use Rattle.event_records.specs.declared.events.EventKind.{EventKind}
 use Rattle.event_records.specs.declared.events.Event.{Event}
-use Rattle.field_bytes.specs.Extents.{extent_fields}
-use Rattle.field_bytes.specs.Layouts.{Field, flag, spelling, number_at, Number, Raw, Reserved, Fixed, Reads, Writes}
+use Rattle.dcd_base.specs.Extents.{extent_fields}
+use Rattle.dcd_base.specs.Layouts.{Field, flag, spelling, number_at, Number, Raw, Reserved, Fixed, Reads, Writes}
 
 -- the identifier of Dynamic Capacity event records
 abbrev pub record_uuid : List ℕ

@@ -1,6 +1,6 @@
 //! Events and their kinds.
 
-use field_bytes::dcd_base::Extent;
+use dcd_base::Extent;
 
 /// What happened to the capacity of a host (CXL 3.1, 8.2.9.2.1.6, Dynamic Capacity event type).
 #[derive(Clone, Copy, Debug, PartialEq, Eq)]

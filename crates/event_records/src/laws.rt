@@ -8,7 +8,7 @@ use crate::events::Event;
 use crate::faults::RecordFault;
 use crate::reading::decode;
 use crate::writing::encode;
-use field_bytes::{are_bytes, fits_8, fits_16, fits_32, fits_64};
+use dcd_base::{are_bytes, fits_8, fits_16, fits_32, fits_64};
 
 /// The bytes that `encode` answers are the one spelling of the event. The call does nothing.
 pub fn law_event_is_spelled(event: &Event)

@@ -1,7 +1,7 @@
 //! Event records: what the device tells a host and the Fabric Manager about capacity, in 128 bytes each.
 #![tactic(auto)]
 
-pub use field_bytes;
+pub use dcd_base;
 
 mod events;
 mod faults;

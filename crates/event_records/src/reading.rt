@@ -8,8 +8,7 @@ use crate::events::Event;
 use crate::faults::RecordFault;
 use crate::identifier::is_identifier;
 use crate::kinds::kind_of;
-use field_bytes::dcd_base::Extent;
-use field_bytes::{tag_at, u16_at, u32_at, u64_at};
+use dcd_base::{Extent, tag_at, u16_at, u32_at, u64_at};
 
 /// Reads an event from a Dynamic Capacity event record (CXL 3.1, 8.2.9.2.1.6).
 ///

@@ -6,7 +6,7 @@ ghost use Rattle.std.specs.Prelude.{◌≡◌, ◌+◌, ◌++◌, ◌≤◌, dro
 use crate::events::Event;
 use crate::identifier::identifier;
 use crate::kinds::kind_number;
-use field_bytes::{put_byte, put_bytes, put_extent, put_flag, put_u8, put_u16, put_u32, put_zeros};
+use dcd_base::{put_byte, put_bytes, put_extent, put_flag, put_u8, put_u16, put_u32, put_zeros};
 
 /// The identifier, bytes 0 to 15.
 fn put_identifier(out: &mut [u8])

@@ -1,2 +1,5 @@
+pub mod Ends
+pub mod Later
 pub mod Lists
+pub mod Puts
 pub mod ReplyLists

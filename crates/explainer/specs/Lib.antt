@@ -1,10 +1,16 @@
+pub mod Asking
 pub mod CodeWords
+pub mod Columns
+pub mod Converting
 pub mod Explaining
 pub mod Explanations
+pub mod Faults
 pub mod PartWords
 pub mod RecordWords
 pub mod ReplyKinds
 pub mod ReplyWords
+pub mod Runs
+pub mod Statuses
 pub use Rattle.journal_check
 pub use Rattle.journal_check.specs.report
 pub use Rattle.script_text

@@ -6,8 +6,8 @@ use Rattle.dcd_base.specs.Hosts.{has_host}
 use Rattle.dcd_base.specs.Words.{is_zero_tag}
 use Rattle.dcd_base.specs.declared.capacity.Extent.{Extent}
 use Rattle.dcd_base.specs.declared.capacity.Tag.{Tag}
-use Rattle.field_bytes.specs.Layouts.{number_at}
-use Rattle.field_bytes.specs.Payloads.{has_flag, tag_at}
+use Rattle.dcd_base.specs.Layouts.{number_at}
+use Rattle.dcd_base.specs.Payloads.{has_flag, tag_at}
 use Rattle.script_text.specs.text_lines.specs.Extents.{extent_text}
 use Rattle.script_text.specs.text_lines.specs.Numbers.{size_text}
 use Rattle.script_text.specs.text_lines.specs.Pairs.{pair_text, tag_text}

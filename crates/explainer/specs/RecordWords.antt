@@ -4,8 +4,8 @@ use Rattle.std.specs.Option.{is_none}
 use Rattle.std.specs.Int.{w16, w32}
 use Rattle.event_records.specs.Records.{kind_number, record_fault}
 use Rattle.event_records.specs.declared.events.EventKind.{EventKind}
-use Rattle.field_bytes.specs.Layouts.{number_at}
-use Rattle.field_bytes.specs.Payloads.{has_flag}
+use Rattle.dcd_base.specs.Layouts.{number_at}
+use Rattle.dcd_base.specs.Payloads.{has_flag}
 use Rattle.explainer.specs.PartWords.{bytes_words, extent_in, extent_words, label_where, labelled}
 
 -- the name of a kind in the specification, by its number

@@ -1,7 +1,7 @@
 -- The payloads of successful replies: a head, items of one length, so many as the head says, and a tail.
 use Rattle.std.specs.Prelude.{ℕ, ◌+◌, ◌*◌, ◌==◌, nat_le, Bool, ◌&&◌, List, length, slice_index, Option, Some, None, if◌then◌else◌}
 use Rattle.std.specs.Int.{w16, w32}
-use Rattle.field_bytes.specs.Layouts.{number_at}
+use Rattle.dcd_base.specs.Layouts.{number_at}
 use Rattle.explainer.specs.declared.kinds.ReplyKind.{ReplyKind}
 
 -- the kind of the reply to a command, where its payload has bytes

@@ -2,7 +2,7 @@
 use Rattle.std.specs.Prelude.{ℕ, ◌*◌, ◌==◌, List, [], ◌∷◌, ◌++◌, drop, slice_index, bit_and, Option, Some, None, if◌then◌else◌, codes}
 use Rattle.std.specs.List.{flat_map}
 use Rattle.std.specs.Int.{w16, w32}
-use Rattle.field_bytes.specs.Layouts.{number_at, pieces}
+use Rattle.dcd_base.specs.Layouts.{number_at, pieces}
 use Rattle.script_text.specs.text_lines.specs.Numbers.{hexadecimal}
 use Rattle.explainer.specs.CodeWords.{return_code_words}
 use Rattle.explainer.specs.PartWords.{bytes_words, counts_words, detail, extent_in, extent_words, label_where, labelled, live_tag_words, region_words, sizes_words}

@@ -4,8 +4,7 @@ ghost use Rattle.explainer.specs.PartWords.{extent_in, extent_words, sequence_wo
 ghost use Rattle.std.specs.Prelude.{◌≡◌, ◌+◌, ◌≤◌, ◌++◌, OnOk, length};
 
 use crate::parts::put_labelled;
-use dcd_base::{Bytes, Extent, NoMemory, Tag, is_no_tag};
-use field_bytes::{tag_at, u16_at, u64_at};
+use dcd_base::{Bytes, Extent, NoMemory, Tag, is_no_tag, tag_at, u16_at, u64_at};
 use script_text::text_lines::{put_extent, put_tag};
 
 /// The extent that forty bytes at a place are. The last six are reserved.

@@ -1,13 +1,12 @@
 //! Fields of a payload behind their labels.
 
-ghost use Rattle.field_bytes.specs.Layouts.{number_at};
+ghost use Rattle.dcd_base.specs.Layouts.{number_at};
 ghost use Rattle.explainer.specs.PartWords.{labelled, labelled_size};
 ghost use Rattle.std.specs.Int.{w16, w32, w64};
 ghost use Rattle.std.specs.Prelude.{◌≡◌, ◌+◌, ◌<◌, ◌≤◌, ◌++◌, OnOk, length, slice_index};
 
 use crate::parts::{put_labelled, put_labelled_size};
-use dcd_base::{Bytes, NoMemory};
-use field_bytes::{u16_at, u32_at, u64_at};
+use dcd_base::{Bytes, NoMemory, u16_at, u32_at, u64_at};
 
 /// Appends a label and the byte at a place.
 pub(crate) fn put_u8(label: &[u8], bytes: &[u8], at: usize, out: &mut Bytes) -> Result<(), NoMemory>

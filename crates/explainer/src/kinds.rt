@@ -4,7 +4,7 @@ ghost use Rattle.explainer.specs.ReplyKinds.{has_kind, head_length, item_count, 
 ghost use Rattle.explainer.specs.ReplyWords.{kind_answered};
 ghost use Rattle.std.specs.Prelude.{◌≡◌, ◌==◌, ◌<◌, ◌≤◌, ◌^◌, length};
 
-use field_bytes::{u16_at, u32_at};
+use dcd_base::{u16_at, u32_at};
 
 /// What the payload of a successful reply is: a head, items of one length, and a tail.
 #[derive(Clone, Copy, Debug, PartialEq, Eq)]

@@ -3,12 +3,20 @@
 //!
 //! `put_answer` writes what a device answered to a command, `put_record` an event record, and `put_extent_words` an extent
 //! with its tag. They take any bytes: what does not read as its layout says is shown byte by byte.
+//!
+//! `convert` turns a text that people write into a script, a script into a text, and what a run printed into words, or answers
+//! the first fault. `run` does so from a source to a sink, by the words of the command line: `to-script`, which the name of the
+//! text may follow, `to-text` or `explain`.
 #![tactic(auto)]
 
+mod asking;
 mod codes;
+mod columns;
+mod converting;
 mod entries;
 mod explaining;
 mod extents;
+mod faults;
 mod fields;
 mod headings;
 mod items;
@@ -16,11 +24,16 @@ mod kinds;
 mod logs;
 mod parts;
 mod records;
+mod refusals;
 mod regions;
 mod replies;
+mod running;
 mod states;
+mod status;
 mod tags;
 
+pub use columns::Place;
+pub use converting::{Refusal, Task, convert};
 pub use explaining::explain;
 pub use extents::put_extent_words;
 pub use journal_check;
@@ -29,5 +42,7 @@ pub use kinds::ReplyKind;
 pub use parts::{put_labelled, put_labelled_size};
 pub use records::put_record;
 pub use replies::put_answer;
+pub use running::run;
 pub use script_text;
 pub use script_text::text_lines;
+pub use status::Status;

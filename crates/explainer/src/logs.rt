@@ -61,7 +61,7 @@ fn put_left_in(control: &Control, log: &LogId, out: &mut Bytes) -> Result<(), No
 fn put_left_for_hosts(control: &Control, out: &mut Bytes) -> Result<(), NoMemory>
     ensures { OnOk result (out.new ≡ out.old ++ left_for_hosts control.now.config (effects control.now.entries)) }
 {
-    for host in 0..control.config().hosts() {
+    for host in 0..control.first_config().hosts() {
         put_left_in(control, &LogId::Host(HostId(host)), out)?;
     }
     Ok(())

@@ -8,9 +8,8 @@ ghost use Rattle.std.specs.Prelude.{◌≡◌, ◌≤◌, ◌++◌, OnOk, length
 use crate::extents::{extent_at, put_extent_words};
 use crate::fields::{put_u8, put_u16, put_u32};
 use crate::parts::{put_bytes, put_label_where};
-use dcd_base::{Bytes, NoMemory};
+use dcd_base::{Bytes, NoMemory, flag_at};
 use event_records::decode;
-use field_bytes::flag_at;
 
 /// The number of the kind of a record that tells an update of a region.
 const UPDATED: u8 = 3;

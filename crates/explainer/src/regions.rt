@@ -1,6 +1,6 @@
 //! Regions, block sizes and counts in words.
 
-ghost use Rattle.field_bytes.specs.Layouts.{number_at};
+ghost use Rattle.dcd_base.specs.Layouts.{number_at};
 ghost use Rattle.explainer.specs.PartWords.{counts_words, decode_bytes, labelled_size, region_flags, region_ranges, region_words, sizes_words};
 ghost use Rattle.std.specs.Int.{w64};
 ghost use Rattle.std.specs.Prelude.{◌≡◌, ◌+◌, ◌≤◌, ◌++◌, OnOk, codes, length};
@@ -8,8 +8,7 @@ ghost use Rattle.script_text.specs.text_lines.specs.Sizes.{sizes_text};
 
 use crate::fields::{put_size_at, put_u32};
 use crate::parts::{put_label_where, put_labelled_size};
-use dcd_base::{Bytes, NoMemory};
-use field_bytes::{flag_at, u64_at};
+use dcd_base::{Bytes, NoMemory, flag_at, u64_at};
 use script_text::text_lines::put_sizes;
 
 /// The most times 256 MiB that 64 bits have room for.

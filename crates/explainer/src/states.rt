@@ -64,7 +64,7 @@ fn put_host_state(control: &Control, host: HostId, out: &mut Bytes) -> Result<()
 fn put_hosts_state(control: &Control, out: &mut Bytes) -> Result<(), NoMemory>
     ensures { OnOk result (out.new ≡ out.old ++ hosts_state control.now.config (effects control.now.entries)) }
 {
-    for host in 0..control.config().hosts() {
+    for host in 0..control.first_config().hosts() {
         put_host_state(control, HostId(host), out)?;
     }
     Ok(())

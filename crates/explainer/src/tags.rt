@@ -1,15 +1,14 @@
 //! Live tags in words.
 
-ghost use Rattle.field_bytes.specs.Layouts.{number_at};
-ghost use Rattle.field_bytes.specs.Payloads.{tag_at};
+ghost use Rattle.dcd_base.specs.Layouts.{number_at};
+ghost use Rattle.dcd_base.specs.Payloads.{tag_at};
 ghost use Rattle.explainer.specs.PartWords.{host_where, hosts_below, hosts_words, live_tag_words};
 ghost use Rattle.std.specs.Int.{w16};
 ghost use Rattle.std.specs.Prelude.{◌≡◌, ◌+◌, ◌<◌, ◌≤◌, ◌++◌, OnOk, codes, length};
 ghost use Rattle.script_text.specs.text_lines.specs.Pairs.{tag_text};
 
 use crate::parts::{put_label_where, put_labelled};
-use dcd_base::{Bytes, HostId, NoMemory, host_bits};
-use field_bytes::{flag_at, tag_at, u16_at};
+use dcd_base::{Bytes, HostId, NoMemory, flag_at, host_bits, tag_at, u16_at};
 use script_text::text_lines::put_tag;
 
 /// Appends a host where it is in the set.

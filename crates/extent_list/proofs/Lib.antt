@@ -1,6 +1,12 @@
+pub mod Apart
 pub mod ApartLists
 pub mod Back
 pub mod Cutting
+pub mod EachTag
+pub mod FirstOwner
+pub mod FitFront
 pub mod Front
 pub mod Holding
+pub mod OneByOne
+pub mod Shares
 pub mod TagHalves

@@ -1,3 +1,9 @@
 pub mod Apart
 pub mod ExtentLists
+pub mod Fitting
+pub mod Listing
+pub mod Orders
 pub mod Rooms
+pub mod Sharing
+pub use Rattle.media_map
+pub use Rattle.dcd_codes

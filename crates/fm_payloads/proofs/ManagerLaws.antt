@@ -5,21 +5,21 @@ use Rattle.std.specs.List.{AllByRecursion}
 use Rattle.std.specs.Int.{w16, w32, w64}
 use Rattle.std.proofs.lemmas.Bool.{eqb-true}
 use Rattle.std.proofs.lemmas.List.{length-map}
-use Rattle.field_bytes.specs.dcd_base.specs.declared.capacity.Extent.{Extent}
-use Rattle.field_bytes.specs.dcd_base.specs.declared.capacity.Tag.{Tag}
-use Rattle.field_bytes.specs.Layouts.{FitsField, Number, Raw, Reads, number_at, pieces, spelling}
-use Rattle.field_bytes.specs.Payloads.{has_flag, tag_at, Gives}
-use Rattle.field_bytes.specs.EventCommands.{clear_length, handles_in}
-use Rattle.field_bytes.specs.Extents.{whole_extent, extent_fields}
-use Rattle.field_bytes.proofs.Agreement.{Agrees, Agrees-spelled}
-use Rattle.field_bytes.proofs.EventCommands.{clear_agrees, clear_is}
-use Rattle.field_bytes.proofs.Fields.{IsBytes}
-use Rattle.field_bytes.proofs.PayloadLengths.{counted_at, counted_is, sized_at, sized_is}
-use Rattle.field_bytes.proofs.Pieces.{length-pieces}
-use Rattle.field_bytes.proofs.WholeExtents.{extents_agree, extents_are}
-use Rattle.field_bytes.proofs.Widths.{wide_16, wide_32, wide_64}
-use Rattle.field_bytes.proofs.Places.{FieldsAt, Reads-from, all_from, byte_found, byte_only, end_found, end_only, flag_found, flag_only, number_found, number_only, raw_found, raw_only, reserved_found, reserved_only}
-use Rattle.field_bytes.specs.declared.faults.PayloadFault.{PayloadFault}
+use Rattle.dcd_base.specs.declared.capacity.Extent.{Extent}
+use Rattle.dcd_base.specs.declared.capacity.Tag.{Tag}
+use Rattle.dcd_base.specs.Layouts.{FitsField, Number, Raw, Reads, number_at, pieces, spelling}
+use Rattle.dcd_base.specs.Payloads.{has_flag, tag_at, Gives}
+use Rattle.dcd_base.specs.EventCommands.{clear_length, handles_in}
+use Rattle.dcd_base.specs.Extents.{whole_extent, extent_fields}
+use Rattle.dcd_base.proofs.Agreement.{Agrees, Agrees-spelled}
+use Rattle.dcd_base.proofs.EventCommands.{clear_agrees, clear_is}
+use Rattle.dcd_base.proofs.Fields.{IsBytes}
+use Rattle.dcd_base.proofs.PayloadLengths.{counted_at, counted_is, sized_at, sized_is}
+use Rattle.dcd_base.proofs.Pieces.{length-pieces}
+use Rattle.dcd_base.proofs.WholeExtents.{extents_agree, extents_are}
+use Rattle.dcd_base.proofs.Widths.{wide_16, wide_32, wide_64}
+use Rattle.dcd_base.proofs.Places.{FieldsAt, Reads-from, all_from, byte_found, byte_only, end_found, end_only, flag_found, flag_only, number_found, number_only, raw_found, raw_only, reserved_found, reserved_only}
+use Rattle.dcd_base.specs.declared.faults.PayloadFault.{PayloadFault}
 use Rattle.fm_payloads.specs.declared.placing.Placed.{Placed}
 use Rattle.fm_payloads.specs.declared.requests.FmRequest.{FmRequest}
 use Rattle.fm_payloads.specs.ManagerPayloads.{IsManagerRequest, manager_clear_asked, manager_events_asked, info_asked, lists_asked, made_of, manager_fields, manager_opcode, manager_request, placed_fields, placed_in, placed_length, regions_asked, setting_asked, tag_in, tags_asked, to_add, to_remove, whole_extents}

@@ -3,7 +3,7 @@
 ghost use Rattle.fm_payloads.specs.ManagerPayloads.{placed_length};
 ghost use Rattle.std.specs.Prelude.{◌≡◌, ◌+◌, ◌*◌};
 
-use field_bytes::u32_at;
+use dcd_base::u32_at;
 
 /// The length of a payload that places extents: 32 bytes and 40 for each extent of its count.
 pub fn placed_length(payload: &[u8]) -> u64

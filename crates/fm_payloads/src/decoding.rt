@@ -1,15 +1,15 @@
 //! From a payload to the request of the manager.
 
 ghost use Rattle.fm_payloads.specs.ManagerPayloads.{IsManagerRequest, manager_clear_asked, manager_events_asked, info_asked, lists_asked, manager_request, regions_asked, setting_asked, tag_in, tags_asked};
-ghost use Rattle.field_bytes.specs.Payloads.{Gives};
+ghost use Rattle.dcd_base.specs.Payloads.{Gives};
 ghost use Rattle.fm_payloads.specs.declared.requests.FmRequest.{FmRequest};
 ghost use Rattle.std.specs.Prelude.{IfOk, Ok};
 
 use crate::placing::placed_of;
 use crate::requests::FmRequest;
-use field_bytes::dcd_base::Tag;
-use field_bytes::{
-    PayloadFault, clear_length, expect_length, flag_at, handles_of, tag_at, u16_at, u32_at, u64_at,
+use dcd_base::{
+    PayloadFault, Tag, clear_length, expect_length, flag_at, handles_of, tag_at, u16_at, u32_at,
+    u64_at,
 };
 use std::alloc::Global;
 

@@ -1,6 +1,6 @@
 //! From a request of the manager to its payload.
 
-ghost use Rattle.field_bytes.specs.Layouts.{FitsField, Number, Reserved, flag, is_byte, spelling};
+ghost use Rattle.dcd_base.specs.Layouts.{FitsField, Number, Reserved, flag, is_byte, spelling};
 ghost use Rattle.fm_payloads.specs.ManagerPayloads.{ManagerCountsFit, manager_fields, manager_opcode, manager_request};
 ghost use Rattle.std.specs.Int.{w8, w16, w32, w64};
 ghost use Rattle.std.specs.List.{AllByRecursion, list_all};
@@ -8,10 +8,9 @@ ghost use Rattle.std.specs.Prelude.{◌≡◌, ◌++◌, [], ◌∷◌, IfOk, Is
 
 use crate::placing::placed_payload;
 use crate::requests::FmRequest;
-use field_bytes::dcd_base::{Bytes, NoMemory};
-use field_bytes::{
-    are_bytes, clear_payload, page_request, put_flag, put_u8, put_u16, put_u32, put_u64, put_zeros,
-    zeros,
+use dcd_base::{
+    Bytes, NoMemory, are_bytes, clear_payload, page_request, put_flag, put_u8, put_u16, put_u32,
+    put_u64, put_zeros, zeros,
 };
 use std::alloc::Global;
 

@@ -14,8 +14,8 @@ mod placing;
 mod replies;
 mod requests;
 
+pub use dcd_base::PayloadFault;
 pub use decoding::decode;
 pub use encoding::encode;
-pub use field_bytes::PayloadFault;
 pub use replies::{lists_head, regions_head, write_info, write_tags};
 pub use requests::FmRequest;

@@ -1,16 +1,15 @@
 //! What an add and a release have in common.
 
-ghost use Rattle.field_bytes.specs.Layouts.{FitsField, is_byte, spelling};
+ghost use Rattle.dcd_base.specs.Layouts.{FitsField, is_byte, spelling};
 ghost use Rattle.fm_payloads.specs.ManagerPayloads.{placed_fields, placed_head, placed_in};
-ghost use Rattle.field_bytes.specs.Payloads.{Gives};
+ghost use Rattle.dcd_base.specs.Payloads.{Gives};
 ghost use Rattle.std.specs.List.{AllByRecursion, list_all};
 ghost use Rattle.std.specs.Prelude.{◌≡◌, ◌+◌, ◌*◌, ◌<◌, ◌≤◌, ◌^◌, IfOk, IsTrue, OnOk, length, take};
 
 use crate::counted::placed_length;
-use field_bytes::dcd_base::{Bytes, Extent, Extents, NoMemory, Tag};
-use field_bytes::{
-    PayloadFault, expect_length, extents_of, put_extents, put_tag, put_u8, put_u16, put_u32,
-    put_u64, tag_at, u16_at, u64_at, zeros,
+use dcd_base::{
+    Bytes, Extent, Extents, NoMemory, PayloadFault, Tag, expect_length, extents_of, put_extents,
+    put_tag, put_u8, put_u16, put_u32, put_u64, tag_at, u16_at, u64_at, zeros,
 };
 use std::alloc::Global;
 

@@ -1,11 +1,13 @@
 //! The payloads of the replies to the manager.
 
-ghost use Rattle.field_bytes.specs.Layouts.{u64_bytes};
+ghost use Rattle.dcd_base.specs.Layouts.{u64_bytes};
 ghost use Rattle.fm_payloads.specs.ManagerPayloads.{info_head, info_payload, lists_head, regions_head, tag_bytes, tags_head, tags_payload};
 ghost use Rattle.std.specs.Prelude.{◌≡◌, ◌+◌, ◌*◌, ◌++◌, ◌≤◌, IfOk, OnErr, OnOk, flat_map, length, take};
 
-use field_bytes::dcd_base::{Bytes, NoMemory, TagView};
-use field_bytes::{put_flag, put_tag, put_u8, put_u16, put_u32, put_u64, put_zeros, with_zeros};
+use dcd_base::{
+    Bytes, NoMemory, TagView, put_flag, put_tag, put_u8, put_u16, put_u32, put_u64, put_zeros,
+    with_zeros,
+};
 
 /// Puts the first 24 bytes of the reply to Get DCD Info at the start: hosts, regions, the policies of adds and of
 /// releases, and how many granules there are, are free and are dirty.

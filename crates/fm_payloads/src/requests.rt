@@ -1,6 +1,6 @@
 //! The commands of the Fabric Manager.
 
-use field_bytes::dcd_base::{Extents, ShortList, Tag};
+use dcd_base::{Extents, ShortList, Tag};
 
 /// What the Fabric Manager asks of the device, the payload of its message.
 ///

@@ -6,7 +6,7 @@ use Rattle.std.specs.Prelude.{IfOk}
 use Rattle.std.specs.declared.result.Result.{Result}
 use Rattle.dcd_base.specs.declared.failures.NoMemory.{NoMemory}
 use Rattle.dcd_base.specs.declared.capacity.Extent.{Extent}
-use Rattle.program_frame.specs.Meanings.{Decides}
+use Rattle.edge_io.specs.Meanings.{Decides}
 use Rattle.region_config.specs.Configurations.{Configuration}
 use Rattle.journal_core.specs.declared.entries.Entry.{Entry}
 use Rattle.report.specs.Refusals.{refusal_line}

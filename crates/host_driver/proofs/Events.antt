@@ -3,7 +3,7 @@ use Rattle.std.proofs.Common.{◌≡◌, ℕ, zero, suc, ◌+◌, ◌-◌, ◌<�
 use Rattle.event_records.specs.Records.{IsEventIn, kind_number, record_fault}
 use Rattle.event_records.specs.declared.events.Event.{Event}
 use Rattle.event_records.proofs.Records.{same_event, kind_small as kind_up_to}
-use Rattle.field_bytes.specs.Layouts.{pieces}
+use Rattle.dcd_base.specs.Layouts.{pieces}
 use Rattle.host_driver.specs.Pages.{bad_at, bad_record, event_in, kind_in}
 use Rattle.host_driver.specs.declared.faults.DriverFault.{DriverFault}
 

@@ -5,10 +5,10 @@ use Rattle.std.specs.List.{AllByRecursion}
 use Rattle.std.proofs.lemmas.Bool.{and_parts, cases_Bool, leb-true}
 use Rattle.std.proofs.lemmas.List.{length-map}
 use Rattle.dcd_base.specs.declared.capacity.Extent.{Extent}
-use Rattle.field_bytes.specs.EventCommands.{FitsHandle}
-use Rattle.field_bytes.specs.Layouts.{FitsField, spelling}
-use Rattle.field_bytes.proofs.Agreement.{Agrees-spelled}
-use Rattle.field_bytes.proofs.EventCommands.{clear_fits}
+use Rattle.dcd_base.specs.EventCommands.{FitsHandle}
+use Rattle.dcd_base.specs.Layouts.{FitsField, spelling}
+use Rattle.dcd_base.proofs.Agreement.{Agrees-spelled}
+use Rattle.dcd_base.proofs.EventCommands.{clear_fits}
 use Rattle.host_payloads.specs.HostPayloads.{FitsListed, host_fields, host_opcode, host_request, lists_untagged}
 use Rattle.host_payloads.specs.declared.requests.HostRequest.{HostRequest}
 use Rattle.host_payloads.proofs.HostLaws.{host_only}

@@ -13,13 +13,13 @@ use Rattle.region_config.specs.Granules.{with_blocks}
 use Rattle.region_config.specs.Soundness.{IsSound}
 use Rattle.device_plain.specs.device_rules.specs.Tags.{region_of_offer}
 use Rattle.device_plain.specs.device_rules.proofs.ListSteps.{each-change}
-use Rattle.report.specs.device_laws.specs.Pictures.{Picture, extents_at}
-use Rattle.report.specs.device_laws.specs.Standing.{IsHome, IsMade, Stands}
-use Rattle.report.specs.device_laws.proofs.AllLeave.{Behind}
-use Rattle.report.specs.device_laws.proofs.Going.{all_behind}
-use Rattle.report.specs.device_laws.proofs.Holding.{home_made}
-use Rattle.report.specs.device_laws.proofs.InOrderResponses.{all_apart, each_sound, made_there, once}
-use Rattle.report.specs.device_laws.proofs.OneLeave.{loose}
+use Rattle.device_plain.specs.device_rules.specs.Pictures.{Picture, extents_at}
+use Rattle.device_plain.specs.device_rules.specs.Standing.{IsHome, IsMade, Stands}
+use Rattle.device_plain.specs.device_rules.proofs.AllLeave.{Behind}
+use Rattle.device_plain.specs.device_rules.proofs.Going.{all_behind}
+use Rattle.device_plain.specs.device_rules.proofs.Holding.{home_made}
+use Rattle.device_plain.specs.device_rules.proofs.InOrderResponses.{all_apart, each_sound, made_there, once}
+use Rattle.device_plain.specs.device_rules.proofs.OneLeave.{loose}
 use Rattle.host_driver.specs.Driving.{bare}
 use Rattle.host_driver.proofs.Apart.{AreApart}
 use Rattle.host_driver.proofs.Pending.{IsBeside}

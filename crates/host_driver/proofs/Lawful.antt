@@ -30,12 +30,12 @@ use Rattle.device_plain.specs.device_rules.specs.Logs.{log_of}
 use Rattle.device_plain.specs.device_rules.specs.Outcomes.{Outcome}
 use Rattle.device_plain.specs.device_rules.specs.Views.{View, view_after, view_of}
 use Rattle.device_plain.specs.device_rules.proofs.ViewSteps.{view_of-push}
-use Rattle.report.specs.device_laws.specs.Pictures.{picture_of}
-use Rattle.report.specs.device_laws.specs.Standing.{Sound}
-use Rattle.report.specs.device_laws.proofs.InOrderResponses.{legal_allows}
-use Rattle.report.specs.device_laws.proofs.LegalSound.{legal_is_sound}
-use Rattle.report.specs.device_laws.proofs.LegalLogs.{legal_logs}
-use Rattle.report.specs.device_laws.proofs.LogSteps.{IsSound as IsSoundLog}
+use Rattle.device_plain.specs.device_rules.specs.Pictures.{picture_of}
+use Rattle.device_plain.specs.device_rules.specs.Standing.{Sound}
+use Rattle.device_plain.specs.device_rules.proofs.InOrderResponses.{legal_allows}
+use Rattle.device_plain.specs.device_rules.proofs.LegalSound.{legal_is_sound}
+use Rattle.device_plain.specs.device_rules.proofs.LegalLogs.{legal_logs}
+use Rattle.device_plain.specs.device_rules.proofs.LogSteps.{IsSound as IsSoundLog}
 use Rattle.device_plain.specs.isolation_laws.specs.Solo.{changes_with, delivered, acts_for}
 use Rattle.device_plain.specs.isolation_laws.specs.declared.items.Item.{Item}
 use Rattle.device_plain.specs.isolation_laws.proofs.AllSee.{steps_alone}

@@ -16,7 +16,7 @@ use Rattle.event_log.specs.LogStates.{clear_fault}
 use Rattle.event_log.specs.Logs.{cleared_of, records_in}
 use Rattle.event_records.specs.declared.events.Event.{Event}
 use Rattle.extent_list.specs.ExtentLists.{cut_all, marked}
-use Rattle.field_bytes.specs.EventCommands.{FitsHandle}
+use Rattle.dcd_base.specs.EventCommands.{FitsHandle}
 use Rattle.host_payloads.specs.HostPayloads.{FitsListed, host_opcode}
 use Rattle.host_payloads.specs.declared.requests.HostRequest.{HostRequest}
 use Rattle.journal_core.specs.declared.acts.Reply.{Reply}

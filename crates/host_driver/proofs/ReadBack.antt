@@ -9,8 +9,8 @@ use Rattle.dcd_base.specs.declared.capacity.Extent.{Extent}
 use Rattle.event_records.specs.Records.{WritesRecord, end_bytes, head_bytes, record_bytes, record_fault}
 use Rattle.event_records.specs.declared.events.Event.{Event}
 use Rattle.event_records.proofs.Records.{record_in_parts, record_read, record_spelled}
-use Rattle.field_bytes.specs.Extents.{extent_bytes}
-use Rattle.field_bytes.specs.Layouts.{pieces}
+use Rattle.dcd_base.specs.Extents.{extent_bytes}
+use Rattle.dcd_base.specs.Layouts.{pieces}
 use Rattle.host_payloads.specs.HostPayloads.{FitsListed, events_head, events_payload}
 use Rattle.host_payloads.proofs.Written.{events_spelled}
 use Rattle.host_driver.specs.Pages.{bad_record, event_in, events_in, page_fault, record_count, record_pieces, records_length}

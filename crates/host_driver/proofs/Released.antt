@@ -7,7 +7,7 @@ use Rattle.dcd_base.specs.declared.ids.HostId.{HostId}
 use Rattle.dcd_codes.specs.Rules.{each_in}
 use Rattle.extent_list.specs.ExtentLists.{count_in, is_in}
 use Rattle.host_payloads.specs.declared.requests.HostRequest.{HostRequest}
-use Rattle.list_rules.specs.Listing.{incomplete, too_many_extents, too_many_listed}
+use Rattle.extent_list.specs.Listing.{incomplete, too_many_extents, too_many_listed}
 use Rattle.media_map.specs.Places.{region_at}
 use Rattle.region_config.proofs.Faultless.{region_ends}
 use Rattle.region_config.specs.Configurations.{Configuration}
@@ -17,13 +17,13 @@ use Rattle.release_core.specs.Leaving.{count_after}
 use Rattle.device_plain.specs.device_rules.specs.Answers.{host_rule}
 use Rattle.device_plain.specs.device_rules.specs.Views.{View}
 use Rattle.device_plain.specs.device_rules.proofs.ListSteps.{each-change}
-use Rattle.report.specs.device_laws.specs.Pictures.{Picture}
-use Rattle.report.specs.device_laws.specs.Standing.{IsMade, Stands}
-use Rattle.report.specs.device_laws.proofs.Going.{IsGoing}
-use Rattle.report.specs.device_laws.proofs.Holding.{present_whole}
-use Rattle.report.specs.device_laws.proofs.Homes.{made_bytes, made_starts}
-use Rattle.report.specs.device_laws.proofs.LeftStanding.{going_of, going_rule}
-use Rattle.report.specs.device_laws.proofs.Overlaps.{neither}
+use Rattle.device_plain.specs.device_rules.specs.Pictures.{Picture}
+use Rattle.device_plain.specs.device_rules.specs.Standing.{IsMade, Stands}
+use Rattle.device_plain.specs.device_rules.proofs.Going.{IsGoing}
+use Rattle.device_plain.specs.device_rules.proofs.Holding.{present_whole}
+use Rattle.device_plain.specs.device_rules.proofs.Homes.{made_bytes, made_starts}
+use Rattle.device_plain.specs.device_rules.proofs.LeftStanding.{going_of, going_rule}
+use Rattle.device_plain.specs.device_rules.proofs.Overlaps.{neither}
 use Rattle.device_plain.specs.isolation_laws.proofs.RemovalViews.{IsOwnRun}
 use Rattle.host_driver.specs.Driving.{bare}
 use Rattle.host_driver.proofs.Answered.{CanGive}

@@ -11,7 +11,7 @@ use Rattle.dcd_base.specs.declared.steps.LogId.{LogId}
 use Rattle.dcd_codes.specs.declared.rules.Rule.{Rule}
 use Rattle.event_records.specs.declared.events.EventKind.{EventKind}
 use Rattle.extent_list.specs.ExtentLists.{overlaps}
-use Rattle.field_bytes.specs.declared.faults.PayloadFault.{PayloadFault as ManagerFault}
+use Rattle.dcd_base.specs.declared.faults.PayloadFault.{PayloadFault as ManagerFault}
 use Rattle.fm_payloads.specs.ManagerPayloads.{manager_request}
 use Rattle.fm_payloads.specs.declared.requests.FmRequest.{FmRequest}
 use Rattle.journal_core.specs.Entries.{effects}
@@ -30,11 +30,11 @@ use Rattle.device_plain.specs.device_rules.specs.TagCommands.{add_reference_outc
 use Rattle.device_plain.specs.device_rules.specs.Tags.{is_referenced}
 use Rattle.device_plain.specs.device_rules.specs.Views.{view_of}
 use Rattle.device_plain.specs.device_rules.proofs.EffectKinds.{clear_passes, reference_passes, zeroes_pass}
-use Rattle.report.specs.device_laws.specs.Pictures.{picture_of}
-use Rattle.report.specs.device_laws.specs.Standing.{Sound}
-use Rattle.report.specs.device_laws.proofs.LogSteps.{IsSound as IsSoundLog}
-use Rattle.report.specs.device_laws.proofs.ViewOthers.{answer-leaves}
-use Rattle.report.specs.device_laws.proofs.ViewsLeft.{leaves_view, outcome-leaves}
+use Rattle.device_plain.specs.device_rules.specs.Pictures.{picture_of}
+use Rattle.device_plain.specs.device_rules.specs.Standing.{Sound}
+use Rattle.device_plain.specs.device_rules.proofs.LogSteps.{IsSound as IsSoundLog}
+use Rattle.device_plain.specs.device_rules.proofs.ViewOthers.{answer-leaves}
+use Rattle.device_plain.specs.device_rules.proofs.ViewsLeft.{leaves_view, outcome-leaves}
 use Rattle.device_plain.specs.isolation_laws.specs.Solo.{block_item, acts_for, extents_recorded}
 use Rattle.device_plain.specs.isolation_laws.specs.declared.items.Item.{Item}
 use Rattle.device_plain.specs.isolation_laws.proofs.RecordItems.{blocks_outcome, told_passing}

@@ -8,7 +8,7 @@ use Rattle.cci_codec.specs.declared.messages.Response.{Response}
 use Rattle.event_records.specs.declared.events.EventKind.{EventKind}
 use Rattle.event_records.specs.declared.events.Event.{Event}
 use Rattle.extent_list.specs.ExtentLists.{cut, has_range}
-use Rattle.field_bytes.specs.Layouts.{spelling}
+use Rattle.dcd_base.specs.Layouts.{spelling}
 use Rattle.host_payloads.specs.declared.requests.HostRequest.{HostRequest}
 use Rattle.host_payloads.specs.HostPayloads.{host_fields, host_opcode}
 use Rattle.host_driver.specs.declared.due.Due.{Due}

@@ -6,8 +6,8 @@ use Rattle.event_records.specs.Records.{record_fault}
 use Rattle.event_records.specs.declared.events.Event.{Event}
 use Rattle.event_records.specs.declared.events.EventKind.{EventKind}
 use Rattle.event_records.specs.declared.faults.RecordFault.{RecordFault}
-use Rattle.field_bytes.specs.Layouts.{number_at, pieces}
-use Rattle.field_bytes.specs.Payloads.{counted, has_flag, tag_at}
+use Rattle.dcd_base.specs.Layouts.{number_at, pieces}
+use Rattle.dcd_base.specs.Payloads.{counted, has_flag, tag_at}
 use Rattle.host_driver.specs.declared.faults.DriverFault.{DriverFault}
 
 -- the kind of a number up to 5

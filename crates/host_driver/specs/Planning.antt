@@ -1,6 +1,6 @@
 -- What is to come of an input, and how it is printed.
 use Rattle.std.specs.Prelude.{◌≡◌, ◌≢◌, ℕ, ◌<◌, ◌≤◌, List, [], ◌∷◌, ◌++◌, length, take, flat_map, codes, decimal, Some}
-use Rattle.program_frame.specs.Meanings.{Meaning}
+use Rattle.edge_io.specs.Meanings.{Meaning}
 use Rattle.dcd_base.specs.declared.capacity.Extent.{Extent}
 use Rattle.journal_core.specs.declared.entries.Entry.{Entry}
 use Rattle.report.specs.script_codec.specs.declared.faults.ScriptFault.{ScriptFault}

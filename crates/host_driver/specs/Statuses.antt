@@ -1,5 +1,5 @@
 -- Which end each status is.
-use Rattle.program_frame.specs.declared.ends.End.{End}
+use Rattle.edge_io.specs.declared.ends.End.{End}
 use Rattle.host_driver.specs.declared.status.DriveStatus.{DriveStatus}
 
 abbrev pub drive_end : DriveStatus → End

@@ -37,7 +37,7 @@ fn enter_act(device: &mut Device, line: u32, actor: Actor, act: Act) -> Result<(
     ensures entered { OnOk result (Appends device.old device.new (pass_of device.old.config.hosts 1 actor 0) line actor act) }
     ensures spelled { OnOk result (EndsSpelled device.new) }
 {
-    let hosts = device.control().config().hosts();
+    let hosts = device.control().first_config().hosts();
     let pass = pass_of(hosts, 1, &actor, 0);
     device.enter(pass, line, actor, act)?;
     ends_spelled(device);
@@ -150,6 +150,6 @@ pub fn drive(
     let mut driver = Driver::new(alloc, host, most);
     run_all(&mut device, &mut driver, lines.as_slice())?;
     // A configuration is sound.
-    let _hosts = device.control().config().hosts();
+    let _hosts = device.control().first_config().hosts();
     Ok((device, driver))
 }

@@ -1,16 +1,15 @@
 //! Pages of event records, read.
 
 ghost use Rattle.event_records.specs.Records.{record_fault};
-ghost use Rattle.field_bytes.specs.Layouts.{pieces};
+ghost use Rattle.dcd_base.specs.Layouts.{pieces};
 ghost use Rattle.host_driver.specs.Pages.{bad_at, bad_record, event_in, events_in, page_fault, records_length};
 ghost use Rattle.host_driver.specs.declared.faults.DriverFault.{DriverFault};
 ghost use Rattle.event_records.specs.declared.events.Event.{Event};
 ghost use Rattle.std.specs.Prelude.{◌≡◌, ◌≢◌, ◌+◌, ◌*◌, IfErr, IfOk, None, OnOk, Some, length, map};
 
 use crate::faults::DriverFault;
-use dcd_base::{Handles, NoMemory, Seq};
+use dcd_base::{Handles, NoMemory, Seq, u16_at};
 use event_records::{Event, decode};
-use field_bytes::u16_at;
 use std::alloc::Global;
 
 /// How long a page has to be: 32 bytes and 128 for each record of its count.

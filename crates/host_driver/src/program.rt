@@ -1,8 +1,8 @@
 //! The top call.
 
 ghost use Rattle.host_driver.specs.Planning.{EndsOn, IsDrivenText, IsPrintable, bytes_of, driver_program, drive_usage_line};
-ghost use Rattle.program_frame.specs.Meanings.{Decides};
-ghost use Rattle.program_frame.specs.Runs.{Ran};
+ghost use Rattle.edge_io.specs.Meanings.{Decides};
+ghost use Rattle.edge_io.specs.Runs.{Ran};
 ghost use Rattle.report.specs.script_codec.specs.Scripts.{is_sound_line};
 ghost use Rattle.std.specs.List.{list_all};
 ghost use Rattle.std.specs.Prelude.{◌<◌, ◌≤◌, IfOk, IsTrue, length};
@@ -13,7 +13,7 @@ use crate::printing::{extent_lines, print_with};
 use crate::status::DriveStatus;
 use crate::words::{DriveChoice, chosen};
 use dcd_base::{Bytes, Failed, HostId, NoMemory, Sink, Source};
-use program_frame::{Program, Stop, run};
+use edge_io::{Program, Stop, run};
 use report::refusal;
 use report::script_codec::{Script, ScriptFault, read};
 use std::alloc::Global;

@@ -26,7 +26,7 @@ fn step_act(device: &mut Device, actor: Actor, act: &Act) -> Result<Reply, NoMem
     ensures spelled { OnOk result (EndsSpelled device.new) }
     ensures sound { OnOk result (IsSound device.old.config) }
 {
-    let hosts = device.control().config().hosts();
+    let hosts = device.control().first_config().hosts();
     let pass = pass_of(hosts, 1, &actor, 0);
     let reply = device.step(pass, 0, actor, act)?;
     ends_spelled(device);

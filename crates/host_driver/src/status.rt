@@ -1,10 +1,10 @@
 //! How a run of the driver ends.
 
 ghost use Rattle.host_driver.specs.Statuses.{drive_end};
-ghost use Rattle.program_frame.specs.Ends.{number_of};
+ghost use Rattle.edge_io.specs.Ends.{number_of};
 ghost use Rattle.std.specs.Prelude.{◌≡◌};
 
-use program_frame::{End, FAULT_PRINTED};
+use edge_io::{End, FAULT_PRINTED};
 use report::script_codec::ScriptFault;
 
 /// How a run of the driver ends.

@@ -2,9 +2,8 @@
 //! driver's table.
 #![tactic(auto)]
 
-use edge_io::{StdSink, StdSource, words};
+use edge_io::{StdSink, StdSource, leave, words};
 use host_driver::{DriveStatus, run_driver};
-use program_frame::leave;
 use std::process::ExitCode;
 
 /// Hands `run_driver` the words of the command line, standard input and standard output, and exits with its status.

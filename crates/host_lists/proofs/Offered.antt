@@ -6,10 +6,10 @@ use Rattle.std.proofs.lemmas.List.{get_or-take, length-take, take_more, take_all
 use Rattle.std.proofs.lemmas.List.Concat.{flat_map-append, length-flat_map}
 use Rattle.std.proofs.lemmas.List.Sums.{sum_by_push}
 use Rattle.std.proofs.lemmas.List.Folds.{list_any-append, list_any_at, list_any_more}
-use Rattle.list_rules.specs.dcd_codes.specs.dcd_base.specs.declared.capacity.Extent.{Extent}
-use Rattle.list_rules.specs.dcd_codes.specs.dcd_base.specs.declared.capacity.Tag.{Tag}
-use Rattle.list_rules.specs.dcd_codes.specs.dcd_base.specs.Words.{same_tag}
-use Rattle.list_rules.specs.extent_list.specs.ExtentLists.{count_in, has_extent_of}
+use Rattle.extent_list.specs.dcd_codes.specs.dcd_base.specs.declared.capacity.Extent.{Extent}
+use Rattle.extent_list.specs.dcd_codes.specs.dcd_base.specs.declared.capacity.Tag.{Tag}
+use Rattle.extent_list.specs.dcd_codes.specs.dcd_base.specs.Words.{same_tag}
+use Rattle.extent_list.specs.ExtentLists.{count_in, has_extent_of}
 use Rattle.host_lists.specs.Lists.{Lists, extent_total, extents_of_lists}
 use Rattle.offer_core.specs.declared.offer.Offer.{Offer}
 use Rattle.offer_core.specs.Offerings.{lists_of, oldest_of}

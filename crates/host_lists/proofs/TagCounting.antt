@@ -8,10 +8,10 @@ use Rattle.std.proofs.lemmas.List.Elements.{filter-append}
 use Rattle.std.proofs.lemmas.List.Folds.{list_all_at, list_any-append}
 use Rattle.std.specs.List.{list_all}
 use Rattle.std.proofs.lemmas.List.Sums.{count_by-le-length, fold_push, length-filter}
-use Rattle.list_rules.specs.dcd_codes.specs.dcd_base.specs.declared.capacity.Extent.{Extent}
-use Rattle.list_rules.specs.dcd_codes.specs.dcd_base.specs.declared.capacity.Tag.{Tag}
-use Rattle.list_rules.specs.dcd_codes.specs.dcd_base.specs.Words.{distinct_tags, has_tag, is_zero_tag, same_tag}
-use Rattle.list_rules.specs.extent_list.specs.ExtentLists.{has_extent_of, tags_of}
+use Rattle.extent_list.specs.dcd_codes.specs.dcd_base.specs.declared.capacity.Extent.{Extent}
+use Rattle.extent_list.specs.dcd_codes.specs.dcd_base.specs.declared.capacity.Tag.{Tag}
+use Rattle.extent_list.specs.dcd_codes.specs.dcd_base.specs.Words.{distinct_tags, has_tag, is_zero_tag, same_tag}
+use Rattle.extent_list.specs.ExtentLists.{has_extent_of, tags_of}
 use Rattle.host_lists.specs.Tags.{capped, is_new, tag_count}
 
 -- the tags seen, and one more unless it is among them

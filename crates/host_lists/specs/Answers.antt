@@ -1,8 +1,8 @@
 -- What a response and a release do to a host's lists.
 use Rattle.std.specs.Prelude.{◌≡◌, ◌≢◌, ℕ, Bool, true, false, if◌then◌else◌, List, [], ◌∷◌, ◌++◌, drop, map}
-use Rattle.list_rules.specs.dcd_codes.specs.dcd_base.specs.declared.capacity.Extent.{Extent}
-use Rattle.list_rules.specs.dcd_codes.specs.dcd_base.specs.Words.{is_empty}
-use Rattle.list_rules.specs.extent_list.specs.ExtentLists.{cut_all, marked}
+use Rattle.extent_list.specs.dcd_codes.specs.dcd_base.specs.declared.capacity.Extent.{Extent}
+use Rattle.extent_list.specs.dcd_codes.specs.dcd_base.specs.Words.{is_empty}
+use Rattle.extent_list.specs.ExtentLists.{cut_all, marked}
 use Rattle.release_core.specs.declared.releases.GivenBack.{GivenBack}
 use Rattle.host_lists.specs.declared.responded.Responded.{Responded}
 use Rattle.host_lists.specs.Lists.{Lists, next_generation}

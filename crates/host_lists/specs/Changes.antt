@@ -1,7 +1,7 @@
 -- What a step changes of a host's lists.
 use Rattle.std.specs.Prelude.{◌+◌, ◌&&◌, Bool, if◌then◌else◌, nat_le, nat_lt, List, [], ◌∷◌, ◌++◌, Option, Some, None, drop, length}
-use Rattle.list_rules.specs.dcd_codes.specs.dcd_base.specs.declared.capacity.Extent.{Extent}
-use Rattle.list_rules.specs.extent_list.specs.ExtentLists.{count_in}
+use Rattle.extent_list.specs.dcd_codes.specs.dcd_base.specs.declared.capacity.Extent.{Extent}
+use Rattle.extent_list.specs.ExtentLists.{count_in}
 use Rattle.offer_core.specs.Offerings.{lists_of}
 use Rattle.host_lists.specs.Lists.{Lists}
 use Rattle.host_lists.specs.declared.lists_change.ListsChange.{ListsChange}

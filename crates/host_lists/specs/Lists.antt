@@ -1,7 +1,7 @@
 -- All lists that the device keeps of one host.
 use Rattle.std.specs.Prelude.{ℕ, ◌+◌, ◌%◌, ◌^◌, List, [], ◌++◌, flat_map, length}
-use Rattle.list_rules.specs.dcd_codes.specs.dcd_base.specs.declared.capacity.Extent.{Extent}
-use Rattle.list_rules.specs.extent_list.specs.ExtentLists.{count_in}
+use Rattle.extent_list.specs.dcd_codes.specs.dcd_base.specs.declared.capacity.Extent.{Extent}
+use Rattle.extent_list.specs.ExtentLists.{count_in}
 
 -- What the device keeps of a host's extents: those that it has accepted, those of each unanswered offer, those that
 -- responses and releases with More hold, and how often the accepted list changed, modulo 2 ^ 32.

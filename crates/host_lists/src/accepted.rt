@@ -1,12 +1,12 @@
 //! The extents that a host has accepted, with their memory.
 
-ghost use Rattle.list_rules.specs.extent_list.specs.ExtentLists.{cut};
-ghost use Rattle.list_rules.specs.extent_list.specs.Rooms.{IsCutInAddresses};
+ghost use Rattle.extent_list.specs.ExtentLists.{cut};
+ghost use Rattle.extent_list.specs.Rooms.{IsCutInAddresses};
 ghost use Rattle.std.specs.Prelude.{◌≡◌, ◌++◌, ◌+◌, ◌<◌, ◌≤◌, [], IfOk, length};
 
 use crate::changes::add_all;
-use list_rules::dcd_codes::dcd_base::{Extent, NoMemory};
-use list_rules::extent_list::ExtentList;
+use extent_list::ExtentList;
+use extent_list::dcd_codes::dcd_base::{Extent, NoMemory};
 use std::alloc::Global;
 use std::marker::Model;
 
@@ -20,7 +20,7 @@ pub struct AcceptedList {
 }
 
 impl Model for AcceptedList {
-    ghost use Rattle.list_rules.specs.dcd_codes.specs.dcd_base.specs.declared.capacity.Extent.{Extent};
+    ghost use Rattle.extent_list.specs.dcd_codes.specs.dcd_base.specs.declared.capacity.Extent.{Extent};
     ghost use Rattle.std.specs.Prelude.{◌+◌, ◌≤◌, List, length};
 
     ghost Value = { List Extent };

@@ -1,7 +1,7 @@
 //! A host's lists as a change would leave them.
 
-ghost use Rattle.list_rules.specs.dcd_codes.specs.dcd_base.specs.Limits.{extents_supported, tags_supported};
-ghost use Rattle.list_rules.specs.extent_list.specs.ExtentLists.{count_in, has_extent_of, real_tags};
+ghost use Rattle.extent_list.specs.dcd_codes.specs.dcd_base.specs.Limits.{extents_supported, tags_supported};
+ghost use Rattle.extent_list.specs.ExtentLists.{count_in, has_extent_of, real_tags};
 ghost use Rattle.host_lists.specs.Changes.{changed_by, with_offer};
 ghost use Rattle.host_lists.specs.Lists.{extent_total, extents_of_lists};
 ghost use Rattle.host_lists.specs.Tags.{capped, tag_count};
@@ -13,9 +13,9 @@ use crate::lists::HostLists;
 use crate::lists_change::{ListsChange, OffersChange};
 use crate::offer_lists::{OfferLists, fits_behind};
 use crate::tag_counts::{all_tags, has_in_offers, more_tags};
-use list_rules::dcd_codes::dcd_base::limits::{EXTENTS, TAGS};
-use list_rules::dcd_codes::dcd_base::{Extent, Tag};
-use list_rules::extent_list::has_extent_of;
+use extent_list::dcd_codes::dcd_base::limits::{EXTENTS, TAGS};
+use extent_list::dcd_codes::dcd_base::{Extent, Tag};
+use extent_list::has_extent_of;
 use offer_core::Offers;
 use std::marker::Model;
 

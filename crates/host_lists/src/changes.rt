@@ -4,8 +4,8 @@ ghost use Rattle.host_lists.specs.Answers.{generation_after};
 ghost use Rattle.host_lists.specs.Lists.{next_generation};
 ghost use Rattle.std.specs.Prelude.{◌≡◌, ◌++◌, ◌+◌, ◌≤◌, length};
 
-use list_rules::dcd_codes::dcd_base::Extent;
-use list_rules::extent_list::ExtentList;
+use extent_list::ExtentList;
+use extent_list::dcd_codes::dcd_base::Extent;
 
 /// The count after one more change; it begins anew at 2^32.
 pub(crate) fn next_generation(generation: u32) -> u32

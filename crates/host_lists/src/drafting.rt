@@ -1,7 +1,7 @@
 //! What commands would change of a host's lists, of which no more is copied than changes.
 
-ghost use Rattle.list_rules.specs.dcd_codes.specs.dcd_base.specs.declared.capacity.Extent.{Extent};
-ghost use Rattle.list_rules.specs.extent_list.specs.ExtentLists.{cut_all};
+ghost use Rattle.extent_list.specs.dcd_codes.specs.dcd_base.specs.declared.capacity.Extent.{Extent};
+ghost use Rattle.extent_list.specs.ExtentLists.{cut_all};
 ghost use Rattle.host_lists.specs.Answers.{GivesUp, HostResponds, after_accepting, given_up, lists_without};
 ghost use Rattle.host_lists.specs.Changes.{accepted_with, changed_by, offers_with, releases_with, responses_with, with_offer};
 ghost use Rattle.release_core.specs.Leaving.{AllCanLeave};
@@ -13,8 +13,8 @@ use crate::lists::HostLists;
 use crate::lists_change::{ListsChange, OffersChange, ReleasesChange};
 use crate::offer_lists::fits_behind;
 use crate::responded::Responded;
-use list_rules::dcd_codes::dcd_base::limits::LISTED_EXTENTS;
-use list_rules::dcd_codes::dcd_base::{Extent, Extents, NoMemory};
+use extent_list::dcd_codes::dcd_base::limits::LISTED_EXTENTS;
+use extent_list::dcd_codes::dcd_base::{Extent, Extents, NoMemory};
 use offer_core::Offer;
 use release_core::GivenBack;
 use std::alloc::Global;

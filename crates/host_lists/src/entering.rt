@@ -1,13 +1,13 @@
 //! What each effect makes of a host's lists. None of these calls takes memory.
 
-ghost use Rattle.list_rules.specs.extent_list.specs.ExtentLists.{count_in, cut};
-ghost use Rattle.list_rules.specs.extent_list.specs.Rooms.{IsCutInAddresses};
+ghost use Rattle.extent_list.specs.ExtentLists.{count_in, cut};
+ghost use Rattle.extent_list.specs.Rooms.{IsCutInAddresses};
 ghost use Rattle.host_lists.specs.Lists.{next_generation};
 ghost use Rattle.std.specs.Prelude.{◌≡◌, ◌++◌, ◌∷◌, ◌+◌, ◌<◌, ◌≤◌, [], drop, length};
 
 use crate::changes::next_generation;
 use crate::lists::HostLists;
-use list_rules::dcd_codes::dcd_base::Extent;
+use extent_list::dcd_codes::dcd_base::Extent;
 
 impl HostLists {
     /// These extents are offered, behind all other offers, of which there are fewer than 64, and together 64 extents at most.

@@ -1,7 +1,7 @@
 //! The lists, and what is read of them.
 
-ghost use Rattle.list_rules.specs.dcd_codes.specs.dcd_base.specs.Limits.{extents_supported, tags_supported};
-ghost use Rattle.list_rules.specs.extent_list.specs.ExtentLists.{count_in, has_extent_of, real_tags};
+ghost use Rattle.extent_list.specs.dcd_codes.specs.dcd_base.specs.Limits.{extents_supported, tags_supported};
+ghost use Rattle.extent_list.specs.ExtentLists.{count_in, has_extent_of, real_tags};
 ghost use Rattle.host_lists.specs.Lists.{extent_total, extents_of_lists, no_lists};
 ghost use Rattle.host_lists.specs.Tags.{capped, tag_count};
 ghost use Rattle.offer_core.specs.Offerings.{lists_of, oldest_of};
@@ -11,9 +11,9 @@ ghost use Rattle.std.specs.Prelude.{◌≡◌, ◌++◌, ◌+◌, ◌-◌, ◌^�
 use crate::accepted::AcceptedList;
 use crate::offer_lists::OfferLists;
 use crate::tag_counts::{all_tags, has_in_offers, more_tags};
-use list_rules::dcd_codes::dcd_base::limits::{EXTENTS, TAGS};
-use list_rules::dcd_codes::dcd_base::{Extent, NoMemory, Tag};
-use list_rules::extent_list::{ExtentList, has_extent_of};
+use extent_list::dcd_codes::dcd_base::limits::{EXTENTS, TAGS};
+use extent_list::dcd_codes::dcd_base::{Extent, NoMemory, Tag};
+use extent_list::{ExtentList, has_extent_of};
 use offer_core::Offers;
 use release_core::Releases;
 use std::alloc::Global;

@@ -4,8 +4,8 @@ ghost use Rattle.host_lists.specs.Changes.{fits_behind};
 ghost use Rattle.offer_core.specs.Offerings.{lists_of};
 ghost use Rattle.std.specs.Prelude.{◌≡◌, ◌<◌, Some, drop, length, slice_get};
 
-use list_rules::dcd_codes::dcd_base::Extent;
-use list_rules::dcd_codes::dcd_base::limits::EXTENTS;
+use extent_list::dcd_codes::dcd_base::Extent;
+use extent_list::dcd_codes::dcd_base::limits::EXTENTS;
 use offer_core::Offers;
 use std::marker::Model;
 
@@ -17,7 +17,7 @@ pub(crate) struct OfferLists<'a> {
 }
 
 impl<'a> Model for OfferLists<'a> {
-    ghost use Rattle.list_rules.specs.dcd_codes.specs.dcd_base.specs.declared.capacity.Extent.{Extent};
+    ghost use Rattle.extent_list.specs.dcd_codes.specs.dcd_base.specs.declared.capacity.Extent.{Extent};
     ghost use Rattle.offer_core.specs.Offerings.{lists_of};
     ghost use Rattle.std.specs.Prelude.{List, drop};
 

@@ -3,7 +3,7 @@
 ghost use Rattle.std.specs.Prelude.{◌≡◌, ◌++◌, ◌∷◌, [], OnErr, OnOk};
 
 use crate::lists::HostLists;
-use list_rules::dcd_codes::dcd_base::{Extents, NoMemory};
+use extent_list::dcd_codes::dcd_base::{Extents, NoMemory};
 use offer_core::Offer;
 
 impl HostLists {

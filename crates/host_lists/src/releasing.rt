@@ -5,7 +5,7 @@ ghost use Rattle.std.specs.Prelude.{◌≡◌, ◌+◌, ◌^◌, ◌<◌, All, O
 
 use crate::changes::next_generation;
 use crate::lists::HostLists;
-use list_rules::dcd_codes::dcd_base::{Extents, NoMemory};
+use extent_list::dcd_codes::dcd_base::{Extents, NoMemory};
 
 impl HostLists {
     /// Takes those of these extents out of the accepted ones that lie in one when their turn comes, which counts as

@@ -1,6 +1,6 @@
 //! What a response did.
 
-use list_rules::dcd_codes::dcd_base::Extents;
+use extent_list::dcd_codes::dcd_base::Extents;
 
 /// What a response that breaks no rule did to the host's lists (CXL 3.1, 8.2.9.9.9.3).
 #[derive(Debug, Drop)]

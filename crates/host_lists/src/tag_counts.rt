@@ -1,13 +1,13 @@
 //! Tags among the extents that a host has accepted and is offered.
 
-ghost use Rattle.list_rules.specs.extent_list.specs.ExtentLists.{has_extent_of};
+ghost use Rattle.extent_list.specs.ExtentLists.{has_extent_of};
 ghost use Rattle.host_lists.specs.Tags.{capped, extents_before, is_new, tag_count};
 ghost use Rattle.std.specs.List.{list_any};
 ghost use Rattle.std.specs.Prelude.{◌≡◌, ◌++◌, ◌≤◌, List, flat_map, length, take, true};
 
 use crate::offer_lists::OfferLists;
-use list_rules::dcd_codes::dcd_base::{Extent, Tag, no_tag};
-use list_rules::extent_list::{has_extent_of, same_tag};
+use extent_list::dcd_codes::dcd_base::{Extent, Tag, no_tag};
+use extent_list::{has_extent_of, same_tag};
 
 /// Whether an extent of the first `count` offers has the tag.
 pub(crate) fn has_in_offers(tag: &Tag, offers: &OfferLists, count: usize) -> bool

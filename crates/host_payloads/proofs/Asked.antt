@@ -3,16 +3,16 @@ use Rattle.std.proofs.Common.{◌≡◌, ℕ, ◌+◌, ◌-◌, ◌*◌, ◌/◌
 use Rattle.std.specs.List.{list_all}
 use Rattle.std.specs.Int.{w32}
 use Rattle.std.proofs.lemmas.List.{length-drop, length-map}
-use Rattle.event_records.specs.field_bytes.specs.dcd_base.specs.declared.capacity.Extent.{Extent}
-use Rattle.event_records.specs.field_bytes.specs.Layouts.{Number, Reserved, pieces, number_at, flag}
-use Rattle.event_records.specs.field_bytes.specs.Payloads.{has_flag}
+use Rattle.event_records.specs.dcd_base.specs.declared.capacity.Extent.{Extent}
+use Rattle.event_records.specs.dcd_base.specs.Layouts.{Number, Reserved, pieces, number_at, flag}
+use Rattle.event_records.specs.dcd_base.specs.Payloads.{has_flag}
 use Rattle.host_payloads.specs.HostPayloads.{list_fields, list_length, listed_extent, listed_extents, listed_fields, is_untagged}
-use Rattle.event_records.specs.field_bytes.proofs.Fields.{IsBytes}
-use Rattle.event_records.specs.field_bytes.proofs.Agreement.{Agrees}
-use Rattle.event_records.specs.field_bytes.proofs.PayloadLengths.{counted_at, counted_is}
-use Rattle.event_records.specs.field_bytes.proofs.Widths.{IsBytes-drop, wide_32}
-use Rattle.event_records.specs.field_bytes.proofs.Pieces.{length-pieces, pieces_found, pieces_only}
-use Rattle.event_records.specs.field_bytes.proofs.Places.{FieldsAt, all_from, number_found, number_only, flag_found, flag_only, reserved_found, reserved_only}
+use Rattle.event_records.specs.dcd_base.proofs.Fields.{IsBytes}
+use Rattle.event_records.specs.dcd_base.proofs.Agreement.{Agrees}
+use Rattle.event_records.specs.dcd_base.proofs.PayloadLengths.{counted_at, counted_is}
+use Rattle.event_records.specs.dcd_base.proofs.Widths.{IsBytes-drop, wide_32}
+use Rattle.event_records.specs.dcd_base.proofs.Pieces.{length-pieces, pieces_found, pieces_only}
+use Rattle.event_records.specs.dcd_base.proofs.Places.{FieldsAt, all_from, number_found, number_only, flag_found, flag_only, reserved_found, reserved_only}
 use Rattle.host_payloads.proofs.Shapes.{listed_found, listed_only, each_untagged, IsUntagged}
 
 -- ---- 4802h and 4803h: a count, a flag, extents

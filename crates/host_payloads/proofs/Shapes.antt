@@ -5,15 +5,15 @@ use Rattle.std.specs.List.{list_all, AllByRecursion}
 use Rattle.std.specs.Int.{w64}
 use Rattle.std.specs.Cmp.Lexicographic.{same_text}
 use Rattle.std.proofs.lemmas.Bool.{eqb-true}
-use Rattle.event_records.specs.field_bytes.specs.dcd_base.specs.declared.capacity.Extent.{Extent}
-use Rattle.event_records.specs.field_bytes.specs.dcd_base.specs.declared.capacity.Tag.{Tag}
-use Rattle.event_records.specs.field_bytes.specs.dcd_base.specs.Words.{is_zero_tag}
+use Rattle.event_records.specs.dcd_base.specs.declared.capacity.Extent.{Extent}
+use Rattle.event_records.specs.dcd_base.specs.declared.capacity.Tag.{Tag}
+use Rattle.event_records.specs.dcd_base.specs.Words.{is_zero_tag}
 use Rattle.host_payloads.specs.HostPayloads.{listed_fields, listed_extent, is_untagged}
-use Rattle.event_records.specs.field_bytes.proofs.Fields.{IsBytes}
-use Rattle.event_records.specs.field_bytes.proofs.Agreement.{Agrees}
-use Rattle.event_records.specs.field_bytes.proofs.Widths.{wide_64}
-use Rattle.event_records.specs.field_bytes.proofs.WholeExtents.{same_extent}
-use Rattle.event_records.specs.field_bytes.proofs.Places.{all_from, end_found, end_only, number_found, number_only, reserved_found, reserved_only}
+use Rattle.event_records.specs.dcd_base.proofs.Fields.{IsBytes}
+use Rattle.event_records.specs.dcd_base.proofs.Agreement.{Agrees}
+use Rattle.event_records.specs.dcd_base.proofs.Widths.{wide_64}
+use Rattle.event_records.specs.dcd_base.proofs.WholeExtents.{same_extent}
+use Rattle.event_records.specs.dcd_base.proofs.Places.{all_from, end_found, end_only, number_found, number_only, reserved_found, reserved_only}
 
 pub listed_found : (b : List ℕ) → length b ≡ 24 → IsBytes b → Agrees b (listed_fields (listed_extent b))
 listed_found b len small =

@@ -3,7 +3,7 @@
 ghost use Rattle.host_payloads.specs.HostPayloads.{list_length, page_length};
 ghost use Rattle.std.specs.Prelude.{◌≡◌, ◌+◌, ◌*◌};
 
-use event_records::field_bytes::u32_at;
+use event_records::dcd_base::u32_at;
 
 /// The length of a list of extents without tags: 8 bytes and 24 for each extent of its count.
 pub fn list_length(payload: &[u8]) -> u64

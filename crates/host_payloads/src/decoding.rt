@@ -1,16 +1,15 @@
 //! From a payload to the request of a host.
 
 ghost use Rattle.host_payloads.specs.HostPayloads.{IsHostRequest, clear_asked, configuration_asked, events_asked, extents_asked, host_request, listed_in};
-ghost use Rattle.event_records.specs.field_bytes.specs.Payloads.{Gives};
+ghost use Rattle.event_records.specs.dcd_base.specs.Payloads.{Gives};
 ghost use Rattle.host_payloads.specs.declared.requests.HostRequest.{HostRequest};
 ghost use Rattle.std.specs.Prelude.{IfOk};
 
 use crate::counted::list_length;
 use crate::list_reading::listed_of;
 use crate::requests::HostRequest;
-use event_records::field_bytes::dcd_base::Extents;
-use event_records::field_bytes::{
-    PayloadFault, clear_length, expect_length, flag_at, handles_of, u32_at,
+use event_records::dcd_base::{
+    Extents, PayloadFault, clear_length, expect_length, flag_at, handles_of, u32_at,
 };
 use std::alloc::Global;
 

@@ -1,15 +1,14 @@
 //! From a request of a host to its payload.
 
-ghost use Rattle.event_records.specs.field_bytes.specs.Layouts.{FitsField, spelling};
+ghost use Rattle.event_records.specs.dcd_base.specs.Layouts.{FitsField, spelling};
 ghost use Rattle.host_payloads.specs.HostPayloads.{HostCountsFit, host_fields, host_opcode, host_request, list_fields, list_head, lists_untagged};
 ghost use Rattle.std.specs.List.{AllByRecursion};
 ghost use Rattle.std.specs.Prelude.{◌≡◌, ◌+◌, ◌*◌, ◌++◌, ◌<◌, ◌≤◌, ◌^◌, IfOk, IsTrue, Ok, OnErr, OnOk, length, take};
 
 use crate::list_writing::put_all_listed;
 use crate::requests::HostRequest;
-use event_records::field_bytes::dcd_base::{Bytes, Extent, NoMemory};
-use event_records::field_bytes::{
-    clear_payload, page_request, put_flag, put_u32, put_zeros, zeros,
+use event_records::dcd_base::{
+    Bytes, Extent, NoMemory, clear_payload, page_request, put_flag, put_u32, put_zeros, zeros,
 };
 use std::alloc::Global;
 

@@ -1,11 +1,10 @@
 //! Extents with their tags, 40 bytes each.
 
-ghost use Rattle.event_records.specs.field_bytes.specs.Extents.{FitsExtent, extent_bytes};
+ghost use Rattle.event_records.specs.dcd_base.specs.Extents.{FitsExtent, extent_bytes};
 ghost use Rattle.std.specs.List.{AllByRecursion};
 ghost use Rattle.std.specs.Prelude.{◌≡◌, ◌++◌, IfOk, OnOk, flat_map};
 
-use event_records::field_bytes::dcd_base::{Bytes, Extent, NoMemory};
-use event_records::field_bytes::put_extent;
+use event_records::dcd_base::{Bytes, Extent, NoMemory, put_extent};
 
 /// An extent's 40 bytes in a reply: start, length, tag, sequence number; the last six are reserved
 /// (CXL 3.1, 8.2.9.9.9.2).

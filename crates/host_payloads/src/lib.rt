@@ -18,7 +18,7 @@ mod views;
 
 pub use decoding::decode;
 pub use encoding::encode;
-pub use event_records::field_bytes::PayloadFault;
+pub use event_records::dcd_base::PayloadFault;
 pub use extents::{extent_bytes, with_extents};
 pub use pages::{ExtentsPage, read_extents, write_extents};
 pub use replies::{write_configuration, write_events};

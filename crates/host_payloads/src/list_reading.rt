@@ -1,11 +1,10 @@
 //! Lists of extents without tags.
 
-ghost use Rattle.event_records.specs.field_bytes.specs.Layouts.{pieces};
+ghost use Rattle.event_records.specs.dcd_base.specs.Layouts.{pieces};
 ghost use Rattle.host_payloads.specs.HostPayloads.{listed_extent};
 ghost use Rattle.std.specs.Prelude.{◌≡◌, ◌*◌, ◌≤◌, IfOk, length, map};
 
-use event_records::field_bytes::dcd_base::{Extent, Extents, NoMemory, no_tag};
-use event_records::field_bytes::u64_at;
+use event_records::dcd_base::{Extent, Extents, NoMemory, no_tag, u64_at};
 use std::alloc::Global;
 
 /// The extent that 24 bytes list.

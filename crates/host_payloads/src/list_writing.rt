@@ -4,8 +4,7 @@ ghost use Rattle.host_payloads.specs.HostPayloads.{FitsListed, listed_bytes};
 ghost use Rattle.std.specs.List.{AllByRecursion};
 ghost use Rattle.std.specs.Prelude.{◌≡◌, ◌+◌, ◌*◌, ◌++◌, ◌≤◌, flat_map, length, take};
 
-use event_records::field_bytes::dcd_base::Extent;
-use event_records::field_bytes::{put_u64, put_zeros};
+use event_records::dcd_base::{Extent, put_u64, put_zeros};
 
 /// Fills 24 bytes with an extent without its tag and sequence number. The last eight are reserved.
 #[tactic(auto, unfolding(crate::specs::HostPayloads::listed_bytes))]

@@ -1,16 +1,16 @@
 //! A page of extents, read and written.
 
-ghost use Rattle.event_records.specs.field_bytes.specs.Layouts.{FitsField};
+ghost use Rattle.event_records.specs.dcd_base.specs.Layouts.{FitsField};
 ghost use Rattle.host_payloads.specs.HostPayloads.{IsPage, extents_payload, page_fields, page_head, page_in, page_of};
-ghost use Rattle.event_records.specs.field_bytes.specs.Payloads.{Gives};
+ghost use Rattle.event_records.specs.dcd_base.specs.Payloads.{Gives};
 ghost use Rattle.host_payloads.specs.declared.pages.ExtentsPage.{ExtentsPage};
 ghost use Rattle.std.specs.List.{AllByRecursion};
 ghost use Rattle.std.specs.Prelude.{◌≡◌, ◌+◌, ◌*◌, ◌++◌, ◌≤◌, IfOk, OnErr, OnOk, length, take};
 
 use crate::counted::page_length;
-use event_records::field_bytes::dcd_base::{Bytes, Extent, Extents, NoMemory};
-use event_records::field_bytes::{
-    PayloadFault, expect_length, extents_of, put_extents, put_u32, put_zeros, u32_at, with_zeros,
+use event_records::dcd_base::{
+    Bytes, Extent, Extents, NoMemory, PayloadFault, expect_length, extents_of, put_extents,
+    put_u32, put_zeros, u32_at, with_zeros,
 };
 use std::alloc::Global;
 

@@ -1,13 +1,12 @@
 //! The payloads of the replies to a host.
 
-ghost use Rattle.event_records.specs.field_bytes.specs.dcd_base.specs.Words.{flag_of};
+ghost use Rattle.event_records.specs.dcd_base.specs.Words.{flag_of};
 ghost use Rattle.event_records.specs.Records.{record_bytes};
 ghost use Rattle.host_payloads.specs.HostPayloads.{configuration_head, configuration_payload, events_head, events_payload, region_bytes};
 ghost use Rattle.std.specs.Prelude.{◌≡◌, ◌==◌, ◌+◌, ◌*◌, ◌++◌, ◌≤◌, IfOk, OnErr, OnOk, flat_map, length, not, take};
 
 use crate::views::{Counts, RegionView, put_counts, put_region};
-use event_records::field_bytes::dcd_base::{Bytes, NoMemory};
-use event_records::field_bytes::{put_byte, put_u8, put_u16, put_zeros, with_zeros};
+use event_records::dcd_base::{Bytes, NoMemory, put_byte, put_u8, put_u16, put_zeros, with_zeros};
 use event_records::{Event, put_record};
 
 /// The flags before the records: bit 0 where records were missed, bit 1 where more records follow later.

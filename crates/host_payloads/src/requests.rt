@@ -1,6 +1,6 @@
 //! The commands of a host.
 
-use event_records::field_bytes::dcd_base::{Extents, ShortList};
+use event_records::dcd_base::{Extents, ShortList};
 
 /// What a host asks of the device, the payload of its message.
 #[derive(Debug, Drop)]

@@ -3,7 +3,7 @@
 ghost use Rattle.host_payloads.specs.HostPayloads.{counts_bytes, region_bytes};
 ghost use Rattle.std.specs.Prelude.{◌≡◌, ◌+◌, ◌++◌, ◌≤◌, length, take};
 
-use event_records::field_bytes::{put_u8, put_u32, put_u64, put_zeros};
+use event_records::dcd_base::{put_u8, put_u32, put_u64, put_zeros};
 
 /// A region as the reply to Get Dynamic Capacity Configuration shows it (CXL 3.1, 8.2.9.9.9.1).
 #[derive(Clone, Copy, Debug, PartialEq, Eq)]

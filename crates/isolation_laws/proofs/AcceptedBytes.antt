@@ -7,14 +7,14 @@ use Rattle.std.proofs.lemmas.List.Folds.{list_any-append}
 use Rattle.dcd_base.specs.declared.capacity.Extent.{Extent}
 use Rattle.dcd_base.specs.declared.ids.HostId.{HostId}
 use Rattle.event_records.specs.declared.events.EventKind.{EventKind}
-use Rattle.list_rules.specs.extent_list.specs.ExtentLists.{cut, cut_all, has_range, lies_in, piece, without}
+use Rattle.extent_list.specs.ExtentLists.{cut, cut_all, has_range, lies_in, piece, without}
 use Rattle.journal_core.specs.declared.outcome.Effect.{Effect}
-use Rattle.list_rules.specs.media_map.specs.Places.{bytes_of_run, start_of}
-use Rattle.list_rules.specs.media_map.specs.region_config.specs.Configurations.{Configuration}
-use Rattle.list_rules.specs.media_map.specs.region_config.specs.Granules.{is_supported, region_spec}
-use Rattle.device_commands.specs.device_rules.specs.Hosts.{accepted_after}
-use Rattle.device_commands.specs.device_rules.specs.Outcomes.{no_extent, record_for}
-use Rattle.device_commands.specs.device_rules.specs.Views.{View}
+use Rattle.extent_list.specs.media_map.specs.Places.{bytes_of_run, start_of}
+use Rattle.extent_list.specs.media_map.specs.region_config.specs.Configurations.{Configuration}
+use Rattle.extent_list.specs.media_map.specs.region_config.specs.Granules.{is_supported, region_spec}
+use Rattle.device_rules.specs.Hosts.{accepted_after}
+use Rattle.device_rules.specs.Outcomes.{no_extent, record_for}
+use Rattle.device_rules.specs.Views.{View}
 use Rattle.isolation_laws.specs.Solo.{accepts_byte, has_byte, solo_after, with_log_records}
 use Rattle.isolation_laws.specs.declared.items.Item.{Item}
 use Rattle.isolation_laws.proofs.BroughtItems.{is_brought}

@@ -10,21 +10,21 @@ use Rattle.journal_core.specs.Entries.{effects}
 use Rattle.journal_core.specs.declared.acts.Act.{Act}
 use Rattle.journal_core.specs.declared.entries.Entry.{Entry}
 use Rattle.journal_core.specs.declared.outcome.Effect.{Effect}
-use Rattle.list_rules.specs.media_map.specs.region_config.specs.Configurations.{Configuration}
-use Rattle.list_rules.specs.media_map.specs.region_config.specs.Soundness.{IsSound}
-use Rattle.device_commands.specs.device_laws.specs.Pictures.{picture_of}
-use Rattle.device_commands.specs.device_laws.specs.Standing.{Sound}
-use Rattle.device_commands.specs.device_laws.proofs.LegalSound.{legal_is_sound}
-use Rattle.device_commands.specs.device_rules.specs.Answers.{scrubbed, zeroes}
-use Rattle.device_commands.specs.device_rules.specs.Legal.{Legal, Meets, right_answer}
-use Rattle.device_commands.specs.device_rules.specs.Logs.{log_of}
-use Rattle.device_commands.specs.device_rules.specs.Views.{View, view_of}
-use Rattle.device_commands.specs.device_rules.proofs.EffectKinds.{zeroes_pass}
-use Rattle.device_commands.specs.device_laws.proofs.LegalLogs.{legal_logs}
-use Rattle.device_commands.specs.device_rules.proofs.LegalSteps.{by_steps}
-use Rattle.device_commands.specs.device_laws.proofs.LogSteps.{IsSound as IsSoundLog}
-use Rattle.device_commands.specs.device_laws.proofs.ViewOthers.{answer-leaves}
-use Rattle.device_commands.specs.device_laws.proofs.ViewsLeft.{leaves_view}
+use Rattle.extent_list.specs.media_map.specs.region_config.specs.Configurations.{Configuration}
+use Rattle.extent_list.specs.media_map.specs.region_config.specs.Soundness.{IsSound}
+use Rattle.device_rules.specs.Pictures.{picture_of}
+use Rattle.device_rules.specs.Standing.{Sound}
+use Rattle.device_rules.proofs.LegalSound.{legal_is_sound}
+use Rattle.device_rules.specs.Answers.{scrubbed, zeroes}
+use Rattle.device_rules.specs.Legal.{Legal, Meets, right_answer}
+use Rattle.device_rules.specs.Logs.{log_of}
+use Rattle.device_rules.specs.Views.{View, view_of}
+use Rattle.device_rules.proofs.EffectKinds.{zeroes_pass}
+use Rattle.device_rules.proofs.LegalLogs.{legal_logs}
+use Rattle.device_rules.proofs.LegalSteps.{by_steps}
+use Rattle.device_rules.proofs.LogSteps.{IsSound as IsSoundLog}
+use Rattle.device_rules.proofs.ViewOthers.{answer-leaves}
+use Rattle.device_rules.proofs.ViewsLeft.{leaves_view}
 use Rattle.isolation_laws.specs.Laws.{AllSeeAlone}
 use Rattle.isolation_laws.specs.Solo.{delivered, acts_for}
 use Rattle.isolation_laws.specs.declared.items.Item.{Item}

@@ -6,22 +6,22 @@ use Rattle.std.proofs.lemmas.Bool.{cases_eq, eq-eqb, ne_eqb}
 use Rattle.std.proofs.lemmas.List.Sums.{fold-append}
 use Rattle.dcd_base.specs.declared.ids.HostId.{HostId}
 use Rattle.dcd_base.specs.declared.steps.LogId.{LogId}
-use Rattle.list_rules.specs.dcd_codes.specs.Rules.{first_by}
+use Rattle.extent_list.specs.dcd_codes.specs.Rules.{first_by}
 use Rattle.event_log.specs.Logs.{Log, next_handle, recorded, room_in}
 use Rattle.event_records.specs.Records.{kind_number}
 use Rattle.event_records.specs.declared.events.Event.{Event}
 use Rattle.event_records.specs.declared.events.EventKind.{EventKind}
 use Rattle.journal_core.specs.declared.outcome.Effect.{Effect}
-use Rattle.list_rules.specs.media_map.specs.region_config.specs.Configurations.{Configuration}
-use Rattle.list_rules.specs.media_map.specs.region_config.specs.Granules.{hosts_of, is_supported, region_spec}
-use Rattle.device_commands.specs.device_laws.proofs.Overlaps.{neither}
-use Rattle.device_commands.specs.device_rules.specs.Logs.{log_after, log_of}
-use Rattle.device_commands.specs.device_rules.specs.Outcomes.{Outcome, effects_of, entered, entered_all, log_full, no_extent, record_for}
-use Rattle.device_commands.specs.device_rules.specs.Settings.{set_outcome}
-use Rattle.device_commands.specs.device_rules.specs.Views.{View, view_after}
-use Rattle.device_commands.specs.device_laws.proofs.LogHistories.{entered_all-other, told as records_for}
-use Rattle.device_commands.specs.device_laws.proofs.LogOutcomes.{room_for}
-use Rattle.device_commands.specs.device_laws.proofs.LogSteps.{IsSound, entered_all-room}
+use Rattle.extent_list.specs.media_map.specs.region_config.specs.Configurations.{Configuration}
+use Rattle.extent_list.specs.media_map.specs.region_config.specs.Granules.{hosts_of, is_supported, region_spec}
+use Rattle.device_rules.proofs.Overlaps.{neither}
+use Rattle.device_rules.specs.Logs.{log_after, log_of}
+use Rattle.device_rules.specs.Outcomes.{Outcome, effects_of, entered, entered_all, log_full, no_extent, record_for}
+use Rattle.device_rules.specs.Settings.{set_outcome}
+use Rattle.device_rules.specs.Views.{View, view_after}
+use Rattle.device_rules.proofs.LogHistories.{entered_all-other, told as records_for}
+use Rattle.device_rules.proofs.LogOutcomes.{room_for}
+use Rattle.device_rules.proofs.LogSteps.{IsSound, entered_all-room}
 use Rattle.isolation_laws.specs.Solo.{extents_recorded, told_by, with_log_records}
 use Rattle.isolation_laws.specs.declared.items.Item.{Item}
 use Rattle.isolation_laws.proofs.JoinedViews.{view_after-told}

@@ -8,8 +8,8 @@ use Rattle.dcd_base.specs.declared.capacity.Extent.{Extent}
 use Rattle.dcd_base.specs.declared.ids.HostId.{HostId}
 use Rattle.journal_core.specs.Holders.{holding_after, taking_after}
 use Rattle.journal_core.specs.declared.outcome.Effect.{Effect}
-use Rattle.device_commands.specs.device_rules.specs.Hosts.{offers_after}
-use Rattle.device_commands.specs.device_rules.proofs.Leaving.{over-leaving}
+use Rattle.device_rules.specs.Hosts.{offers_after}
+use Rattle.device_rules.proofs.Leaving.{over-leaving}
 use Rattle.isolation_laws.specs.Laws.{Writers, writers_by}
 
 -- no offer, and nothing taken or zeroed

@@ -13,20 +13,20 @@ use Rattle.journal_core.specs.Entries.{effects}
 use Rattle.journal_core.specs.Holders.{holding_after, holds, is_soiled, is_taken, taking_after}
 use Rattle.journal_core.specs.declared.entries.Entry.{Entry}
 use Rattle.journal_core.specs.declared.outcome.Effect.{Effect}
-use Rattle.list_rules.specs.media_map.specs.region_config.specs.Configurations.{Configuration}
-use Rattle.list_rules.specs.media_map.specs.region_config.specs.Granules.{hosts_of, region_of, region_spec}
-use Rattle.list_rules.specs.media_map.specs.region_config.specs.Soundness.{IsSound}
-use Rattle.device_commands.specs.device_laws.specs.Pictures.{picture_of}
-use Rattle.device_commands.specs.device_laws.specs.Standing.{Sound}
-use Rattle.device_commands.specs.device_laws.proofs.ExclusiveHolding.{legal_holdings}
-use Rattle.device_commands.specs.device_laws.proofs.LegalSound.{legal_is_sound}
-use Rattle.device_commands.specs.device_rules.proofs.ListSteps.{each-all, each-at}
-use Rattle.device_commands.specs.device_rules.specs.Invariants.{Holdings}
-use Rattle.device_commands.specs.device_rules.specs.Legal.{Legal, Meets, is_zeroing, word_after, word_by, word_of}
-use Rattle.device_commands.specs.device_rules.specs.Tags.{Dirty, Free, Held, Offered, Tagged, is_free, is_held, is_offered, is_tagged, status}
-use Rattle.device_commands.specs.device_laws.specs.GranuleStates.{is_granule_offered}
-use Rattle.device_commands.specs.device_laws.proofs.HoldersApart.{alone_holds}
-use Rattle.device_commands.specs.device_rules.proofs.LegalSteps.{by_steps}
+use Rattle.extent_list.specs.media_map.specs.region_config.specs.Configurations.{Configuration}
+use Rattle.extent_list.specs.media_map.specs.region_config.specs.Granules.{hosts_of, region_of, region_spec}
+use Rattle.extent_list.specs.media_map.specs.region_config.specs.Soundness.{IsSound}
+use Rattle.device_rules.specs.Pictures.{picture_of}
+use Rattle.device_rules.specs.Standing.{Sound}
+use Rattle.device_rules.proofs.ExclusiveHolding.{legal_holdings}
+use Rattle.device_rules.proofs.LegalSound.{legal_is_sound}
+use Rattle.device_rules.proofs.ListSteps.{each-all, each-at}
+use Rattle.device_rules.specs.Invariants.{Holdings}
+use Rattle.device_rules.specs.Legal.{Legal, Meets, is_zeroing, word_after, word_by, word_of}
+use Rattle.device_rules.specs.Tags.{Dirty, Free, Held, Offered, Tagged, is_free, is_held, is_offered, is_tagged, status}
+use Rattle.device_rules.specs.GranuleStates.{is_granule_offered}
+use Rattle.device_rules.proofs.HoldersApart.{alone_holds}
+use Rattle.device_rules.proofs.LegalSteps.{by_steps}
 use Rattle.isolation_laws.specs.Laws.{Clean, Writers, is_offered_status, stores_in, writers_after, writers_by, writers_of}
 use Rattle.isolation_laws.proofs.CleanCommands.{step_keeps}
 use Rattle.isolation_laws.proofs.CleanSteps.{HeldTaken, IsSwept, KeepsClean, OfferedUntaken}

@@ -13,33 +13,33 @@ use Rattle.journal_core.specs.Entries.{effects}
 use Rattle.journal_core.specs.Holders.{holding_after, holds, is_soiled, is_taken, taking_after}
 use Rattle.journal_core.specs.declared.entries.Entry.{Entry}
 use Rattle.journal_core.specs.declared.outcome.Effect.{Effect}
-use Rattle.list_rules.specs.media_map.specs.Places.{run_of}
+use Rattle.extent_list.specs.media_map.specs.Places.{run_of}
 use Rattle.offer_core.specs.Offerings.{oldest_of}
-use Rattle.list_rules.specs.media_map.specs.region_config.specs.Configurations.{Configuration}
-use Rattle.list_rules.specs.media_map.specs.region_config.specs.Granules.{region_of, region_spec, same_region}
-use Rattle.list_rules.specs.media_map.specs.region_config.specs.Soundness.{IsSound}
-use Rattle.device_commands.specs.device_laws.specs.Pictures.{Picture, picture_of}
-use Rattle.device_commands.specs.device_laws.specs.Standing.{Stands}
-use Rattle.device_commands.specs.device_laws.proofs.FreeGranules.{shared_claim}
-use Rattle.device_commands.specs.device_rules.proofs.ListSteps.{any-map}
-use Rattle.device_commands.specs.device_laws.proofs.OneOffer.{any-implies}
-use Rattle.device_commands.specs.device_rules.specs.Answers.{scrubbed, zeroes}
-use Rattle.device_commands.specs.device_rules.specs.Hosts.{offers_after, offers_of}
-use Rattle.device_commands.specs.device_rules.specs.Invariants.{Holdings}
-use Rattle.device_commands.specs.device_rules.specs.Outcomes.{Outcome, effects_of}
-use Rattle.device_commands.specs.device_rules.specs.Tags.{dirty_granules, all_granules, is_dirty, is_held, is_offered, is_tagged, open_tags, status}
-use Rattle.device_commands.specs.device_laws.specs.GranuleStates.{is_granule_offered, stands_for}
-use Rattle.device_commands.specs.device_rules.proofs.HostSearches.{any_at, or_false}
-use Rattle.device_commands.specs.device_laws.proofs.JoinedRuns.{any_taken, joined_has, passes_there}
-use Rattle.device_commands.specs.device_rules.proofs.Leaving.{after_front, holding-over, is_quiet, leaves_holders, leaves_offers, map_passes}
-use Rattle.device_commands.specs.device_rules.proofs.OutcomeSteps.{after-outcome, over-outcome}
-use Rattle.device_commands.specs.device_rules.proofs.RunEffects.{in_extents, run_from, takes, zeros}
-use Rattle.device_commands.specs.device_laws.proofs.StatusAnswers.{answering, holds-answer, not_offered-answer, offers-answer, taken-answer}
-use Rattle.device_commands.specs.device_laws.proofs.StatusKept.{no_later_offer, no_other_offer}
-use Rattle.device_commands.specs.device_laws.proofs.StatusOffers.{is_granule_offered-offer}
-use Rattle.device_commands.specs.device_laws.proofs.StatusParts.{held_status, offers_of-append, offers_of-left, status_is, tagged_status}
-use Rattle.device_commands.specs.device_laws.proofs.StatusZeros.{taken-zeros}
-use Rattle.device_commands.specs.device_rules.proofs.TagSearches.{any_of_tag}
+use Rattle.extent_list.specs.media_map.specs.region_config.specs.Configurations.{Configuration}
+use Rattle.extent_list.specs.media_map.specs.region_config.specs.Granules.{region_of, region_spec, same_region}
+use Rattle.extent_list.specs.media_map.specs.region_config.specs.Soundness.{IsSound}
+use Rattle.device_rules.specs.Pictures.{Picture, picture_of}
+use Rattle.device_rules.specs.Standing.{Stands}
+use Rattle.device_rules.proofs.FreeGranules.{shared_claim}
+use Rattle.device_rules.proofs.ListSteps.{any-map}
+use Rattle.device_rules.proofs.OneOffer.{any-implies}
+use Rattle.device_rules.specs.Answers.{scrubbed, zeroes}
+use Rattle.device_rules.specs.Hosts.{offers_after, offers_of}
+use Rattle.device_rules.specs.Invariants.{Holdings}
+use Rattle.device_rules.specs.Outcomes.{Outcome, effects_of}
+use Rattle.device_rules.specs.Tags.{dirty_granules, all_granules, is_dirty, is_held, is_offered, is_tagged, open_tags, status}
+use Rattle.device_rules.specs.GranuleStates.{is_granule_offered, stands_for}
+use Rattle.device_rules.proofs.HostSearches.{any_at, or_false}
+use Rattle.device_rules.proofs.JoinedRuns.{any_taken, joined_has, passes_there}
+use Rattle.device_rules.proofs.Leaving.{after_front, holding-over, is_quiet, leaves_holders, leaves_offers, map_passes}
+use Rattle.device_rules.proofs.OutcomeSteps.{after-outcome, over-outcome}
+use Rattle.device_rules.proofs.RunEffects.{in_extents, run_from, takes, zeros}
+use Rattle.device_rules.proofs.StatusAnswers.{answering, holds-answer, not_offered-answer, offers-answer, taken-answer}
+use Rattle.device_rules.proofs.StatusKept.{no_later_offer, no_other_offer}
+use Rattle.device_rules.proofs.StatusOffers.{is_granule_offered-offer}
+use Rattle.device_rules.proofs.StatusParts.{held_status, offers_of-append, offers_of-left, status_is, tagged_status}
+use Rattle.device_rules.proofs.StatusZeros.{taken-zeros}
+use Rattle.device_rules.proofs.TagSearches.{any_of_tag}
 use Rattle.isolation_laws.specs.Laws.{Writers, writers_by}
 use Rattle.isolation_laws.proofs.CalmEffects.{calm_held, calm_offered, calm_taken, calm_writers, in_later, is_calm}
 use Rattle.isolation_laws.proofs.WritersOver.{IsOwn, nobody, nobody_over, other_takes, own_zeros}

@@ -13,20 +13,20 @@ use Rattle.dcd_base.specs.declared.ids.HostId.{HostId}
 use Rattle.dcd_base.specs.declared.media.Place.{Place}
 use Rattle.journal_core.specs.Holders.{holds}
 use Rattle.journal_core.specs.declared.outcome.Effect.{Effect}
-use Rattle.list_rules.specs.media_map.specs.Places.{IsPlace, has_address, locate, place_in, placed, region_at, run_of}
-use Rattle.list_rules.specs.media_map.proofs.PlaceLemmas.{find_holds, has, is_place, is_word}
-use Rattle.list_rules.specs.media_map.proofs.RunLemmas.{region_at_is}
-use Rattle.list_rules.specs.media_map.specs.region_config.specs.Configurations.{Configuration}
-use Rattle.list_rules.specs.media_map.specs.region_config.specs.Granules.{base_of, first_granule, granule_size, region_of, regions_of}
-use Rattle.list_rules.specs.media_map.specs.region_config.specs.Soundness.{IsSound}
-use Rattle.list_rules.specs.media_map.specs.region_config.proofs.Faultless.{granule_from}
-use Rattle.list_rules.specs.media_map.specs.region_config.proofs.GranuleLemmas.{region_is}
-use Rattle.device_commands.specs.device_rules.specs.Hosts.{accepted_of}
-use Rattle.device_commands.specs.device_laws.specs.Pictures.{Picture, picture_of}
-use Rattle.device_commands.specs.device_laws.specs.Standing.{IsHome, IsMade, Stands}
-use Rattle.device_commands.specs.device_laws.proofs.Holding.{home_made, present_whole}
-use Rattle.device_commands.specs.device_laws.proofs.Homes.{made_begins, made_long, made_of_region, made_run}
-use Rattle.device_commands.specs.device_rules.proofs.ListSteps.{any-map, each-change, each-front}
+use Rattle.extent_list.specs.media_map.specs.Places.{IsPlace, has_address, locate, place_in, placed, region_at, run_of}
+use Rattle.extent_list.specs.media_map.proofs.PlaceLemmas.{find_holds, has, is_place, is_word}
+use Rattle.extent_list.specs.media_map.proofs.RunLemmas.{region_at_is}
+use Rattle.extent_list.specs.media_map.specs.region_config.specs.Configurations.{Configuration}
+use Rattle.extent_list.specs.media_map.specs.region_config.specs.Granules.{base_of, first_granule, granule_size, region_of, regions_of}
+use Rattle.extent_list.specs.media_map.specs.region_config.specs.Soundness.{IsSound}
+use Rattle.extent_list.specs.media_map.specs.region_config.proofs.Faultless.{granule_from}
+use Rattle.extent_list.specs.media_map.specs.region_config.proofs.GranuleLemmas.{region_is}
+use Rattle.device_rules.specs.Hosts.{accepted_of}
+use Rattle.device_rules.specs.Pictures.{Picture, picture_of}
+use Rattle.device_rules.specs.Standing.{IsHome, IsMade, Stands}
+use Rattle.device_rules.proofs.Holding.{home_made, present_whole}
+use Rattle.device_rules.proofs.Homes.{made_begins, made_long, made_of_region, made_run}
+use Rattle.device_rules.proofs.ListSteps.{any-map, each-change, each-front}
 use Rattle.isolation_laws.specs.Solo.{has_byte}
 
 -- what is located is the place

@@ -13,14 +13,14 @@ use Rattle.journal_core.specs.declared.acts.Act.{Act}
 use Rattle.journal_core.specs.declared.acts.Reply.{Reply}
 use Rattle.journal_core.specs.declared.entries.Entry.{Entry}
 use Rattle.journal_core.proofs.EachSteps.{Each-push}
-use Rattle.list_rules.specs.media_map.specs.Places.{locate}
-use Rattle.list_rules.specs.media_map.specs.region_config.specs.Configurations.{Configuration}
-use Rattle.list_rules.specs.media_map.specs.region_config.specs.Granules.{region_spec}
-use Rattle.list_rules.specs.media_map.specs.region_config.specs.Soundness.{IsSound}
-use Rattle.device_commands.specs.device_laws.proofs.LegalSound.{legal_is_sound}
-use Rattle.device_commands.specs.device_rules.specs.Answers.{host_result_in, reply_with}
-use Rattle.device_commands.specs.device_rules.specs.Legal.{Legal, access_at, granted_reply, right_answer, word_of}
-use Rattle.device_commands.specs.device_rules.proofs.LegalSteps.{by_steps}
+use Rattle.extent_list.specs.media_map.specs.Places.{locate}
+use Rattle.extent_list.specs.media_map.specs.region_config.specs.Configurations.{Configuration}
+use Rattle.extent_list.specs.media_map.specs.region_config.specs.Granules.{region_spec}
+use Rattle.extent_list.specs.media_map.specs.region_config.specs.Soundness.{IsSound}
+use Rattle.device_rules.proofs.LegalSound.{legal_is_sound}
+use Rattle.device_rules.specs.Answers.{host_result_in, reply_with}
+use Rattle.device_rules.specs.Legal.{Legal, access_at, granted_reply, right_answer, word_of}
+use Rattle.device_rules.proofs.LegalSteps.{by_steps}
 use Rattle.isolation_laws.specs.Laws.{SeesAlone}
 use Rattle.isolation_laws.specs.Solo.{Agrees, AgreesAlone, Isolated, has_byte, own_items, solo, solo_access, solo_granted, solo_load, solo_view, solo_word}
 use Rattle.isolation_laws.specs.declared.items.Item.{Item}

@@ -12,18 +12,18 @@ use Rattle.event_log.specs.Logs.{Log, logged}
 use Rattle.event_records.specs.declared.events.Event.{Event}
 use Rattle.journal_core.specs.declared.outcome.Effect.{Effect}
 use Rattle.journal_core.specs.declared.outcome.HeldKind.{HeldKind}
-use Rattle.list_rules.specs.media_map.specs.region_config.specs.Configurations.{Configuration}
-use Rattle.device_commands.specs.device_rules.specs.Hosts.{accepted_after, block_after, held_after, moves, offers_after}
-use Rattle.device_commands.specs.device_rules.specs.Logs.{log_after}
-use Rattle.device_commands.specs.device_rules.specs.Outcomes.{Outcome, effects_of, ended}
-use Rattle.device_commands.specs.device_rules.specs.Views.{View, view_after}
-use Rattle.device_commands.specs.device_rules.proofs.EffectKinds.{any_log, tells, tells_any, told_passes}
-use Rattle.device_commands.specs.device_rules.proofs.Leaving.{map_passes, over-leaving}
-use Rattle.device_commands.specs.device_laws.proofs.LogHistories.{leaves_logs, log-left, told}
-use Rattle.device_commands.specs.device_laws.proofs.ViewCommands.{only_logs, view_after-logs}
-use Rattle.device_commands.specs.device_laws.proofs.ViewsLeft.{is_other_log, leaves_view, others_records, view_after-left}
+use Rattle.extent_list.specs.media_map.specs.region_config.specs.Configurations.{Configuration}
+use Rattle.device_rules.specs.Hosts.{accepted_after, block_after, held_after, moves, offers_after}
+use Rattle.device_rules.specs.Logs.{log_after}
+use Rattle.device_rules.specs.Outcomes.{Outcome, effects_of, ended}
+use Rattle.device_rules.specs.Views.{View, view_after}
+use Rattle.device_rules.proofs.EffectKinds.{any_log, tells, tells_any, told_passes}
+use Rattle.device_rules.proofs.Leaving.{map_passes, over-leaving}
+use Rattle.device_rules.proofs.LogHistories.{leaves_logs, log-left, told}
+use Rattle.device_rules.proofs.ViewCommands.{only_logs, view_after-logs}
+use Rattle.device_rules.proofs.ViewsLeft.{is_other_log, leaves_view, others_records, view_after-left}
 use Rattle.isolation_laws.specs.Solo.{with_log_records}
-use Rattle.list_rules.proofs.EachTag.{or_false as or_none}
+use Rattle.extent_list.proofs.EachTag.{or_false as or_none}
 
 -- ---- two lists of effects
 

@@ -8,15 +8,15 @@ use Rattle.event_log.specs.Logs.{records_in}
 use Rattle.journal_core.proofs.EachSteps.{Each-push}
 use Rattle.journal_core.specs.declared.entries.Entry.{Entry}
 use Rattle.journal_core.specs.declared.outcome.Effect.{Effect}
-use Rattle.list_rules.specs.media_map.specs.region_config.specs.Configurations.{Configuration}
-use Rattle.list_rules.specs.media_map.specs.region_config.specs.Soundness.{IsSound}
-use Rattle.device_commands.specs.device_laws.proofs.LegalSound.{legal_is_sound}
-use Rattle.device_commands.specs.device_rules.specs.Legal.{Legal, Meets}
-use Rattle.device_commands.specs.device_rules.specs.Views.{View, extents_in, first_view, view_after, view_of}
-use Rattle.device_commands.specs.device_laws.proofs.LegalLogs.{legal_logs}
-use Rattle.device_commands.specs.device_rules.proofs.LegalSteps.{by_steps}
-use Rattle.device_commands.specs.device_rules.proofs.ViewSteps.{view_of-push}
-use Rattle.isolation_laws.specs.Alone.{IsUnlawful}
+use Rattle.extent_list.specs.media_map.specs.region_config.specs.Configurations.{Configuration}
+use Rattle.extent_list.specs.media_map.specs.region_config.specs.Soundness.{IsSound}
+use Rattle.device_rules.proofs.LegalSound.{legal_is_sound}
+use Rattle.device_rules.specs.Legal.{Legal, Meets}
+use Rattle.device_rules.specs.Views.{View, extents_in, first_view, view_after, view_of}
+use Rattle.device_rules.proofs.LegalLogs.{legal_logs}
+use Rattle.device_rules.proofs.LegalSteps.{by_steps}
+use Rattle.device_rules.proofs.ViewSteps.{view_of-push}
+use Rattle.isolation_laws.specs.Unlawful.{IsUnlawful}
 use Rattle.isolation_laws.specs.Laws.{AreLawful}
 use Rattle.isolation_laws.specs.Solo.{items_of, own_items, solo_after}
 use Rattle.isolation_laws.specs.declared.items.Item.{Item}

@@ -10,12 +10,12 @@ use Rattle.journal_core.proofs.JournalSteps.{effects-push}
 use Rattle.journal_core.specs.Entries.{effects}
 use Rattle.journal_core.specs.declared.entries.Entry.{Entry}
 use Rattle.journal_core.specs.declared.outcome.Effect.{Effect}
-use Rattle.list_rules.specs.media_map.specs.region_config.specs.Configurations.{Configuration}
-use Rattle.device_commands.specs.device_rules.specs.Legal.{Legal}
-use Rattle.device_commands.specs.device_rules.specs.Logs.{log_after, log_of, same_log}
-use Rattle.device_commands.specs.device_state.proofs.Rooms.{room_for}
-use Rattle.device_commands.specs.device_state.specs.Rooms.{HasRoom, HaveRoom, IsNextRecord}
-use Rattle.device_commands.specs.device_rules.proofs.LegalSteps.{by_steps}
+use Rattle.extent_list.specs.media_map.specs.region_config.specs.Configurations.{Configuration}
+use Rattle.device_rules.specs.Legal.{Legal}
+use Rattle.device_rules.specs.Logs.{log_after, log_of, same_log}
+use Rattle.device_rules.proofs.Rooms.{room_for}
+use Rattle.device_rules.specs.Rooms.{HasRoom, HaveRoom, IsNextRecord}
+use Rattle.device_rules.proofs.LegalSteps.{by_steps}
 
 -- it has no more records than places
 abbrev pub IsWithin : LogId → Log → Type 0

@@ -10,38 +10,38 @@ use Rattle.dcd_base.specs.declared.capacity.Extent.{Extent}
 use Rattle.dcd_base.specs.declared.capacity.Tag.{Tag}
 use Rattle.dcd_base.specs.declared.ids.HostId.{HostId}
 use Rattle.dcd_base.specs.declared.steps.LogId.{LogId}
-use Rattle.list_rules.specs.dcd_codes.specs.Rules.{◌breaks◌, each_in}
-use Rattle.list_rules.specs.dcd_codes.specs.declared.rules.Rule.{Rule}
+use Rattle.extent_list.specs.dcd_codes.specs.Rules.{◌breaks◌, each_in}
+use Rattle.extent_list.specs.dcd_codes.specs.declared.rules.Rule.{Rule}
 use Rattle.event_log.specs.Logs.{room_in}
-use Rattle.list_rules.specs.extent_list.specs.ExtentLists.{count_in}
-use Rattle.cci_codec.specs.field_bytes.specs.declared.faults.PayloadFault.{PayloadFault as ManagerFault}
+use Rattle.extent_list.specs.ExtentLists.{count_in}
+use Rattle.dcd_base.specs.declared.faults.PayloadFault.{PayloadFault as ManagerFault}
 use Rattle.fm_payloads.specs.declared.requests.FmRequest.{FmRequest}
 use Rattle.journal_core.specs.Entries.{effects}
 use Rattle.journal_core.specs.declared.entries.Entry.{Entry}
 use Rattle.journal_core.specs.declared.outcome.Effect.{Effect}
-use Rattle.list_rules.specs.media_map.specs.region_config.specs.Configurations.{Configuration}
-use Rattle.list_rules.specs.media_map.specs.region_config.specs.Granules.{hosts_of, is_supported, region_spec, with_blocks}
-use Rattle.list_rules.specs.media_map.specs.region_config.specs.Soundness.{IsSound}
+use Rattle.extent_list.specs.media_map.specs.region_config.specs.Configurations.{Configuration}
+use Rattle.extent_list.specs.media_map.specs.region_config.specs.Granules.{hosts_of, is_supported, region_spec, with_blocks}
+use Rattle.extent_list.specs.media_map.specs.region_config.specs.Soundness.{IsSound}
 use Rattle.release_core.specs.Removals.{by_tag_rule, prescribed_removal_rule}
-use Rattle.device_commands.specs.device_laws.specs.Pictures.{picture_of}
-use Rattle.device_commands.specs.device_laws.specs.Standing.{Sound}
-use Rattle.device_commands.specs.device_laws.proofs.Adding.{added, row_of}
-use Rattle.device_commands.specs.device_laws.proofs.Overlaps.{neither, not_broken}
-use Rattle.device_commands.specs.device_rules.specs.Adding.{add_outcome, add_rule, offered}
-use Rattle.device_commands.specs.device_rules.specs.Answers.{effects_with, manager_outcome, manager_result, manager_rule, unless}
-use Rattle.device_commands.specs.device_rules.specs.EventCommands.{clear_outcome}
-use Rattle.device_commands.specs.device_rules.specs.Logs.{log_of}
-use Rattle.device_commands.specs.device_rules.specs.Outcomes.{Outcome, effects_of, log_full}
-use Rattle.device_commands.specs.device_rules.specs.ReleaseOutcomes.{is_cleaning, is_forced, policy_in, remove_outcome, remove_rule, removed}
-use Rattle.device_commands.specs.device_rules.specs.Settings.{in_use, no_such_region, set_outcome, set_rule}
-use Rattle.device_commands.specs.device_rules.specs.TagCommands.{add_reference_outcome, remove_reference_outcome}
-use Rattle.device_commands.specs.device_rules.specs.Tags.{is_referenced}
-use Rattle.device_commands.specs.device_rules.specs.Views.{View, view_of}
-use Rattle.device_commands.specs.device_rules.proofs.EffectKinds.{clear_passes, reference_passes}
-use Rattle.device_commands.specs.device_laws.proofs.LogOutcomes.{last_of, room_for}
-use Rattle.device_commands.specs.device_laws.proofs.LogSteps.{IsSound as IsSoundLog}
-use Rattle.device_commands.specs.device_laws.proofs.ViewOthers.{add-leaves, remove-leaves}
-use Rattle.device_commands.specs.device_laws.proofs.ViewsLeft.{leaves_view, outcome-leaves}
+use Rattle.device_rules.specs.Pictures.{picture_of}
+use Rattle.device_rules.specs.Standing.{Sound}
+use Rattle.device_rules.proofs.Adding.{added, row_of}
+use Rattle.device_rules.proofs.Overlaps.{neither, not_broken}
+use Rattle.device_rules.specs.Adding.{add_outcome, add_rule, offered}
+use Rattle.device_rules.specs.Answers.{effects_with, manager_outcome, manager_result, manager_rule, unless}
+use Rattle.device_rules.specs.EventCommands.{clear_outcome}
+use Rattle.device_rules.specs.Logs.{log_of}
+use Rattle.device_rules.specs.Outcomes.{Outcome, effects_of, log_full}
+use Rattle.device_rules.specs.ReleaseOutcomes.{is_cleaning, is_forced, policy_in, remove_outcome, remove_rule, removed}
+use Rattle.device_rules.specs.Settings.{in_use, no_such_region, set_outcome, set_rule}
+use Rattle.device_rules.specs.TagCommands.{add_reference_outcome, remove_reference_outcome}
+use Rattle.device_rules.specs.Tags.{is_referenced}
+use Rattle.device_rules.specs.Views.{View, view_of}
+use Rattle.device_rules.proofs.EffectKinds.{clear_passes, reference_passes}
+use Rattle.device_rules.proofs.LogOutcomes.{last_of, room_for}
+use Rattle.device_rules.proofs.LogSteps.{IsSound as IsSoundLog}
+use Rattle.device_rules.proofs.ViewOthers.{add-leaves, remove-leaves}
+use Rattle.device_rules.proofs.ViewsLeft.{leaves_view, outcome-leaves}
 use Rattle.isolation_laws.proofs.BlockSizes.{brings_block}
 use Rattle.isolation_laws.proofs.OfferViews.{brings_offer}
 use Rattle.isolation_laws.proofs.OtherSteps.{BringsAlone, brings_nothing}

@@ -8,11 +8,11 @@ use Rattle.dcd_base.specs.declared.steps.LogId.{LogId}
 use Rattle.event_log.specs.Logs.{room_in}
 use Rattle.event_records.specs.declared.events.EventKind.{EventKind}
 use Rattle.journal_core.specs.declared.outcome.Effect.{Effect}
-use Rattle.list_rules.specs.media_map.specs.region_config.specs.Configurations.{Configuration}
-use Rattle.device_commands.specs.device_rules.specs.Logs.{log_of}
-use Rattle.device_commands.specs.device_rules.specs.Outcomes.{Outcome, effects_of, records_of_extents}
-use Rattle.device_commands.specs.device_rules.specs.Views.{View, view_after}
-use Rattle.device_commands.specs.device_laws.proofs.LogSteps.{IsSound}
+use Rattle.extent_list.specs.media_map.specs.region_config.specs.Configurations.{Configuration}
+use Rattle.device_rules.specs.Logs.{log_of}
+use Rattle.device_rules.specs.Outcomes.{Outcome, effects_of, records_of_extents}
+use Rattle.device_rules.specs.Views.{View, view_after}
+use Rattle.device_rules.proofs.LogSteps.{IsSound}
 use Rattle.isolation_laws.specs.Solo.{with_log_records}
 use Rattle.isolation_laws.proofs.OneItem.{BringsItems}
 use Rattle.isolation_laws.proofs.OtherSteps.{BringsAlone}

@@ -6,22 +6,22 @@ use Rattle.dcd_base.specs.Words.{has_in_runs}
 use Rattle.dcd_base.specs.declared.capacity.Extent.{Extent}
 use Rattle.dcd_base.specs.declared.capacity.Tag.{Tag}
 use Rattle.dcd_base.specs.declared.ids.HostId.{HostId}
-use Rattle.list_rules.specs.dcd_codes.specs.Rules.{◌breaks◌}
-use Rattle.list_rules.specs.dcd_codes.specs.declared.rules.Rule.{Rule}
+use Rattle.extent_list.specs.dcd_codes.specs.Rules.{◌breaks◌}
+use Rattle.extent_list.specs.dcd_codes.specs.declared.rules.Rule.{Rule}
 use Rattle.journal_core.specs.Holders.{is_soiled, is_taken}
 use Rattle.journal_core.specs.declared.outcome.Effect.{Effect}
-use Rattle.list_rules.specs.media_map.specs.region_config.specs.Configurations.{Configuration}
-use Rattle.list_rules.specs.media_map.specs.region_config.specs.Granules.{region_of, region_spec}
-use Rattle.list_rules.specs.media_map.specs.region_config.specs.Soundness.{IsSound}
+use Rattle.extent_list.specs.media_map.specs.region_config.specs.Configurations.{Configuration}
+use Rattle.extent_list.specs.media_map.specs.region_config.specs.Granules.{region_of, region_spec}
+use Rattle.extent_list.specs.media_map.specs.region_config.specs.Soundness.{IsSound}
 use Rattle.selection.specs.Selections.{too_few_free}
-use Rattle.device_commands.specs.device_laws.specs.Pictures.{Picture, picture_of}
-use Rattle.device_commands.specs.device_laws.specs.Standing.{Sound, Stands}
-use Rattle.device_commands.specs.device_laws.proofs.AddChoices.{contiguous_reached, free_reached, marked_runs, prescribed_reached, reach_runs}
-use Rattle.device_commands.specs.device_laws.proofs.Adding.{IsRow}
-use Rattle.device_commands.specs.device_laws.proofs.OneOffer.{reaches}
-use Rattle.device_commands.specs.device_laws.proofs.Overlaps.{neither, not_broken}
-use Rattle.device_commands.specs.device_rules.specs.Adding.{is_free_now, offered, present, with_tag, region_longest_free as blocks_together}
-use Rattle.device_commands.specs.device_rules.specs.Tags.{Dirty, Free, Held, Offered, Tagged, is_free, is_held, is_offered, is_tagged, status}
+use Rattle.device_rules.specs.Pictures.{Picture, picture_of}
+use Rattle.device_rules.specs.Standing.{Sound, Stands}
+use Rattle.device_rules.proofs.AddChoices.{contiguous_reached, free_reached, marked_runs, prescribed_reached, reach_runs}
+use Rattle.device_rules.proofs.Adding.{IsRow}
+use Rattle.device_rules.proofs.OneOffer.{reaches}
+use Rattle.device_rules.proofs.Overlaps.{neither, not_broken}
+use Rattle.device_rules.specs.Adding.{is_free_now, offered, present, with_tag, region_longest_free as blocks_together}
+use Rattle.device_rules.specs.Tags.{Dirty, Free, Held, Offered, Tagged, is_free, is_held, is_offered, is_tagged, status}
 
 -- ---- a free granule was not taken since it was zeroed
 

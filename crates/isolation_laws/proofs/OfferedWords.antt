@@ -12,10 +12,10 @@ use Rattle.dcd_base.specs.declared.capacity.Extent.{Extent}
 use Rattle.dcd_base.specs.declared.ids.HostId.{HostId}
 use Rattle.dcd_base.specs.declared.media.Place.{Place}
 use Rattle.dcd_base.specs.declared.steps.LogId.{LogId}
-use Rattle.list_rules.specs.dcd_codes.specs.declared.rules.Rule.{Rule}
-use Rattle.list_rules.specs.extent_list.specs.ExtentLists.{is_in, lies_in, marked}
+use Rattle.extent_list.specs.dcd_codes.specs.declared.rules.Rule.{Rule}
+use Rattle.extent_list.specs.ExtentLists.{is_in, lies_in, marked}
 use Rattle.host_payloads.specs.HostPayloads.{host_request}
-use Rattle.cci_codec.specs.field_bytes.specs.declared.faults.PayloadFault.{PayloadFault as HostFault}
+use Rattle.dcd_base.specs.declared.faults.PayloadFault.{PayloadFault as HostFault}
 use Rattle.host_payloads.specs.declared.requests.HostRequest.{HostRequest}
 use Rattle.journal_core.specs.Entries.{effects}
 use Rattle.journal_core.specs.Holders.{holds}
@@ -23,31 +23,31 @@ use Rattle.journal_core.specs.declared.acts.Act.{Act}
 use Rattle.journal_core.specs.declared.entries.Entry.{Entry}
 use Rattle.journal_core.specs.declared.outcome.Effect.{Effect}
 use Rattle.journal_core.specs.declared.outcome.HeldKind.{HeldKind}
-use Rattle.list_rules.specs.Listing.{too_many_listed}
-use Rattle.list_rules.specs.media_map.specs.Places.{IsPlace, run_of}
+use Rattle.extent_list.specs.Listing.{too_many_listed}
+use Rattle.extent_list.specs.media_map.specs.Places.{IsPlace, run_of}
 use Rattle.offer_core.specs.Responses.{response_list_rule}
-use Rattle.list_rules.specs.media_map.specs.region_config.specs.Configurations.{Configuration}
-use Rattle.list_rules.specs.media_map.specs.region_config.specs.Granules.{hosts_of, region_of, region_spec, with_blocks}
-use Rattle.list_rules.specs.media_map.specs.region_config.specs.Soundness.{IsSound}
-use Rattle.device_commands.specs.device_laws.specs.Pictures.{Picture, count_on, extents_at, picture_of}
-use Rattle.device_commands.specs.device_laws.specs.Standing.{IsHome, Stands}
-use Rattle.device_commands.specs.device_laws.proofs.LegalSound.{legal_is_sound}
-use Rattle.device_commands.specs.device_rules.proofs.ListSteps.{any-map, each-at, each-back, each-change, each-front, many-any, many-append}
-use Rattle.device_commands.specs.device_laws.proofs.OneAnswer.{any-of-each}
-use Rattle.device_commands.specs.device_laws.proofs.OneOffer.{any-implies, reaches}
-use Rattle.device_commands.specs.device_laws.proofs.Overlaps.{neither}
-use Rattle.device_commands.specs.device_laws.proofs.Responding.{answer_of}
-use Rattle.device_commands.specs.device_rules.specs.Answers.{dropped, host_outcome, host_result, host_rule, unless}
-use Rattle.device_commands.specs.device_rules.specs.Hosts.{accepted_of, offers_of}
-use Rattle.device_commands.specs.device_rules.specs.Legal.{Legal, word_of}
-use Rattle.device_commands.specs.device_rules.specs.Outcomes.{Outcome}
-use Rattle.device_commands.specs.device_rules.specs.ReleaseOutcomes.{leaves}
-use Rattle.device_commands.specs.device_rules.specs.ResponseOutcomes.{answered, unhold}
-use Rattle.device_commands.specs.device_rules.specs.Tags.{is_free, is_held, is_offered, status}
-use Rattle.device_commands.specs.device_rules.specs.Views.{View, view_of}
-use Rattle.device_commands.specs.device_rules.proofs.EffectKinds.{PassHeld, clear_passes, dropped_passes, hold_passes, unhold_passes}
-use Rattle.device_commands.specs.device_rules.proofs.HostSearches.{any_none}
-use Rattle.device_commands.specs.device_rules.proofs.Leaving.{both_pass, map_passes}
+use Rattle.extent_list.specs.media_map.specs.region_config.specs.Configurations.{Configuration}
+use Rattle.extent_list.specs.media_map.specs.region_config.specs.Granules.{hosts_of, region_of, region_spec, with_blocks}
+use Rattle.extent_list.specs.media_map.specs.region_config.specs.Soundness.{IsSound}
+use Rattle.device_rules.specs.Pictures.{Picture, count_on, extents_at, picture_of}
+use Rattle.device_rules.specs.Standing.{IsHome, Stands}
+use Rattle.device_rules.proofs.LegalSound.{legal_is_sound}
+use Rattle.device_rules.proofs.ListSteps.{any-map, each-at, each-back, each-change, each-front, many-any, many-append}
+use Rattle.device_rules.proofs.OneAnswer.{any-of-each}
+use Rattle.device_rules.proofs.OneOffer.{any-implies, reaches}
+use Rattle.device_rules.proofs.Overlaps.{neither}
+use Rattle.device_rules.proofs.Responding.{answer_of}
+use Rattle.device_rules.specs.Answers.{dropped, host_outcome, host_result, host_rule, unless}
+use Rattle.device_rules.specs.Hosts.{accepted_of, offers_of}
+use Rattle.device_rules.specs.Legal.{Legal, word_of}
+use Rattle.device_rules.specs.Outcomes.{Outcome}
+use Rattle.device_rules.specs.ReleaseOutcomes.{leaves}
+use Rattle.device_rules.specs.ResponseOutcomes.{answered, unhold}
+use Rattle.device_rules.specs.Tags.{is_free, is_held, is_offered, status}
+use Rattle.device_rules.specs.Views.{View, view_of}
+use Rattle.device_rules.proofs.EffectKinds.{PassHeld, clear_passes, dropped_passes, hold_passes, unhold_passes}
+use Rattle.device_rules.proofs.HostSearches.{any_none}
+use Rattle.device_rules.proofs.Leaving.{both_pass, map_passes}
 use Rattle.isolation_laws.specs.Laws.{Clean, is_offered_status}
 use Rattle.isolation_laws.specs.Solo.{accepts_byte, changes_with, has_byte, own_changes}
 use Rattle.isolation_laws.proofs.AcceptedBytes.{or_either, within_has}

@@ -3,9 +3,9 @@ use Rattle.std.proofs.Common.{◌≡◌, List, [], ◌∷◌}
 use Rattle.std.specs.Prelude.{fold}
 use Rattle.dcd_base.specs.declared.ids.HostId.{HostId}
 use Rattle.journal_core.specs.declared.outcome.Effect.{Effect}
-use Rattle.list_rules.specs.media_map.specs.region_config.specs.Configurations.{Configuration}
-use Rattle.device_commands.specs.device_rules.specs.Views.{View, view_after}
-use Rattle.isolation_laws.specs.Alone.{EndsBeyond}
+use Rattle.extent_list.specs.media_map.specs.region_config.specs.Configurations.{Configuration}
+use Rattle.device_rules.specs.Views.{View, view_after}
+use Rattle.isolation_laws.specs.Unlawful.{EndsBeyond}
 use Rattle.isolation_laws.specs.Solo.{solo_after}
 use Rattle.isolation_laws.specs.declared.items.Item.{Item}
 

@@ -3,9 +3,9 @@ use Rattle.std.proofs.Common.{◌≡◌, true, List, sym, subst}
 use Rattle.std.specs.List.{list_all}
 use Rattle.dcd_base.specs.declared.ids.HostId.{HostId}
 use Rattle.journal_core.specs.declared.outcome.Effect.{Effect}
-use Rattle.list_rules.specs.media_map.specs.region_config.specs.Configurations.{Configuration}
-use Rattle.device_commands.specs.device_rules.specs.Views.{View}
-use Rattle.device_commands.specs.device_laws.proofs.ViewsLeft.{leaves_view, view_after-left}
+use Rattle.extent_list.specs.media_map.specs.region_config.specs.Configurations.{Configuration}
+use Rattle.device_rules.specs.Views.{View}
+use Rattle.device_rules.proofs.ViewsLeft.{leaves_view, view_after-left}
 use Rattle.isolation_laws.specs.Solo.{delivered}
 use Rattle.isolation_laws.proofs.OneItem.{BringsItems}
 use Rattle.isolation_laws.proofs.RecordItems.{delivered-left}

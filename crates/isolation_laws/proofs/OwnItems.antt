@@ -5,9 +5,9 @@ use Rattle.std.proofs.lemmas.Grind.{flat_map-append}
 use Rattle.std.proofs.lemmas.List.Sums.{fold-append}
 use Rattle.dcd_base.specs.declared.ids.HostId.{HostId}
 use Rattle.journal_core.specs.declared.entries.Entry.{Entry}
-use Rattle.list_rules.specs.media_map.specs.region_config.specs.Configurations.{Configuration}
-use Rattle.device_commands.specs.device_rules.specs.Views.{first_view, view_of}
-use Rattle.device_commands.specs.device_rules.proofs.ViewSteps.{view_of-push}
+use Rattle.extent_list.specs.media_map.specs.region_config.specs.Configurations.{Configuration}
+use Rattle.device_rules.specs.Views.{first_view, view_of}
+use Rattle.device_rules.proofs.ViewSteps.{view_of-push}
 use Rattle.isolation_laws.specs.Laws.{SeesAlone}
 use Rattle.isolation_laws.specs.Solo.{items_of, own_items, solo_after, solo_view}
 use Rattle.isolation_laws.proofs.OneItem.{BringsItems}

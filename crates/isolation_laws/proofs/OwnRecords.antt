@@ -9,13 +9,13 @@ use Rattle.event_log.specs.Logs.{logged, room_in}
 use Rattle.event_records.specs.Records.{kind_number}
 use Rattle.event_records.specs.declared.events.EventKind.{EventKind}
 use Rattle.journal_core.specs.declared.outcome.Effect.{Effect}
-use Rattle.list_rules.specs.media_map.specs.region_config.specs.Configurations.{Configuration}
-use Rattle.device_commands.specs.device_rules.specs.Logs.{log_after, log_of}
-use Rattle.device_commands.specs.device_rules.specs.Outcomes.{Outcome, effects_of, entered_all, records_of_extents}
-use Rattle.device_commands.specs.device_rules.specs.Views.{View, view_after}
-use Rattle.device_commands.specs.device_laws.proofs.LogHistories.{leaves_logs, told as records_for, told_one}
-use Rattle.device_commands.specs.device_laws.proofs.LogOutcomes.{length-log_records}
-use Rattle.device_commands.specs.device_laws.proofs.LogSteps.{IsSound, entered_all-room}
+use Rattle.extent_list.specs.media_map.specs.region_config.specs.Configurations.{Configuration}
+use Rattle.device_rules.specs.Logs.{log_after, log_of}
+use Rattle.device_rules.specs.Outcomes.{Outcome, effects_of, entered_all, records_of_extents}
+use Rattle.device_rules.specs.Views.{View, view_after}
+use Rattle.device_rules.proofs.LogHistories.{leaves_logs, told as records_for, told_one}
+use Rattle.device_rules.proofs.LogOutcomes.{length-log_records}
+use Rattle.device_rules.proofs.LogSteps.{IsSound, entered_all-room}
 use Rattle.isolation_laws.specs.Solo.{extents_recorded, with_log_records}
 use Rattle.isolation_laws.proofs.JoinedViews.{view_after-told}
 use Rattle.isolation_laws.proofs.RecordItems.{told_outcome, told_records}

@@ -6,22 +6,22 @@ use Rattle.cci_codec.specs.declared.messages.Request.{Request}
 use Rattle.dcd_base.specs.declared.capacity.Extent.{Extent}
 use Rattle.dcd_base.specs.declared.ids.HostId.{HostId}
 use Rattle.dcd_base.specs.declared.steps.Actor.{Actor}
-use Rattle.list_rules.specs.dcd_codes.specs.declared.rules.Rule.{Rule}
+use Rattle.extent_list.specs.dcd_codes.specs.declared.rules.Rule.{Rule}
 use Rattle.host_payloads.specs.HostPayloads.{host_request}
-use Rattle.cci_codec.specs.field_bytes.specs.declared.faults.PayloadFault.{PayloadFault as HostFault}
+use Rattle.dcd_base.specs.declared.faults.PayloadFault.{PayloadFault as HostFault}
 use Rattle.host_payloads.specs.declared.requests.HostRequest.{HostRequest}
 use Rattle.journal_core.specs.Entries.{effects}
 use Rattle.journal_core.specs.declared.acts.Act.{Act}
 use Rattle.journal_core.specs.declared.entries.Entry.{Entry}
 use Rattle.journal_core.specs.declared.outcome.Effect.{Effect}
-use Rattle.list_rules.specs.media_map.specs.region_config.specs.Configurations.{Configuration}
-use Rattle.device_commands.specs.device_rules.specs.Answers.{dropped, effects_with, host_outcome, host_result, host_rule, unless}
-use Rattle.device_commands.specs.device_rules.specs.Legal.{right_answer}
-use Rattle.device_commands.specs.device_rules.specs.Outcomes.{Outcome}
-use Rattle.device_commands.specs.device_rules.specs.ResponseOutcomes.{respond_changes, response_records}
-use Rattle.device_commands.specs.device_rules.specs.Views.{View, view_after, view_of}
-use Rattle.device_commands.specs.device_rules.proofs.EffectKinds.{tells}
-use Rattle.device_commands.specs.device_laws.proofs.ViewsLeft.{is_other_log}
+use Rattle.extent_list.specs.media_map.specs.region_config.specs.Configurations.{Configuration}
+use Rattle.device_rules.specs.Answers.{dropped, effects_with, host_outcome, host_result, host_rule, unless}
+use Rattle.device_rules.specs.Legal.{right_answer}
+use Rattle.device_rules.specs.Outcomes.{Outcome}
+use Rattle.device_rules.specs.ResponseOutcomes.{respond_changes, response_records}
+use Rattle.device_rules.specs.Views.{View, view_after, view_of}
+use Rattle.device_rules.proofs.EffectKinds.{tells}
+use Rattle.device_rules.proofs.ViewsLeft.{is_other_log}
 use Rattle.isolation_laws.specs.Solo.{changes_with, solo_after}
 use Rattle.isolation_laws.specs.declared.items.Item.{Item}
 use Rattle.isolation_laws.proofs.JoinedViews.{view_after-outcome}

@@ -15,16 +15,16 @@ use Rattle.journal_core.specs.declared.acts.Act.{Act}
 use Rattle.journal_core.specs.declared.acts.Reply.{Reply}
 use Rattle.journal_core.specs.declared.entries.Entry.{Entry}
 use Rattle.journal_core.proofs.EachSteps.{Each-push}
-use Rattle.list_rules.specs.media_map.specs.Places.{IsPlace, address_of, locate}
-use Rattle.list_rules.specs.media_map.proofs.PlaceLemmas.{address_back}
-use Rattle.list_rules.specs.media_map.specs.region_config.specs.Configurations.{Configuration}
-use Rattle.list_rules.specs.media_map.specs.region_config.specs.Granules.{base_of, first_granule, granule_size, region_of, region_spec}
-use Rattle.list_rules.specs.media_map.specs.region_config.specs.Soundness.{IsSound}
-use Rattle.device_commands.specs.device_laws.proofs.ExclusiveHolding.{sound_apart}
-use Rattle.device_commands.specs.device_laws.proofs.LegalSound.{legal_is_sound}
-use Rattle.device_commands.specs.device_rules.specs.Legal.{Legal, Meets, access_at, access_reply, is_zeroing, right_answer, stored_at, word_after, word_by, word_of, written_by}
-use Rattle.device_commands.specs.device_rules.specs.Views.{View, first_view, view_of}
-use Rattle.device_commands.specs.device_rules.proofs.LegalSteps.{by_steps}
+use Rattle.extent_list.specs.media_map.specs.Places.{IsPlace, address_of, locate}
+use Rattle.extent_list.specs.media_map.proofs.PlaceLemmas.{address_back}
+use Rattle.extent_list.specs.media_map.specs.region_config.specs.Configurations.{Configuration}
+use Rattle.extent_list.specs.media_map.specs.region_config.specs.Granules.{base_of, first_granule, granule_size, region_of, region_spec}
+use Rattle.extent_list.specs.media_map.specs.region_config.specs.Soundness.{IsSound}
+use Rattle.device_rules.proofs.ExclusiveHolding.{sound_apart}
+use Rattle.device_rules.proofs.LegalSound.{legal_is_sound}
+use Rattle.device_rules.specs.Legal.{Legal, Meets, access_at, access_reply, is_zeroing, right_answer, stored_at, word_after, word_by, word_of, written_by}
+use Rattle.device_rules.specs.Views.{View, first_view, view_of}
+use Rattle.device_rules.proofs.LegalSteps.{by_steps}
 use Rattle.isolation_laws.specs.Laws.{Clean}
 use Rattle.isolation_laws.specs.Solo.{accepts_byte, delivered, has_byte, acts_for, items_of, own_changes, own_items, solo_after, solo_view, solo_word, solo_word_after}
 use Rattle.isolation_laws.specs.declared.items.Item.{Item}

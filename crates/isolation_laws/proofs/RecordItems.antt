@@ -12,17 +12,17 @@ use Rattle.event_records.specs.Records.{kind_number}
 use Rattle.event_records.specs.declared.events.Event.{Event}
 use Rattle.event_records.specs.declared.events.EventKind.{EventKind}
 use Rattle.journal_core.specs.declared.outcome.Effect.{Effect}
-use Rattle.list_rules.specs.media_map.specs.region_config.specs.Configurations.{Configuration}
+use Rattle.extent_list.specs.media_map.specs.region_config.specs.Configurations.{Configuration}
 use Rattle.dcd_base.specs.Words.{is_empty}
-use Rattle.device_commands.specs.device_rules.specs.Logs.{log_after}
-use Rattle.device_commands.specs.device_rules.specs.Outcomes.{Outcome, effects_of, ended, entered, entered_all, record_for, records_of_extents}
-use Rattle.device_commands.specs.device_rules.specs.Views.{View}
-use Rattle.device_commands.specs.device_rules.proofs.EffectKinds.{any_log, tells_any, told_passes}
-use Rattle.device_commands.specs.device_rules.proofs.Leaving.{both_pass, map_passes}
-use Rattle.device_commands.specs.device_laws.proofs.LogHistories.{leaves_logs, told as records_for}
-use Rattle.device_commands.specs.device_laws.proofs.LogSteps.{IsSound, IsSound-recorded, after-entered, entered-room, room-recorded}
-use Rattle.device_commands.specs.device_laws.proofs.ViewCommands.{only_logs}
-use Rattle.device_commands.specs.device_laws.proofs.ViewsLeft.{leaves_view}
+use Rattle.device_rules.specs.Logs.{log_after}
+use Rattle.device_rules.specs.Outcomes.{Outcome, effects_of, ended, entered, entered_all, record_for, records_of_extents}
+use Rattle.device_rules.specs.Views.{View}
+use Rattle.device_rules.proofs.EffectKinds.{any_log, tells_any, told_passes}
+use Rattle.device_rules.proofs.Leaving.{both_pass, map_passes}
+use Rattle.device_rules.proofs.LogHistories.{leaves_logs, told as records_for}
+use Rattle.device_rules.proofs.LogSteps.{IsSound, IsSound-recorded, after-entered, entered-room, room-recorded}
+use Rattle.device_rules.proofs.ViewCommands.{only_logs}
+use Rattle.device_rules.proofs.ViewsLeft.{leaves_view}
 use Rattle.isolation_laws.specs.Solo.{block_item, delivered, item_of, extents_recorded, told_by}
 use Rattle.isolation_laws.specs.declared.items.Item.{Item}
 

@@ -10,19 +10,19 @@ use Rattle.dcd_base.specs.declared.media.Run.{Run}
 use Rattle.dcd_base.specs.declared.steps.LogId.{LogId}
 use Rattle.event_log.specs.Logs.{room_in}
 use Rattle.event_records.specs.declared.events.EventKind.{EventKind}
-use Rattle.list_rules.specs.extent_list.specs.ExtentLists.{cut, cut_all, tags_of}
+use Rattle.extent_list.specs.ExtentLists.{cut, cut_all, tags_of}
 use Rattle.journal_core.specs.declared.outcome.Effect.{Effect}
 use Rattle.journal_core.specs.declared.outcome.HeldKind.{HeldKind}
-use Rattle.list_rules.specs.media_map.specs.Places.{bytes_of_run, run_of, start_of}
-use Rattle.list_rules.specs.media_map.specs.region_config.specs.Configurations.{Configuration}
-use Rattle.device_commands.specs.device_rules.specs.Hosts.{accepted_after, block_after, held_after, moves, offers_after}
-use Rattle.device_commands.specs.device_rules.specs.Logs.{log_after, log_of}
-use Rattle.device_commands.specs.device_rules.specs.Outcomes.{Outcome, effects_of, records_of_extents}
-use Rattle.device_commands.specs.device_rules.specs.ReleaseOutcomes.{removals, soils}
-use Rattle.device_commands.specs.device_rules.specs.Views.{View, view_after}
-use Rattle.device_commands.specs.device_rules.proofs.EffectKinds.{removals_pass}
-use Rattle.device_commands.specs.device_laws.proofs.LogHistories.{leaves_logs}
-use Rattle.device_commands.specs.device_laws.proofs.LogSteps.{IsSound}
+use Rattle.extent_list.specs.media_map.specs.Places.{bytes_of_run, run_of, start_of}
+use Rattle.extent_list.specs.media_map.specs.region_config.specs.Configurations.{Configuration}
+use Rattle.device_rules.specs.Hosts.{accepted_after, block_after, held_after, moves, offers_after}
+use Rattle.device_rules.specs.Logs.{log_after, log_of}
+use Rattle.device_rules.specs.Outcomes.{Outcome, effects_of, records_of_extents}
+use Rattle.device_rules.specs.ReleaseOutcomes.{removals, soils}
+use Rattle.device_rules.specs.Views.{View, view_after}
+use Rattle.device_rules.proofs.EffectKinds.{removals_pass}
+use Rattle.device_rules.proofs.LogHistories.{leaves_logs}
+use Rattle.device_rules.proofs.LogSteps.{IsSound}
 use Rattle.isolation_laws.specs.Solo.{block_item, item_of, solo_after, with_log_records}
 use Rattle.isolation_laws.specs.declared.items.Item.{Item}
 use Rattle.isolation_laws.proofs.OneItem.{BringsItems, IsOneAtMost}

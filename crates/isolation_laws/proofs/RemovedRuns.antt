@@ -6,25 +6,25 @@ use Rattle.dcd_base.specs.Words.{◌or◌, same_tag}
 use Rattle.dcd_base.specs.declared.capacity.Extent.{Extent}
 use Rattle.dcd_base.specs.declared.capacity.Tag.{Tag}
 use Rattle.dcd_base.specs.declared.ids.HostId.{HostId}
-use Rattle.list_rules.specs.dcd_codes.specs.Rules.{each_in}
-use Rattle.list_rules.specs.extent_list.specs.ExtentLists.{count_in, marked}
-use Rattle.list_rules.specs.Listing.{incomplete, too_many_extents}
-use Rattle.list_rules.specs.media_map.specs.Places.{region_at}
-use Rattle.list_rules.specs.media_map.specs.region_config.proofs.Faultless.{region_ends}
-use Rattle.list_rules.specs.media_map.specs.region_config.specs.Configurations.{Configuration}
-use Rattle.list_rules.specs.media_map.specs.region_config.specs.Granules.{with_blocks}
-use Rattle.list_rules.specs.media_map.specs.region_config.specs.Soundness.{IsSound}
+use Rattle.extent_list.specs.dcd_codes.specs.Rules.{each_in}
+use Rattle.extent_list.specs.ExtentLists.{count_in, marked}
+use Rattle.extent_list.specs.Listing.{incomplete, too_many_extents}
+use Rattle.extent_list.specs.media_map.specs.Places.{region_at}
+use Rattle.extent_list.specs.media_map.specs.region_config.proofs.Faultless.{region_ends}
+use Rattle.extent_list.specs.media_map.specs.region_config.specs.Configurations.{Configuration}
+use Rattle.extent_list.specs.media_map.specs.region_config.specs.Granules.{with_blocks}
+use Rattle.extent_list.specs.media_map.specs.region_config.specs.Soundness.{IsSound}
 use Rattle.release_core.specs.Leaving.{count_after}
 use Rattle.release_core.specs.Removals.{by_tag_rule, prescribed_removal_rule, extents_of_tag}
-use Rattle.device_commands.specs.device_laws.specs.Pictures.{Picture}
-use Rattle.device_commands.specs.device_laws.specs.Standing.{IsMade, Stands}
-use Rattle.device_commands.specs.device_laws.proofs.Going.{IsGoing, some_going}
-use Rattle.device_commands.specs.device_laws.proofs.Holding.{present_whole}
-use Rattle.device_commands.specs.device_laws.proofs.Homes.{made_bytes, made_starts}
-use Rattle.device_commands.specs.device_laws.proofs.LeftStanding.{going_of, going_rule}
-use Rattle.device_commands.specs.device_rules.proofs.ListSteps.{each-change, each-map}
-use Rattle.device_commands.specs.device_laws.proofs.OneLeave.{loose}
-use Rattle.device_commands.specs.device_laws.proofs.Overlaps.{neither}
+use Rattle.device_rules.specs.Pictures.{Picture}
+use Rattle.device_rules.specs.Standing.{IsMade, Stands}
+use Rattle.device_rules.proofs.Going.{IsGoing, some_going}
+use Rattle.device_rules.proofs.Holding.{present_whole}
+use Rattle.device_rules.proofs.Homes.{made_bytes, made_starts}
+use Rattle.device_rules.proofs.LeftStanding.{going_of, going_rule}
+use Rattle.device_rules.proofs.ListSteps.{each-change, each-map}
+use Rattle.device_rules.proofs.OneLeave.{loose}
+use Rattle.device_rules.proofs.Overlaps.{neither}
 use Rattle.isolation_laws.proofs.RemovalViews.{IsOwnRun}
 
 module _ (c : Configuration) (sound : IsSound c) (p : Picture) (s : Stands c p) (h : HostId) (known : h < c.hosts) where

@@ -13,9 +13,9 @@ use Rattle.journal_core.specs.Holders.{holds}
 use Rattle.journal_core.specs.declared.acts.Act.{Act}
 use Rattle.journal_core.specs.declared.acts.Reply.{Reply}
 use Rattle.journal_core.specs.declared.entries.Entry.{Entry}
-use Rattle.list_rules.specs.media_map.specs.Places.{locate}
-use Rattle.list_rules.specs.media_map.specs.region_config.specs.Configurations.{Configuration}
-use Rattle.device_commands.specs.device_rules.specs.Legal.{Meets, access_at, right_answer, stored_at, word_by}
+use Rattle.extent_list.specs.media_map.specs.Places.{locate}
+use Rattle.extent_list.specs.media_map.specs.region_config.specs.Configurations.{Configuration}
+use Rattle.device_rules.specs.Legal.{Meets, access_at, right_answer, stored_at, word_by}
 use Rattle.isolation_laws.specs.Laws.{is_in_granule, stores_in}
 
 -- It writes no word of the granule.

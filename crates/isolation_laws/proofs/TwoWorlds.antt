@@ -7,8 +7,8 @@ use Rattle.dcd_base.specs.declared.ids.HostId.{HostId}
 use Rattle.journal_core.specs.Entries.{EachFrom}
 use Rattle.journal_core.specs.declared.acts.Reply.{Reply}
 use Rattle.journal_core.specs.declared.entries.Entry.{Entry}
-use Rattle.list_rules.specs.media_map.specs.region_config.specs.Configurations.{Configuration}
-use Rattle.device_commands.specs.device_rules.specs.Legal.{Legal}
+use Rattle.extent_list.specs.media_map.specs.region_config.specs.Configurations.{Configuration}
+use Rattle.device_rules.specs.Legal.{Legal}
 use Rattle.isolation_laws.specs.Laws.{SameReplies, hushed, replies_with}
 use Rattle.isolation_laws.specs.Solo.{Agrees, AgreesAlone, Isolated, delivered, acts_for, items_of, own_items, solo}
 use Rattle.isolation_laws.specs.declared.items.Item.{Item}

@@ -8,9 +8,9 @@ use Rattle.dcd_base.specs.declared.capacity.Extent.{Extent}
 use Rattle.dcd_base.specs.declared.ids.HostId.{HostId}
 use Rattle.journal_core.specs.Holders.{taking_after}
 use Rattle.journal_core.specs.declared.outcome.Effect.{Effect}
-use Rattle.list_rules.specs.media_map.specs.Places.{run_of}
-use Rattle.list_rules.specs.media_map.specs.region_config.specs.Configurations.{Configuration}
-use Rattle.device_commands.specs.device_rules.proofs.RunEffects.{in_extents, run_from, takes, zeros}
+use Rattle.extent_list.specs.media_map.specs.Places.{run_of}
+use Rattle.extent_list.specs.media_map.specs.region_config.specs.Configurations.{Configuration}
+use Rattle.device_rules.proofs.RunEffects.{in_extents, run_from, takes, zeros}
 use Rattle.isolation_laws.specs.Laws.{Writers, writers_by}
 
 -- nobody has

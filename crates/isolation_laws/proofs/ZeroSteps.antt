@@ -9,9 +9,9 @@ use Rattle.dcd_base.specs.Words.{has_granule}
 use Rattle.dcd_base.specs.declared.ids.HostId.{HostId}
 use Rattle.dcd_base.specs.declared.steps.Actor.{Actor}
 use Rattle.dcd_base.specs.declared.steps.LogId.{LogId}
-use Rattle.list_rules.specs.dcd_codes.specs.declared.rules.Rule.{Rule}
+use Rattle.extent_list.specs.dcd_codes.specs.declared.rules.Rule.{Rule}
 use Rattle.fm_payloads.specs.ManagerPayloads.{manager_request}
-use Rattle.cci_codec.specs.field_bytes.specs.declared.faults.PayloadFault.{PayloadFault as ManagerFault, PayloadFault as HostFault}
+use Rattle.dcd_base.specs.declared.faults.PayloadFault.{PayloadFault as ManagerFault, PayloadFault as HostFault}
 use Rattle.fm_payloads.specs.declared.requests.FmRequest.{FmRequest}
 use Rattle.granule_map.specs.Choices.{joined}
 use Rattle.host_payloads.specs.HostPayloads.{host_request}
@@ -21,19 +21,19 @@ use Rattle.journal_core.specs.Holders.{holds}
 use Rattle.journal_core.specs.declared.acts.Act.{Act}
 use Rattle.journal_core.specs.declared.entries.Entry.{Entry}
 use Rattle.journal_core.specs.declared.outcome.Effect.{Effect}
-use Rattle.list_rules.specs.media_map.specs.region_config.specs.Configurations.{Configuration}
-use Rattle.list_rules.specs.media_map.specs.region_config.specs.Granules.{region_of, region_spec, same_region}
-use Rattle.device_commands.specs.device_rules.proofs.ListSteps.{any-map}
-use Rattle.device_commands.specs.device_rules.specs.Answers.{dropped, effects_with, host_outcome, host_result, host_rule, manager_outcome, manager_result, manager_rule, scrubbed, unless, zeroes}
-use Rattle.device_commands.specs.device_rules.specs.Legal.{is_zeroing, right_answer}
-use Rattle.device_commands.specs.device_rules.specs.Logs.{log_of}
-use Rattle.device_commands.specs.device_rules.specs.Outcomes.{Outcome, effects_of}
-use Rattle.device_commands.specs.device_rules.specs.ReleaseOutcomes.{is_cleaning, is_forced, removed}
-use Rattle.device_commands.specs.device_rules.specs.Tags.{dirty_granules, all_granules, is_dirty, is_referenced, status}
-use Rattle.device_commands.specs.device_rules.specs.Views.{view_of}
-use Rattle.device_commands.specs.device_rules.proofs.EffectKinds.{PassClearing, PassHeld, PassLists, PassRecords, any_log, clear_passes, dropped_passes, host_passes, outcome_passes, reference_passes, removals_pass, tells_any}
-use Rattle.device_commands.specs.device_laws.proofs.JoinedRuns.{any_taken, joined_has, passes_there}
-use Rattle.device_commands.specs.device_rules.proofs.RunEffects.{run_from}
+use Rattle.extent_list.specs.media_map.specs.region_config.specs.Configurations.{Configuration}
+use Rattle.extent_list.specs.media_map.specs.region_config.specs.Granules.{region_of, region_spec, same_region}
+use Rattle.device_rules.proofs.ListSteps.{any-map}
+use Rattle.device_rules.specs.Answers.{dropped, effects_with, host_outcome, host_result, host_rule, manager_outcome, manager_result, manager_rule, scrubbed, unless, zeroes}
+use Rattle.device_rules.specs.Legal.{is_zeroing, right_answer}
+use Rattle.device_rules.specs.Logs.{log_of}
+use Rattle.device_rules.specs.Outcomes.{Outcome, effects_of}
+use Rattle.device_rules.specs.ReleaseOutcomes.{is_cleaning, is_forced, removed}
+use Rattle.device_rules.specs.Tags.{dirty_granules, all_granules, is_dirty, is_referenced, status}
+use Rattle.device_rules.specs.Views.{view_of}
+use Rattle.device_rules.proofs.EffectKinds.{PassClearing, PassHeld, PassLists, PassRecords, any_log, clear_passes, dropped_passes, host_passes, outcome_passes, reference_passes, removals_pass, tells_any}
+use Rattle.device_rules.proofs.JoinedRuns.{any_taken, joined_has, passes_there}
+use Rattle.device_rules.proofs.RunEffects.{run_from}
 
 -- ---- what zeroes nothing
 

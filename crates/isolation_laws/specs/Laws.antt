@@ -7,22 +7,22 @@ use Rattle.dcd_base.specs.declared.ids.HostId.{HostId}
 use Rattle.dcd_base.specs.declared.media.Place.{Place}
 use Rattle.dcd_base.specs.declared.steps.Actor.{Actor}
 use Rattle.dcd_base.specs.declared.failures.AccessFault.{AccessFault}
-use Rattle.list_rules.specs.media_map.specs.region_config.specs.Configurations.{Configuration}
+use Rattle.extent_list.specs.media_map.specs.region_config.specs.Configurations.{Configuration}
 use Rattle.journal_core.specs.declared.acts.Act.{Act}
 use Rattle.journal_core.specs.declared.acts.Reply.{Reply}
 use Rattle.journal_core.specs.declared.outcome.Effect.{Effect}
 use Rattle.journal_core.specs.declared.entries.Entry.{Entry}
 use Rattle.isolation_laws.specs.declared.items.Item.{Item}
 use Rattle.isolation_laws.specs.declared.items.SoloReply.{SoloReply}
-use Rattle.list_rules.specs.media_map.specs.region_config.specs.Granules.{region_spec, region_of}
-use Rattle.list_rules.specs.media_map.specs.Places.{locate}
+use Rattle.extent_list.specs.media_map.specs.region_config.specs.Granules.{region_spec, region_of}
+use Rattle.extent_list.specs.media_map.specs.Places.{locate}
 use Rattle.dcd_base.specs.Words.{has_granule}
 use Rattle.journal_core.specs.Entries.{effects}
 use Rattle.journal_core.specs.Holders.{holds, is_taken}
-use Rattle.device_commands.specs.device_rules.specs.Views.{view_of}
-use Rattle.device_commands.specs.device_rules.specs.Tags.{Status, status, is_free}
-use Rattle.device_commands.specs.device_rules.specs.Legal.{word_of}
-use Rattle.isolation_laws.specs.Alone.{IsUnlawful}
+use Rattle.device_rules.specs.Views.{view_of}
+use Rattle.device_rules.specs.Tags.{Status, status, is_free}
+use Rattle.device_rules.specs.Legal.{word_of}
+use Rattle.isolation_laws.specs.Unlawful.{IsUnlawful}
 use Rattle.isolation_laws.specs.Solo.{acts_for, items_of, own_items, solo_view, solo}
 
 -- who has stored into the granule since it was zeroed, before it was last taken and after that

@@ -1,9 +1,4 @@
-pub mod Acting
-pub mod Alone
 pub mod Laws
 pub mod Solo
-pub mod Telling
-pub use Rattle.device_commands.specs.device_rules
-pub use Rattle.device_commands.specs.device_laws
-pub use Rattle.device_commands.specs.device_state
-pub use Rattle.device_commands
+pub mod Unlawful
+pub use Rattle.device_rules

@@ -10,26 +10,26 @@ use Rattle.dcd_base.specs.declared.media.Place.{Place}
 use Rattle.dcd_base.specs.declared.steps.Actor.{Actor}
 use Rattle.dcd_base.specs.declared.steps.LogId.{LogId}
 use Rattle.dcd_base.specs.declared.failures.AccessFault.{AccessFault}
-use Rattle.list_rules.specs.dcd_codes.specs.declared.rules.Rule.{Rule}
+use Rattle.extent_list.specs.dcd_codes.specs.declared.rules.Rule.{Rule}
 use Rattle.cci_codec.specs.declared.messages.Request.{Request}
 use Rattle.event_records.specs.declared.events.EventKind.{EventKind}
 use Rattle.event_records.specs.declared.events.Event.{Event}
-use Rattle.list_rules.specs.media_map.specs.region_config.specs.declared.region_spec.RegionSpec.{RegionSpec}
-use Rattle.list_rules.specs.media_map.specs.region_config.specs.Configurations.{Configuration}
+use Rattle.extent_list.specs.media_map.specs.region_config.specs.declared.region_spec.RegionSpec.{RegionSpec}
+use Rattle.extent_list.specs.media_map.specs.region_config.specs.Configurations.{Configuration}
 use Rattle.journal_core.specs.declared.acts.Act.{Act}
 use Rattle.journal_core.specs.declared.acts.Reply.{Reply}
 use Rattle.journal_core.specs.declared.outcome.Effect.{Effect}
 use Rattle.journal_core.specs.declared.entries.Entry.{Entry}
 use Rattle.isolation_laws.specs.declared.items.Item.{Item}
 use Rattle.isolation_laws.specs.declared.items.SoloReply.{SoloReply}
-use Rattle.list_rules.specs.media_map.specs.region_config.specs.Granules.{region_spec, is_supported}
-use Rattle.list_rules.specs.media_map.specs.Places.{locate}
+use Rattle.extent_list.specs.media_map.specs.region_config.specs.Granules.{region_spec, is_supported}
+use Rattle.extent_list.specs.media_map.specs.Places.{locate}
 use Rattle.event_log.specs.Logs.{logged}
-use Rattle.device_commands.specs.device_rules.specs.Views.{View, view_after, first_view}
+use Rattle.device_rules.specs.Views.{View, view_after, first_view}
 use Rattle.event_records.specs.Records.{kind_number}
-use Rattle.device_commands.specs.device_rules.specs.Outcomes.{Outcome, record_for, records_of_extents, no_extent}
-use Rattle.list_rules.specs.extent_list.specs.ExtentLists.{cut_all}
-use Rattle.device_commands.specs.device_rules.specs.Answers.{dropped, reply_with, host_result_in}
+use Rattle.device_rules.specs.Outcomes.{Outcome, record_for, records_of_extents, no_extent}
+use Rattle.extent_list.specs.ExtentLists.{cut_all}
+use Rattle.device_rules.specs.Answers.{dropped, reply_with, host_result_in}
 use Rattle.journal_core.specs.Entries.{Each}
 
 -- ---- a host's own acts, and what others bring it

@@ -1,16 +1,16 @@
 //! The laws on isolation.
 
 ghost use Rattle.dcd_base.specs.declared.ids.HostId.{HostId};
-ghost use Rattle.device_commands.specs.device_rules.specs.Invariants.{Holdings};
-ghost use Rattle.device_commands.specs.device_rules.specs.Legal.{Legal};
+ghost use Rattle.device_rules.specs.Invariants.{Holdings};
+ghost use Rattle.device_rules.specs.Legal.{Legal};
 ghost use Rattle.isolation_laws.specs.Laws.{AllSeeAlone, AreLawful, Clean, SameReplies};
 ghost use Rattle.isolation_laws.specs.Solo.{Isolated, own_items};
 ghost use Rattle.journal_core.specs.declared.entries.Entry.{Entry};
-ghost use Rattle.list_rules.specs.media_map.specs.region_config.specs.Configurations.{Configuration};
-ghost use Rattle.list_rules.specs.media_map.specs.region_config.specs.Soundness.{IsSound};
+ghost use Rattle.extent_list.specs.media_map.specs.region_config.specs.Configurations.{Configuration};
+ghost use Rattle.extent_list.specs.media_map.specs.region_config.specs.Soundness.{IsSound};
 ghost use Rattle.std.specs.Prelude.{◌<◌, List};
 
-use device_commands::device_laws::law_promised_once;
+use device_rules::law_promised_once;
 
 /// The hosts that hold a granule are those whose accepted extents have it. Where nothing is shared, no granule stands in two
 /// of the accepted and offered extents of all hosts; an extent of a shareable region lies in its open tag, and no two open

@@ -4,8 +4,8 @@ use Rattle.std.proofs.lemmas.Option.{none-some, same_Some}
 use Rattle.std.specs.Prelude.{IfOk}
 use Rattle.std.specs.declared.result.Result.{Result}
 use Rattle.dcd_base.specs.declared.failures.NoMemory.{NoMemory}
-use Rattle.program_frame.specs.Ends.{IsDecided}
-use Rattle.program_frame.specs.Meanings.{Decides}
+use Rattle.edge_io.specs.Ends.{IsDecided}
+use Rattle.edge_io.specs.Meanings.{Decides}
 use Rattle.report.specs.script_codec.specs.declared.faults.ScriptFault.{ScriptFault}
 use Rattle.report.specs.script_codec.specs.declared.scripts.Script.{Script}
 use Rattle.report.specs.script_codec.specs.Reading.{fault_of, first_fault}

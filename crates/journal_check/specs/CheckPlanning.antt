@@ -1,6 +1,6 @@
 -- What is to come of an input, and how it is printed.
 use Rattle.std.specs.Prelude.{◌≡◌, ◌≢◌, ℕ, ◌<◌, ◌≤◌, List, [], ◌∷◌, length, codes, decimal, Option, Some, None}
-use Rattle.program_frame.specs.Meanings.{Meaning, asks_nothing}
+use Rattle.edge_io.specs.Meanings.{Meaning, asks_nothing}
 use Rattle.report.specs.script_codec.specs.declared.scripts.Script.{Script}
 use Rattle.report.specs.script_codec.specs.declared.faults.ScriptFault.{ScriptFault}
 use Rattle.report.specs.script_codec.specs.Reading.{first_fault}

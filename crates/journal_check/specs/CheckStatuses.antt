@@ -1,5 +1,5 @@
 -- Which end each status is.
-use Rattle.program_frame.specs.declared.ends.End.{End}
+use Rattle.edge_io.specs.declared.ends.End.{End}
 use Rattle.journal_check.specs.declared.status.CheckStatus.{CheckStatus}
 
 abbrev pub check_end : CheckStatus → End

@@ -6,8 +6,8 @@ ghost use Rattle.std.specs.Prelude.{IfOk};
 
 use crate::replaying::replay;
 use dcd_base::NoMemory;
+use device_plain::device_rules::law_exclusive;
 use device_plain::isolation_laws::law_isolated;
-use report::device_laws::law_exclusive;
 use report::script_codec::Script;
 use std::alloc::Global;
 

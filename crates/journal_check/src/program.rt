@@ -2,16 +2,15 @@
 
 ghost use Rattle.journal_check.specs.CheckPlanning.{IsAnswer, IsAnswered, IsCheckPlannedFor, IsPrintable, bytes_of, checker};
 ghost use Rattle.journal_check.specs.Frames.{IsFrame, needed, script_part, text_part};
-ghost use Rattle.program_frame.specs.Runs.{Ran};
+ghost use Rattle.edge_io.specs.Runs.{Ran};
 ghost use Rattle.report.specs.script_codec.specs.Writing.{IsWritable};
 ghost use Rattle.std.specs.Prelude.{◌≡◌, ◌≤◌, IfOk, length};
 
 use crate::checking::check;
 use crate::printing::{Printed, no_at, yes};
 use crate::status::CheckStatus;
-use dcd_base::{Bytes, Failed, NoMemory, Sink, Source, write_all};
-use field_bytes::u32_at;
-use program_frame::{Program, Stop, no_words, run};
+use dcd_base::{Bytes, Failed, NoMemory, Sink, Source, u32_at, write_all};
+use edge_io::{Program, Stop, no_words, run};
 use report::refusal;
 use report::script_codec::{Script, ScriptFault, read};
 use std::alloc::Global;

@@ -1,10 +1,10 @@
 //! How a check ends.
 
 ghost use Rattle.journal_check.specs.CheckStatuses.{check_end};
-ghost use Rattle.program_frame.specs.Ends.{number_of};
+ghost use Rattle.edge_io.specs.Ends.{number_of};
 ghost use Rattle.std.specs.Prelude.{◌≡◌};
 
-use program_frame::{End, FAULT_PRINTED};
+use edge_io::{End, FAULT_PRINTED};
 use report::script_codec::ScriptFault;
 
 /// How a check ends.

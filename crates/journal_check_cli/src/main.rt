@@ -2,9 +2,8 @@
 //! journal of the script, or which line is the first wrong one.
 #![tactic(auto)]
 
-use edge_io::{StdSink, StdSource, words};
+use edge_io::{StdSink, StdSource, leave, words};
 use journal_check::{CheckStatus, run_check};
-use program_frame::leave;
 use std::process::ExitCode;
 
 /// Hands `run_check` the words of the command line, standard input and standard output, and exits with its status.

@@ -3,7 +3,7 @@ use Rattle.std.proofs.Common.{◌≡◌, Bool, true, false, cond, List, [], ◌�
 use Rattle.std.specs.Prelude.{fold, All, IsFalse}
 use Rattle.std.proofs.lemmas.Bool.Decides.{nat_tests}
 use Rattle.std.proofs.lemmas.List.Elements.{All-cons, All-head, All-nil, All-tail, All-weaker}
-use Rattle.region_config.specs.dcd_base.specs.declared.steps.Stamp.{Stamp}
+use Rattle.cci_codec.specs.dcd_base.specs.declared.steps.Stamp.{Stamp}
 use Rattle.journal_core.specs.declared.entries.Entry.{Entry}
 use Rattle.journal_core.specs.Merging.{Rising, in_order, insert_entry, is_later}
 use Rattle.journal_core.proofs.Rising.{rising_head, rising_tail}

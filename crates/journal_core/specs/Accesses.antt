@@ -1,9 +1,9 @@
 -- Loads and stores as entries: what was asked, what was replied, and that nothing else changed.
 use Rattle.std.specs.Prelude.{ℕ, [], Option, Some, None, Result, Ok, Err}
-use Rattle.region_config.specs.dcd_base.specs.declared.failures.AccessFault.{AccessFault}
-use Rattle.region_config.specs.dcd_base.specs.declared.ids.HostId.{HostId}
-use Rattle.region_config.specs.dcd_base.specs.declared.steps.Actor.{Actor}
-use Rattle.region_config.specs.dcd_base.specs.declared.steps.Stamp.{Stamp}
+use Rattle.cci_codec.specs.dcd_base.specs.declared.failures.AccessFault.{AccessFault}
+use Rattle.cci_codec.specs.dcd_base.specs.declared.ids.HostId.{HostId}
+use Rattle.cci_codec.specs.dcd_base.specs.declared.steps.Actor.{Actor}
+use Rattle.cci_codec.specs.dcd_base.specs.declared.steps.Stamp.{Stamp}
 use Rattle.journal_core.specs.declared.acts.Act.{Act}
 use Rattle.journal_core.specs.declared.acts.Reply.{Reply}
 use Rattle.journal_core.specs.declared.entries.Entry.{Entry}

@@ -1,6 +1,6 @@
 -- The order of a whole journal.
 use Rattle.std.specs.Prelude.{ℕ, ◌+◌, All, Bool, ◌&&◌, ◌||◌, ◌==◌, nat_le, nat_lt, List, [], ◌∷◌, ◌++◌, count_by, flat_map, fold, if◌then◌else◌, IsTrue, IsFalse, AllPairs, map, filter}
-use Rattle.region_config.specs.dcd_base.specs.declared.steps.Stamp.{Stamp}
+use Rattle.cci_codec.specs.dcd_base.specs.declared.steps.Stamp.{Stamp}
 use Rattle.journal_core.specs.declared.acts.Act.{Act}
 use Rattle.journal_core.specs.declared.entries.Entry.{Entry}
 use Rattle.journal_core.specs.declared.acts.Reply.{Reply}

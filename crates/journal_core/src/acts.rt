@@ -3,8 +3,8 @@
 ghost use Rattle.journal_core.specs.Entries.{fits as fits_of};
 ghost use Rattle.std.specs.Prelude.{◌≡◌, IfOk};
 
+use cci_codec::dcd_base::{AccessFault, Actor, NoMemory};
 use cci_codec::{Request, Response};
-use region_config::dcd_base::{AccessFault, Actor, NoMemory};
 
 /// What an actor does in one step.
 #[derive(Debug, Drop)]

@@ -4,7 +4,7 @@ ghost use Rattle.std.specs.Prelude.{◌≡◌, IfOk};
 
 use crate::acts::{Act, Reply};
 use crate::outcome::Effect;
-use region_config::dcd_base::{Actor, Duplicate, NoMemory, Seq, Stamp};
+use cci_codec::dcd_base::{Actor, Duplicate, NoMemory, Seq, Stamp};
 use std::alloc::Global;
 
 /// One step of the device: who did what, what was replied, and what it changed.

@@ -1,11 +1,11 @@
 //! Who holds a granule after some effects.
 
-ghost use Rattle.region_config.specs.dcd_base.specs.Words.{has_granule};
+ghost use Rattle.cci_codec.specs.dcd_base.specs.Words.{has_granule};
 ghost use Rattle.journal_core.specs.Holders.{holding_after, holds as holds_of};
 ghost use Rattle.std.specs.Prelude.{◌≡◌};
 
 use crate::outcome::Effect;
-use region_config::dcd_base::{Granule, HostId, Run};
+use cci_codec::dcd_base::{Granule, HostId, Run};
 
 fn has(run: &Run, granule: Granule) -> bool
     ensures { result ≡ has_granule run.now granule }

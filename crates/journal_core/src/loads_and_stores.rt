@@ -9,7 +9,7 @@ use crate::acts::{Act, Reply};
 use crate::entries::{Effects, Entry};
 use crate::outcome::Effect;
 use crate::seen::{ActKind, ReplySeen, StepSeen};
-use region_config::dcd_base::{AccessFault, Actor, HostId, Seq, Stamp};
+use cci_codec::dcd_base::{AccessFault, Actor, HostId, Seq, Stamp};
 use std::alloc::Global;
 use std::marker::Model;
 

@@ -1,11 +1,11 @@
 //! One journal out of the control's and the shards'.
 
-ghost use Rattle.region_config.specs.dcd_base.specs.declared.steps.Stamp.{Stamp};
+ghost use Rattle.cci_codec.specs.dcd_base.specs.declared.steps.Stamp.{Stamp};
 ghost use Rattle.journal_core.specs.Merging.{Rising, has_stamp, merged};
 ghost use Rattle.std.specs.Prelude.{◌≡◌, ◌++◌, IfOk, OnOk, filter, flat_map, length};
 
 use crate::entries::{Entry, Journal};
-use region_config::dcd_base::NoMemory;
+use cci_codec::dcd_base::NoMemory;
 use std::alloc::Global;
 
 /// Puts copies of the entries behind those that are there.

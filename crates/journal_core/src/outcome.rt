@@ -2,8 +2,8 @@
 
 ghost use Rattle.std.specs.Prelude.{◌≡◌, IfOk};
 
+use cci_codec::dcd_base::{Duplicate, Extents, HostId, LogId, NoMemory, RegionId, Run, Tag};
 use event_records::Event;
-use region_config::dcd_base::{Duplicate, Extents, HostId, LogId, NoMemory, RegionId, Run, Tag};
 use std::alloc::Global;
 
 /// Extents that a host has listed and not yet ended, in one of two lists.

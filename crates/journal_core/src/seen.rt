@@ -4,7 +4,7 @@ ghost use Rattle.journal_core.specs.Seen.{kind_of, seen_reply};
 ghost use Rattle.std.specs.Prelude.{◌≡◌};
 
 use crate::acts::{Act, Reply};
-use region_config::dcd_base::{AccessFault, Actor};
+use cci_codec::dcd_base::{AccessFault, Actor};
 
 /// What kind of act it is.
 #[derive(Clone, Copy, Debug, PartialEq, Eq)]

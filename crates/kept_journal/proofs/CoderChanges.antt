@@ -4,7 +4,7 @@ use Rattle.std.specs.Int.{w64, from_le_bytes, to_le_bytes}
 use Rattle.std.proofs.lemmas.Bool.{eqb-true}
 use Rattle.std.proofs.lemmas.List.{get_or-set_other, get_or-set_same, length-set, take-set, take_more}
 use Rattle.std.proofs.lemmas.Nat.{from_le_bytes-to_le_bytes_8}
-use Rattle.field_bytes.proofs.Fields.{IsBytes}
+use Rattle.dcd_base.proofs.Fields.{IsBytes}
 use Rattle.kept_journal.specs.declared.coding.Coder.{Coder}
 use Rattle.kept_journal.specs.Coding.{AddsBytes, AddsChange, CodesTo}
 use Rattle.kept_journal.specs.Slots.{slots_in, with_slot}

@@ -2,7 +2,7 @@
 use Rattle.std.proofs.Common.{◌≡◌, ℕ, ◌+◌, ◌*◌, ◌/◌, ◌%◌, ◌<◌, ◌≤◌, Bool, true, cond, List, [], ◌∷◌, ◌++◌, length, set, Some, None, refl, sym, ap, subst, ◌∙◌, arith, append_assoc, append-nil}
 use Rattle.std.specs.Int.{w64, from_le_bytes}
 use Rattle.std.proofs.lemmas.Bool.{le-ltb, lt-ltb}
-use Rattle.field_bytes.proofs.Fields.{IsBytes}
+use Rattle.dcd_base.proofs.Fields.{IsBytes}
 use Rattle.kept_journal.specs.declared.coding.Coder.{Coder}
 use Rattle.kept_journal.specs.declared.tokens.Token.{Token}
 use Rattle.kept_journal.specs.Coding.{AddsBytes, CodesTo, IsFront}

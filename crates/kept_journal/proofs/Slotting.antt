@@ -5,9 +5,9 @@ use Rattle.std.specs.List.{list_all}
 use Rattle.std.proofs.lemmas.Bool.{and_parts, cases_eq, eq-eqb, eqb-true, ltb-true}
 use Rattle.std.proofs.lemmas.List.{get_or-set_other, get_or-set_same, length-drop, length-take}
 use Rattle.std.proofs.lemmas.Nat.{le_bytes_8}
-use Rattle.field_bytes.specs.Layouts.{is_byte, number_at}
-use Rattle.field_bytes.proofs.Widths.{IsBytes-drop, IsBytes-take, wide_64}
-use Rattle.field_bytes.proofs.Fields.{IsBytes}
+use Rattle.dcd_base.specs.Layouts.{is_byte, number_at}
+use Rattle.dcd_base.proofs.Widths.{IsBytes-drop, IsBytes-take, wide_64}
+use Rattle.dcd_base.proofs.Fields.{IsBytes}
 use Rattle.kept_journal.specs.Slots.{with_byte, with_slot}
 
 cond_again : (t : Bool) (a b n : ℕ) → cond t b (cond t a n) ≡ cond t b n

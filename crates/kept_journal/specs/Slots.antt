@@ -9,7 +9,7 @@ use Rattle.dcd_base.specs.declared.steps.LogId.{LogId}
 use Rattle.event_records.specs.Records.{kind_number}
 use Rattle.event_records.specs.declared.events.Event.{Event}
 use Rattle.event_records.specs.declared.events.EventKind.{EventKind}
-use Rattle.field_bytes.specs.Layouts.{number_at}
+use Rattle.dcd_base.specs.Layouts.{number_at}
 use Rattle.journal_core.specs.declared.outcome.HeldKind.{HeldKind}
 use Rattle.kept_journal.specs.declared.slots.TheConstants.{COUNT, EVENT_HOST, EVENT_KIND, EXTENTS_LEFT, FIRST, FLAG, HANDLE, HOST, LENGTH, LOG, REGION, SEQUENCE, START, TAGS_LEFT, TAG_HIGH, TAG_LOW}
 

@@ -12,9 +12,8 @@ use crate::slots::{
     HOST, LEAVE, LENGTH, LOG, LOGGED, MISSED, MORE, OFFER, REF, REGION, RESET, SEQUENCE, SLOTS,
     SOIL, START, Slots, TAG_END, TAG_HIGH, TAG_LOW, TAGS_LEFT, TAKE, UNHOLD, ZERO,
 };
-use dcd_base::{Extent, HostId, LogId, NoMemory, RegionId, Run, Tag};
+use dcd_base::{Extent, HostId, LogId, NoMemory, RegionId, Run, Tag, are_bytes, u64_at};
 use event_records::{Event, EventKind};
-use field_bytes::{are_bytes, u64_at};
 use journal_core::{Effect, HeldKind};
 use std::alloc::Global;
 

@@ -10,9 +10,8 @@ use crate::slots::{
     START, Slots, TAG_END, TAG_HIGH, TAG_LOW, TAGS_LEFT, TAKE, UNHOLD, ZERO,
 };
 use crate::tokens::Token;
-use dcd_base::{Extent, Granule, HostId, LogId, RegionId, Run, Tag};
+use dcd_base::{Extent, Granule, HostId, LogId, RegionId, Run, Tag, put_u64};
 use event_records::{Event, EventKind};
-use field_bytes::put_u64;
 use journal_core::HeldKind;
 use std::marker::Model;
 

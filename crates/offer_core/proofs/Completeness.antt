@@ -5,19 +5,19 @@ use Rattle.std.specs.Prelude.{All, AllPairs, IsFalse, nat_le, nat_lt}
 use Rattle.std.proofs.lemmas.Bool.{and_parts, and_right, cases_Bool, le-ltb, leb-true, ltb-true, ne_eqb, or_from, or_parts}
 use Rattle.std.proofs.lemmas.Iterator.Adapters.{position_from-zero}
 use Rattle.std.proofs.lemmas.List.Elements.{All-tail}
-use Rattle.list_rules.specs.dcd_codes.specs.dcd_base.specs.declared.capacity.Extent.{Extent}
-use Rattle.list_rules.specs.dcd_codes.specs.dcd_base.specs.declared.capacity.Tag.{Tag}
-use Rattle.list_rules.specs.dcd_codes.specs.dcd_base.specs.declared.ids.HostId.{HostId}
-use Rattle.list_rules.specs.dcd_codes.specs.dcd_base.specs.Words.{◌or◌}
-use Rattle.list_rules.specs.dcd_codes.specs.Rules.{first_by}
-use Rattle.list_rules.specs.extent_list.specs.ExtentLists.{count_in, count_of_tag, is_whole, marked, overlaps, tags_of}
-use Rattle.list_rules.specs.Listing.{incomplete, is_shareable_at, lies_in_region, is_aligned, misplaced, not_whole, shared_of, some_left, too_few_of}
-use Rattle.list_rules.specs.media_map.specs.Places.{region_at}
-use Rattle.list_rules.specs.media_map.proofs.PlaceLemmas.{has}
-use Rattle.list_rules.specs.media_map.proofs.RunLemmas.{region_at_is}
-use Rattle.list_rules.specs.media_map.specs.region_config.specs.Configurations.{Configuration}
-use Rattle.list_rules.specs.media_map.specs.region_config.specs.Granules.{base_of, region_spec}
-use Rattle.list_rules.specs.media_map.specs.region_config.specs.Soundness.{IsSound}
+use Rattle.extent_list.specs.dcd_codes.specs.dcd_base.specs.declared.capacity.Extent.{Extent}
+use Rattle.extent_list.specs.dcd_codes.specs.dcd_base.specs.declared.capacity.Tag.{Tag}
+use Rattle.extent_list.specs.dcd_codes.specs.dcd_base.specs.declared.ids.HostId.{HostId}
+use Rattle.extent_list.specs.dcd_codes.specs.dcd_base.specs.Words.{◌or◌}
+use Rattle.extent_list.specs.dcd_codes.specs.Rules.{first_by}
+use Rattle.extent_list.specs.ExtentLists.{count_in, count_of_tag, is_whole, marked, overlaps, tags_of}
+use Rattle.extent_list.specs.Listing.{incomplete, is_shareable_at, lies_in_region, is_aligned, misplaced, not_whole, shared_of, some_left, too_few_of}
+use Rattle.extent_list.specs.media_map.specs.Places.{region_at}
+use Rattle.extent_list.specs.media_map.proofs.PlaceLemmas.{has}
+use Rattle.extent_list.specs.media_map.proofs.RunLemmas.{region_at_is}
+use Rattle.extent_list.specs.media_map.specs.region_config.specs.Configurations.{Configuration}
+use Rattle.extent_list.specs.media_map.specs.region_config.specs.Granules.{base_of, region_spec}
+use Rattle.extent_list.specs.media_map.specs.region_config.specs.Soundness.{IsSound}
 use Rattle.offer_core.proofs.Counting.{count_in-cons}
 use Rattle.offer_core.proofs.Owners.{AllPairs-first, AllPairs-others, All-first, AreSome-few, IsOwner, marked_all, owned, owner_in, owner_whole}
 use Rattle.offer_core.specs.declared.offer.Offer.{Offer}

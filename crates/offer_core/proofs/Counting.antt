@@ -1,8 +1,8 @@
 -- How many extents stand in offers.
 use Rattle.std.proofs.Common.{◌≡◌, ◌+◌, ◌≤◌, List, [], ◌∷◌, length, refl, drop, arith}
 use Rattle.std.proofs.lemmas.List.Sums.{sum_by-cons}
-use Rattle.list_rules.specs.dcd_codes.specs.dcd_base.specs.declared.capacity.Extent.{Extent}
-use Rattle.list_rules.specs.extent_list.specs.ExtentLists.{count_in}
+use Rattle.extent_list.specs.dcd_codes.specs.dcd_base.specs.declared.capacity.Extent.{Extent}
+use Rattle.extent_list.specs.ExtentLists.{count_in}
 use Rattle.offer_core.specs.declared.offer.Offer.{Offer}
 use Rattle.offer_core.specs.Offerings.{lists_of, oldest_of}
 

@@ -5,11 +5,11 @@ use Rattle.std.specs.Prelude.{All, AllPairs, IsFalse, nat_le, nat_lt, unwrap_or}
 use Rattle.std.proofs.lemmas.Bool.{and_from, and_parts, cases_Bool, eq-eqb, false≢true, le-leb, leb-true, lt-ltb}
 use Rattle.std.proofs.lemmas.List.Elements.{All-tail}
 use Rattle.std.proofs.lemmas.Option.{none-some, same_Some}
-use Rattle.list_rules.specs.dcd_codes.specs.dcd_base.specs.declared.capacity.Extent.{Extent}
-use Rattle.list_rules.specs.dcd_codes.specs.dcd_base.specs.declared.ids.HostId.{HostId}
-use Rattle.list_rules.specs.extent_list.specs.ExtentLists.{is_in, is_whole, lies_in, marked, overlaps, owner_of}
+use Rattle.extent_list.specs.dcd_codes.specs.dcd_base.specs.declared.capacity.Extent.{Extent}
+use Rattle.extent_list.specs.dcd_codes.specs.dcd_base.specs.declared.ids.HostId.{HostId}
+use Rattle.extent_list.specs.ExtentLists.{is_in, is_whole, lies_in, marked, overlaps, owner_of}
 use Rattle.offer_core.specs.InOrder.{AreSome, none, taken, left, IsSoundIn, SameAddresses}
-use Rattle.list_rules.specs.media_map.specs.region_config.specs.Configurations.{Configuration}
+use Rattle.extent_list.specs.media_map.specs.region_config.specs.Configurations.{Configuration}
 
 -- a list's first, and the others
 pub All-first : {X : Type 0} (P : X → Type 0) (x : X) (xs : List X) → All P (x ∷ xs) → P x

@@ -3,14 +3,14 @@ use Rattle.std.proofs.Common.{◌≡◌, ℕ, ◌+◌, ◌≤◌, Bool, false, L
 use Rattle.std.specs.Prelude.{nat_lt}
 use Rattle.std.proofs.lemmas.Bool.{le-ltb}
 use Rattle.std.proofs.lemmas.List.{take_all}
-use Rattle.list_rules.specs.dcd_codes.specs.dcd_base.specs.declared.capacity.Extent.{Extent}
-use Rattle.list_rules.specs.dcd_codes.specs.dcd_base.specs.declared.ids.HostId.{HostId}
-use Rattle.list_rules.specs.dcd_codes.specs.declared.rules.Rule.{Rule}
-use Rattle.list_rules.specs.dcd_codes.specs.Rules.{each_in}
-use Rattle.list_rules.proofs.FitFront.{each_fits}
-use Rattle.list_rules.specs.Fitting.{Fits, FrontFits}
+use Rattle.extent_list.specs.dcd_codes.specs.dcd_base.specs.declared.capacity.Extent.{Extent}
+use Rattle.extent_list.specs.dcd_codes.specs.dcd_base.specs.declared.ids.HostId.{HostId}
+use Rattle.extent_list.specs.dcd_codes.specs.declared.rules.Rule.{Rule}
+use Rattle.extent_list.specs.dcd_codes.specs.Rules.{each_in}
+use Rattle.extent_list.proofs.FitFront.{each_fits}
+use Rattle.extent_list.specs.Fitting.{Fits, FrontFits}
 use Rattle.offer_core.proofs.Missing.{no_extent}
-use Rattle.list_rules.specs.media_map.specs.region_config.specs.Configurations.{Configuration}
+use Rattle.extent_list.specs.media_map.specs.region_config.specs.Configurations.{Configuration}
 use Rattle.offer_core.specs.Offerings.{oldest_of}
 use Rattle.offer_core.specs.Responses.{extent_rule, response_list_rule, respond_rule}
 

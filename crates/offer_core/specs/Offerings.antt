@@ -1,6 +1,6 @@
 -- What a host is offered, and what it has answered so far.
 use Rattle.std.specs.Prelude.{List, [], ◌∷◌, map}
-use Rattle.list_rules.specs.dcd_codes.specs.dcd_base.specs.declared.capacity.Extent.{Extent}
+use Rattle.extent_list.specs.dcd_codes.specs.dcd_base.specs.declared.capacity.Extent.{Extent}
 use Rattle.offer_core.specs.declared.offer.Offer.{Offer}
 
 -- The unanswered offers, the oldest first, and the extents of the responses so far that have More set.

@@ -1,6 +1,6 @@
 -- Offers as one list of extents, and how many of them each has.
 use Rattle.std.specs.Prelude.{◌≡◌, ◌≤◌, ℕ, List, [], ◌∷◌, drop, length, take}
-use Rattle.list_rules.specs.dcd_codes.specs.dcd_base.specs.declared.capacity.Extent.{Extent}
+use Rattle.extent_list.specs.dcd_codes.specs.dcd_base.specs.declared.capacity.Extent.{Extent}
 use Rattle.offer_core.specs.declared.offer.Offer.{Offer}
 
 -- the offers that have so many extents each, one after another

@@ -1,7 +1,7 @@
 //! What a response did.
 
 use crate::offer::Offer;
-use list_rules::dcd_codes::dcd_base::Extents;
+use extent_list::dcd_codes::dcd_base::Extents;
 
 /// What a response that breaks no rule did (CXL 3.1, 8.2.9.9.9.3).
 #[derive(Debug, Drop)]

@@ -2,7 +2,7 @@
 
 ghost use Rattle.std.specs.Prelude.{◌≡◌, IfOk};
 
-use list_rules::dcd_codes::dcd_base::{Extents, NoMemory};
+use extent_list::dcd_codes::dcd_base::{Extents, NoMemory};
 
 /// Extents of one region that a host may accept, in the order in which they were chosen. Their region is read from their
 /// addresses.

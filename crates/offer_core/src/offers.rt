@@ -1,13 +1,13 @@
 //! The unanswered offers of a host, and what it has answered so far.
 
-ghost use Rattle.list_rules.specs.extent_list.specs.ExtentLists.{count_in};
+ghost use Rattle.extent_list.specs.ExtentLists.{count_in};
 ghost use Rattle.offer_core.specs.Offerings.{lists_of, oldest_of};
 ghost use Rattle.offer_core.specs.Parting.{AreParts, parted};
 ghost use Rattle.std.specs.Prelude.{◌≡◌, ◌==◌, ◌++◌, ◌∷◌, ◌+◌, ◌<◌, ◌≤◌, ◌⊎◌, [], IfOk, OnErr, OnOk, Some, drop, length, slice_get, vec_capacity, vec_len};
 
 use crate::offer::Offer;
-use list_rules::dcd_codes::dcd_base::limits::{EXTENTS, LISTED_EXTENTS};
-use list_rules::dcd_codes::dcd_base::{Extent, NoMemory};
+use extent_list::dcd_codes::dcd_base::limits::{EXTENTS, LISTED_EXTENTS};
+use extent_list::dcd_codes::dcd_base::{Extent, NoMemory};
 use std::alloc::Global;
 use std::marker::Model;
 

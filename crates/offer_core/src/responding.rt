@@ -1,6 +1,6 @@
 //! What a response does to the offers.
 
-ghost use Rattle.list_rules.specs.extent_list.specs.ExtentLists.{count_in, marked};
+ghost use Rattle.extent_list.specs.ExtentLists.{count_in, marked};
 ghost use Rattle.offer_core.specs.Answers.{AnswersOldest, Leaves, NeverBroken, Responds};
 ghost use Rattle.offer_core.specs.InOrder.{IsInOrder};
 ghost use Rattle.offer_core.specs.Offerings.{lists_of, oldest_of};
@@ -10,10 +10,10 @@ use crate::answered::Answered;
 use crate::offer::Offer;
 use crate::offers::Offers;
 use crate::row::broken_rule;
-use list_rules::dcd_codes::Refusal;
-use list_rules::dcd_codes::dcd_base::{Extent, Extents, HostId, NoMemory};
-use list_rules::media_map::region_config::Config;
-use list_rules::{Owners, put_marked};
+use extent_list::dcd_codes::Refusal;
+use extent_list::dcd_codes::dcd_base::{Extent, Extents, HostId, NoMemory};
+use extent_list::media_map::region_config::Config;
+use extent_list::{Owners, put_marked};
 use std::alloc::Global;
 
 impl Offers {

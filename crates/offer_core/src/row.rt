@@ -1,19 +1,19 @@
 //! The first rule that a response breaks.
 
-ghost use Rattle.list_rules.specs.dcd_codes.specs.Rules.{each_in};
-ghost use Rattle.list_rules.specs.extent_list.specs.ExtentLists.{count_in};
-ghost use Rattle.list_rules.specs.Fitting.{FrontFits};
-ghost use Rattle.list_rules.specs.Listing.{overlapping};
+ghost use Rattle.extent_list.specs.dcd_codes.specs.Rules.{each_in};
+ghost use Rattle.extent_list.specs.ExtentLists.{count_in};
+ghost use Rattle.extent_list.specs.Fitting.{FrontFits};
+ghost use Rattle.extent_list.specs.Listing.{overlapping};
 ghost use Rattle.offer_core.specs.Offerings.{lists_of};
 ghost use Rattle.offer_core.specs.Responses.{extent_rule, respond_rule, response_list_rule};
 ghost use Rattle.std.specs.Prelude.{◌≡◌, ◌+◌, ◌^◌, ◌<◌, ◌≤◌, IfOk, None, drop, length, true};
 
 use crate::offers::Offers;
-use list_rules::dcd_codes::Rule;
-use list_rules::dcd_codes::dcd_base::limits::LISTED_EXTENTS;
-use list_rules::dcd_codes::dcd_base::{Extent, Extents, HostId, NoMemory};
-use list_rules::media_map::region_config::Config;
-use list_rules::{
+use extent_list::dcd_codes::Rule;
+use extent_list::dcd_codes::dcd_base::limits::LISTED_EXTENTS;
+use extent_list::dcd_codes::dcd_base::{Extent, Extents, HostId, NoMemory};
+use extent_list::media_map::region_config::Config;
+use extent_list::{
     Owners, are_apart, fit_front, incomplete_among, misplaced, region_at, too_many_extents, unfit,
 };
 

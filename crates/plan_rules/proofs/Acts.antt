@@ -6,10 +6,10 @@ use Rattle.dcd_base.specs.declared.ids.HostId.{HostId}
 use Rattle.dcd_base.specs.declared.steps.Actor.{Actor}
 use Rattle.dcd_base.specs.declared.steps.LogId.{LogId}
 use Rattle.dcd_codes.specs.declared.rules.Rule.{Rule}
-use Rattle.field_bytes.specs.EventCommands.{clear_length, handles_in}
-use Rattle.field_bytes.specs.Layouts.{spelling}
-use Rattle.field_bytes.specs.Payloads.{has_flag}
-use Rattle.field_bytes.specs.declared.faults.PayloadFault.{PayloadFault}
+use Rattle.dcd_base.specs.EventCommands.{clear_length, handles_in}
+use Rattle.dcd_base.specs.Layouts.{spelling}
+use Rattle.dcd_base.specs.Payloads.{has_flag}
+use Rattle.dcd_base.specs.declared.faults.PayloadFault.{PayloadFault}
 use Rattle.host_payloads.specs.HostPayloads.{clear_asked, host_fields, host_request}
 use Rattle.host_payloads.specs.declared.requests.HostRequest.{HostRequest}
 use Rattle.region_config.specs.Configurations.{Configuration}

@@ -12,7 +12,7 @@ use Rattle.journal_core.specs.declared.outcome.Effect.{Effect}
 use Rattle.std.specs.declared.result.Result.{Result}
 use Rattle.std.specs.declared.result.Result.TheVariants.{Ok, Err}
 use Rattle.fm_payloads.specs.declared.requests.FmRequest.{FmRequest}
-use Rattle.field_bytes.specs.declared.faults.PayloadFault.{PayloadFault}
+use Rattle.dcd_base.specs.declared.faults.PayloadFault.{PayloadFault}
 use Rattle.isolation_laws.specs.device_rules.specs.Answers.{broken, broken_host, manager_outcome, manager_result, manager_rule, unless}
 use Rattle.fm_payloads.specs.ManagerPayloads.{manager_request}
 use Rattle.isolation_laws.specs.device_rules.proofs.Answered.{view_same}

@@ -10,19 +10,19 @@ use Rattle.dcd_base.specs.declared.ids.HostId.{HostId}
 use Rattle.dcd_codes.specs.Rules.{each_in, first_by}
 use Rattle.dcd_codes.specs.declared.rules.Rule.{Rule}
 use Rattle.extent_list.specs.ExtentLists.{is_in, is_whole, overlaps}
-use Rattle.list_rules.specs.Listing.{is_shareable_at, lies_in_region, misplaced}
+use Rattle.extent_list.specs.Listing.{is_shareable_at, lies_in_region, misplaced}
 use Rattle.media_map.specs.Places.{region_at}
 use Rattle.region_config.specs.Configurations.{Configuration}
 use Rattle.region_config.specs.Granules.{region_spec, with_blocks}
 use Rattle.isolation_laws.specs.device_rules.proofs.ListSteps.{each-both}
-use Rattle.isolation_laws.specs.device_laws.specs.Pictures.{Picture}
-use Rattle.isolation_laws.specs.device_laws.specs.Standing.{IsMade}
-use Rattle.isolation_laws.specs.device_laws.proofs.AllLeave.{Behind}
-use Rattle.isolation_laws.specs.device_laws.proofs.Going.{IsGoing}
-use Rattle.isolation_laws.specs.device_laws.proofs.Holding.{made_aligned, made_lies}
-use Rattle.isolation_laws.specs.device_laws.proofs.Homes.{base_same, length_same, region_at_same, regions_same, shareable_same}
-use Rattle.isolation_laws.specs.device_laws.proofs.LeftStanding.{going_rule}
-use Rattle.isolation_laws.specs.device_laws.proofs.Overlaps.{Spread}
+use Rattle.isolation_laws.specs.device_rules.specs.Pictures.{Picture}
+use Rattle.isolation_laws.specs.device_rules.specs.Standing.{IsMade}
+use Rattle.isolation_laws.specs.device_rules.proofs.AllLeave.{Behind}
+use Rattle.isolation_laws.specs.device_rules.proofs.Going.{IsGoing}
+use Rattle.isolation_laws.specs.device_rules.proofs.Holding.{made_aligned, made_lies}
+use Rattle.isolation_laws.specs.device_rules.proofs.Homes.{base_same, length_same, region_at_same, regions_same, shareable_same}
+use Rattle.isolation_laws.specs.device_rules.proofs.LeftStanding.{going_rule}
+use Rattle.isolation_laws.specs.device_rules.proofs.Overlaps.{Spread}
 use Rattle.offer_core.proofs.Completeness.{position_from-none}
 
 -- ---- a row over a list that is spread out

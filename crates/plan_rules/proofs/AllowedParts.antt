@@ -10,7 +10,7 @@ use Rattle.dcd_base.specs.declared.steps.LogId.{LogId}
 use Rattle.dcd_base.specs.Words.{is_empty, zero_tag}
 use Rattle.event_log.specs.Logs.{records_in}
 use Rattle.event_records.specs.declared.events.Event.{Event}
-use Rattle.field_bytes.specs.Layouts.{spelling}
+use Rattle.dcd_base.specs.Layouts.{spelling}
 use Rattle.host_payloads.specs.HostPayloads.{host_fields}
 use Rattle.fm_payloads.specs.ManagerPayloads.{manager_fields}
 use Rattle.fm_payloads.specs.declared.requests.FmRequest.{FmRequest}
@@ -27,8 +27,8 @@ use Rattle.isolation_laws.specs.device_rules.specs.Counts.{dirty_count, records_
 use Rattle.isolation_laws.specs.device_rules.specs.Hosts.{accepted_of, block_of, held_of, offers_of}
 use Rattle.isolation_laws.specs.device_rules.specs.Legal.{Legal}
 use Rattle.isolation_laws.specs.device_rules.specs.Logs.{log_of}
-use Rattle.isolation_laws.specs.device_laws.specs.Pictures.{picture_of}
-use Rattle.isolation_laws.specs.device_laws.proofs.LegalSound.{legal_is_sound}
+use Rattle.isolation_laws.specs.device_rules.specs.Pictures.{picture_of}
+use Rattle.isolation_laws.specs.device_rules.proofs.LegalSound.{legal_is_sound}
 use Rattle.plan_rules.specs.Kept.{begins_in}
 use Rattle.plan_rules.proofs.Emptying.{accepted_few, empties_regions}
 use Rattle.plan_rules.proofs.LettingGo.{clears_whole_logs, lets_offers_go}

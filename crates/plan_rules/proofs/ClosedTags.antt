@@ -21,16 +21,16 @@ use Rattle.isolation_laws.specs.device_rules.specs.Outcomes.{Outcome, effects_of
 use Rattle.isolation_laws.specs.device_rules.specs.ReleaseOutcomes.{leaves, removals, soils}
 use Rattle.isolation_laws.specs.device_rules.proofs.ListSteps.{each-append, each-at, each-both, each-change, each-map, flat-push}
 use Rattle.isolation_laws.specs.device_rules.proofs.TagSteps.{open_before, same_tag-is}
-use Rattle.isolation_laws.specs.device_laws.specs.Pictures.{Picture, extents_at, is_with_a_host, lives, picture_after, picture_of}
-use Rattle.isolation_laws.specs.device_laws.specs.Standing.{IsHome, IsMade, Sound}
-use Rattle.isolation_laws.specs.device_laws.proofs.CutSteps.{lies}
-use Rattle.isolation_laws.specs.device_laws.proofs.Holding.{no_extents, present_whole}
-use Rattle.isolation_laws.specs.device_laws.proofs.OneAnswer.{IsAnswer, answer_picture, q}
-use Rattle.isolation_laws.specs.device_laws.proofs.OneOffer.{IsFresh, IsOffer, IsShared}
-use Rattle.isolation_laws.specs.device_laws.proofs.Pictures.{picture-outcome}
-use Rattle.isolation_laws.specs.device_laws.proofs.Quiet.{is_quiet, quiet_front}
-use Rattle.isolation_laws.specs.device_laws.proofs.Settling.{each-tagged, host_keeps, is_host}
-use Rattle.isolation_laws.specs.device_laws.proofs.Homes.{made_region}
+use Rattle.isolation_laws.specs.device_rules.specs.Pictures.{Picture, extents_at, is_with_a_host, lives, picture_after, picture_of}
+use Rattle.isolation_laws.specs.device_rules.specs.Standing.{IsHome, IsMade, Sound}
+use Rattle.isolation_laws.specs.device_rules.proofs.CutSteps.{lies}
+use Rattle.isolation_laws.specs.device_rules.proofs.Holding.{no_extents, present_whole}
+use Rattle.isolation_laws.specs.device_rules.proofs.OneAnswer.{IsAnswer, answer_picture, q}
+use Rattle.isolation_laws.specs.device_rules.proofs.OneOffer.{IsFresh, IsOffer, IsShared}
+use Rattle.isolation_laws.specs.device_rules.proofs.Pictures.{picture-outcome}
+use Rattle.isolation_laws.specs.device_rules.proofs.Quiet.{is_quiet, quiet_front}
+use Rattle.isolation_laws.specs.device_rules.proofs.Settling.{each-tagged, host_keeps, is_host}
+use Rattle.isolation_laws.specs.device_rules.proofs.Homes.{made_region}
 use Rattle.plan_rules.proofs.Parts.{ArePartsOf, cut_parts, is_part, is_part_of, marked_part, parts_behind, parts_in_front, parts_join, parts_self, parts_then}
 
 abbrev pub IsClosed : Configuration → Picture → HostId → Extent → Type 0

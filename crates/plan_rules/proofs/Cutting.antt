@@ -5,8 +5,8 @@ use Rattle.std.proofs.lemmas.Bool.{and_from, cases_Bool, false≢true, false_fro
 use Rattle.dcd_base.specs.declared.capacity.Extent.{Extent}
 use Rattle.extent_list.specs.ExtentLists.{cut, cut_all, has_range, lies_in, overlaps, piece}
 use Rattle.isolation_laws.specs.device_rules.proofs.ListSteps.{each-append, each-both}
-use Rattle.isolation_laws.specs.device_laws.proofs.AllLeave.{Behind}
-use Rattle.isolation_laws.specs.device_laws.proofs.CutSteps.{lies}
+use Rattle.isolation_laws.specs.device_rules.proofs.AllLeave.{Behind}
+use Rattle.isolation_laws.specs.device_rules.proofs.CutSteps.{lies}
 
 -- no extent lies in one before it
 abbrev pub Outside : List Extent → Type 0

@@ -15,9 +15,9 @@ use Rattle.dcd_codes.specs.declared.rules.Rule.{Rule}
 use Rattle.event_log.specs.Logs.{Log, records_in, room_in}
 use Rattle.event_records.specs.declared.events.Event.{Event}
 use Rattle.event_records.specs.declared.events.EventKind.{EventKind}
-use Rattle.isolation_laws.specs.device_laws.proofs.LegalLogs.{legal_logs}
-use Rattle.isolation_laws.specs.device_laws.proofs.LogHistories.{leaves_logs}
-use Rattle.isolation_laws.specs.device_laws.proofs.LogOutcomes.{length-log_records}
+use Rattle.isolation_laws.specs.device_rules.proofs.LegalLogs.{legal_logs}
+use Rattle.isolation_laws.specs.device_rules.proofs.LogHistories.{leaves_logs}
+use Rattle.isolation_laws.specs.device_rules.proofs.LogOutcomes.{length-log_records}
 use Rattle.plan_rules.proofs.KeptLogs.{log_grows, log_kept, other_log, records_more}
 use Rattle.extent_list.specs.ExtentLists.{count_in, cut_all, marked, owner_of}
 use Rattle.fm_payloads.specs.declared.requests.FmRequest.{FmRequest}
@@ -38,13 +38,13 @@ use Rattle.isolation_laws.specs.device_rules.specs.ReleaseOutcomes.{removals, re
 use Rattle.isolation_laws.specs.device_rules.specs.Views.{view_after, view_of}
 use Rattle.isolation_laws.specs.device_rules.proofs.Leaving.{map_passes}
 use Rattle.isolation_laws.specs.device_rules.proofs.ListSteps.{each-all, each-change}
-use Rattle.isolation_laws.specs.device_laws.specs.Pictures.{Picture, picture_of}
-use Rattle.isolation_laws.specs.device_laws.specs.Standing.{IsMade, Sound, Stands}
-use Rattle.isolation_laws.specs.device_laws.proofs.AllLeave.{all_leave}
-use Rattle.isolation_laws.specs.device_laws.proofs.Going.{all_behind, going_ready, some_going, some_owned}
-use Rattle.isolation_laws.specs.device_laws.proofs.Homes.{regions_same}
-use Rattle.isolation_laws.specs.device_laws.proofs.LegalSound.{legal_is_sound}
-use Rattle.isolation_laws.specs.device_laws.proofs.OneLeave.{accepted_made, accepted_once, loose}
+use Rattle.isolation_laws.specs.device_rules.specs.Pictures.{Picture, picture_of}
+use Rattle.isolation_laws.specs.device_rules.specs.Standing.{IsMade, Sound, Stands}
+use Rattle.isolation_laws.specs.device_rules.proofs.AllLeave.{all_leave}
+use Rattle.isolation_laws.specs.device_rules.proofs.Going.{all_behind, going_ready, some_going, some_owned}
+use Rattle.isolation_laws.specs.device_rules.proofs.Homes.{regions_same}
+use Rattle.isolation_laws.specs.device_rules.proofs.LegalSound.{legal_is_sound}
+use Rattle.isolation_laws.specs.device_rules.proofs.OneLeave.{accepted_made, accepted_once, loose}
 use Rattle.plan_rules.specs.Kept.{KeepsOthers, begins_in}
 use Rattle.plan_rules.specs.LettingGo.{EmptiesRegions}
 use Rattle.plan_rules.proofs.Allowed.{each_may_go}

@@ -13,7 +13,7 @@ use Rattle.granule_map.specs.Choices.{joined, joined_onto, passing}
 use Rattle.selection.specs.Selections.{always_together, free_blocks, free_runs, granules_of_blocks, is_free_block}
 use Rattle.selection.proofs.Chosen.{NumbersBetween, filter_between}
 use Rattle.isolation_laws.specs.device_rules.proofs.RunEffects.{run_from}
-use Rattle.isolation_laws.specs.device_laws.proofs.JoinedRuns.{joined_has}
+use Rattle.isolation_laws.specs.device_rules.proofs.JoinedRuns.{joined_has}
 
 -- ---- tests over a range
 

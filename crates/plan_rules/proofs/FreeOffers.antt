@@ -43,17 +43,17 @@ use Rattle.isolation_laws.specs.device_rules.proofs.HostSearches.{any_none}
 use Rattle.isolation_laws.specs.device_rules.proofs.ListSteps.{any-map, each-at, each-change, many, many-any, many-append}
 use Rattle.isolation_laws.specs.device_rules.proofs.RunEffects.{in_extents}
 use Rattle.isolation_laws.specs.device_rules.proofs.TagSteps.{same_tag-is}
-use Rattle.isolation_laws.specs.device_laws.specs.Pictures.{Picture, picture_of}
-use Rattle.isolation_laws.specs.device_laws.specs.Standing.{IsMade, Sound, Stands}
-use Rattle.isolation_laws.specs.device_laws.proofs.AddChoices.{marked_from, marked_runs, reach_runs, runs_back}
-use Rattle.isolation_laws.specs.device_laws.proofs.Adding.{IsAdded, IsRow, added, row_of}
-use Rattle.isolation_laws.specs.device_laws.proofs.BlockRuns.{IsBlockRun, free_block_runs}
-use Rattle.isolation_laws.specs.device_laws.proofs.Holding.{present_whole}
-use Rattle.isolation_laws.specs.device_laws.proofs.Homes.{bytes_same, first_same, made_of_region, made_region, size_same, supported_some, supported_whole}
-use Rattle.isolation_laws.specs.device_laws.proofs.LegalSound.{legal_is_sound}
-use Rattle.isolation_laws.specs.device_laws.proofs.OneOffer.{reaches}
-use Rattle.isolation_laws.specs.device_laws.proofs.Overlaps.{neither, not_broken}
-use Rattle.isolation_laws.specs.device_laws.proofs.StatusOffers.{status-not_offered, status-offered}
+use Rattle.isolation_laws.specs.device_rules.specs.Pictures.{Picture, picture_of}
+use Rattle.isolation_laws.specs.device_rules.specs.Standing.{IsMade, Sound, Stands}
+use Rattle.isolation_laws.specs.device_rules.proofs.AddChoices.{marked_from, marked_runs, reach_runs, runs_back}
+use Rattle.isolation_laws.specs.device_rules.proofs.Adding.{IsAdded, IsRow, added, row_of}
+use Rattle.isolation_laws.specs.device_rules.proofs.BlockRuns.{IsBlockRun, free_block_runs}
+use Rattle.isolation_laws.specs.device_rules.proofs.Holding.{present_whole}
+use Rattle.isolation_laws.specs.device_rules.proofs.Homes.{bytes_same, first_same, made_of_region, made_region, size_same, supported_some, supported_whole}
+use Rattle.isolation_laws.specs.device_rules.proofs.LegalSound.{legal_is_sound}
+use Rattle.isolation_laws.specs.device_rules.proofs.OneOffer.{reaches}
+use Rattle.isolation_laws.specs.device_rules.proofs.Overlaps.{neither, not_broken}
+use Rattle.isolation_laws.specs.device_rules.proofs.StatusOffers.{status-not_offered, status-offered}
 use Rattle.plan_rules.specs.Kept.{KeepsOthers, begins_in}
 use Rattle.plan_rules.specs.Taking.{IsOfferedFree, OffersFreeBlocks, blocks_free_now, free_offer_of}
 use Rattle.plan_rules.proofs.Answering.{manager_does}

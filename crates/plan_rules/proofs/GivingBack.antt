@@ -13,7 +13,7 @@ use Rattle.dcd_base.specs.declared.capacity.Extent.{Extent}
 use Rattle.dcd_base.specs.declared.ids.HostId.{HostId}
 use Rattle.extent_list.specs.ExtentLists.{count_in, cut_all, is_in, is_whole, lies_in, marked, owner_of}
 use Rattle.host_payloads.specs.declared.requests.HostRequest.{HostRequest}
-use Rattle.list_rules.specs.Listing.{incomplete, is_shareable_at, some_left}
+use Rattle.extent_list.specs.Listing.{incomplete, is_shareable_at, some_left}
 use Rattle.media_map.specs.Places.{region_at, run_of}
 use Rattle.media_map.proofs.PlaceLemmas.{has}
 use Rattle.media_map.proofs.RunLemmas.{region_at_is}
@@ -34,15 +34,15 @@ use Rattle.isolation_laws.specs.device_rules.specs.ReleaseOutcomes.{leaves, remo
 use Rattle.isolation_laws.specs.device_rules.specs.ResponseOutcomes.{unhold}
 use Rattle.isolation_laws.specs.device_rules.specs.Views.{view_of}
 use Rattle.isolation_laws.specs.device_rules.proofs.ListSteps.{each-all, each-both, each-change, many}
-use Rattle.isolation_laws.specs.device_laws.specs.Pictures.{Picture, count_on, picture_of}
-use Rattle.isolation_laws.specs.device_laws.specs.Standing.{IsMade, Sound, Stands}
-use Rattle.isolation_laws.specs.device_laws.proofs.AllLeave.{Behind, all_leave}
-use Rattle.isolation_laws.specs.device_laws.proofs.CutSteps.{lies, lies-from}
-use Rattle.isolation_laws.specs.device_laws.proofs.Going.{IsGoing, all_behind, going_ready, some_going}
-use Rattle.isolation_laws.specs.device_laws.proofs.Homes.{region_at_same}
-use Rattle.isolation_laws.specs.device_laws.proofs.LegalSound.{legal_is_sound}
-use Rattle.isolation_laws.specs.device_laws.proofs.OneLeave.{accepted_made, accepted_once, loose}
-use Rattle.isolation_laws.specs.device_laws.proofs.OneOffer.{any-implies}
+use Rattle.isolation_laws.specs.device_rules.specs.Pictures.{Picture, count_on, picture_of}
+use Rattle.isolation_laws.specs.device_rules.specs.Standing.{IsMade, Sound, Stands}
+use Rattle.isolation_laws.specs.device_rules.proofs.AllLeave.{Behind, all_leave}
+use Rattle.isolation_laws.specs.device_rules.proofs.CutSteps.{lies, lies-from}
+use Rattle.isolation_laws.specs.device_rules.proofs.Going.{IsGoing, all_behind, going_ready, some_going}
+use Rattle.isolation_laws.specs.device_rules.proofs.Homes.{region_at_same}
+use Rattle.isolation_laws.specs.device_rules.proofs.LegalSound.{legal_is_sound}
+use Rattle.isolation_laws.specs.device_rules.proofs.OneLeave.{accepted_made, accepted_once, loose}
+use Rattle.isolation_laws.specs.device_rules.proofs.OneOffer.{any-implies}
 use Rattle.plan_rules.specs.GivingBack.{GivesLastBytesBack, MadeOfBlocks}
 use Rattle.plan_rules.specs.Kept.{KeepsOthers, begins_in, bytes_in}
 use Rattle.plan_rules.specs.LastBytes.{without_last_bytes}
@@ -53,7 +53,7 @@ use Rattle.plan_rules.proofs.Emptying.{accepted_few, leaves_pass, none_of_two, o
 use Rattle.dcd_base.specs.declared.steps.LogId.{LogId}
 use Rattle.isolation_laws.specs.device_rules.specs.Logs.{log_of}
 use Rattle.journal_core.specs.Holders.{holding_after, holds}
-use Rattle.isolation_laws.specs.device_laws.proofs.LogHistories.{leaves_logs}
+use Rattle.isolation_laws.specs.device_rules.proofs.LogHistories.{leaves_logs}
 use Rattle.plan_rules.proofs.KeptLogs.{log_kept}
 use Rattle.plan_rules.proofs.Keeping.{leaves_blocks, leaves_held, leaves_host, others_kept, outcome_accepted, outcome_held, outcome_holds, outcome_offers}
 use Rattle.plan_rules.proofs.LastBytes.{IsLong, IsTail, cut_last, each-reverse, filter-reverse, last_behind, last_each, last_few, last_parts, same_last, whole_more, without_elsewhere, without_few, without_in, without_there, long, long-reverse, sum_whole, without_long}

@@ -10,8 +10,8 @@ use Rattle.fm_payloads.specs.ManagerPayloads.{manager_fields, manager_request}
 use Rattle.fm_payloads.specs.declared.requests.FmRequest.{FmRequest}
 use Rattle.fm_payloads.proofs.ManagerLaws.{manager_only}
 use Rattle.std.proofs.lemmas.List.{length-drop, length-map}
-use Rattle.field_bytes.specs.EventCommands.{FitsHandle}
-use Rattle.field_bytes.proofs.EventCommands.{clear_fits}
+use Rattle.dcd_base.specs.EventCommands.{FitsHandle}
+use Rattle.dcd_base.proofs.EventCommands.{clear_fits}
 use Rattle.event_log.specs.Logs.{Log, records_in}
 use Rattle.event_records.specs.declared.events.Event.{Event}
 use Rattle.dcd_base.specs.declared.steps.LogId.{LogId}
@@ -19,10 +19,10 @@ use Rattle.journal_core.specs.Entries.{effects}
 use Rattle.journal_core.specs.declared.entries.Entry.{Entry}
 use Rattle.isolation_laws.specs.device_rules.specs.Legal.{Legal}
 use Rattle.isolation_laws.specs.device_rules.specs.Logs.{log_of}
-use Rattle.isolation_laws.specs.device_laws.proofs.LegalLogs.{legal_logs}
+use Rattle.isolation_laws.specs.device_rules.proofs.LegalLogs.{legal_logs}
 use Rattle.isolation_laws.proofs.LogSizes.{few_records}
-use Rattle.field_bytes.specs.Layouts.{FitsField, spelling}
-use Rattle.field_bytes.proofs.Agreement.{Agrees-spelled}
+use Rattle.dcd_base.specs.Layouts.{FitsField, spelling}
+use Rattle.dcd_base.proofs.Agreement.{Agrees-spelled}
 use Rattle.host_payloads.specs.HostPayloads.{FitsListed, host_fields, host_opcode, host_request, is_untagged, lists_untagged}
 use Rattle.host_payloads.specs.declared.requests.HostRequest.{HostRequest}
 use Rattle.host_payloads.proofs.HostLaws.{host_only}

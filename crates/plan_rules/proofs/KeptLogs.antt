@@ -18,8 +18,8 @@ use Rattle.isolation_laws.specs.device_rules.specs.Outcomes.{Outcome, effects_of
 use Rattle.isolation_laws.specs.device_rules.specs.ResponseOutcomes.{response_records}
 use Rattle.isolation_laws.specs.device_rules.specs.Views.{View}
 use Rattle.isolation_laws.specs.device_rules.proofs.Leaving.{after_front, both_pass, map_passes, over-leaving}
-use Rattle.isolation_laws.specs.device_laws.proofs.LogHistories.{entered_all-other, leaves_logs, log-left, told, told_one}
-use Rattle.isolation_laws.specs.device_laws.proofs.LogSteps.{IsSound, IsSound-recorded, entered_all-room}
+use Rattle.isolation_laws.specs.device_rules.proofs.LogHistories.{entered_all-other, leaves_logs, log-left, told, told_one}
+use Rattle.isolation_laws.specs.device_rules.proofs.LogSteps.{IsSound, IsSound-recorded, entered_all-room}
 
 module _ (c : Configuration) (past : List Effect) (o : Outcome) (left : list_all leaves_logs o.changes ≡ true) where
   -- what the command tells alone changes a log

@@ -11,7 +11,7 @@ use Rattle.std.proofs.lemmas.List.Elements.{filter-append}
 use Rattle.dcd_base.specs.declared.capacity.Extent.{Extent}
 use Rattle.extent_list.specs.ExtentLists.{cut, cut_all, has_range, lies_in, overlaps, without}
 use Rattle.isolation_laws.specs.device_rules.proofs.ListSteps.{each-append, each-both, each-change}
-use Rattle.isolation_laws.specs.device_laws.proofs.AllLeave.{Behind}
+use Rattle.isolation_laws.specs.device_rules.proofs.AllLeave.{Behind}
 use Rattle.plan_rules.specs.Listing.{last_bytes, last_part, listed}
 use Rattle.plan_rules.specs.LastBytes.{without_last_bytes}
 use Rattle.plan_rules.proofs.Cutting.{apart_outside, cut_skips, cut_whole}

@@ -26,15 +26,15 @@ use Rattle.isolation_laws.specs.device_rules.specs.Legal.{Legal}
 use Rattle.isolation_laws.specs.device_rules.specs.Logs.{log_after, log_of, same_log}
 use Rattle.isolation_laws.specs.device_rules.specs.Tags.{dirty_granules}
 use Rattle.isolation_laws.specs.device_rules.proofs.Leaving.{over-leaving}
-use Rattle.isolation_laws.specs.device_laws.proofs.LogHistories.{leaves_logs, log-left}
+use Rattle.isolation_laws.specs.device_rules.proofs.LogHistories.{leaves_logs, log-left}
 use Rattle.plan_rules.proofs.KeptLogs.{other_log, response_kept}
 use Rattle.journal_core.specs.declared.acts.Reply.{Reply}
 use Rattle.isolation_laws.specs.device_rules.specs.Outcomes.{Outcome, effects_of}
 use Rattle.isolation_laws.specs.device_rules.specs.ResponseOutcomes.{answered, respond_changes, unhold}
 use Rattle.isolation_laws.specs.device_rules.specs.Views.{view_after, view_of}
 use Rattle.isolation_laws.specs.device_rules.proofs.EffectKinds.{clear_passes, zeroes_pass}
-use Rattle.isolation_laws.specs.device_laws.proofs.InOrderResponses.{legal_allows}
-use Rattle.isolation_laws.specs.device_laws.proofs.LogSteps.{same_log-self}
+use Rattle.isolation_laws.specs.device_rules.proofs.InOrderResponses.{legal_allows}
+use Rattle.isolation_laws.specs.device_rules.proofs.LogSteps.{same_log-self}
 use Rattle.plan_rules.specs.Kept.{KeepsHosts, KeepsOthers}
 use Rattle.plan_rules.specs.LettingGo.{ClearsWholeLogs, IsOfferLetGo, LetsOffersGo, ScrubsKeep, log_handles}
 use Rattle.plan_rules.proofs.Answering.{host_does}

@@ -23,10 +23,10 @@ use Rattle.isolation_laws.specs.device_rules.specs.Adding.{is_free_now}
 use Rattle.isolation_laws.specs.device_rules.specs.Counts.{dirty_count}
 use Rattle.isolation_laws.specs.device_rules.specs.Hosts.{accepted_of, block_of}
 use Rattle.isolation_laws.specs.device_rules.specs.Legal.{Legal}
-use Rattle.isolation_laws.specs.device_laws.specs.Pictures.{Picture, picture_of}
-use Rattle.isolation_laws.specs.device_laws.specs.Standing.{IsHome}
-use Rattle.isolation_laws.specs.device_laws.proofs.Homes.{made_region, supported_some, supported_whole}
-use Rattle.isolation_laws.specs.device_laws.proofs.LegalSound.{legal_is_sound}
+use Rattle.isolation_laws.specs.device_rules.specs.Pictures.{Picture, picture_of}
+use Rattle.isolation_laws.specs.device_rules.specs.Standing.{IsHome}
+use Rattle.isolation_laws.specs.device_rules.proofs.Homes.{made_region, supported_some, supported_whole}
+use Rattle.isolation_laws.specs.device_rules.proofs.LegalSound.{legal_is_sound}
 use Rattle.plan_rules.specs.declared.demands.Demand.{Demand}
 use Rattle.plan_rules.specs.declared.demands.Demands.{Demands}
 use Rattle.plan_rules.specs.Holding.{blocks_held, extents_in_region, gain, stepped, surplus}

@@ -14,7 +14,7 @@ use Rattle.dcd_codes.specs.declared.rules.Rule.{Rule}
 use Rattle.dcd_codes.specs.Rules.{◌breaks◌}
 use Rattle.event_log.specs.Logs.{Log, room_in}
 use Rattle.fm_payloads.specs.declared.requests.FmRequest.{FmRequest}
-use Rattle.list_rules.specs.Listing.{too_many_extents}
+use Rattle.extent_list.specs.Listing.{too_many_extents}
 use Rattle.region_config.specs.Configurations.{Configuration}
 use Rattle.region_config.specs.Soundness.{IsSound}
 use Rattle.region_config.proofs.Searches.{or_parts as option_parts}
@@ -27,8 +27,8 @@ use Rattle.isolation_laws.specs.device_rules.specs.Legal.{Legal}
 use Rattle.isolation_laws.specs.device_rules.specs.Outcomes.{Outcome, log_full}
 use Rattle.isolation_laws.specs.device_rules.specs.Logs.{log_of}
 use Rattle.isolation_laws.specs.device_rules.specs.Views.{extents_in, view_of}
-use Rattle.isolation_laws.specs.device_laws.proofs.Homes.{supported_some}
-use Rattle.isolation_laws.specs.device_laws.proofs.LegalSound.{legal_is_sound}
+use Rattle.isolation_laws.specs.device_rules.proofs.Homes.{supported_some}
+use Rattle.isolation_laws.specs.device_rules.proofs.LegalSound.{legal_is_sound}
 use Rattle.plan_rules.specs.declared.demands.Demand.{Demand}
 use Rattle.plan_rules.specs.declared.demands.Demands.{Demands}
 use Rattle.plan_rules.specs.Taking.{blocks_free_now, free_offer_of}

@@ -8,8 +8,8 @@ use Rattle.dcd_base.specs.Words.{same_tag}
 use Rattle.extent_list.specs.ExtentLists.{cut, has_range, is_in, lies_in, marked, owner_of, piece, without}
 use Rattle.isolation_laws.specs.device_rules.proofs.ListSteps.{each-append, each-at, each-change}
 use Rattle.isolation_laws.specs.device_rules.proofs.TagSteps.{same_tag-is, same_tag-self}
-use Rattle.isolation_laws.specs.device_laws.proofs.CutSteps.{lies, lies-from}
-use Rattle.isolation_laws.specs.device_laws.proofs.OneOffer.{any-implies}
+use Rattle.isolation_laws.specs.device_rules.proofs.CutSteps.{lies, lies-from}
+use Rattle.isolation_laws.specs.device_rules.proofs.OneOffer.{any-implies}
 
 -- whether x lies in y and has its tag
 abbrev pub is_part : Extent → Extent → Bool

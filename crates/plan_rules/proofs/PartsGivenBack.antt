@@ -6,7 +6,7 @@ use Rattle.std.proofs.lemmas.List.{length-reverse}
 use Rattle.std.proofs.Math.Nat.{mul-mod_left}
 use Rattle.dcd_base.specs.declared.capacity.Extent.{Extent}
 use Rattle.dcd_base.specs.declared.ids.HostId.{HostId}
-use Rattle.field_bytes.specs.Layouts.{spelling}
+use Rattle.dcd_base.specs.Layouts.{spelling}
 use Rattle.host_payloads.specs.HostPayloads.{FitsListed, host_fields, is_untagged}
 use Rattle.host_payloads.specs.declared.requests.HostRequest.{HostRequest}
 use Rattle.region_config.specs.Configurations.{Configuration}
@@ -19,9 +19,9 @@ use Rattle.journal_core.specs.declared.entries.Entry.{Entry}
 use Rattle.isolation_laws.specs.device_rules.specs.Hosts.{accepted_of, block_of, held_of}
 use Rattle.isolation_laws.specs.device_rules.specs.Legal.{Legal}
 use Rattle.isolation_laws.specs.device_rules.proofs.ListSteps.{each-change}
-use Rattle.isolation_laws.specs.device_laws.specs.Pictures.{picture_of}
-use Rattle.isolation_laws.specs.device_laws.specs.Standing.{IsHome}
-use Rattle.isolation_laws.specs.device_laws.proofs.LegalSound.{legal_is_sound}
+use Rattle.isolation_laws.specs.device_rules.specs.Pictures.{picture_of}
+use Rattle.isolation_laws.specs.device_rules.specs.Standing.{IsHome}
+use Rattle.isolation_laws.specs.device_rules.proofs.LegalSound.{legal_is_sound}
 use Rattle.plan_rules.specs.declared.demands.Demand.{Demand}
 use Rattle.cci_codec.specs.declared.messages.Request.{Request}
 use Rattle.plan_rules.specs.GivingBack.{IsGivenBack}

@@ -12,7 +12,7 @@ use Rattle.dcd_base.specs.declared.steps.Actor.{Actor}
 use Rattle.dcd_base.specs.declared.steps.LogId.{LogId}
 use Rattle.dcd_base.specs.Words.{has_tag}
 use Rattle.dcd_codes.specs.declared.rules.Rule.{Rule}
-use Rattle.field_bytes.specs.declared.faults.PayloadFault.{PayloadFault as ManagerFault, PayloadFault as HostFault}
+use Rattle.dcd_base.specs.declared.faults.PayloadFault.{PayloadFault as ManagerFault, PayloadFault as HostFault}
 use Rattle.fm_payloads.specs.declared.requests.FmRequest.{FmRequest}
 use Rattle.fm_payloads.specs.ManagerPayloads.{manager_request}
 use Rattle.host_payloads.specs.declared.requests.HostRequest.{HostRequest}
@@ -37,18 +37,18 @@ use Rattle.isolation_laws.specs.device_rules.specs.ResponseOutcomes.{respond_cha
 use Rattle.isolation_laws.specs.device_rules.specs.TagCommands.{add_reference_outcome, remove_reference_outcome}
 use Rattle.isolation_laws.specs.device_rules.specs.Tags.{is_live, is_referenced, last_offer, open_tags, tag_region}
 use Rattle.isolation_laws.specs.device_rules.specs.Views.{View, extents_in, view_of}
-use Rattle.isolation_laws.specs.device_laws.specs.Pictures.{Picture, picture_after, picture_of, extents_at}
-use Rattle.isolation_laws.specs.device_laws.specs.Standing.{Sound}
-use Rattle.isolation_laws.specs.device_laws.proofs.Holding.{first_is_sound}
-use Rattle.isolation_laws.specs.device_laws.proofs.LegalSound.{clear_quiet, dropped_quiet, entry_keeps}
-use Rattle.isolation_laws.specs.device_laws.proofs.Overlaps.{neither, not_broken}
-use Rattle.isolation_laws.specs.device_laws.proofs.Quiet.{hold_quiet, is_quiet, quiet_front, quiet_picture, unhold_quiet, zeroes_quiet}
+use Rattle.isolation_laws.specs.device_rules.specs.Pictures.{Picture, picture_after, picture_of, extents_at}
+use Rattle.isolation_laws.specs.device_rules.specs.Standing.{Sound}
+use Rattle.isolation_laws.specs.device_rules.proofs.Holding.{first_is_sound}
+use Rattle.isolation_laws.specs.device_rules.proofs.LegalSound.{clear_quiet, dropped_quiet, entry_keeps}
+use Rattle.isolation_laws.specs.device_rules.proofs.Overlaps.{neither, not_broken}
+use Rattle.isolation_laws.specs.device_rules.proofs.Quiet.{hold_quiet, is_quiet, quiet_front, quiet_picture, unhold_quiet, zeroes_quiet}
 use Rattle.extent_list.specs.ExtentLists.{marked, real_tags}
-use Rattle.list_rules.specs.Listing.{too_many_listed}
+use Rattle.extent_list.specs.Listing.{too_many_listed}
 use Rattle.offer_core.specs.Responses.{respond_rule, response_list_rule}
-use Rattle.isolation_laws.specs.device_laws.proofs.Adding.{IsAdded, added, row_of}
-use Rattle.isolation_laws.specs.device_laws.proofs.Pictures.{picture-append}
-use Rattle.isolation_laws.specs.device_laws.proofs.Responding.{answer_of}
+use Rattle.isolation_laws.specs.device_rules.proofs.Adding.{IsAdded, added, row_of}
+use Rattle.isolation_laws.specs.device_rules.proofs.Pictures.{picture-append}
+use Rattle.isolation_laws.specs.device_rules.proofs.Responding.{answer_of}
 use Rattle.plan_rules.proofs.ClosedTags.{AreClosed, IsClosed, IsLess, answer_less, leaves_are, less_self, offer_closed, outcome_less, removals_less}
 use Rattle.plan_rules.proofs.TagsKept.{TagsKept, less_kept, offer_few, outcome_kept}
 use Rattle.dcd_base.specs.Limits.{tags_supported}

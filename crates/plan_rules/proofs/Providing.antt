@@ -12,7 +12,7 @@ use Rattle.dcd_base.specs.declared.capacity.Extent.{Extent}
 use Rattle.dcd_base.specs.declared.ids.HostId.{HostId}
 use Rattle.dcd_base.specs.Words.{zero_tag}
 use Rattle.cci_codec.specs.declared.messages.Request.{Request}
-use Rattle.field_bytes.specs.Layouts.{spelling}
+use Rattle.dcd_base.specs.Layouts.{spelling}
 use Rattle.fm_payloads.specs.ManagerPayloads.{manager_fields}
 use Rattle.fm_payloads.specs.declared.requests.FmRequest.{FmRequest}
 use Rattle.host_payloads.specs.HostPayloads.{FitsListed, host_fields}
@@ -29,12 +29,12 @@ use Rattle.journal_core.specs.declared.entries.Entry.{Entry}
 use Rattle.isolation_laws.specs.device_rules.specs.Hosts.{accepted_of, block_of, held_of, offers_of}
 use Rattle.isolation_laws.specs.device_rules.specs.Legal.{Legal}
 use Rattle.isolation_laws.specs.device_rules.specs.Tags.{region_of_offer}
-use Rattle.isolation_laws.specs.device_laws.proofs.Homes.{supported_some}
+use Rattle.isolation_laws.specs.device_rules.proofs.Homes.{supported_some}
 use Rattle.region_config.specs.Granules.{region_spec}
 use Rattle.isolation_laws.specs.device_rules.proofs.ListSteps.{each-back, each-change, each-front}
-use Rattle.isolation_laws.specs.device_laws.specs.Pictures.{picture_of}
-use Rattle.isolation_laws.specs.device_laws.specs.Standing.{IsHome}
-use Rattle.isolation_laws.specs.device_laws.proofs.LegalSound.{legal_is_sound}
+use Rattle.isolation_laws.specs.device_rules.specs.Pictures.{picture_of}
+use Rattle.isolation_laws.specs.device_rules.specs.Standing.{IsHome}
+use Rattle.isolation_laws.specs.device_rules.proofs.LegalSound.{legal_is_sound}
 use Rattle.plan_rules.specs.declared.demands.Demand.{Demand}
 use Rattle.plan_rules.specs.Kept.{KeepsOthers, bytes_in}
 use Rattle.plan_rules.specs.Listing.{listed, offer_taken}

@@ -9,7 +9,7 @@ use Rattle.dcd_base.specs.declared.capacity.Extent.{Extent}
 use Rattle.dcd_base.specs.declared.capacity.Tag.{Tag}
 use Rattle.extent_list.specs.ExtentLists.{has_extent_of, real_tags, tags_of}
 use Rattle.isolation_laws.specs.device_rules.proofs.TagSteps.{has_tag-filter, has_tag-kept, same_tag-back, same_tag-is, same_tag-self, without_tag}
-use Rattle.isolation_laws.specs.device_laws.proofs.OneAnswer.{tags_of-has}
+use Rattle.isolation_laws.specs.device_rules.proofs.OneAnswer.{tags_of-has}
 
 -- ---- lists without a tag twice
 

@@ -15,7 +15,7 @@ use Rattle.dcd_codes.specs.declared.rules.Rule.{Rule}
 use Rattle.cci_codec.specs.declared.messages.Request.{Request}
 use Rattle.event_log.specs.Logs.{room_in}
 use Rattle.extent_list.specs.ExtentLists.{marked}
-use Rattle.field_bytes.specs.Layouts.{spelling}
+use Rattle.dcd_base.specs.Layouts.{spelling}
 use Rattle.fm_payloads.specs.ManagerPayloads.{manager_fields, manager_request}
 use Rattle.fm_payloads.specs.declared.requests.FmRequest.{FmRequest}
 use Rattle.region_config.specs.Configurations.{Configuration}
@@ -31,7 +31,7 @@ use Rattle.isolation_laws.specs.device_rules.specs.Logs.{log_of}
 use Rattle.isolation_laws.specs.device_rules.specs.Outcomes.{Outcome}
 use Rattle.isolation_laws.specs.device_rules.specs.Views.{view_of}
 use Rattle.isolation_laws.specs.device_rules.proofs.ListSteps.{each-both}
-use Rattle.isolation_laws.specs.device_laws.proofs.Overlaps.{not_broken}
+use Rattle.isolation_laws.specs.device_rules.proofs.Overlaps.{not_broken}
 use Rattle.plan_rules.proofs.Emptying.{empties_regions}
 use Rattle.plan_rules.specs.Holding.{extents_in_region}
 use Rattle.plan_rules.specs.ActsLeft.{RegionLeft, Unbroken, emptying, journal_behind}

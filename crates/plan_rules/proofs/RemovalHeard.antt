@@ -6,12 +6,12 @@ use Rattle.std.proofs.lemmas.List.{length-append}
 use Rattle.std.proofs.Math.Seq.{drop-append_seam, take-append_seam}
 use Rattle.dcd_base.specs.declared.capacity.Extent.{Extent}
 use Rattle.dcd_base.specs.Words.{zero_tag}
-use Rattle.field_bytes.specs.Extents.{extent_fields, whole_extent}
-use Rattle.field_bytes.specs.Layouts.{number_at, pieces, spelling}
-use Rattle.field_bytes.proofs.PayloadLengths.{counted_at, sized_at}
-use Rattle.field_bytes.proofs.Pieces.{spelling_each}
-use Rattle.field_bytes.proofs.WholeExtents.{same_extent}
-use Rattle.field_bytes.proofs.Widths.{wide_16, wide_32, wide_64}
+use Rattle.dcd_base.specs.Extents.{extent_fields, whole_extent}
+use Rattle.dcd_base.specs.Layouts.{number_at, pieces, spelling}
+use Rattle.dcd_base.proofs.PayloadLengths.{counted_at, sized_at}
+use Rattle.dcd_base.proofs.Pieces.{spelling_each}
+use Rattle.dcd_base.proofs.WholeExtents.{same_extent}
+use Rattle.dcd_base.proofs.Widths.{wide_16, wide_32, wide_64}
 use Rattle.fm_payloads.specs.ManagerPayloads.{made_of, manager_fields, manager_request, placed_in, placed_length, to_remove, whole_extents}
 use Rattle.fm_payloads.specs.declared.placing.Placed.{Placed}
 use Rattle.fm_payloads.specs.declared.requests.FmRequest.{FmRequest}

@@ -17,7 +17,7 @@ use Rattle.journal_core.specs.declared.outcome.Effect.{Effect}
 use Rattle.granule_map.specs.Blocks.{block_count}
 use Rattle.selection.specs.Selections.{is_free_block}
 use Rattle.isolation_laws.specs.device_rules.specs.Adding.{area_of, per_block, region_free_blocks}
-use Rattle.isolation_laws.specs.device_laws.proofs.Homes.{size_same, supported_whole}
+use Rattle.isolation_laws.specs.device_rules.proofs.Homes.{size_same, supported_whole}
 use Rattle.plan_rules.specs.declared.demands.Demand.{Demand}
 use Rattle.plan_rules.specs.declared.demands.Demands.{Demands}
 use Rattle.plan_rules.specs.Holding.{gain}

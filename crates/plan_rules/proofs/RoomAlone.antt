@@ -11,7 +11,7 @@ use Rattle.dcd_base.specs.declared.steps.LogId.{LogId}
 use Rattle.dcd_codes.specs.Rules.{◌breaks◌}
 use Rattle.dcd_codes.specs.declared.rules.Rule.{Rule}
 use Rattle.extent_list.specs.ExtentLists.{has_extent_of, real_tags}
-use Rattle.list_rules.specs.Listing.{too_many_extents}
+use Rattle.extent_list.specs.Listing.{too_many_extents}
 use Rattle.region_config.proofs.PresentBlocks.{region_spec-with_blocks}
 use Rattle.region_config.specs.Configurations.{Configuration}
 use Rattle.region_config.specs.Granules.{region_spec}
@@ -28,7 +28,7 @@ use Rattle.isolation_laws.specs.device_rules.specs.Outcomes.{log_full}
 use Rattle.isolation_laws.specs.device_rules.specs.Views.{extents_in, view_of}
 use Rattle.isolation_laws.specs.device_rules.proofs.ListSteps.{each-at}
 use Rattle.isolation_laws.specs.device_rules.proofs.TagSteps.{same_tag-is}
-use Rattle.isolation_laws.specs.device_laws.proofs.AddChoices.{marked_tags}
+use Rattle.isolation_laws.specs.device_rules.proofs.AddChoices.{marked_tags}
 use Rattle.plan_rules.specs.Taking.{CanBeOfferedFree, OnlyRoomIsWanting, free_offer_of}
 use Rattle.plan_rules.proofs.Emptying.{none_of_two, unbroken}
 use Rattle.plan_rules.proofs.PrivateTags.{legal_keeps_tags}

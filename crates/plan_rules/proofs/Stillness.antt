@@ -16,10 +16,10 @@ use Rattle.journal_core.specs.declared.outcome.HeldKind.{HeldKind}
 use Rattle.journal_core.specs.declared.entries.Entry.{Entry}
 use Rattle.isolation_laws.specs.device_rules.specs.Hosts.{accepted_of, block_of, held_of, offers_of}
 use Rattle.isolation_laws.specs.device_rules.specs.Legal.{Legal}
-use Rattle.isolation_laws.specs.device_laws.specs.Pictures.{Picture, picture_of}
-use Rattle.isolation_laws.specs.device_laws.specs.Standing.{IsHome, Sound}
-use Rattle.isolation_laws.specs.device_laws.proofs.Homes.{made_of_region, made_region, supported_whole}
-use Rattle.isolation_laws.specs.device_laws.proofs.LegalSound.{legal_is_sound}
+use Rattle.isolation_laws.specs.device_rules.specs.Pictures.{Picture, picture_of}
+use Rattle.isolation_laws.specs.device_rules.specs.Standing.{IsHome, Sound}
+use Rattle.isolation_laws.specs.device_rules.proofs.Homes.{made_of_region, made_region, supported_whole}
+use Rattle.isolation_laws.specs.device_rules.proofs.LegalSound.{legal_is_sound}
 use Rattle.plan_rules.specs.Kept.{KeepsHost, KeepsHosts, KeepsOthers}
 use Rattle.plan_rules.specs.Holding.{extents_in_region}
 use Rattle.plan_rules.specs.ActsLeft.{ChangesOnly}

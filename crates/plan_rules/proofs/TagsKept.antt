@@ -14,10 +14,10 @@ use Rattle.journal_core.specs.declared.outcome.Effect.{Effect}
 use Rattle.isolation_laws.specs.device_rules.specs.Outcomes.{Outcome, effects_of, ended}
 use Rattle.isolation_laws.specs.device_rules.proofs.ListSteps.{each-at, flat-push}
 use Rattle.isolation_laws.specs.device_rules.proofs.TagSteps.{open_before, same_tag-is, without_tags}
-use Rattle.isolation_laws.specs.device_laws.specs.Pictures.{Picture, extents_at, picture_after, picture_of}
-use Rattle.isolation_laws.specs.device_laws.specs.Standing.{Sound}
-use Rattle.isolation_laws.specs.device_laws.proofs.OneOffer.{any-implies}
-use Rattle.isolation_laws.specs.device_laws.proofs.Pictures.{picture-outcome}
+use Rattle.isolation_laws.specs.device_rules.specs.Pictures.{Picture, extents_at, picture_after, picture_of}
+use Rattle.isolation_laws.specs.device_rules.specs.Standing.{Sound}
+use Rattle.isolation_laws.specs.device_rules.proofs.OneOffer.{any-implies}
+use Rattle.isolation_laws.specs.device_rules.proofs.Pictures.{picture-outcome}
 use Rattle.plan_rules.proofs.ClosedTags.{AreClosed, IsLess, fewer_closed, less_closed}
 use Rattle.plan_rules.proofs.Parts.{ArePartsOf, is_part, is_part_of}
 use Rattle.plan_rules.proofs.RealTags.{real_few}

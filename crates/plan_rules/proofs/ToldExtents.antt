@@ -15,9 +15,9 @@ use Rattle.dcd_base.specs.declared.ids.HostId.{HostId}
 use Rattle.dcd_base.specs.declared.steps.Actor.{Actor}
 use Rattle.dcd_base.specs.declared.steps.LogId.{LogId}
 use Rattle.dcd_codes.specs.declared.rules.Rule.{Rule}
-use Rattle.field_bytes.specs.Layouts.{number_at, pieces}
-use Rattle.field_bytes.specs.Payloads.{has_flag, tag_at}
-use Rattle.field_bytes.specs.declared.faults.PayloadFault.{PayloadFault}
+use Rattle.dcd_base.specs.Layouts.{number_at, pieces}
+use Rattle.dcd_base.specs.Payloads.{has_flag, tag_at}
+use Rattle.dcd_base.specs.declared.faults.PayloadFault.{PayloadFault}
 use Rattle.host_payloads.specs.HostPayloads.{clear_asked, configuration_asked, events_asked, extents_asked, host_request, list_length, listed_extent, listed_extents, listed_in, of_list}
 use Rattle.host_payloads.specs.declared.requests.HostRequest.{HostRequest}
 use Rattle.fm_payloads.specs.ManagerPayloads.{info_asked, lists_asked, made_of, manager_clear_asked, manager_events_asked, manager_request, placed_in, placed_length, regions_asked, setting_asked, tag_in, tags_asked, to_add, to_remove}
@@ -46,7 +46,7 @@ use Rattle.isolation_laws.specs.device_rules.specs.Views.{View, view_of}
 use Rattle.isolation_laws.specs.device_rules.proofs.EffectKinds.{any_log, clear_passes, outcome_passes, reference_passes, removals_pass, tells_any, zeroes_pass}
 use Rattle.isolation_laws.specs.device_rules.proofs.Leaving.{both_pass, map_passes}
 use Rattle.isolation_laws.specs.device_rules.proofs.LegalSteps.{by_steps}
-use Rattle.isolation_laws.specs.device_laws.proofs.Adding.{row_of}
+use Rattle.isolation_laws.specs.device_rules.proofs.Adding.{row_of}
 
 -- whether the tag has sixteen numbers and the sequence two bytes
 abbrev pub is_tellable : Extent → Bool

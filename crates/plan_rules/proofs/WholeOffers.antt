@@ -41,23 +41,23 @@ use Rattle.isolation_laws.specs.device_rules.proofs.EffectKinds.{any_log, tells_
 use Rattle.isolation_laws.specs.device_rules.proofs.Leaving.{is_quiet, map_passes}
 use Rattle.isolation_laws.specs.device_rules.proofs.ListSteps.{any-map, each-at, each-back, each-both, each-front, many, many-any, many-append}
 use Rattle.isolation_laws.specs.device_rules.proofs.RunEffects.{holding-takes, in_extents, takes}
-use Rattle.isolation_laws.specs.device_laws.specs.Pictures.{Picture, extents_at, picture_of}
-use Rattle.isolation_laws.specs.device_laws.specs.Standing.{IsMade, IsTogether, Sound, Stands}
-use Rattle.isolation_laws.specs.device_laws.proofs.FreeGranules.{free_none}
-use Rattle.isolation_laws.specs.device_laws.proofs.Holding.{present_whole}
-use Rattle.isolation_laws.specs.device_laws.proofs.Homes.{made_of_region}
-use Rattle.isolation_laws.specs.device_laws.proofs.InOrderResponses.{all_apart, each_sound, legal_allows, made_there, once}
-use Rattle.isolation_laws.specs.device_laws.proofs.LegalSound.{legal_is_sound}
-use Rattle.isolation_laws.specs.device_laws.proofs.OneOffer.{reaches}
-use Rattle.isolation_laws.specs.device_laws.proofs.StatusAnswers.{status-taken, status-unanswered}
-use Rattle.isolation_laws.specs.device_laws.proofs.StatusParts.{status-quiet}
+use Rattle.isolation_laws.specs.device_rules.specs.Pictures.{Picture, extents_at, picture_of}
+use Rattle.isolation_laws.specs.device_rules.specs.Standing.{IsMade, IsTogether, Sound, Stands}
+use Rattle.isolation_laws.specs.device_rules.proofs.FreeGranules.{free_none}
+use Rattle.isolation_laws.specs.device_rules.proofs.Holding.{present_whole}
+use Rattle.isolation_laws.specs.device_rules.proofs.Homes.{made_of_region}
+use Rattle.isolation_laws.specs.device_rules.proofs.InOrderResponses.{all_apart, each_sound, legal_allows, made_there, once}
+use Rattle.isolation_laws.specs.device_rules.proofs.LegalSound.{legal_is_sound}
+use Rattle.isolation_laws.specs.device_rules.proofs.OneOffer.{reaches}
+use Rattle.isolation_laws.specs.device_rules.proofs.StatusAnswers.{status-taken, status-unanswered}
+use Rattle.isolation_laws.specs.device_rules.proofs.StatusParts.{status-quiet}
 use Rattle.plan_rules.specs.Kept.{KeepsOthers}
 use Rattle.plan_rules.specs.Listing.{listed}
 use Rattle.plan_rules.specs.Taking.{IsOfferTaken, TakesWholeOffers, blocks_free_now}
 use Rattle.plan_rules.proofs.Answering.{host_does}
 use Rattle.plan_rules.proofs.ClosedTags.{IsClosed}
 use Rattle.journal_core.specs.Holders.{holding_after, holds}
-use Rattle.isolation_laws.specs.device_laws.proofs.LogHistories.{leaves_logs}
+use Rattle.isolation_laws.specs.device_rules.proofs.LogHistories.{leaves_logs}
 use Rattle.plan_rules.proofs.KeptLogs.{response_kept}
 use Rattle.plan_rules.proofs.Keeping.{leaves_blocks, leaves_held, leaves_host, others_kept, outcome_accepted, outcome_blocks, outcome_held, outcome_holds, outcome_offers}
 use Rattle.plan_rules.proofs.PrivateTags.{legal_is_closed}

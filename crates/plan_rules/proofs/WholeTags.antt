@@ -14,7 +14,7 @@ use Rattle.dcd_base.specs.Words.{has_granule, has_in_runs, has_tag, is_zero_tag,
 use Rattle.dcd_codes.specs.Rules.{first_by}
 use Rattle.dcd_codes.specs.declared.rules.Rule.{Rule}
 use Rattle.extent_list.specs.ExtentLists.{count_of_tag, marked, tags_of}
-use Rattle.list_rules.specs.Listing.{incomplete, is_shareable_at, some_left, too_few_of}
+use Rattle.extent_list.specs.Listing.{incomplete, is_shareable_at, some_left, too_few_of}
 use Rattle.media_map.specs.Places.{region_at, run_of}
 use Rattle.region_config.specs.Configurations.{Configuration}
 use Rattle.region_config.specs.Granules.{region_spec, with_blocks}
@@ -22,12 +22,12 @@ use Rattle.region_config.specs.Soundness.{IsSound}
 use Rattle.isolation_laws.specs.device_rules.specs.Tags.{tag_runs}
 use Rattle.isolation_laws.specs.device_rules.proofs.ListSteps.{each-append, each-at, each-both, each-change, each-front}
 use Rattle.isolation_laws.specs.device_rules.proofs.TagSteps.{same_tag-is}
-use Rattle.isolation_laws.specs.device_laws.specs.Pictures.{Picture, extents_at}
-use Rattle.isolation_laws.specs.device_laws.specs.Standing.{IsHome, IsMade, IsOpen, IsUnder, Stands}
-use Rattle.isolation_laws.specs.device_laws.proofs.AddChoices.{reach_runs}
-use Rattle.isolation_laws.specs.device_laws.proofs.BlockRuns.{block_run}
-use Rattle.isolation_laws.specs.device_laws.proofs.Holding.{home_made, in_run, present_whole}
-use Rattle.isolation_laws.specs.device_laws.proofs.Homes.{made_of_region}
+use Rattle.isolation_laws.specs.device_rules.specs.Pictures.{Picture, extents_at}
+use Rattle.isolation_laws.specs.device_rules.specs.Standing.{IsHome, IsMade, IsOpen, IsUnder, Stands}
+use Rattle.isolation_laws.specs.device_rules.proofs.AddChoices.{reach_runs}
+use Rattle.isolation_laws.specs.device_rules.proofs.BlockRuns.{block_run}
+use Rattle.isolation_laws.specs.device_rules.proofs.Holding.{home_made, in_run, present_whole}
+use Rattle.isolation_laws.specs.device_rules.proofs.Homes.{made_of_region}
 use Rattle.plan_rules.specs.Kept.{begins_in}
 use Rattle.plan_rules.proofs.Allowed.{share_same}
 use Rattle.plan_rules.proofs.ClosedTags.{AreClosed, IsClosed}

@@ -12,5 +12,4 @@ pub mod Planning
 pub mod PrivateTags
 pub mod Taking
 pub mod WholePlans
-pub use Rattle.isolation_laws.specs.device_laws
 pub use Rattle.isolation_laws.specs.device_rules

@@ -1,6 +1,6 @@
 -- The list of a plan, part by part.
 use Rattle.std.specs.Prelude.{ℕ, ◌+◌, ◌-◌, ◌*◌, ◌==◌, false, List, [], ◌∷◌, ◌++◌, length, map, flat_map, min, replicate, take, reverse, if◌then◌else◌}
-use Rattle.field_bytes.specs.Layouts.{spelling}
+use Rattle.dcd_base.specs.Layouts.{spelling}
 use Rattle.dcd_base.specs.Words.{is_empty, zero_tag}
 use Rattle.dcd_base.specs.declared.capacity.Extent.{Extent}
 use Rattle.dcd_base.specs.declared.ids.HostId.{HostId}

@@ -1,5 +1,5 @@
 -- What is left once a host is offered free blocks, and takes its oldest offer whole.
-use Rattle.list_rules.specs.Listing.{too_many_extents}
+use Rattle.extent_list.specs.Listing.{too_many_extents}
 use Rattle.isolation_laws.specs.device_rules.specs.Views.{extents_in, view_of}
 use Rattle.isolation_laws.specs.device_rules.specs.Outcomes.{log_full}
 use Rattle.std.specs.Prelude.{◌≡◌, ◌≢◌, ℕ, ◌+◌, ◌/◌, ◌<◌, false, IsFalse, IsTrue, List, [], ◌∷◌, ◌++◌, None, drop, filter, length, map, sum_by, ◌%◌, ◌≤◌}

@@ -21,7 +21,7 @@ pub use demand_faults::DemandFault;
 pub use demands::{Demand, Demands};
 pub use faults::PlanFault;
 pub use giving_back::{law_given_back, law_whole_blocks};
-pub use isolation_laws::{device_laws, device_rules};
+pub use isolation_laws::device_rules;
 pub use laws::{law_plan_alike, law_same_plan, law_succeeds};
 pub use letting_go::{law_log_cleared, law_offer_let_go, law_region_emptied, law_scrub_keeps};
 pub use meets::{law_acts_leave, law_meets, law_of_room};

@@ -22,9 +22,9 @@ use Rattle.device_plain.specs.device_rules.specs.Hosts.{accepted_of, offers_of}
 use Rattle.device_plain.specs.device_rules.specs.Legal.{Legal}
 use Rattle.device_plain.specs.device_rules.specs.Logs.{log_of}
 use Rattle.device_plain.specs.device_rules.specs.Tags.{all_granules, is_dirty, status}
-use Rattle.report.specs.device_laws.specs.Pictures.{Picture, picture_of}
-use Rattle.report.specs.device_laws.specs.Standing.{IsHome}
-use Rattle.report.specs.device_laws.proofs.LegalSound.{legal_is_sound}
+use Rattle.device_plain.specs.device_rules.specs.Pictures.{Picture, picture_of}
+use Rattle.device_plain.specs.device_rules.specs.Standing.{IsHome}
+use Rattle.device_plain.specs.device_rules.proofs.LegalSound.{legal_is_sound}
 
 Ends : Extent → Type 0
 Ends x = x.start + x.length < 2 ^ 64

@@ -1,8 +1,8 @@
 -- How a run of the planner ends: what is to be written, by its status.
 use Rattle.std.specs.Prelude.{◌≡◌, ◌≢◌, ℕ, ◌+◌, ◌<◌, ◌≤◌, List, [], length, take, drop, Some, None, Ok, Err, nat_lt, if◌then◌else◌}
 use Rattle.std.specs.Int.{w32}
-use Rattle.field_bytes.specs.Layouts.{number_at}
-use Rattle.program_frame.specs.Meanings.{Meaning, asks_nothing}
+use Rattle.dcd_base.specs.Layouts.{number_at}
+use Rattle.edge_io.specs.Meanings.{Meaning, asks_nothing}
 use Rattle.region_config.specs.Configurations.{Configuration}
 use Rattle.journal_core.specs.Entries.{effects}
 use Rattle.journal_core.specs.declared.entries.Entry.{Entry}

@@ -1,5 +1,5 @@
 -- Which end each status is.
-use Rattle.program_frame.specs.declared.ends.End.{End}
+use Rattle.edge_io.specs.declared.ends.End.{End}
 use Rattle.pool_planner.specs.declared.status.PlanStatus.{PlanStatus}
 
 abbrev pub plan_end : PlanStatus → End

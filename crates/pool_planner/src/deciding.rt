@@ -11,9 +11,8 @@ use crate::printing::act_lines;
 use crate::refusals::{demands_refusal, plan_refusal, script_refusal};
 use crate::running::{are_sound, put_state, run_lines, take_steps};
 use crate::status::PlanStatus;
-use dcd_base::{Actor, Bytes, NoMemory};
+use dcd_base::{Actor, Bytes, NoMemory, u32_at};
 use device_plain::Device;
-use field_bytes::u32_at;
 use journal_core::Act;
 use plan_rules::{DemandFault, Demands, PlanFault, read_demands};
 use report::script_codec::{Script, ScriptFault, read};
@@ -111,7 +110,7 @@ fn decide_plan(alloc: Global, device: &mut Device, demands: &Demands) -> Result<
     // The journal is legal.
     let _journal = device.journal();
     let control = device.control();
-    match plan(alloc, control.config(), control, demands) {
+    match plan(alloc, control.first_config(), control, demands) {
         Ok(acts) => take_list(alloc, device, acts.as_slice()),
         Err(PlanFault::NoMemory) => Err(NoMemory),
         Err(fault) => Ok((PlanStatus::Plan(fault), plan_refusal(alloc, &fault)?)),
@@ -124,7 +123,7 @@ fn take_list(alloc: Global, device: &mut Device, acts: &[(Actor, Act)]) -> Resul
     ensures status { IfOk result (λ e. e.0 ≡ PlanStatus.Done) }
     ensures text { IfOk result (λ e. e.1 ≡ plan_text device.old.config device.old.journal acts.now) }
 {
-    let hosts = device.control().config().hosts();
+    let hosts = device.control().first_config().hosts();
     if !are_sound(hosts, acts) {
         return Err(NoMemory);
     }

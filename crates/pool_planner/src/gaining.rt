@@ -23,7 +23,7 @@ fn taking_step(alloc: Global, control: &Control, host: HostId) -> Result<PlanSte
 {
     // What every legal journal keeps bounds the extents.
     let _entries = control.entries();
-    let _hosts = control.config().hosts();
+    let _hosts = control.first_config().hosts();
     if control.offers(host) == 0 {
         return accept_step(alloc, host, &[]);
     }
@@ -51,7 +51,7 @@ fn gain_one(
     ensures { OnOk result (TriesMore trial.old trial.new (gained control.now.config (effects control.now.entries) trial.old.control.entries demand.now)) }
 {
     // There are 16 hosts and 8 regions at most.
-    let _hosts = control.config().hosts();
+    let _hosts = control.first_config().hosts();
     let gain = gain(alloc, control, demand)?;
     if gain == 0 {
         return Ok(());

@@ -26,7 +26,7 @@ pub(crate) fn held_extents(
 {
     // What every legal journal keeps bounds the extents.
     let _entries = control.entries();
-    let config = control.config();
+    let config = control.first_config();
     let _hosts = config.hosts();
     let extents = extents_in_region(alloc, config, host, region, control.accepted(host))?;
     Ok(extents)
@@ -38,7 +38,7 @@ pub(crate) fn block_size(control: &Control, region: RegionId) -> u64
     ensures value { result ≡ block_of control.now.config region (effects control.now.entries) }
     ensures some { 0 < result }
 {
-    control.present().region(region).block
+    control.config().region(region).block
 }
 
 /// How many blocks the demanded host holds in the demanded region.
@@ -52,7 +52,7 @@ pub(crate) fn blocks_held(
     ensures fits { IfOk result (λ blocks. blocks * block_of control.now.config demand.now.region (effects control.now.entries) < 2 ^ 128) }
 {
     // There are 16 hosts and 8 regions at most.
-    let _hosts = control.config().hosts();
+    let _hosts = control.first_config().hosts();
     let region = RegionId(demand.region as u8);
     let extents = held_extents(alloc, control, HostId(demand.host as u8), region)?;
     Ok(blocks_in(extents.as_slice(), block_size(control, region)))

@@ -94,7 +94,7 @@ fn empty_regions(
     ensures { OnOk result (TriesMore trial.old trial.new
         (flat_map (removal control.now.config host (effects control.now.entries)) (regions_of control.now.config))) }
 {
-    for region in 0..control.config().regions() {
+    for region in 0..control.first_config().regions() {
         empty_region(alloc, trial, control, host, RegionId(region))?;
     }
     Ok(())

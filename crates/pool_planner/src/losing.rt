@@ -29,7 +29,7 @@ fn give_back(
     ensures { OnOk result (TriesMore trial.old trial.new (give_back_surplus control.now.config (effects control.now.entries) demand.now)) }
 {
     // There are 16 hosts and 8 regions at most.
-    let _hosts = control.config().hosts();
+    let _hosts = control.first_config().hosts();
     let surplus = blocks_held(alloc, control, demand)?.saturating_sub(u128::from(demand.blocks));
     if surplus == 0 {
         return Ok(());
@@ -53,7 +53,7 @@ fn all_let_go(
     ensures { OnOk result (TriesMore trial.old trial.new (flat_map (let_go_by control.now.config (effects control.now.entries)) dead.now)) }
 {
     // There are 16 hosts at most.
-    let _hosts = control.config().hosts();
+    let _hosts = control.first_config().hosts();
     for i in 0..dead.len() {
         let_go(alloc, trial, control, HostId(dead[i] as u8))?;
     }
@@ -97,7 +97,7 @@ pub(crate) fn zero_dirty(trial: &mut Trial) -> Result<(), NoMemory>
     ensures { OnOk result (TriesMore trial.old trial.new (zeroing trial.old.control.config (effects trial.old.control.entries))) }
 {
     // There are 4,096 granules at most.
-    let _granules = trial.control.config().granules();
+    let _granules = trial.control.first_config().granules();
     let dirty = trial.control.dirty();
     if dirty == 0 {
         return Ok(());

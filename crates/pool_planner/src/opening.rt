@@ -52,7 +52,7 @@ fn is_open(control: &Control, demands: &Demands, host: HostId) -> bool
 pub(crate) fn open_host(control: &Control, demands: &Demands) -> Option<HostId>
     ensures { result ≡ lowest_below (open_by (effects control.now.entries) demands.now) control.now.config.hosts }
 {
-    for host in 0..control.config().hosts() {
+    for host in 0..control.first_config().hosts() {
         if is_open(control, demands, HostId(host)) {
             return Some(HostId(host));
         }

@@ -1,12 +1,12 @@
 //! The top call.
 
 ghost use Rattle.pool_planner.specs.PlanEnds.{planner};
-ghost use Rattle.program_frame.specs.Runs.{Ran};
+ghost use Rattle.edge_io.specs.Runs.{Ran};
 
 use crate::deciding::decide;
 use crate::status::PlanStatus;
 use dcd_base::{Bytes, Failed, NoMemory, Sink, Source, write_all};
-use program_frame::{Program, Stop, no_words, run};
+use edge_io::{Program, Stop, no_words, run};
 use std::alloc::Global;
 
 /// The most bytes of an input.

@@ -25,7 +25,7 @@ fn run_line(device: &mut Device, lanes: u8, number: u32, line: &Line) -> Result<
 {
     match line {
         Line::Do { actor, lane, act } => {
-            let hosts = device.control().config().hosts();
+            let hosts = device.control().first_config().hosts();
             let pass = pass_of(hosts, lanes, actor, *lane);
             let _reply = device.step(pass, number, *actor, act)?;
             Ok(())

@@ -67,7 +67,7 @@ pub(crate) fn short_region(
     ensures { IfOk result (λ fault. fault
         ≡ short_between control.now.config (effects control.now.entries) (effects tried.now.entries) demands.now) }
 {
-    for region in 0..control.config().regions() {
+    for region in 0..control.first_config().regions() {
         let need = need_in(alloc, control, demands.demands.as_slice(), region)?;
         let have = u64::from(tried.free_blocks(RegionId(region)));
         if have < need {

@@ -1,11 +1,11 @@
 //! How a run of the planner ends.
 
 ghost use Rattle.pool_planner.specs.PlanStatuses.{plan_end};
-ghost use Rattle.program_frame.specs.Ends.{number_of};
+ghost use Rattle.edge_io.specs.Ends.{number_of};
 ghost use Rattle.std.specs.Prelude.{◌≡◌};
 
+use edge_io::{End, FAULT_PRINTED};
 use plan_rules::{DemandFault, PlanFault};
-use program_frame::{End, FAULT_PRINTED};
 use report::script_codec::ScriptFault;
 
 /// How a run of the planner ends.

@@ -3,9 +3,8 @@
 //! ends otherwise, it says on standard error why.
 #![tactic(auto)]
 
-use edge_io::{StdSink, StdSource, words};
+use edge_io::{StdSink, StdSource, leave, words};
 use pool_planner::{PlanStatus, run_plan};
-use program_frame::leave;
 use std::process::ExitCode;
 
 /// Hands `run_plan` the words of the command line, standard input and standard output, and exits with its status.

@@ -3,16 +3,16 @@ use Rattle.std.proofs.Common.{◌≡◌, ◌≤◌, ℕ, Bool, false, List, leng
 use Rattle.std.specs.Prelude.{nat_le}
 use Rattle.std.proofs.lemmas.Bool.{le-ltb}
 use Rattle.std.proofs.lemmas.List.{take_all}
-use Rattle.list_rules.specs.dcd_codes.specs.dcd_base.specs.declared.capacity.Extent.{Extent}
-use Rattle.list_rules.specs.dcd_codes.specs.dcd_base.specs.declared.ids.HostId.{HostId}
-use Rattle.list_rules.specs.dcd_codes.specs.dcd_base.specs.Words.{is_empty}
-use Rattle.list_rules.specs.dcd_codes.specs.declared.rules.Rule.{Rule}
-use Rattle.list_rules.specs.dcd_codes.specs.Rules.{each_in}
-use Rattle.list_rules.specs.Listing.{incomplete, too_many_extents, too_many_listed}
-use Rattle.list_rules.proofs.FitFront.{each_fits}
-use Rattle.list_rules.specs.Fitting.{Fits, FrontFits}
+use Rattle.extent_list.specs.dcd_codes.specs.dcd_base.specs.declared.capacity.Extent.{Extent}
+use Rattle.extent_list.specs.dcd_codes.specs.dcd_base.specs.declared.ids.HostId.{HostId}
+use Rattle.extent_list.specs.dcd_codes.specs.dcd_base.specs.Words.{is_empty}
+use Rattle.extent_list.specs.dcd_codes.specs.declared.rules.Rule.{Rule}
+use Rattle.extent_list.specs.dcd_codes.specs.Rules.{each_in}
+use Rattle.extent_list.specs.Listing.{incomplete, too_many_extents, too_many_listed}
+use Rattle.extent_list.proofs.FitFront.{each_fits}
+use Rattle.extent_list.specs.Fitting.{Fits, FrontFits}
 use Rattle.release_core.proofs.Members.{no_extent}
-use Rattle.list_rules.specs.media_map.specs.region_config.specs.Configurations.{Configuration}
+use Rattle.extent_list.specs.media_map.specs.region_config.specs.Configurations.{Configuration}
 use Rattle.release_core.specs.declared.leaving.Within.{Within}
 use Rattle.release_core.specs.Leaving.{count_after, leaving_rule}
 use Rattle.release_core.specs.Releases.{give_back_rule}

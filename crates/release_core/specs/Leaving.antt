@@ -1,15 +1,15 @@
 -- The rules of the extents of a list that are to leave their host. The configuration is the one with the present blocks.
 use Rattle.std.specs.Prelude.{◌≡◌, ℕ, ◌+◌, ◌^◌, ◌<◌, IsTrue, not, List, length, map, take, slice_index_or, Option}
 use Rattle.std.specs.List.{list_all}
-use Rattle.list_rules.specs.dcd_codes.specs.dcd_base.specs.declared.capacity.Extent.{Extent}
-use Rattle.list_rules.specs.dcd_codes.specs.dcd_base.specs.declared.ids.HostId.{HostId}
-use Rattle.list_rules.specs.dcd_codes.specs.dcd_base.specs.Words.{◌or◌}
-use Rattle.list_rules.specs.dcd_codes.specs.declared.rules.Rule.{Rule}
-use Rattle.list_rules.specs.dcd_codes.specs.Rules.{◌breaks◌, each_in}
-use Rattle.list_rules.specs.extent_list.specs.ExtentLists.{cut_all, is_in, marked, overlaps}
-use Rattle.list_rules.specs.Listing.{incomplete, misplaced, not_whole, overlapping}
-use Rattle.list_rules.specs.media_map.specs.Places.{region_at}
-use Rattle.list_rules.specs.media_map.specs.region_config.specs.Configurations.{Configuration}
+use Rattle.extent_list.specs.dcd_codes.specs.dcd_base.specs.declared.capacity.Extent.{Extent}
+use Rattle.extent_list.specs.dcd_codes.specs.dcd_base.specs.declared.ids.HostId.{HostId}
+use Rattle.extent_list.specs.dcd_codes.specs.dcd_base.specs.Words.{◌or◌}
+use Rattle.extent_list.specs.dcd_codes.specs.declared.rules.Rule.{Rule}
+use Rattle.extent_list.specs.dcd_codes.specs.Rules.{◌breaks◌, each_in}
+use Rattle.extent_list.specs.ExtentLists.{cut_all, is_in, marked, overlaps}
+use Rattle.extent_list.specs.Listing.{incomplete, misplaced, not_whole, overlapping}
+use Rattle.extent_list.specs.media_map.specs.Places.{region_at}
+use Rattle.extent_list.specs.media_map.specs.region_config.specs.Configurations.{Configuration}
 use Rattle.release_core.specs.declared.leaving.Within.{Within}
 
 -- the region in which an extent has to lie: the one that the command names, or else the one that has its first address

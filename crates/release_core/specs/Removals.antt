@@ -1,14 +1,14 @@
 -- An Initiate Dynamic Capacity Release: the rows of its two policies.
 use Rattle.std.specs.Prelude.{ℕ, Bool, not, nat_le, List, filter, length, Option}
-use Rattle.list_rules.specs.dcd_codes.specs.dcd_base.specs.declared.capacity.Extent.{Extent}
-use Rattle.list_rules.specs.dcd_codes.specs.dcd_base.specs.declared.capacity.Tag.{Tag}
-use Rattle.list_rules.specs.dcd_codes.specs.dcd_base.specs.declared.ids.HostId.{HostId}
-use Rattle.list_rules.specs.dcd_codes.specs.dcd_base.specs.Words.{◌or◌, is_empty, is_zero_tag, same_tag, where_true}
-use Rattle.list_rules.specs.dcd_codes.specs.declared.rules.Rule.{Rule}
-use Rattle.list_rules.specs.dcd_codes.specs.Rules.{◌breaks◌}
-use Rattle.list_rules.specs.extent_list.specs.ExtentLists.{has_extent_of}
-use Rattle.list_rules.specs.Listing.{too_many_extents, too_many_listed}
-use Rattle.list_rules.specs.media_map.specs.region_config.specs.Configurations.{Configuration}
+use Rattle.extent_list.specs.dcd_codes.specs.dcd_base.specs.declared.capacity.Extent.{Extent}
+use Rattle.extent_list.specs.dcd_codes.specs.dcd_base.specs.declared.capacity.Tag.{Tag}
+use Rattle.extent_list.specs.dcd_codes.specs.dcd_base.specs.declared.ids.HostId.{HostId}
+use Rattle.extent_list.specs.dcd_codes.specs.dcd_base.specs.Words.{◌or◌, is_empty, is_zero_tag, same_tag, where_true}
+use Rattle.extent_list.specs.dcd_codes.specs.declared.rules.Rule.{Rule}
+use Rattle.extent_list.specs.dcd_codes.specs.Rules.{◌breaks◌}
+use Rattle.extent_list.specs.ExtentLists.{has_extent_of}
+use Rattle.extent_list.specs.Listing.{too_many_extents, too_many_listed}
+use Rattle.extent_list.specs.media_map.specs.region_config.specs.Configurations.{Configuration}
 use Rattle.release_core.specs.declared.leaving.Within.{Within}
 use Rattle.release_core.specs.Leaving.{count_after, leaving_list_rule}
 

@@ -1,15 +1,14 @@
 //! How many extents a host has once those of a list have left.
 
-ghost use Rattle.list_rules.specs.extent_list.specs.ExtentLists.{cut, cut_all};
-ghost use Rattle.list_rules.specs.Listing.{too_many_extents};
+ghost use Rattle.extent_list.specs.ExtentLists.{cut, cut_all};
+ghost use Rattle.extent_list.specs.Listing.{too_many_extents};
 ghost use Rattle.release_core.specs.Leaving.{AllCanLeave, count_after};
 ghost use Rattle.std.specs.Prelude.{◌≡◌, ◌+◌, ◌^◌, ◌<◌, ◌≤◌, All, IfOk, length};
 
-use list_rules::dcd_codes::Rule;
-use list_rules::dcd_codes::dcd_base::limits::EXTENTS;
-use list_rules::dcd_codes::dcd_base::{Extent, NoMemory};
-use list_rules::extent_list::ExtentList;
-use list_rules::{Owners, too_many_extents};
+use extent_list::dcd_codes::Rule;
+use extent_list::dcd_codes::dcd_base::limits::EXTENTS;
+use extent_list::dcd_codes::dcd_base::{Extent, NoMemory};
+use extent_list::{ExtentList, Owners, too_many_extents};
 
 /// The rule that the host breaks which has too many extents once those of the list have left.
 ///

@@ -1,16 +1,16 @@
 //! The rules of an extent that is to leave its host.
 
-ghost use Rattle.list_rules.specs.dcd_codes.specs.Rules.{each_in};
-ghost use Rattle.list_rules.specs.Fitting.{FrontFits};
-ghost use Rattle.list_rules.specs.Listing.{overlapping};
+ghost use Rattle.extent_list.specs.dcd_codes.specs.Rules.{each_in};
+ghost use Rattle.extent_list.specs.Fitting.{FrontFits};
+ghost use Rattle.extent_list.specs.Listing.{overlapping};
 ghost use Rattle.release_core.specs.Leaving.{leaving_rule, region_for};
 ghost use Rattle.release_core.specs.declared.leaving.Within.{Within};
 ghost use Rattle.std.specs.Prelude.{◌≡◌, ◌^◌, ◌<◌, ◌≤◌, None, length, true};
 
-use list_rules::dcd_codes::Rule;
-use list_rules::dcd_codes::dcd_base::{Extent, HostId, RegionId};
-use list_rules::media_map::region_config::Config;
-use list_rules::{Owners, are_apart, fit_front, misplaced, region_at, unfit};
+use extent_list::dcd_codes::Rule;
+use extent_list::dcd_codes::dcd_base::{Extent, HostId, RegionId};
+use extent_list::media_map::region_config::Config;
+use extent_list::{Owners, are_apart, fit_front, misplaced, region_at, unfit};
 
 /// Where the extents of a list have to lie.
 #[derive(Debug, Drop)]

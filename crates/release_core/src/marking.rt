@@ -1,10 +1,10 @@
 //! Extents as they leave: with the tag and the sequence of the accepted extent in which each lies.
 
-ghost use Rattle.list_rules.specs.extent_list.specs.ExtentLists.{marked};
+ghost use Rattle.extent_list.specs.ExtentLists.{marked};
 ghost use Rattle.std.specs.Prelude.{◌≡◌, ◌++◌, IfOk, map};
 
-use list_rules::dcd_codes::dcd_base::{Extent, Extents, NoMemory};
-use list_rules::{Owners, put_marked};
+use extent_list::dcd_codes::dcd_base::{Extent, Extents, NoMemory};
+use extent_list::{Owners, put_marked};
 use std::alloc::Global;
 
 /// The extents of the list, each with the tag and the sequence of the accepted extent in which it lies.

@@ -1,18 +1,17 @@
 //! What a host gives back, in one message or in several.
 
-ghost use Rattle.list_rules.specs.extent_list.specs.ExtentLists.{marked};
+ghost use Rattle.extent_list.specs.ExtentLists.{marked};
 ghost use Rattle.release_core.specs.Releases.{AnswersRelease, GivesBack, KeepsHeld, give_back_rule};
 ghost use Rattle.std.specs.Prelude.{◌≡◌, ◌++◌, ◌+◌, ◌<◌, ◌≤◌, [], IfOk, OnErr, OnOk, false, length, map};
 
 use crate::counting::count_rule;
 use crate::leaving::broken_leaving;
 use crate::marking::marked_lists;
-use list_rules::dcd_codes::dcd_base::limits::LISTED_EXTENTS;
-use list_rules::dcd_codes::dcd_base::{Extent, Extents, HostId, NoMemory};
-use list_rules::dcd_codes::{Refusal, Rule};
-use list_rules::extent_list::ExtentList;
-use list_rules::media_map::region_config::Config;
-use list_rules::{Owners, incomplete_among};
+use extent_list::dcd_codes::dcd_base::limits::LISTED_EXTENTS;
+use extent_list::dcd_codes::dcd_base::{Extent, Extents, HostId, NoMemory};
+use extent_list::dcd_codes::{Refusal, Rule};
+use extent_list::media_map::region_config::Config;
+use extent_list::{ExtentList, Owners, incomplete_among};
 use std::alloc::Global;
 use std::marker::Model;
 
@@ -38,7 +37,7 @@ pub struct Releases {
 
 impl Model for Releases {
     ghost use Rattle.std.specs.Prelude.{◌≤◌, List, vec_capacity};
-    ghost use Rattle.list_rules.specs.dcd_codes.specs.dcd_base.specs.declared.capacity.Extent.{Extent};
+    ghost use Rattle.extent_list.specs.dcd_codes.specs.dcd_base.specs.declared.capacity.Extent.{Extent};
 
     ghost Value = { List Extent };
 

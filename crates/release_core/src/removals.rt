@@ -1,6 +1,6 @@
 //! What the Fabric Manager takes from a host, or asks it to give back.
 
-ghost use Rattle.list_rules.specs.dcd_codes.specs.Rules.{ByRow};
+ghost use Rattle.extent_list.specs.dcd_codes.specs.Rules.{ByRow};
 ghost use Rattle.release_core.specs.Leaving.{AreMarked};
 ghost use Rattle.release_core.specs.Removals.{by_tag_rule, prescribed_removal_rule, extents_of_tag};
 ghost use Rattle.std.specs.Prelude.{◌≡◌, ◌+◌, ◌<◌, ◌≤◌, [], IfOk, OnOk, length};
@@ -8,13 +8,14 @@ ghost use Rattle.std.specs.Prelude.{◌≡◌, ◌+◌, ◌<◌, ◌≤◌, [], 
 use crate::counting::count_rule;
 use crate::leaving::{Within, broken_leaving_extent};
 use crate::marking::marked_list;
-use list_rules::dcd_codes::dcd_base::{
+use extent_list::dcd_codes::dcd_base::{
     Extent, Extents, HostId, NoMemory, RegionId, Tag, is_no_tag,
 };
-use list_rules::dcd_codes::{Refusal, Rule};
-use list_rules::extent_list::{ExtentList, has_extent_of};
-use list_rules::media_map::region_config::Config;
-use list_rules::{Owners, are_apart, incomplete_among, too_many_listed};
+use extent_list::dcd_codes::{Refusal, Rule};
+use extent_list::media_map::region_config::Config;
+use extent_list::{
+    ExtentList, Owners, are_apart, has_extent_of, incomplete_among, too_many_listed,
+};
 use std::alloc::Global;
 
 /// The extents that an Initiate Dynamic Capacity Release of policy Prescriptive means (5605h, profile): the listed

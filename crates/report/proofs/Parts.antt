@@ -7,7 +7,7 @@ use Rattle.std.specs.List.{enumerate_from, range_with_len}
 use Rattle.std.proofs.lemmas.List.{append_assoc, append-nil, flat_map_more, take_more}
 use Rattle.std.proofs.lemmas.Option.{get_or_from_slice_get}
 use Rattle.std.proofs.lemmas.Grind.{flat_map-append}
-use Rattle.field_bytes.specs.Layouts.{Field, Raw, spell, spelling}
+use Rattle.dcd_base.specs.Layouts.{Field, Raw, spell, spelling}
 use Rattle.cci_codec.specs.declared.messages.Response.{Response}
 use Rattle.cci_codec.specs.Messages.{response_bytes, response_head_fields}
 use Rattle.journal_core.specs.declared.entries.Entry.{Entry}

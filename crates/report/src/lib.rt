@@ -11,7 +11,7 @@ mod state_lines;
 mod words;
 
 pub use control_core;
-pub use control_core::{device_laws, device_rules, kept_journal};
+pub use control_core::{device_rules, kept_journal};
 pub use refusals::{refusal, usage};
 pub use rendering::{render, summary};
 pub use script_codec;

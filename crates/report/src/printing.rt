@@ -4,8 +4,7 @@ ghost use Rattle.hex.specs.Hex.{encode_lower};
 ghost use Rattle.report.specs.Printing.{piece_length, with_bytes, Puts};
 ghost use Rattle.std.specs.Prelude.{◌≡◌, ◌+◌, ◌≤◌, [], IfSome, None, OnErr, OnOk, Some, decimal, length};
 
-use dcd_base::{Failed, Sink, write_all};
-use field_bytes::put_bytes;
+use dcd_base::{Failed, Sink, put_bytes, write_all};
 use hex::encode_to_slice;
 use itoa::Buffer;
 use std::marker::Model;

@@ -41,7 +41,7 @@ fn put_log_records<K: Sink>(printer: &mut Printer, sink: &mut K, control: &Contr
 fn put_host_records<K: Sink>(printer: &mut Printer, sink: &mut K, control: &Control)
     ensures { Puts K.taken K.faults sink.old printer.old sink.new printer.new (shown_host_records control.now.config (effects control.now.entries)) }
 {
-    for host in 0..control.config().hosts() {
+    for host in 0..control.first_config().hosts() {
         put_log_records(printer, sink, control, &LogId::Host(HostId(host)));
     }
 }
@@ -74,7 +74,7 @@ fn put_host_line<K: Sink>(printer: &mut Printer, sink: &mut K, control: &Control
 fn put_host_lines<K: Sink>(printer: &mut Printer, sink: &mut K, control: &Control)
     ensures { Puts K.taken K.faults sink.old printer.old sink.new printer.new (host_lines control.now.config (effects control.now.entries)) }
 {
-    for host in 0..control.config().hosts() {
+    for host in 0..control.first_config().hosts() {
         put_host_line(printer, sink, control, HostId(host));
     }
 }

@@ -4,8 +4,8 @@ use Rattle.std.specs.Prelude.{flat_map}
 use Rattle.std.proofs.lemmas.List.{take_more, map-append}
 use Rattle.std.proofs.Math.Nat.{mul-le-mul_right, suc-mul}
 use Rattle.std.proofs.lemmas.Grind.{flat_map-append}
-use Rattle.cci_codec.specs.field_bytes.specs.Layouts.{Field, spell, spelling}
-use Rattle.cci_codec.specs.field_bytes.proofs.Agreement.{fits-append}
+use Rattle.cci_codec.specs.dcd_base.specs.Layouts.{Field, spell, spelling}
+use Rattle.cci_codec.specs.dcd_base.proofs.Agreement.{fits-append}
 use Rattle.script_codec.specs.Writing.{AppendsLines}
 
 pub appends_then : {old mid new : List ℕ} {fs gs : List Field} → AppendsLines old mid fs → AppendsLines mid new gs → AppendsLines old new (fs ++ gs)

@@ -7,7 +7,7 @@ use Rattle.script_codec.specs.Heads.{head_from}
 use Rattle.script_codec.specs.LineByLine.{Begins, FailsInHead, head_then}
 use Rattle.script_codec.specs.Lines.{lines_from}
 use Rattle.script_codec.specs.Reading.{fields_in, head_in, most_bytes, most_lines, script_in}
-use Rattle.cci_codec.specs.field_bytes.proofs.Fields.{IsBytes}
+use Rattle.cci_codec.specs.dcd_base.proofs.Fields.{IsBytes}
 use Rattle.script_codec.proofs.ScriptLaws.{script_sound}
 
 pub too_long : (bytes : List ℕ) → most_bytes < length bytes → FailsInHead bytes ScriptFault.TooLong

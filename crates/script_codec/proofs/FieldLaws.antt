@@ -4,9 +4,9 @@ use Rattle.std.specs.Prelude.{flat_map}
 use Rattle.std.specs.Int.{Width, byte_len, from_le_bytes}
 use Rattle.std.proofs.lemmas.Bool.{le-ltb}
 use borrow.Author.Tests.{ltb-false}
-use Rattle.cci_codec.specs.field_bytes.specs.Layouts.{Field, Number, Reserved, spell}
-use Rattle.cci_codec.specs.field_bytes.proofs.Fields.{IsBytes}
-use Rattle.cci_codec.specs.field_bytes.proofs.Widths.{IsBytes-drop, IsBytes-take, IsWide}
+use Rattle.cci_codec.specs.dcd_base.specs.Layouts.{Field, Number, Reserved, spell}
+use Rattle.cci_codec.specs.dcd_base.proofs.Fields.{IsBytes}
+use Rattle.cci_codec.specs.dcd_base.proofs.Widths.{IsBytes-drop, IsBytes-take, IsWide}
 use Rattle.script_codec.specs.declared.faults.ScriptFault.{ScriptFault}
 use Rattle.script_codec.specs.Fields.{◌>>=◌, skip, part, number_from, many_from}
 use Rattle.script_codec.proofs.Spans.{Stands, Spans, spans_then, parted}

@@ -7,8 +7,8 @@ use Rattle.std.proofs.lemmas.Nat.{and_mask}
 use Rattle.std.proofs.lemmas.Nat.Bits.{and_pow}
 use Rattle.std.proofs.lemmas.Bool.Decides.{nat_tests}
 use lib.Pointwise.{pointwise, bytes_decides}
-use Rattle.cci_codec.specs.field_bytes.specs.Layouts.{Field, Number, Masked, Raw, Reserved}
-use Rattle.region_config.specs.dcd_base.specs.Words.{flag_of}
+use Rattle.cci_codec.specs.dcd_base.specs.Layouts.{Field, Number, Masked, Raw, Reserved}
+use Rattle.cci_codec.specs.dcd_base.specs.Words.{flag_of}
 use Rattle.region_config.specs.declared.region_spec.RegionSpec.{RegionSpec}
 use Rattle.region_config.specs.declared.faults.ConfigFault.{ConfigFault}
 use Rattle.region_config.specs.Configurations.{Configuration}
@@ -23,8 +23,8 @@ use Rattle.script_codec.specs.declared.scripts.Script.{Script}
 use Rattle.script_codec.proofs.Writable.{laned, count_good}
 use Rattle.script_codec.proofs.Spans.{Stands, Spans, spans_then, parted}
 use Rattle.script_codec.proofs.FieldLaws.{part_bytes, bound, ok_is, passed, passing, skip_sound, skip_is, number_sound, number_is, many_sound, many_is}
-use Rattle.cci_codec.specs.field_bytes.proofs.Fields.{IsBytes}
-use Rattle.cci_codec.specs.field_bytes.proofs.Widths.{wide_8, wide_16, wide_32, wide_64}
+use Rattle.cci_codec.specs.dcd_base.proofs.Fields.{IsBytes}
+use Rattle.cci_codec.specs.dcd_base.proofs.Widths.{wide_8, wide_16, wide_32, wide_64}
 
 -- ---- the flags of a region
 flag_is : (n : ℕ) → n < 2 → flag_of (n == 1) ≡ n

@@ -4,13 +4,13 @@ use Rattle.std.specs.List.{list_all}
 use Rattle.std.specs.Int.{w8, w16, w64}
 use Rattle.std.proofs.lemmas.Bool.{le-ltb}
 use borrow.Author.Tests.{ltb-true, ltb-false, eqb-true}
-use Rattle.region_config.specs.dcd_base.specs.declared.ids.HostId.{HostId}
-use Rattle.region_config.specs.dcd_base.specs.declared.steps.Actor.{Actor}
-use Rattle.cci_codec.specs.field_bytes.specs.Layouts.{Number, Reads, is_byte}
+use Rattle.cci_codec.specs.dcd_base.specs.declared.ids.HostId.{HostId}
+use Rattle.cci_codec.specs.dcd_base.specs.declared.steps.Actor.{Actor}
+use Rattle.cci_codec.specs.dcd_base.specs.Layouts.{Number, Reads, is_byte}
 use Rattle.cci_codec.specs.declared.messages.Request.{Request}
 use Rattle.cci_codec.specs.declared.faults.MessageFault.{MessageFault}
 use Rattle.cci_codec.specs.Messages.{message_fault, request_in, request_fields, ReadsRequest}
-use Rattle.cci_codec.specs.field_bytes.proofs.Fields.{all_bytes, IsBytes}
+use Rattle.cci_codec.specs.dcd_base.proofs.Fields.{all_bytes, IsBytes}
 use Rattle.cci_codec.proofs.Reading.{no_message_fault, request_reads, request_read}
 use Rattle.journal_core.specs.declared.acts.Act.{Act}
 use Rattle.script_codec.specs.declared.script_line.Line.{Line}
@@ -21,7 +21,7 @@ use Rattle.script_codec.specs.Scripts.{actor_byte, line_fields, is_sound_line}
 use Rattle.script_codec.proofs.Writable.{both_first, both_second}
 use Rattle.script_codec.proofs.Spans.{Stands, Spans, spans_then, spans_out, spans_in, part_length}
 use Rattle.script_codec.proofs.FieldLaws.{part_bytes, bound, ok_is, passed, passing, skip_sound, skip_is, number_sound, number_is}
-use Rattle.cci_codec.specs.field_bytes.proofs.Widths.{wide_8, wide_16, wide_64}
+use Rattle.cci_codec.specs.dcd_base.proofs.Widths.{wide_8, wide_16, wide_64}
 
 and_false : (a : Bool) → (a && false) ≡ false
 and_false true = refl

@@ -5,7 +5,7 @@ use Rattle.std.specs.Int.{Width, from_le_bytes, byte_len, w8, w16, w64}
 use Rattle.std.proofs.lemmas.Bool.{cases_lt, le-ltb, lt-ltb}
 use Rattle.std.proofs.lemmas.List.{drop-drop, length-take-le, take-append-drop}
 use Rattle.std.proofs.Math.Seq.{drop-append_seam}
-use Rattle.region_config.specs.dcd_base.specs.declared.steps.Actor.{Actor}
+use Rattle.cci_codec.specs.dcd_base.specs.declared.steps.Actor.{Actor}
 use Rattle.cci_codec.specs.declared.faults.MessageFault.{MessageFault}
 use Rattle.cci_codec.specs.Messages.{message_fault}
 use Rattle.script_codec.specs.declared.script_line.Line.{Line}

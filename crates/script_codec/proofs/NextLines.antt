@@ -3,7 +3,7 @@ use Rattle.std.proofs.Common.{◌≡◌, ℕ, suc, ◌-◌, ◌<◌, ◌≤◌, 
 use Rattle.script_codec.specs.declared.script_line.Line.{Line}
 use Rattle.script_codec.specs.LineByLine.{TakesAt}
 use Rattle.script_codec.specs.Lines.{kind_from, line_from}
-use Rattle.cci_codec.specs.field_bytes.proofs.Fields.{IsBytes}
+use Rattle.cci_codec.specs.dcd_base.proofs.Fields.{IsBytes}
 use Rattle.script_codec.proofs.LineLaws.{kind_sound, line_sound}
 use Rattle.script_codec.proofs.Lists.{one_line}
 

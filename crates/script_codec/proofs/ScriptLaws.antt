@@ -5,8 +5,8 @@ use Rattle.std.specs.List.{list_all}
 use Rattle.std.specs.Int.{w8}
 use Rattle.std.proofs.lemmas.Bool.{le-ltb}
 use borrow.Author.Tests.{ltb-true, ltb-false, eqb-true}
-use Rattle.cci_codec.specs.field_bytes.specs.Layouts.{Field, Number, is_byte}
-use Rattle.cci_codec.specs.field_bytes.proofs.Fields.{all_bytes, IsBytes}
+use Rattle.cci_codec.specs.dcd_base.specs.Layouts.{Field, Number, is_byte}
+use Rattle.cci_codec.specs.dcd_base.proofs.Fields.{all_bytes, IsBytes}
 use Rattle.script_codec.specs.declared.script_line.Line.{Line}
 use Rattle.script_codec.specs.declared.scripts.Script.{Script}
 use Rattle.script_codec.specs.declared.faults.ScriptFault.{ScriptFault}

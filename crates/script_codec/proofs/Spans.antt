@@ -4,7 +4,7 @@ use Rattle.std.specs.Prelude.{IsTrue}
 use Rattle.std.specs.List.{list_all, AllByRecursion}
 use Rattle.std.specs.Int.{byte_len, bytes_low_first}
 use Rattle.std.proofs.lemmas.List.{drop-drop, drop-take, drop_all}
-use Rattle.cci_codec.specs.field_bytes.specs.Layouts.{Field, Number, Masked, Raw, Reserved, Fixed, spell, is_byte, FitsField, ReadsField, ReadsFields, Reads}
+use Rattle.cci_codec.specs.dcd_base.specs.Layouts.{Field, Number, Masked, Raw, Reserved, Fixed, spell, is_byte, FitsField, ReadsField, ReadsFields, Reads}
 
 -- how many bytes a field has
 abbrev pub size : Field → ℕ

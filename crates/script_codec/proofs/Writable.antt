@@ -5,7 +5,7 @@ use Rattle.std.specs.List.{list_all, All}
 use Rattle.std.proofs.lemmas.Bool.Decides.{nat_tests}
 use Rattle.std.proofs.lemmas.Bool.{lt-ltb}
 use borrow.Author.Tests.{ltb-true}
-use Rattle.region_config.specs.dcd_base.specs.declared.steps.Actor.{Actor}
+use Rattle.cci_codec.specs.dcd_base.specs.declared.steps.Actor.{Actor}
 use Rattle.region_config.specs.Configurations.{Configuration}
 use Rattle.region_config.specs.declared.faults.ConfigFault.{ConfigFault}
 use Rattle.region_config.specs.Setups.{config_fault, bad_count}

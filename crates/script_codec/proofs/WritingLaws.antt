@@ -5,8 +5,8 @@ use Rattle.std.specs.List.{AllByRecursion, list_all}
 use Rattle.std.proofs.lemmas.Bool.{le-leb}
 use Rattle.script_codec.proofs.LineLaws.{both}
 use Rattle.std.specs.Int.{w8, w64}
-use Rattle.cci_codec.specs.field_bytes.specs.Layouts.{Field, Number, Reserved, Reads, FitsField}
-use Rattle.cci_codec.specs.field_bytes.proofs.Fields.{IsOfBytes, spelled_reads, length_of_fields, IsBytes}
+use Rattle.cci_codec.specs.dcd_base.specs.Layouts.{Field, Number, Reserved, Reads, FitsField}
+use Rattle.cci_codec.specs.dcd_base.proofs.Fields.{IsOfBytes, spelled_reads, length_of_fields, IsBytes}
 use Rattle.region_config.specs.declared.region_spec.RegionSpec.{RegionSpec}
 use Rattle.journal_core.specs.declared.acts.Act.{Act}
 use Rattle.script_codec.specs.declared.script_line.Line.{Line}

@@ -1,7 +1,7 @@
 -- A journal has the lines of a script, and the journal of a run of the lines in order.
 use Rattle.std.specs.Prelude.{◌≡◌, ◌≢◌, ℕ, ◌+◌, ◌-◌, ◌*◌, ◌<◌, Bool, true, false, List, [], ◌∷◌, length, count_by, slice_get, Some, AllPairs}
 use Rattle.std.specs.List.{AllByRecursion}
-use Rattle.region_config.specs.dcd_base.specs.declared.steps.Actor.{Actor}
+use Rattle.cci_codec.specs.dcd_base.specs.declared.steps.Actor.{Actor}
 use Rattle.journal_core.specs.declared.acts.Act.{Act}
 use Rattle.journal_core.specs.declared.entries.Entry.{Entry}
 use Rattle.script_codec.specs.declared.script_line.Line.{Line}

@@ -1,11 +1,11 @@
 -- The bytes of a script, as a layout.
-use Rattle.cci_codec.specs.field_bytes.specs.Layouts.{Reads, Field, Number, Masked, Raw, Reserved}
-use Rattle.region_config.specs.dcd_base.specs.Words.{flag_of}
+use Rattle.cci_codec.specs.dcd_base.specs.Layouts.{Reads, Field, Number, Masked, Raw, Reserved}
+use Rattle.cci_codec.specs.dcd_base.specs.Words.{flag_of}
 use Rattle.journal_core.specs.Entries.{fits}
 use Rattle.std.specs.List.{list_all}
 use Rattle.std.specs.Prelude.{◌≡◌, ◌≤◌, IsTrue, true, ℕ, ◌+◌, ◌*◌, Bool, ◌&&◌, ◌||◌, not, ◌==◌, nat_lt, List, [], ◌∷◌, ◌++◌, length, map, flat_map, None, if◌then◌else◌}
 use Rattle.std.specs.Int.{w8, w16, w32, w64}
-use Rattle.region_config.specs.dcd_base.specs.declared.steps.Actor.{Actor}
+use Rattle.cci_codec.specs.dcd_base.specs.declared.steps.Actor.{Actor}
 use Rattle.region_config.specs.declared.region_spec.RegionSpec.{RegionSpec}
 use Rattle.journal_core.specs.declared.acts.Act.{Act}
 use Rattle.script_codec.specs.declared.script_line.Line.{Line}

@@ -1,7 +1,7 @@
 -- What writing a script appends.
 use Rattle.std.specs.Prelude.{◌≡◌, ◌≤◌, ℕ, true, Bool, IsTrue, ◌&&◌, nat_le, nat_lt, List, ◌++◌, length}
 use Rattle.std.specs.List.{list_all, AllByRecursion}
-use Rattle.cci_codec.specs.field_bytes.specs.Layouts.{Field, FitsField, spelling, Writes}
+use Rattle.cci_codec.specs.dcd_base.specs.Layouts.{Field, FitsField, spelling, Writes}
 use Rattle.journal_core.specs.declared.acts.Act.{Act}
 use Rattle.script_codec.specs.declared.script_line.Line.{Line}
 use Rattle.script_codec.specs.declared.scripts.Script.{Script}

@@ -6,8 +6,8 @@ ghost use Rattle.script_codec.specs.declared.faults.ScriptFault.TheVariants.{NoM
 ghost use Rattle.std.specs.Prelude.{◌≡◌, ◌≤◌};
 
 use cci_codec::MessageFault;
+use cci_codec::dcd_base::NoMemory;
 use region_config::ConfigFault;
-use region_config::dcd_base::NoMemory;
 use std::alloc::AllocFailed;
 
 /// Why bytes are no script. `TooLong` is tried first; then the fields are read in order, and the first fault is

@@ -56,7 +56,7 @@ pub fn u16_at(bytes: &[u8], at: usize) -> Result<(u16, usize), ScriptFault>
 {
     let next = skip(bytes, at, 2)?;
     let field = part(bytes, at, 2);
-    Ok((cci_codec::field_bytes::u16_at(field, 0), next))
+    Ok((cci_codec::dcd_base::u16_at(field, 0), next))
 }
 
 /// A number of four bytes.
@@ -69,7 +69,7 @@ pub fn u32_at(bytes: &[u8], at: usize) -> Result<(u32, usize), ScriptFault>
 {
     let next = skip(bytes, at, 4)?;
     let field = part(bytes, at, 4);
-    Ok((cci_codec::field_bytes::u32_at(field, 0), next))
+    Ok((cci_codec::dcd_base::u32_at(field, 0), next))
 }
 
 /// A number of eight bytes.
@@ -82,5 +82,5 @@ pub fn u64_at(bytes: &[u8], at: usize) -> Result<(u64, usize), ScriptFault>
 {
     let next = skip(bytes, at, 8)?;
     let field = part(bytes, at, 8);
-    Ok((cci_codec::field_bytes::u64_at(field, 0), next))
+    Ok((cci_codec::dcd_base::u64_at(field, 0), next))
 }

@@ -8,9 +8,9 @@ ghost use Rattle.std.specs.Prelude.{◌≡◌, ◌≤◌, IfErr, IfOk, length, t
 use crate::faults::ScriptFault;
 use crate::fields::{skip, u8_at, u16_at, u64_at};
 use crate::script_line::Line;
+use cci_codec::dcd_base::{Actor, HostId};
 use cci_codec::{MessageFault, Request};
 use journal_core::Act;
-use region_config::dcd_base::{Actor, HostId};
 use std::alloc::Global;
 
 /// Whether the byte names a host and a lane of it: the host in the low four bits, the lane in the others.

@@ -7,7 +7,7 @@ use crate::faults::ScriptFault;
 use crate::heads::Head;
 use crate::reader::{MOST_LINES, begin_at, read_at};
 use crate::script_line::Line;
-use region_config::dcd_base::Bytes;
+use cci_codec::dcd_base::Bytes;
 use std::alloc::Global;
 use std::marker::Model;
 use std::mem;

@@ -4,7 +4,7 @@ ghost use Rattle.script_codec.specs.Covering.{is_line, pass_of as pass_number};
 ghost use Rattle.std.specs.Prelude.{◌≡◌, count_by};
 
 use crate::script_line::Line;
-use region_config::dcd_base::Actor;
+use cci_codec::dcd_base::Actor;
 
 /// The number of the pass that does the actor's lines of a lane: passes are numbered host by host and lane by
 /// lane, then comes the Fabric Manager, then the sanitizer.

@@ -2,8 +2,8 @@
 
 ghost use Rattle.std.specs.Prelude.{◌≡◌, IfOk};
 
+use cci_codec::dcd_base::{Actor, Duplicate, NoMemory, Seq};
 use journal_core::Act;
-use region_config::dcd_base::{Actor, Duplicate, NoMemory, Seq};
 use std::alloc::Global;
 
 /// A line of a script. Lines are numbered from 1, marks among them.

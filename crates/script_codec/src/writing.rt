@@ -1,8 +1,8 @@
 //! A script into bytes: its one spelling, field by field.
 
 ghost use Rattle.cci_codec.specs.Messages.{request_fields};
-ghost use Rattle.cci_codec.specs.field_bytes.specs.Layouts.{Masked, Number, Raw, Reserved};
-ghost use Rattle.region_config.specs.dcd_base.specs.Words.{flag_of};
+ghost use Rattle.cci_codec.specs.dcd_base.specs.Layouts.{Masked, Number, Raw, Reserved};
+ghost use Rattle.cci_codec.specs.dcd_base.specs.Words.{flag_of};
 ghost use Rattle.journal_core.specs.declared.acts.Act.{Act};
 ghost use Rattle.script_codec.specs.Reading.{script_in};
 ghost use Rattle.script_codec.specs.Scripts.{act_fields, actor_byte, script_head, lanes_fields, line_fields, magic, region_fields, script_fields, start_fields};
@@ -13,10 +13,11 @@ ghost use Rattle.std.specs.List.{All};
 
 use crate::script_line::Line;
 use crate::scripts::Script;
-use cci_codec::field_bytes::{add_u8, add_u16, add_u32, add_u64};
+use cci_codec::dcd_base::{
+    Actor, Bytes, HostId, NoMemory, RegionId, add_u8, add_u16, add_u32, add_u64,
+};
 use cci_codec::{Request, encode_request, law_request_is_spelled};
 use journal_core::Act;
-use region_config::dcd_base::{Actor, Bytes, HostId, NoMemory, RegionId};
 use region_config::{Config, RegionSpec};
 
 fn put_u8(number: u8, out: &mut Bytes) -> Result<(), NoMemory>

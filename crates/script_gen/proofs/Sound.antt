@@ -6,7 +6,7 @@ use Rattle.std.proofs.lemmas.Bool.{cases_lt, leb-true, lt-ltb, le-ltb}
 use Rattle.std.proofs.lemmas.Grind.{flat_map-append}
 use Rattle.std.specs.List.{list_all, range_with_len}
 use Rattle.std.proofs.lemmas.List.Folds.{list_all-append}
-use Rattle.field_bytes.specs.Layouts.{Field, Number, spell, spelling}
+use Rattle.dcd_base.specs.Layouts.{Field, Number, spell, spelling}
 use Rattle.script_codec.specs.declared.script_line.Line.{Line}
 use Rattle.script_codec.specs.Scripts.{script_head, is_sound_line, line_fields}
 use Rattle.script_codec.specs.Writing.{IsWritable, has_short_message, script_bytes}

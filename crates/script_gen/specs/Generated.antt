@@ -9,7 +9,7 @@ use Rattle.region_config.specs.Configurations.{Configuration}
 use Rattle.journal_core.specs.declared.acts.Act.{Act}
 use Rattle.script_codec.specs.declared.script_line.Line.{Line}
 use Rattle.script_codec.specs.declared.scripts.Script.{Script}
-use Rattle.field_bytes.specs.Layouts.{spelling}
+use Rattle.dcd_base.specs.Layouts.{spelling}
 use Rattle.dcd_base.specs.Words.{zero_tag}
 use Rattle.host_payloads.specs.HostPayloads.{host_opcode, host_fields}
 use Rattle.fm_payloads.specs.ManagerPayloads.{manager_opcode, manager_fields}

@@ -1,14 +1,16 @@
 //! The payloads of the commands, put together without memory.
 
 ghost use Rattle.dcd_base.specs.Words.{zero_tag};
-ghost use Rattle.field_bytes.specs.EventCommands.{clear_fields};
-ghost use Rattle.field_bytes.specs.Layouts.{spelling};
+ghost use Rattle.dcd_base.specs.EventCommands.{clear_fields};
+ghost use Rattle.dcd_base.specs.Layouts.{spelling};
 ghost use Rattle.fm_payloads.specs.ManagerPayloads.{placed_fields, placed_head};
 ghost use Rattle.host_payloads.specs.HostPayloads.{list_fields};
 ghost use Rattle.std.specs.Prelude.{◌≡◌, ◌≤◌, [], ◌∷◌, false, length, take};
 
-use dcd_base::{Extent, Tag, no_tag};
-use field_bytes::{put_extent, put_flag, put_tag, put_u8, put_u16, put_u32, put_u64, put_zeros};
+use dcd_base::{
+    Extent, Tag, no_tag, put_extent, put_flag, put_tag, put_u8, put_u16, put_u32, put_u64,
+    put_zeros,
+};
 
 /// Fills the payload of a list of one extent, the last list, without its tag.
 fn fill_listed(out: &mut [u8], extent: &Extent)

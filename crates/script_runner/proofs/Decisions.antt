@@ -6,7 +6,7 @@ use Rattle.std.specs.Prelude.{IfOk}
 use Rattle.std.specs.Option.{IfSome}
 use Rattle.std.specs.declared.result.Result.{Result}
 use Rattle.dcd_base.specs.declared.failures.NoMemory.{NoMemory}
-use Rattle.program_frame.specs.Meanings.{Decides}
+use Rattle.edge_io.specs.Meanings.{Decides}
 use Rattle.report.specs.Refusals.{refusal_line}
 use Rattle.script_gen.specs.script_codec.specs.declared.faults.ScriptFault.{ScriptFault}
 use Rattle.script_gen.specs.script_codec.specs.declared.scripts.Script.{Script}

@@ -5,7 +5,7 @@ use Rattle.std.specs.Prelude.{◌⊎◌, String}
 use Rattle.dcd_base.specs.Streams.{IsAtEnd, with_front}
 use Rattle.edge_io.specs.ReadEnds.{TakesAll, TakesAtMost}
 use Rattle.edge_io.specs.Words.{words_of}
-use Rattle.program_frame.specs.Runs.{AsksToRead, EndsAs, IsRead, IsToWrite, IsWritten, Ran, ReadsFront, Seen, seen_of}
+use Rattle.edge_io.specs.Runs.{AsksToRead, EndsAs, IsRead, IsToWrite, IsWritten, Ran, ReadsFront, Seen, seen_of}
 use Rattle.script_gen.specs.script_codec.specs.Reading.{most_bytes}
 use Rattle.script_runner.specs.declared.status.Status.{Status}
 use Rattle.script_runner.specs.declared.words.Choice.{Choice}

@@ -14,3 +14,5 @@ pub use Rattle.report
 pub use Rattle.script_gen
 pub use Rattle.script_gen.specs.script_codec
 pub use Rattle.device_plain.specs.kept_journal
+pub use Rattle.shared_device
+pub use Rattle.workers

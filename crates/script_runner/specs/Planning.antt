@@ -8,7 +8,7 @@ use Rattle.script_gen.specs.script_codec.specs.Reading.{first_fault, most_bytes,
 use Rattle.script_gen.specs.script_codec.specs.Scripts.{ReadsScript}
 use Rattle.script_gen.specs.Generated.{generated}
 use Rattle.report.specs.Texts.{summary, text}
-use Rattle.program_frame.specs.Meanings.{Meaning}
+use Rattle.edge_io.specs.Meanings.{Meaning}
 use Rattle.journal_core.specs.Merging.{merged}
 use Rattle.report.specs.Refusals.{refusal_line, usage_line}
 use Rattle.script_runner.specs.declared.status.Status.{Status}

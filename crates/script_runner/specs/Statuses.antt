@@ -1,5 +1,5 @@
 -- Which end each status is, and what holds at one of them.
-use Rattle.program_frame.specs.declared.ends.End.{End}
+use Rattle.edge_io.specs.declared.ends.End.{End}
 use Rattle.script_runner.specs.declared.status.Status.{Status}
 
 abbrev pub status_end : Status → End

@@ -28,6 +28,8 @@ pub use report;
 pub use running::run_in_threads;
 pub use script_gen;
 pub use script_gen::script_codec;
+pub use shared_device;
 pub use status::Status;
 pub use top::run;
 pub use words::{Choice, Mode, chosen};
+pub use workers;

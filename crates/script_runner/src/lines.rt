@@ -24,7 +24,7 @@ pub(crate) fn run_line(
 {
     match line {
         Line::Do { actor, lane, act } => {
-            let hosts = device.control().config().hosts();
+            let hosts = device.control().first_config().hosts();
             let pass = pass_of(hosts, lanes, actor, *lane);
             device.enter_lent(pass, number, *actor, act)
         }
@@ -60,6 +60,6 @@ pub(crate) fn is_lawful(device: &Device)
 {
     law_isolated();
     // A configuration is sound, and the journal legal.
-    let _hosts = device.control().config().hosts();
+    let _hosts = device.control().first_config().hosts();
     let _journal = device.journal();
 }

@@ -1,10 +1,10 @@
 //! How a run ends.
 
-ghost use Rattle.program_frame.specs.Ends.{number_of};
+ghost use Rattle.edge_io.specs.Ends.{number_of};
 ghost use Rattle.script_runner.specs.Statuses.{status_end};
 ghost use Rattle.std.specs.Prelude.{◌≡◌};
 
-use program_frame::End;
+use edge_io::End;
 use script_gen::script_codec::ScriptFault;
 
 /// How a run ends.

@@ -1,6 +1,6 @@
 //! The text of an input, in either mode, or the line on its first fault.
 
-ghost use Rattle.program_frame.specs.Meanings.{Decides};
+ghost use Rattle.edge_io.specs.Meanings.{Decides};
 ghost use Rattle.script_gen.specs.script_codec.specs.Reading.{first_fault};
 ghost use Rattle.script_runner.specs.Planning.{IsPrintable, IsTextOf, bytes_of, runner};
 ghost use Rattle.script_runner.specs.declared.words.Mode.{Mode};

@@ -3,8 +3,8 @@
 ghost use Rattle.dcd_base.specs.Streams.{IsAtEnd};
 ghost use Rattle.edge_io.specs.ReadEnds.{TakesAtMost};
 ghost use Rattle.edge_io.specs.Words.{words_of};
-ghost use Rattle.program_frame.specs.Meanings.{Decides};
-ghost use Rattle.program_frame.specs.Runs.{Ran};
+ghost use Rattle.edge_io.specs.Meanings.{Decides};
+ghost use Rattle.edge_io.specs.Runs.{Ran};
 ghost use Rattle.script_runner.specs.Planning.{IsPrintable, bytes_of, most_for, most_read, runner};
 ghost use Rattle.script_runner.specs.Statuses.{OnDone};
 ghost use Rattle.script_runner.specs.Words.{AskForSource};
@@ -17,7 +17,7 @@ use crate::summaries::summary_in;
 use crate::texts::decide_input;
 use crate::words::{Choice, chosen};
 use dcd_base::{Bytes, Failed, Gate, NoMemory, Sink, Source};
-use program_frame::{Program, Stop};
+use edge_io::{Program, Stop};
 use report::refusal;
 use script_gen::script_codec::ScriptFault;
 use std::alloc::{AllocGlobal, Global};
@@ -35,7 +35,7 @@ struct Runner<F> {
 }
 
 impl<F: Fn(Global, Choice, Bytes) -> Result<(Status, Printed), NoMemory>> Program for Runner<F> {
-    ghost use Rattle.program_frame.specs.Meanings.{Decides};
+    ghost use Rattle.edge_io.specs.Meanings.{Decides};
     ghost use Rattle.script_runner.specs.Planning.{IsPrintable, bytes_of, most_for, runner};
     ghost use Rattle.std.specs.Prelude.{◌≤◌, IfOk, IfSome, length};
 
@@ -162,5 +162,5 @@ pub fn run<R: Threads + Wait + Sync + AllocGlobal, S: Source, K: Sink, G: Gate>(
         requires { IfSome (most_for choice.seed) (λ most. length input ≤ most) }
         ensures { IfOk result (λ end. Decides runner choice input end.0 (bytes_of end.1) × IsPrintable end.1) }
     { decide(rt, alloc, choice, input, gate) };
-    program_frame::run(&Runner { decide }, alloc, words, source, sink)
+    edge_io::run(&Runner { decide }, alloc, words, source, sink)
 }

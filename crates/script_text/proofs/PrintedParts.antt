@@ -9,8 +9,8 @@ use Rattle.std.proofs.lemmas.List.Folds.{list_all_at}
 use Rattle.dcd_base.specs.Words.{is_zero_tag, zero_tag}
 use Rattle.dcd_base.specs.declared.capacity.Extent.{Extent}
 use Rattle.dcd_base.specs.declared.capacity.Tag.{Tag}
-use Rattle.field_bytes.proofs.WholeExtents.{same_extent}
-use Rattle.field_bytes.specs.Layouts.{is_byte}
+use Rattle.dcd_base.proofs.WholeExtents.{same_extent}
+use Rattle.dcd_base.specs.Layouts.{is_byte}
 use Rattle.hex.specs.Hex.{IsBytes}
 use Rattle.host_payloads.specs.HostPayloads.{is_untagged}
 use Rattle.text_lines.specs.Characters.{IsNumberWord, IsTextWord, is_printed}

@@ -5,7 +5,7 @@ use Rattle.std.specs.Int.{w8, w64}
 use Rattle.std.proofs.lemmas.Bool.{cases_Bool, le-leb, leb-false, leb-true}
 use Rattle.std.proofs.lemmas.Grind.{flat_map-append}
 use Rattle.std.proofs.Math.Nat.{mul_assoc}
-use Rattle.field_bytes.specs.Layouts.{Field, Number, spell, spelling}
+use Rattle.dcd_base.specs.Layouts.{Field, Number, spell, spelling}
 use Rattle.region_config.specs.declared.region_spec.RegionSpec.{RegionSpec}
 use Rattle.text_lines.specs.script_codec.specs.Scripts.{lanes_fields, line_fields, region_fields, script_head, start_fields}
 use Rattle.text_lines.specs.script_codec.specs.Writing.{script_bytes}

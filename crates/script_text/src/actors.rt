@@ -7,8 +7,7 @@ ghost use Rattle.text_lines.specs.Parts.{Part};
 ghost use Rattle.script_text.specs.LinePrinting.{AddsParts, IsSmall, StartsLine, has_word};
 
 use crate::words::put_h;
-use dcd_base::{Actor, Bytes, NoMemory};
-use field_bytes::fits_8;
+use dcd_base::{Actor, Bytes, NoMemory, fits_8};
 use text_lines::{Frame, put_decimal};
 
 /// Appends a host of the script, and its lane behind a dot in version 2.

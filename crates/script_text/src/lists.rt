@@ -8,8 +8,7 @@ ghost use Rattle.script_text.specs.LinePrinting.{AddsItems, AddsParts};
 ghost use Rattle.text_lines.specs.Extents.{extent_text};
 
 use crate::words::put_key;
-use dcd_base::{Bytes, Extent, NoMemory};
-use field_bytes::{are_bytes, fits_64};
+use dcd_base::{Bytes, Extent, NoMemory, are_bytes, fits_64};
 use text_lines::{Keyword, law_decimal, law_extent, put_decimal, put_extent, put_pairs};
 
 /// Appends a handle.

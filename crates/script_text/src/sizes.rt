@@ -1,6 +1,6 @@
 //! How many bytes a script has.
 
-ghost use Rattle.field_bytes.specs.Layouts.{spelling};
+ghost use Rattle.dcd_base.specs.Layouts.{spelling};
 ghost use Rattle.text_lines.specs.script_codec.specs.Scripts.{script_head, line_fields};
 ghost use Rattle.text_lines.specs.script_codec.specs.Writing.{script_bytes};
 ghost use Rattle.std.specs.List.{flat_map};

@@ -8,8 +8,8 @@ use Rattle.std.proofs.lemmas.List.Folds.{list_all-append}
 use Rattle.std.proofs.lemmas.List.FromFn.{length-range_with_len}
 use Rattle.std.proofs.lemmas.List.Sums.{prefix_len-le-length}
 use Rattle.std.proofs.Math.Nat.{add-mul, mul-le-mul_right, zero-mul}
-use Rattle.list_rules.specs.dcd_codes.specs.dcd_base.specs.declared.media.Run.{Run}
-use Rattle.list_rules.specs.dcd_codes.specs.dcd_base.specs.Words.{has_in_runs}
+use Rattle.extent_list.specs.dcd_codes.specs.dcd_base.specs.declared.media.Run.{Run}
+use Rattle.extent_list.specs.dcd_codes.specs.dcd_base.specs.Words.{has_in_runs}
 use Rattle.granule_map.specs.Blocks.{block_count, run_of_blocks}
 use Rattle.granule_map.specs.Choices.{joined, joined_onto, lowest_run, passing, run_from}
 use Rattle.selection.specs.Selections.{AreApart, AreBetween, always_together, are_free, contiguous_runs, free_runs, granules_of_blocks, is_free_block}

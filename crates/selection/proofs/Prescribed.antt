@@ -6,19 +6,19 @@ use Rattle.std.proofs.lemmas.Bool.{and_from, and_parts, and_right, cases_Bool, c
 use Rattle.std.proofs.lemmas.Iterator.Adapters.{position_from-zero}
 use Rattle.std.proofs.lemmas.Option.{none-some}
 use Rattle.std.proofs.Math.Nat.{add-mul, mul-le-mul_right}
-use Rattle.list_rules.specs.dcd_codes.specs.dcd_base.specs.declared.capacity.Extent.{Extent}
-use Rattle.list_rules.specs.dcd_codes.specs.dcd_base.specs.declared.ids.HostId.{HostId}
-use Rattle.list_rules.specs.dcd_codes.specs.dcd_base.specs.declared.media.Run.{Run}
-use Rattle.list_rules.specs.dcd_codes.specs.dcd_base.specs.Words.{◌or◌, has_granule, has_in_runs, is_empty}
-use Rattle.list_rules.specs.dcd_codes.specs.declared.rules.Rule.{Rule}
-use Rattle.list_rules.specs.dcd_codes.specs.Rules.{◌breaks◌, each_in, first_by}
-use Rattle.list_rules.specs.extent_list.specs.ExtentLists.{overlaps}
-use Rattle.list_rules.specs.Listing.{misplaced, overlapping, too_many_listed}
-use Rattle.list_rules.specs.media_map.specs.Places.{IsRun, run_of}
-use Rattle.list_rules.specs.media_map.specs.region_config.specs.Configurations.{Configuration}
-use Rattle.list_rules.specs.media_map.specs.region_config.specs.Granules.{base_of, first_granule, granule_size}
-use Rattle.list_rules.specs.media_map.specs.region_config.specs.Soundness.{IsSound}
-use Rattle.list_rules.specs.media_map.specs.region_config.proofs.Faultless.{granule_from}
+use Rattle.extent_list.specs.dcd_codes.specs.dcd_base.specs.declared.capacity.Extent.{Extent}
+use Rattle.extent_list.specs.dcd_codes.specs.dcd_base.specs.declared.ids.HostId.{HostId}
+use Rattle.extent_list.specs.dcd_codes.specs.dcd_base.specs.declared.media.Run.{Run}
+use Rattle.extent_list.specs.dcd_codes.specs.dcd_base.specs.Words.{◌or◌, has_granule, has_in_runs, is_empty}
+use Rattle.extent_list.specs.dcd_codes.specs.declared.rules.Rule.{Rule}
+use Rattle.extent_list.specs.dcd_codes.specs.Rules.{◌breaks◌, each_in, first_by}
+use Rattle.extent_list.specs.ExtentLists.{overlaps}
+use Rattle.extent_list.specs.Listing.{misplaced, overlapping, too_many_listed}
+use Rattle.extent_list.specs.media_map.specs.Places.{IsRun, run_of}
+use Rattle.extent_list.specs.media_map.specs.region_config.specs.Configurations.{Configuration}
+use Rattle.extent_list.specs.media_map.specs.region_config.specs.Granules.{base_of, first_granule, granule_size}
+use Rattle.extent_list.specs.media_map.specs.region_config.specs.Soundness.{IsSound}
+use Rattle.extent_list.specs.media_map.specs.region_config.proofs.Faultless.{granule_from}
 use Rattle.selection.specs.Selections.{AreApart, all_free, are_free, free_extent_rule, listed_runs, prescribed_rule}
 use Rattle.selection.proofs.Placed.{IsPlaced, all_cons, bytes_of, its_run, placed, run_is_run, starts_at}
 

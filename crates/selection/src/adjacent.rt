@@ -6,9 +6,9 @@ ghost use Rattle.selection.specs.Picks.{PicksAdjacent};
 ghost use Rattle.selection.specs.Selections.{AreBetween, are_free};
 ghost use Rattle.std.specs.Prelude.{◌≡◌, ◌+◌, ◌<◌, IfOk, IsTrue, length};
 
+use extent_list::dcd_codes::dcd_base::{Run, Runs};
+use extent_list::dcd_codes::{Refusal, Rule};
 use granule_map::GranuleMap;
-use list_rules::dcd_codes::dcd_base::{Run, Runs};
-use list_rules::dcd_codes::{Refusal, Rule};
 
 /// The lowest free blocks of the area that lie together, so many, as one run of granules.
 ///

@@ -5,8 +5,8 @@ ghost use Rattle.granule_map.specs.StateLists.{is_free_at};
 ghost use Rattle.std.specs.List.{list_all, range_with_len};
 ghost use Rattle.std.specs.Prelude.{◌≡◌, ◌+◌, ◌^◌, ◌<◌, ◌≤◌, length};
 
+use extent_list::dcd_codes::dcd_base::{Granule, Run};
 use granule_map::GranuleMap;
-use list_rules::dcd_codes::dcd_base::{Granule, Run};
 
 /// Whether so many granules from the first on are free.
 pub(crate) fn are_free(map: &GranuleMap, first: u32, count: u32) -> bool

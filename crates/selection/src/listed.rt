@@ -1,18 +1,18 @@
 //! The policy Prescriptive: the extents that the manager lists.
 
 ghost use Rattle.granule_map.specs.StateLists.{is_free_at};
-ghost use Rattle.list_rules.specs.Listing.{overlapping};
-ghost use Rattle.list_rules.specs.media_map.specs.Places.{IsRun, is_granular, run_of};
-ghost use Rattle.list_rules.specs.media_map.specs.region_config.specs.Granules.{granule_total};
+ghost use Rattle.extent_list.specs.Listing.{overlapping};
+ghost use Rattle.extent_list.specs.media_map.specs.Places.{IsRun, is_granular, run_of};
+ghost use Rattle.extent_list.specs.media_map.specs.region_config.specs.Granules.{granule_total};
 ghost use Rattle.selection.specs.Selections.{AreApart, are_free, free_extent_rule, listed_runs, prescribed_rule};
 ghost use Rattle.std.specs.Prelude.{◌≡◌, ◌+◌, ◌^◌, ◌<◌, ◌≤◌, All, IfNone, IsTrue, None, length, true};
 
 use crate::blocks::are_free;
+use extent_list::dcd_codes::Rule;
+use extent_list::dcd_codes::dcd_base::{Extent, Extents, HostId, RegionId, Run};
+use extent_list::media_map::region_config::Config;
+use extent_list::{are_apart, misplaced, sharing, too_many_listed};
 use granule_map::GranuleMap;
-use list_rules::dcd_codes::Rule;
-use list_rules::dcd_codes::dcd_base::{Extent, Extents, HostId, RegionId, Run};
-use list_rules::media_map::region_config::Config;
-use list_rules::{are_apart, misplaced, sharing, too_many_listed};
 
 /// The first rule that the listed extents of the host break. Where there is none, their runs of granules in the order
 /// of the list are some, are of the device, share no granule and are free. It makes no list of them and takes no memory.
@@ -92,7 +92,7 @@ fn run_of(config: &Config, host: HostId, extent: &Extent) -> Run
     ensures value { result ≡ run_of config.now host extent.now }
     ensures below { result.first + result.count ≤ granule_total config.now }
 {
-    match list_rules::media_map::run_of(config, host, extent.start, extent.length) {
+    match extent_list::media_map::run_of(config, host, extent.start, extent.length) {
         Some(run) => run,
         None => unreachable!(),
     }

@@ -1,8 +1,8 @@
 //! The policy Free: the lowest free blocks, wherever they lie.
 
 ghost use Rattle.granule_map.specs.Blocks.{IsArea, block_count, free_block_count, is_block_free};
-ghost use Rattle.list_rules.specs.dcd_codes.specs.declared.refusals.Refusal.TheVariants.{Broken};
-ghost use Rattle.list_rules.specs.dcd_codes.specs.declared.rules.Rule.{Rule};
+ghost use Rattle.extent_list.specs.dcd_codes.specs.declared.refusals.Refusal.TheVariants.{Broken};
+ghost use Rattle.extent_list.specs.dcd_codes.specs.declared.rules.Rule.{Rule};
 ghost use Rattle.granule_map.specs.Choices.{lowest_from};
 ghost use Rattle.granule_map.specs.StateLists.{is_free_at};
 ghost use Rattle.selection.specs.Picks.{PicksLowest};
@@ -10,9 +10,9 @@ ghost use Rattle.selection.specs.Selections.{AreApart, AreBetween, NextRun, are_
 ghost use Rattle.std.specs.Prelude.{◌≡◌, ◌+◌, ◌<◌, IfOk, IsTrue, OnOk, [], length};
 
 use crate::blocks::run_of_blocks;
+use extent_list::dcd_codes::dcd_base::{Granule, NoMemory, Run, Runs};
+use extent_list::dcd_codes::{Refusal, Rule};
 use granule_map::GranuleMap;
-use list_rules::dcd_codes::dcd_base::{Granule, NoMemory, Run, Runs};
-use list_rules::dcd_codes::{Refusal, Rule};
 
 /// The lowest free blocks of the area, so many, adjacent ones joined: runs of granules in rising order.
 ///

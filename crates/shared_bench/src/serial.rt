@@ -14,7 +14,7 @@ use std::alloc::Global;
 fn may(device: &Device, actor: &Actor, act: &Act) -> Result<(), NoMemory>
     ensures { OnOk result (IsTrue (fits_of device.now.config.hosts actor.now act.now)) }
 {
-    if fits(device.control().config().hosts(), actor, act) {
+    if fits(device.control().first_config().hosts(), actor, act) {
         Ok(())
     } else {
         Err(NoMemory)

@@ -8,7 +8,7 @@ use native.Mathlib.Decide.{dec_lt}
 use lib.ListN.{get_elem?, length-map}
 use Rattle.dcd_base.specs.declared.steps.Stamp.{Stamp}
 use Rattle.control_core.specs.device_rules.specs.Legal.{Legal}
-use Rattle.control_core.specs.device_laws.proofs.ExclusiveHolding.{legal_exclusive}
+use Rattle.control_core.specs.device_rules.proofs.ExclusiveHolding.{legal_exclusive}
 use Rattle.block_shard.specs.journal_core.specs.declared.entries.Entry.{Entry}
 use Rattle.block_shard.specs.journal_core.specs.Merging.{AllRise, Numbered, Rising, call_of, calls_of, is_later, merged}
 use Rattle.block_shard.specs.journal_core.proofs.Filters.{all_flat}

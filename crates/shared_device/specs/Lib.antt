@@ -7,3 +7,4 @@ pub mod Visiting
 pub use Rattle.block_shard.specs.ruled_cells
 pub use Rattle.control_core.specs.device_rules
 pub use Rattle.control_core
+pub use Rattle.block_shard

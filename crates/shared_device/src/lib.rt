@@ -19,6 +19,7 @@ mod start;
 mod target;
 mod tries;
 
+pub use block_shard;
 pub use block_shard::ruled_cells;
 pub use control_core;
 pub use control_core::device_rules;

@@ -5,7 +5,7 @@ use Rattle.cci_codec.specs.Messages.{ReadsRequest, message_fault, request_in}
 use Rattle.cci_codec.specs.declared.faults.MessageFault.{MessageFault}
 use Rattle.cci_codec.specs.declared.messages.Request.{Request}
 use Rattle.cci_codec.proofs.Reading.{no_message_fault, request_read, request_reads}
-use Rattle.field_bytes.proofs.Fields.{IsBytes}
+use Rattle.dcd_base.proofs.Fields.{IsBytes}
 use Rattle.text_lines.specs.Pairs.{pairs_said}
 use Rattle.text_lines.proofs.PrintedPairs.{pairs_small}
 use Rattle.text_lines.specs.Unread.{UnreadWords, behind_next, is_done}

@@ -4,7 +4,7 @@ use Rattle.std.specs.List.{list_all}
 use Rattle.std.proofs.lemmas.Bool.{agree_below_at, and_from, and_parts, cases_Bool, cond-false, cond-true, eq-eqb, eqb-true, ltb-true}
 use Rattle.hex.specs.Hex.{IsBytes, encode_lower, encode_with, lower_digits}
 use Rattle.dcd_base.specs.declared.capacity.Tag.{Tag}
-use Rattle.field_bytes.specs.Layouts.{is_byte}
+use Rattle.dcd_base.specs.Layouts.{is_byte}
 use Rattle.text_lines.specs.Characters.{IsNumberWord, IsTextWord, below, digit_in, digit_value, is_high}
 use Rattle.text_lines.specs.WordChains.{◌>>?◌ as ◌>>=◌}
 use Rattle.text_lines.specs.Pairs.{pair_said, pair_text, pairs_said, tag_of_bytes, tag_said, tag_text}

@@ -8,10 +8,10 @@ use Rattle.dcd_base.specs.declared.capacity.Extent.{Extent}
 use Rattle.dcd_base.specs.declared.capacity.Tag.{Tag}
 use Rattle.dcd_base.specs.declared.ids.HostId.{HostId}
 use Rattle.dcd_base.specs.declared.steps.Actor.{Actor}
-use Rattle.field_bytes.specs.EventCommands.{handle_fields}
-use Rattle.field_bytes.specs.Extents.{extent_fields}
-use Rattle.field_bytes.specs.Layouts.{spelling}
-use Rattle.field_bytes.proofs.Fields.{length_of_fields}
+use Rattle.dcd_base.specs.EventCommands.{handle_fields}
+use Rattle.dcd_base.specs.Extents.{extent_fields}
+use Rattle.dcd_base.specs.Layouts.{spelling}
+use Rattle.dcd_base.proofs.Fields.{length_of_fields}
 use Rattle.fm_payloads.specs.ManagerPayloads.{manager_fields, placed_fields}
 use Rattle.fm_payloads.specs.declared.requests.FmRequest.{FmRequest}
 use Rattle.host_payloads.specs.HostPayloads.{host_fields, listed_fields}

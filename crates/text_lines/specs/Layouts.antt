@@ -8,8 +8,8 @@ use Rattle.dcd_base.specs.declared.capacity.Extent.{Extent}
 use Rattle.dcd_base.specs.declared.capacity.Tag.{Tag}
 use Rattle.dcd_base.specs.declared.ids.HostId.{HostId}
 use Rattle.dcd_base.specs.declared.steps.Actor.{Actor}
-use Rattle.field_bytes.specs.Layouts.{spelling}
-use Rattle.field_bytes.specs.declared.faults.PayloadFault.{PayloadFault}
+use Rattle.dcd_base.specs.Layouts.{spelling}
+use Rattle.dcd_base.specs.declared.faults.PayloadFault.{PayloadFault}
 use Rattle.fm_payloads.specs.ManagerPayloads.{manager_fields, manager_request}
 use Rattle.fm_payloads.specs.declared.requests.FmRequest.{FmRequest}
 use Rattle.host_payloads.specs.HostPayloads.{host_fields, host_request, is_untagged}

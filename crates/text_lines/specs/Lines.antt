@@ -5,7 +5,7 @@ use Rattle.cci_codec.specs.Messages.{message_fault, request_in}
 use Rattle.cci_codec.specs.declared.faults.MessageFault.{MessageFault}
 use Rattle.cci_codec.specs.declared.messages.Request.{Request}
 use Rattle.dcd_base.specs.declared.steps.Actor.{Actor}
-use Rattle.field_bytes.specs.Layouts.{spelling}
+use Rattle.dcd_base.specs.Layouts.{spelling}
 use Rattle.fm_payloads.specs.ManagerPayloads.{manager_fields, manager_opcode}
 use Rattle.fm_payloads.specs.declared.requests.FmRequest.{FmRequest}
 use Rattle.host_payloads.specs.HostPayloads.{host_fields, host_opcode}

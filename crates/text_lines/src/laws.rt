@@ -7,8 +7,7 @@ ghost use Rattle.text_lines.specs.Numbers.{digits_said, hexadecimal, number_said
 ghost use Rattle.text_lines.specs.Pairs.{pair_text, pairs_said, tag_said, tag_text};
 ghost use Rattle.text_lines.specs.Sizes.{sizes_said, sizes_text};
 
-use dcd_base::{Extent, Tag};
-use field_bytes::are_bytes;
+use dcd_base::{Extent, Tag, are_bytes};
 
 /// The decimal digits of a number say it.
 pub fn law_decimal(number: u64)

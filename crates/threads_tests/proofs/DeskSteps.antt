@@ -14,11 +14,11 @@ use Rattle.journal_core.specs.Entries.{fits}
 use Rattle.script_runner.proofs.LineActors.{host_fits}
 use Rattle.script_runner.proofs.NewPassesReady.{tasks_few}
 use Rattle.journal_core.specs.declared.acts.Act.{Act}
-use Rattle.workers.specs.script_codec.specs.declared.script_line.Line.{Line}
-use Rattle.workers.specs.script_codec.specs.Covering.{pass_of}
-use Rattle.workers.specs.script_codec.specs.Scripts.{is_sound_line}
-use Rattle.workers.specs.Phases.{task_of, phase}
-use Rattle.workers.specs.Serving.{EachReady, EachServed, IsReady}
+use Rattle.script_runner.specs.script_codec.specs.declared.script_line.Line.{Line}
+use Rattle.script_runner.specs.script_codec.specs.Covering.{pass_of}
+use Rattle.script_runner.specs.script_codec.specs.Scripts.{is_sound_line}
+use Rattle.script_runner.specs.workers.specs.Phases.{task_of, phase}
+use Rattle.script_runner.specs.workers.specs.Serving.{EachReady, EachServed, IsReady}
 use Rattle.threads_tests.specs.Desks.{AreDesks, DeskState, IsDesk, actor_at, desk_reads}
 
 pub host_below : (hosts lanes number : ℕ) → 0 < lanes → hosts < 256 → number < hosts * lanes → number / lanes < 256

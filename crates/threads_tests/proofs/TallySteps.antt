@@ -6,24 +6,24 @@ use lib.ListN.{get_elem?}
 use Rattle.dcd_base.specs.declared.steps.Stamp.{Stamp}
 use Rattle.dcd_base.specs.declared.steps.Actor.{Actor}
 use Rattle.journal_core.specs.declared.entries.Entry.{Entry}
-use Rattle.block_shard.specs.ruled_cells.specs.declared.about.SeatView.{SeatView}
-use Rattle.block_shard.specs.ruled_cells.specs.declared.cell_value.CellValue.{CellValue}
-use Rattle.block_shard.specs.ruled_cells.specs.Turning.{HasTurn}
-use Rattle.block_shard.specs.ruled_cells.specs.Stamps.{stamps_after, pending, stamp}
-use Rattle.block_shard.specs.ruled_cells.specs.Reads.{ChiefReads}
-use Rattle.block_shard.specs.ruled_cells.specs.Ruling.{Names, names, access_cell}
-use Rattle.block_shard.specs.ruled_cells.specs.Telling.{MayGive, GaveCell, entered_view, changed_view}
+use Rattle.script_runner.specs.shared_device.specs.ruled_cells.specs.declared.about.SeatView.{SeatView}
+use Rattle.script_runner.specs.shared_device.specs.ruled_cells.specs.declared.cell_value.CellValue.{CellValue}
+use Rattle.script_runner.specs.shared_device.specs.ruled_cells.specs.Turning.{HasTurn}
+use Rattle.script_runner.specs.shared_device.specs.ruled_cells.specs.Stamps.{stamps_after, pending, stamp}
+use Rattle.script_runner.specs.shared_device.specs.ruled_cells.specs.Reads.{ChiefReads}
+use Rattle.script_runner.specs.shared_device.specs.ruled_cells.specs.Ruling.{Names, names, access_cell}
+use Rattle.script_runner.specs.shared_device.specs.ruled_cells.specs.Telling.{MayGive, GaveCell, entered_view, changed_view}
 use Rattle.threads_tests.specs.Tally.{Tally, Adds, IsAdded, MayHaveAdded, IsIdle, above_both, follows, tally_reads}
 use Rattle.journal_core.specs.Entries.{is_control}
-use Rattle.block_shard.specs.ruled_cells.specs.declared.cell_value.CellValue.TheVariants.{Rest}
-use Rattle.block_shard.specs.ruled_cells.specs.declared.seat.Seat.{Seat}
-use Rattle.block_shard.specs.ruled_cells.specs.declared.cells.Cells.{Cells}
-use Rattle.block_shard.specs.ruled_cells.specs.Seats.{IsSameSeat, NoTurns, seat_number}
-use Rattle.block_shard.specs.ruled_cells.specs.Calls.{IsOf, AreAll, seats_of}
-use Rattle.block_shard.specs.ruled_cells.proofs.Places.{some_some}
-use Rattle.block_shard.specs.ruled_cells.proofs.ClosingSteps.{at_end}
-use Rattle.block_shard.specs.ruled_cells.proofs.RuleSteps.{rest_same}
-use Rattle.block_shard.specs.ruled_cells.proofs.Order.{never, two}
+use Rattle.script_runner.specs.shared_device.specs.ruled_cells.specs.declared.cell_value.CellValue.TheVariants.{Rest}
+use Rattle.script_runner.specs.shared_device.specs.ruled_cells.specs.declared.seat.Seat.{Seat}
+use Rattle.script_runner.specs.shared_device.specs.ruled_cells.specs.declared.cells.Cells.{Cells}
+use Rattle.script_runner.specs.shared_device.specs.ruled_cells.specs.Seats.{IsSameSeat, NoTurns, seat_number}
+use Rattle.script_runner.specs.shared_device.specs.ruled_cells.specs.Calls.{IsOf, AreAll, seats_of}
+use Rattle.script_runner.specs.shared_device.specs.ruled_cells.proofs.Places.{some_some}
+use Rattle.script_runner.specs.shared_device.specs.ruled_cells.proofs.ClosingSteps.{at_end}
+use Rattle.script_runner.specs.shared_device.specs.ruled_cells.proofs.RuleSteps.{rest_same}
+use Rattle.script_runner.specs.shared_device.specs.ruled_cells.proofs.Order.{never, two}
 
 module _ {F : Type 0} (chief : ChiefReads F) where
   abbrev w : Names F Tally

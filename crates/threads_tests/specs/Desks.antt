@@ -2,7 +2,7 @@
 use Rattle.std.specs.Prelude.{◌≡◌, ℕ, suc, ◌*◌, ◌/◌, ◌≤◌, ◌==◌, nat_lt, List, [], ◌∷◌, length, if◌then◌else◌}
 use Rattle.dcd_base.specs.declared.steps.Actor.{Actor}
 use Rattle.journal_core.specs.Merging.{Call}
-use Rattle.workers.specs.Handling.{HandlerReads}
+use Rattle.script_runner.specs.workers.specs.Handling.{HandlerReads}
 
 pub record DeskState : Type 0 where
   pub number : ℕ

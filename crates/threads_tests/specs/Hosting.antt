@@ -5,11 +5,11 @@ use Rattle.dcd_base.specs.declared.steps.Actor.{Actor}
 use Rattle.journal_core.specs.declared.entries.Entry.{Entry}
 use Rattle.journal_core.specs.Merging.{AllRise}
 use Rattle.region_config.specs.Configurations.{Configuration}
-use Rattle.block_shard.specs.ruled_cells.specs.Calls.{seats_of}
-use Rattle.shared_device.specs.Closing.{IsClosed}
-use Rattle.shared_device.specs.declared.pass.Pass.{Pass}
-use Rattle.shared_device.specs.declared.shared.Shared.{Shared}
-use Rattle.shared_device.specs.Passing.{IsOneOf, pass_number}
+use Rattle.script_runner.specs.shared_device.specs.ruled_cells.specs.Calls.{seats_of}
+use Rattle.script_runner.specs.shared_device.specs.Closing.{IsClosed}
+use Rattle.script_runner.specs.shared_device.specs.declared.pass.Pass.{Pass}
+use Rattle.script_runner.specs.shared_device.specs.declared.shared.Shared.{Shared}
+use Rattle.script_runner.specs.shared_device.specs.Passing.{IsOneOf, pass_number}
 
 abbrev pub hosts_at : Shared → ℕ
 hosts_at s = s.config.hosts

@@ -11,11 +11,11 @@ use Rattle.region_config.specs.Configurations.{Configuration}
 use Rattle.journal_core.specs.declared.acts.Act.{Act}
 use Rattle.journal_core.specs.declared.entries.Entry.{Entry}
 use Rattle.journal_core.specs.Entries.{is_control}
-use Rattle.block_shard.specs.ruled_cells.specs.Laws.{AccessEnters, ChangeIs, Stays, AccessKeeps, ChangeMakes}
-use Rattle.block_shard.specs.ruled_cells.specs.declared.about.SeatView.{SeatView}
-use Rattle.block_shard.specs.ruled_cells.specs.Booking.{weigh}
-use Rattle.block_shard.specs.ruled_cells.specs.Reads.{ChiefReads, MemberReads}
-use Rattle.block_shard.specs.ruled_cells.specs.Stamps.{stamp}
+use Rattle.script_runner.specs.shared_device.specs.ruled_cells.specs.Laws.{AccessEnters, ChangeIs, Stays, AccessKeeps, ChangeMakes}
+use Rattle.script_runner.specs.shared_device.specs.ruled_cells.specs.declared.about.SeatView.{SeatView}
+use Rattle.script_runner.specs.shared_device.specs.ruled_cells.specs.Booking.{weigh}
+use Rattle.script_runner.specs.shared_device.specs.ruled_cells.specs.Reads.{ChiefReads, MemberReads}
+use Rattle.script_runner.specs.shared_device.specs.ruled_cells.specs.Stamps.{stamp}
 
 pub record Tally : Type 0 where
   pub index : ℕ

@@ -2,7 +2,7 @@
 //! want of memory the call is made once more.
 
 ghost use Rattle.journal_core.specs.Entries.{fits as fits_of};
-ghost use Rattle.shared_device.specs.Passing.{IsOneOf, IsSamePass, pass_actor, pass_calls};
+ghost use Rattle.script_runner.specs.shared_device.specs.Passing.{IsOneOf, IsSamePass, pass_actor, pass_calls};
 ghost use Rattle.threads_tests.specs.Hosting.{IsHostOf, hosts_at};
 ghost use Rattle.std.specs.Prelude.{◌≡◌, ◌^◌, ◌<◌, IsTrue, OnOk, length};
 
@@ -10,7 +10,7 @@ use crate::told::{Told, told_by, tried_by};
 use crate::trouble::Trouble;
 use dcd_base::{Actor, Stamp};
 use journal_core::{Act, fits};
-use shared_device::{Moment, Pass, Shared};
+use script_runner::shared_device::{Moment, Pass, Shared};
 use std::sync::Wait;
 
 /// The stamp of the last call of the pass, and how many it has made.

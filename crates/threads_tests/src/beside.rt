@@ -1,6 +1,6 @@
 //! Two hosts beside each other, each on a thread of its own.
 
-ghost use Rattle.shared_device.specs.Passing.{IsOneOf, IsSamePass};
+ghost use Rattle.script_runner.specs.shared_device.specs.Passing.{IsOneOf, IsSamePass};
 ghost use Rattle.threads_tests.specs.Hosting.{AreByNumber, hosts_at};
 ghost use Rattle.std.specs.Prelude.{◌≡◌};
 
@@ -13,7 +13,7 @@ use crate::trouble::Trouble;
 use crate::two_hosts::{BASE, FM, H0, H1, Line, M, TwoHosts};
 use dcd_base::{AccessFault, NoGate};
 use journal_core::Act;
-use shared_device::{Pass, Shared};
+use script_runner::shared_device::{Pass, Shared};
 use std::alloc::Global;
 use std::process::Abort;
 use std::sync::Wait;

@@ -1,9 +1,9 @@
 //! A cell that is a counter with its history.
 ghost use Rattle.threads_tests.specs.Tally.{Tally, tally_changes, tally_enters, tally_keeps, tally_makes, tally_reads, tally_stays};
 
-use block_shard::ruled_cells::Member;
 use dcd_base::Stamp;
 use journal_core::Journal;
+use script_runner::shared_device::ruled_cells::Member;
 use std::marker::Model;
 
 /// It counts its accesses and the scrubs that name its index.

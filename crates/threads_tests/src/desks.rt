@@ -1,14 +1,14 @@
 //! The passes of a device, and the lines that they do.
 ghost use Rattle.std.specs.List.{list_all};
 ghost use Rattle.std.specs.Prelude.{◌≡◌, ◌<◌, ◌≤◌, ◌+◌, ◌*◌, [], IfOk, IsTrue, length};
-ghost use Rattle.workers.specs.script_codec.specs.Scripts.{is_sound_line};
+ghost use Rattle.script_runner.specs.script_codec.specs.Scripts.{is_sound_line};
 ghost use Rattle.threads_tests.specs.Desks.{AreDesks, actor_at};
 
 use crate::keeper::Desk;
 use dcd_base::{Actor, HostId, NoMemory};
 use journal_core::{Act, Journal};
+use script_runner::script_codec::Line;
 use std::alloc::Global;
-use workers::script_codec::Line;
 
 /// The actor of the pass of a number.
 #[tactic(auto, using(crate::proofs::DeskSteps::host_below))]

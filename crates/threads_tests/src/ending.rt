@@ -6,9 +6,9 @@ use crate::told::{Told, told_by};
 use crate::two_hosts::TwoHosts;
 use dcd_base::{HostId, LogId, NoMemory};
 use journal_core::{Accesses, Entry};
+use script_runner::device_plain::control_core::Control;
 use script_runner::kept_journal::{Lender, Lent};
-use shared_device::control_core::Control;
-use shared_device::lend_journal;
+use script_runner::shared_device::lend_journal;
 use std::alloc::Global;
 use std::process::Abort;
 

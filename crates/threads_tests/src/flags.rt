@@ -1,7 +1,7 @@
 //! What two threads tell each other.
 
 use dcd_base::Actor;
-use shared_device::Moment;
+use script_runner::shared_device::Moment;
 use std::sync::atomic::{AtomicBool, AtomicU32, Ordering};
 use std::thread::yield_now;
 

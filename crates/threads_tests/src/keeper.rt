@@ -3,9 +3,9 @@ ghost use Rattle.threads_tests.specs.Desks.{desk_reads};
 
 use dcd_base::{Actor, NoMemory, Stamp};
 use journal_core::{Act, Effects, Entry, Journal, Reply};
+use script_runner::workers::Handler;
 use std::marker::Model;
 use std::sync::Wait;
-use workers::Handler;
 
 /// A pass: its number, its actor and its calls.
 #[derive(Drop)]

@@ -1,7 +1,7 @@
 //! A first cell that is a journal and no more.
 
-use block_shard::ruled_cells::Chief;
 use journal_core::Journal;
+use script_runner::shared_device::ruled_cells::Chief;
 use std::marker::Model;
 
 /// A journal of scrubs.

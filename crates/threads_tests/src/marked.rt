@@ -1,16 +1,16 @@
 //! Scripts with marks: with one after every line, and as they come.
 ghost use Rattle.std.specs.List.{list_all};
 ghost use Rattle.std.specs.Prelude.{◌≡◌, ◌<◌, ◌≤◌, ◌+◌, ◌^◌, IsTrue, OnOk, length};
-ghost use Rattle.workers.specs.script_codec.specs.Scripts.{is_sound_line};
+ghost use Rattle.script_runner.specs.script_codec.specs.Scripts.{is_sound_line};
 ghost use Rattle.threads_tests.specs.Desks.{AreDesks};
 
 use crate::keeper::{Desk, Keeper};
 use dcd_base::{Gate, NoMemory};
+use script_runner::script_codec::Line;
+use script_runner::workers::{run_phase, run_phases};
 use std::alloc::AllocGlobal;
 use std::sync::Wait;
 use std::thread::Threads;
-use workers::script_codec::Line;
-use workers::{run_phase, run_phases};
 
 /// Runs the lines in one phase.
 pub fn run_together<R: Threads + Wait + Sync + AllocGlobal, G: Gate>(

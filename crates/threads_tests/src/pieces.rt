@@ -60,7 +60,7 @@ fn a_script_may_come_in_any_pieces(rt: HostRuntime) -> Result<(), Fail> {
 #[test]
 fn a_failed_read_comes_before_a_fault(rt: HostRuntime) -> Result<(), Fail> {
     let script = with_kind(&bytes_of(rt.alloc(), &WHOLE)?, 6)?;
-    let fault = Status::ScriptRefused(workers::script_codec::ScriptFault::UnknownKind(128));
+    let fault = Status::ScriptRefused(script_runner::script_codec::ScriptFault::UnknownKind(128));
     see_run(&rt, &script, 16, &[], fault, "script refused: 5 at 128\n")?;
     for call in 1..12 {
         see_run(&rt, &script, 16, &[call], Status::ReadFault, "")?;

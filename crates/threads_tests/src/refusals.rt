@@ -1,16 +1,16 @@
 //! The line that is printed of a script that is refused.
 
-ghost use Rattle.workers.specs.script_codec.specs.declared.faults.ScriptFault.{ScriptFault};
+ghost use Rattle.script_runner.specs.script_codec.specs.declared.faults.ScriptFault.{ScriptFault};
 
 use crate::seeing::see_list;
 use cci_codec::MessageFault;
 use dcd_base::MemSink;
 use region_config::ConfigFault;
 use script_runner::report::refusal;
+use script_runner::script_codec::ScriptFault;
 use std::alloc::Global;
 use std::process::Abort;
 use std::test::Fail;
-use workers::script_codec::ScriptFault;
 
 /// What is printed of the fault.
 fn line_of(alloc: Global, fault: ScriptFault) -> MemSink {

@@ -2,17 +2,17 @@
 ghost use Rattle.std.specs.Prelude.{◌≡◌, ◌+◌, ◌^◌, ◌<◌, ◌≤◌, suc, [], ◌∷◌, false, length, slice_set, IfOk, None};
 ghost use Rattle.dcd_base.specs.declared.steps.Actor.TheVariants.{Sanitizer};
 ghost use Rattle.journal_core.specs.Entries.{is_control};
-ghost use Rattle.block_shard.specs.ruled_cells.specs.Calls.{IsNew, IsOf, row_of, seats_of};
-ghost use Rattle.block_shard.specs.ruled_cells.specs.Seats.{HasCell, IsSameSeat, NoTurns, seat_number, turns_of, seat_view};
-ghost use Rattle.block_shard.specs.ruled_cells.specs.Stamps.{stamp};
+ghost use Rattle.script_runner.specs.shared_device.specs.ruled_cells.specs.Calls.{IsNew, IsOf, row_of, seats_of};
+ghost use Rattle.script_runner.specs.shared_device.specs.ruled_cells.specs.Seats.{HasCell, IsSameSeat, NoTurns, seat_number, turns_of, seat_view};
+ghost use Rattle.script_runner.specs.shared_device.specs.ruled_cells.specs.Stamps.{stamp};
 ghost use Rattle.threads_tests.specs.Tally.{IsIdle, IsUnused, MayHaveAdded, no_config};
 
 use crate::counter::Counter;
 use crate::ledger::Ledger;
 use crate::seeing::see;
-use block_shard::ruled_cells::{Busy, Cells, Seat};
 use dcd_base::{Actor, NoMemory, Stamp};
 use journal_core::{Act, Effects, Entry, Journal, Reply};
+use script_runner::shared_device::ruled_cells::{Busy, Cells, Seat};
 use std::alloc::Global;
 use std::process::Abort;
 use std::sync::Wait;

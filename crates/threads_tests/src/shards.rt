@@ -1,17 +1,17 @@
 //! The loads and stores of a shard.
 
 ghost use Rattle.journal_core.specs.Entries.{is_control};
-ghost use Rattle.block_shard.specs.shard_laws.specs.Belonging.{asked_at, shard_at};
+ghost use Rattle.script_runner.specs.shared_device.specs.block_shard.specs.shard_laws.specs.Belonging.{asked_at, shard_at};
 ghost use Rattle.std.specs.Prelude.{◌≡◌, ◌<◌, IfOk, false};
 
 use crate::ledger::Ledger;
 use crate::seeing::{see, see_list};
-use block_shard::Shard;
-use block_shard::shard_laws::{law_at_rest, law_changed, law_merged};
 use dcd_base::{AccessFault, Change, Changes, Granule, HostId, Place, Run, Stamp, shard_of};
 use journal_core::{Act, Reply};
 use media_map::locate;
 use region_config::{Config, ConfigFault, RegionSpec};
+use script_runner::shared_device::block_shard::Shard;
+use script_runner::shared_device::block_shard::shard_laws::{law_at_rest, law_changed, law_merged};
 use std::alloc::Global;
 use std::test::Fail;
 

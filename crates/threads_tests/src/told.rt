@@ -3,7 +3,7 @@
 use crate::trouble::Trouble;
 use dcd_base::AccessFault;
 use journal_core::Reply;
-use shared_device::TryFault;
+use script_runner::shared_device::TryFault;
 
 /// What is replied to a step.
 #[derive(Clone, Copy, Debug, PartialEq, Eq)]

@@ -10,7 +10,7 @@ use crate::trouble::Trouble;
 use dcd_base::NoGate;
 use journal_core::Act;
 use region_config::{Config, RegionSpec};
-use shared_device::{Pass, Shared};
+use script_runner::shared_device::{Pass, Shared};
 use std::alloc::Global;
 use std::sync::Wait;
 

@@ -1,7 +1,7 @@
 //! A wait sleeps: a thread that waits for a cell takes no time on the processor.
 ghost use Rattle.std.specs.Prelude.{◌≡◌, None};
-ghost use Rattle.block_shard.specs.ruled_cells.specs.Calls.{IsOf, row_of};
-ghost use Rattle.block_shard.specs.ruled_cells.specs.Seats.{IsSameSeat, NoTurns, seat_view};
+ghost use Rattle.script_runner.specs.shared_device.specs.ruled_cells.specs.Calls.{IsOf, row_of};
+ghost use Rattle.script_runner.specs.shared_device.specs.ruled_cells.specs.Seats.{IsSameSeat, NoTurns, seat_view};
 
 use crate::runs::{Tallies, Worker, closed, made, put_back};
 use crate::seeing::see;

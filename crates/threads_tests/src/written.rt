@@ -2,13 +2,13 @@
 
 use crate::seeing::see;
 use dcd_base::{Bytes, MemSink, MemSource, NoGate, NoMemory};
+use script_runner::script_codec::write;
 use script_runner::script_gen::generate;
 use script_runner::{Status, run};
 use std::alloc::{AllocGlobal, Global};
 use std::sync::Wait;
 use std::test::Fail;
 use std::thread::Threads;
-use workers::script_codec::write;
 
 /// The last lines, behind the records of the manager's log.
 const END: &[u8] = b"\ngranules free 224 dirty 0\nend 37115\n";

@@ -4,9 +4,9 @@ use Rattle.std.specs.Prelude.{flat_map}
 use Rattle.std.specs.List.{AllByRecursion}
 use Rattle.std.specs.Int.{w32, byte_len, bytes_low_first}
 use Rattle.std.proofs.lemmas.Bool.Decides.{nat_tests}
-use Rattle.field_bytes.specs.Layouts.{Field, Number, Masked, Raw, Reserved, Fixed, FitsField, Reads, spell, spelling}
-use Rattle.field_bytes.proofs.Fields.{IsBytes, all_bytes, length_of_fields}
-use Rattle.field_bytes.proofs.Widths.{wide_32}
+use Rattle.dcd_base.specs.Layouts.{Field, Number, Masked, Raw, Reserved, Fixed, FitsField, Reads, spell, spelling}
+use Rattle.dcd_base.proofs.Fields.{IsBytes, all_bytes, length_of_fields}
+use Rattle.dcd_base.proofs.Widths.{wide_32}
 use Rattle.region_config.specs.Configurations.{Configuration}
 use Rattle.report.specs.script_codec.specs.declared.faults.ScriptFault.{ScriptFault}
 use Rattle.report.specs.script_codec.specs.declared.script_line.Line.{Line}

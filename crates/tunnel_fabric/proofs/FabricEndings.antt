@@ -6,7 +6,7 @@ use Rattle.std.specs.List.{list_all}
 use Rattle.std.specs.Prelude.{IfOk, slice_get}
 use Rattle.std.specs.declared.result.Result.{Result}
 use Rattle.dcd_base.specs.declared.failures.NoMemory.{NoMemory}
-use Rattle.program_frame.specs.Meanings.{Decides}
+use Rattle.edge_io.specs.Meanings.{Decides}
 use Rattle.region_config.specs.Configurations.{Configuration}
 use Rattle.tunnel_fabric.specs.declared.fabric_lines.FabricLine.{FabricLine}
 use Rattle.tunnel_fabric.specs.declared.fabric_scripts.FabricScript.{FabricScript}

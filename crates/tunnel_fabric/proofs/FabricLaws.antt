@@ -8,9 +8,9 @@ use Rattle.std.proofs.lemmas.Bool.Decides.{nat_tests}
 use Rattle.std.proofs.lemmas.Option.{none-some, same_Some}
 use lib.Pointwise.{pointwise, bytes_decides}
 use borrow.Author.Tests.{ltb-false, eqb-true}
-use Rattle.field_bytes.specs.Layouts.{Field, Number, Raw}
-use Rattle.field_bytes.proofs.Fields.{IsBytes, all_bytes}
-use Rattle.field_bytes.proofs.Widths.{wide_8, wide_16}
+use Rattle.dcd_base.specs.Layouts.{Field, Number, Raw}
+use Rattle.dcd_base.proofs.Fields.{IsBytes, all_bytes}
+use Rattle.dcd_base.proofs.Widths.{wide_8, wide_16}
 use Rattle.region_config.specs.Configurations.{Configuration}
 use Rattle.report.specs.script_codec.specs.declared.faults.ScriptFault.{ScriptFault}
 use Rattle.report.specs.script_codec.specs.Fields.{◌>>=◌, number_from, part, skip}

@@ -6,9 +6,9 @@ use Rattle.std.proofs.lemmas.Bool.{le-ltb, false≢true}
 use Rattle.std.proofs.lemmas.Bool.Decides.{nat_tests}
 use borrow.Author.Tests.{ltb-true, ltb-false, eqb-true}
 use Rattle.dcd_base.specs.declared.steps.Actor.{Actor}
-use Rattle.field_bytes.specs.Layouts.{Number}
-use Rattle.field_bytes.proofs.Fields.{IsBytes}
-use Rattle.field_bytes.proofs.Widths.{wide_8, wide_16}
+use Rattle.dcd_base.specs.Layouts.{Number}
+use Rattle.dcd_base.proofs.Fields.{IsBytes}
+use Rattle.dcd_base.proofs.Widths.{wide_8, wide_16}
 use Rattle.cci_codec.specs.declared.messages.Request.{Request}
 use Rattle.cci_codec.specs.Messages.{request_fields}
 use Rattle.region_config.specs.Configurations.{Configuration}

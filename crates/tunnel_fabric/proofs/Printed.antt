@@ -8,7 +8,7 @@ use Rattle.std.proofs.lemmas.Grind.{flat_map-append}
 use Rattle.std.proofs.lemmas.List.{length-take-le}
 use Rattle.dcd_base.specs.Streams.{Passes}
 use Rattle.dcd_base.proofs.Passing.{passes_both, passes_front}
-use Rattle.field_bytes.specs.Layouts.{Raw, spell, spelling}
+use Rattle.dcd_base.specs.Layouts.{Raw, spell, spelling}
 use Rattle.cci_codec.specs.declared.messages.Response.{Response}
 use Rattle.cci_codec.specs.Messages.{response_bytes, response_head_fields}
 use Rattle.device_plain.specs.Devices.{Plain}

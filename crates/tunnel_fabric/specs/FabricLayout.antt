@@ -3,7 +3,7 @@ use Rattle.std.specs.Prelude.{◌≤◌, IsTrue, true, false, ℕ, ◌+◌, Bool
 use Rattle.std.specs.List.{list_all, AllByRecursion}
 use Rattle.std.specs.Int.{w8, w16, w32}
 use Rattle.dcd_base.specs.declared.steps.Actor.{Actor}
-use Rattle.field_bytes.specs.Layouts.{Reads, Field, Number, Raw, Reserved, spelling}
+use Rattle.dcd_base.specs.Layouts.{Reads, Field, Number, Raw, Reserved, spelling}
 use Rattle.cci_codec.specs.Messages.{request_fields}
 use Rattle.region_config.specs.Configurations.{Configuration}
 use Rattle.journal_core.specs.declared.acts.Act.{Act}

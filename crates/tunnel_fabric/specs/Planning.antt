@@ -1,6 +1,6 @@
 -- What is to come of a fabric, and how it is printed.
 use Rattle.std.specs.Prelude.{◌≡◌, ℕ, ◌≤◌, List, ◌++◌, length, take, Some, Err}
-use Rattle.program_frame.specs.Meanings.{Meaning, asks_nothing}
+use Rattle.edge_io.specs.Meanings.{Meaning, asks_nothing}
 use Rattle.tunnel_fabric.specs.declared.fabric_scripts.FabricScript.{FabricScript}
 use Rattle.tunnel_fabric.specs.declared.texts.FabricText.{FabricText}
 use Rattle.tunnel_fabric.specs.FabricLayout.{ReadsFabric}

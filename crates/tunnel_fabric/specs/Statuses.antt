@@ -1,5 +1,5 @@
 -- Which end each status is.
-use Rattle.program_frame.specs.declared.ends.End.{End}
+use Rattle.edge_io.specs.declared.ends.End.{End}
 use Rattle.tunnel_fabric.specs.declared.status.FabricStatus.{FabricStatus}
 
 abbrev pub fabric_end : FabricStatus → End

@@ -1,7 +1,7 @@
 -- Messages to the tunnel: which device each reaches, the rule that it breaks, and the reply.
 use Rattle.std.specs.Prelude.{ℕ, ◌==◌, not, nat_le, nat_lt, List, [], ◌∷◌, length, drop, Option, Some, None, if◌then◌else◌}
 use Rattle.std.specs.Int.{w16}
-use Rattle.field_bytes.specs.Layouts.{Field, Number, Raw, Reserved, number_at, spelling}
+use Rattle.dcd_base.specs.Layouts.{Field, Number, Raw, Reserved, number_at, spelling}
 use Rattle.cci_codec.specs.declared.faults.MessageFault.{MessageFault}
 use Rattle.cci_codec.specs.declared.messages.Request.{Request}
 use Rattle.cci_codec.specs.declared.messages.Response.{Response}

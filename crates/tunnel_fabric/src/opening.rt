@@ -5,8 +5,7 @@ ghost use Rattle.tunnel_fabric.specs.Stepping.{IsOpened};
 
 use crate::rules::TunnelRule;
 use cci_codec::{MessageFault, Request, decode};
-use dcd_base::NoMemory;
-use field_bytes::u16_at;
+use dcd_base::{NoMemory, u16_at};
 use std::alloc::Global;
 
 /// What a message to the tunnel comes to.

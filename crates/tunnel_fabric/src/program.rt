@@ -1,7 +1,7 @@
 //! The top call.
 
-ghost use Rattle.program_frame.specs.Meanings.{Decides};
-ghost use Rattle.program_frame.specs.Runs.{Ran};
+ghost use Rattle.edge_io.specs.Meanings.{Decides};
+ghost use Rattle.edge_io.specs.Runs.{Ran};
 ghost use Rattle.std.specs.Prelude.{◌≡◌, ◌≤◌, IfOk, length};
 ghost use Rattle.tunnel_fabric.specs.Planning.{HasFewDevices, IsTextOfRun, bytes_of, fabric_program};
 ghost use Rattle.tunnel_fabric.specs.Printing.{fabric_refusal, fabric_usage_line};
@@ -16,7 +16,7 @@ use crate::status::FabricStatus;
 use crate::texts::FabricText;
 use crate::{FabricFault, FabricScript, read_fabric};
 use dcd_base::{Bytes, Failed, NoMemory, Sink, Source, write_all};
-use program_frame::{Program, Stop, no_words, run};
+use edge_io::{Program, Stop, no_words, run};
 use std::alloc::Global;
 
 /// The most bytes that a fabric has.

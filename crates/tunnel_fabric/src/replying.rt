@@ -1,7 +1,7 @@
 //! Replies to messages to the tunnel, in bytes.
 
 ghost use Rattle.cci_codec.specs.Messages.{response_bytes};
-ghost use Rattle.field_bytes.specs.Layouts.{spelling};
+ghost use Rattle.dcd_base.specs.Layouts.{spelling};
 ghost use Rattle.std.specs.Prelude.{◌≡◌, ◌+◌, ◌++◌, ◌<◌, ◌≤◌, ◌^◌, IfOk, OnOk, length};
 ghost use Rattle.tunnel_fabric.specs.Tunnels.{target_of, tunnel_wrapped, wrapped_fields};
 

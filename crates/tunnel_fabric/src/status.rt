@@ -1,11 +1,11 @@
 //! How a run of a fabric ends.
 
-ghost use Rattle.program_frame.specs.Ends.{number_of};
+ghost use Rattle.edge_io.specs.Ends.{number_of};
 ghost use Rattle.std.specs.Prelude.{◌≡◌};
 ghost use Rattle.tunnel_fabric.specs.Statuses.{fabric_end};
 
 use crate::FabricFault;
-use program_frame::End;
+use edge_io::End;
 
 /// How a run of a fabric ends.
 #[derive(Clone, Copy, Debug, PartialEq, Eq)]

@@ -36,7 +36,7 @@ fn enter(device: &mut Device, line: u32, actor: Actor, act: &Act) -> Result<(), 
     ensures { OnOk result (Appends device.old device.new (pass_number device.old.config.hosts 1 actor 0) line actor act.now) }
 {
     let act = act.copy()?;
-    let hosts = device.control().config().hosts();
+    let hosts = device.control().first_config().hosts();
     let pass = pass_of(hosts, 1, &actor, 0);
     device.enter(pass, line, actor, act)
 }
@@ -63,7 +63,7 @@ fn command(device: &mut Device, line: u32, act: &Act) -> Result<Reply, NoMemory>
     ensures entered { IfOk result (λ reply. Enters device.old device.new (pass_number device.old.config.hosts 1 Actor.Manager 0) line Actor.Manager act.now reply) }
     ensures answers { IfOk result (AnswersCommand act.now) }
 {
-    let hosts = device.control().config().hosts();
+    let hosts = device.control().first_config().hosts();
     let pass = pass_of(hosts, 1, &Actor::Manager, 0);
     let reply = device.step(pass, line, Actor::Manager, act)?;
     // The journal is legal, and its responses are short.
@@ -106,7 +106,7 @@ fn is_sound(device: &Device)
 {
     law_isolated();
     // A configuration is sound, and the journal legal.
-    let _hosts = device.control().config().hosts();
+    let _hosts = device.control().first_config().hosts();
     let _journal = device.journal();
 }
 

@@ -2,8 +2,7 @@
 //! the messages to the tunnel and the text of each device. Where it ends otherwise, it says on standard error why.
 #![tactic(auto)]
 
-use edge_io::{StdSink, StdSource, words};
-use program_frame::{FAULT_PRINTED, leave};
+use edge_io::{FAULT_PRINTED, StdSink, StdSource, leave, words};
 use std::process::ExitCode;
 use tunnel_fabric::{FabricStatus, run_fabric};
 

@@ -1,5 +1,5 @@
 use Rattle.std.proofs.Common.{◌∙◌, arith, refl}
-use Rattle.field_bytes.proofs.Widths.{u24_parts}
+use Rattle.dcd_base.proofs.Widths.{u24_parts}
 use Rattle.cci_codec.proofs.headers.put_head.Goals as goal
 
 pub returns : goal.returns

@@ -1,8 +1,8 @@
 use Rattle.std.proofs.Common.{[], ◌∷◌, ◌++◌, List, arith, take, ap, sym, subst, ◌∙◌}
 use Rattle.std.proofs.lemmas.List.{take_all, take_more}
-use Rattle.cci_codec.specs.field_bytes.specs.dcd_base.specs.declared.media.Change.{Change}
+use Rattle.cci_codec.specs.dcd_base.specs.declared.media.Change.{Change}
 use Rattle.journal_core.specs.declared.outcome.Effect.{Effect}
-use Rattle.list_rules.specs.media_map.specs.region_config.specs.Granules.{granule_total}
+use Rattle.extent_list.specs.media_map.specs.region_config.specs.Granules.{granule_total}
 use Rattle.control_core.specs.PutChanges.{ArePut}
 use Rattle.control_core.proofs.changing.put_all.Goals as goal
 

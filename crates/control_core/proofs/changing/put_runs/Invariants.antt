@@ -1,6 +1,6 @@
 use Rattle.std.proofs.Common.{◌≤◌, ◌-◌, max}
 use Rattle.std.specs.Prelude.{All}
-use Rattle.list_rules.specs.media_map.specs.region_config.specs.Granules.{granule_total}
+use Rattle.extent_list.specs.media_map.specs.region_config.specs.Granules.{granule_total}
 use Rattle.device_commands.specs.device_rules.specs.ChangedRuns.{IsSoundChange, LiesIn}
 use Rattle.control_core.specs.PutChanges.{AreAdded, IsRegionOrNone, NameNoOthers}
 use Rattle.control_core.proofs.changing.put_runs.Given as goal

@@ -1,7 +1,7 @@
 use Rattle.std.proofs.Common.{◌≡◌, take}
 use Rattle.std.specs.List.{list_any}
-use Rattle.list_rules.specs.extent_list.specs.ExtentLists.{has_extent_of}
-use Rattle.device_commands.specs.device_laws.specs.TagTable.{ending}
+use Rattle.extent_list.specs.ExtentLists.{has_extent_of}
+use Rattle.device_commands.specs.device_rules.specs.TagTable.{ending}
 use Rattle.control_core.proofs.ending.ending.Given as goal
 
 -- Of the tags so far those that end.

@@ -1,7 +1,7 @@
 use Rattle.std.proofs.Common.{length, subst}
 use Rattle.std.specs.declared.result.Result.{Result}
 use Rattle.std.proofs.lemmas.Result.{IfOk-weaker}
-use Rattle.list_rules.specs.dcd_codes.specs.declared.refusals.Refusal.{Refusal}
+use Rattle.extent_list.specs.dcd_codes.specs.declared.refusals.Refusal.{Refusal}
 use Rattle.device_commands.specs.declared.draft.DraftParts.{DraftParts}
 use Rattle.device_commands.specs.device_rules.specs.Answers.{host_outcome}
 use Rattle.device_commands.specs.device_rules.specs.Views.{view_of}

@@ -1,5 +1,5 @@
 use Rattle.std.proofs.Common.{◌++◌, ◌∙◌, List, ap, map}
-use Rattle.cci_codec.specs.field_bytes.specs.dcd_base.specs.declared.capacity.Tag.{Tag}
+use Rattle.cci_codec.specs.dcd_base.specs.declared.capacity.Tag.{Tag}
 use Rattle.std.proofs.lemmas.Result.{on_ok_weaker}
 use Rattle.device_commands.specs.ListsUpdates.{left_by}
 use Rattle.journal_core.specs.Entries.{effects}

@@ -1,5 +1,5 @@
 use Rattle.std.proofs.Common.{◌∙◌, ap, subst, sym}
-use Rattle.list_rules.specs.dcd_codes.specs.declared.codes.Code.{Code}
+use Rattle.extent_list.specs.dcd_codes.specs.declared.codes.Code.{Code}
 use Rattle.device_commands.specs.DraftContents.{draft_in}
 use Rattle.device_commands.specs.ListsUpdates.{left_by}
 use Rattle.device_commands.specs.declared.draft.DraftedStep.{DraftedStep}

@@ -1,6 +1,6 @@
 use Rattle.std.proofs.Common.{◌≡◌, ◌≤◌, ◌*◌, take}
 use Rattle.std.specs.Prelude.{sum_by}
-use Rattle.list_rules.specs.media_map.specs.Places.{run_of}
+use Rattle.extent_list.specs.media_map.specs.Places.{run_of}
 use Rattle.control_core.proofs.live_readers.granules_in.Given as goal
 
 abbrev pub invariant-loop-i : goal.invariant-loop-i

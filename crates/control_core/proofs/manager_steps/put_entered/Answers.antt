@@ -1,6 +1,6 @@
 use Rattle.std.proofs.Common.{◌++◌, ◌∙◌, ap, refl, subst, sym}
 use Rattle.control_core.specs.Doing.{IsDone}
-use Rattle.list_rules.specs.dcd_codes.specs.declared.codes.Code.{Code}
+use Rattle.extent_list.specs.dcd_codes.specs.declared.codes.Code.{Code}
 use Rattle.device_commands.specs.DraftContents.{draft_in}
 use Rattle.device_commands.specs.device_rules.specs.Answers.{response}
 use Rattle.journal_core.specs.Entries.{effects}

@@ -1,5 +1,5 @@
 use Rattle.std.proofs.Common.{◌≡◌, ◌++◌, take, flat_map}
-use Rattle.field_bytes.specs.Layouts.{u64_bytes}
+use Rattle.dcd_base.specs.Layouts.{u64_bytes}
 use Rattle.dcd_c.proofs.heads.add_bases.Given as goal
 
 abbrev pub invariant-loop-i : goal.invariant-loop-i

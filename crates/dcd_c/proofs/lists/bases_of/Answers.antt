@@ -8,17 +8,17 @@ use Rattle.dcd_c.proofs.lists.bases_of.Goals as goal
 
 pub returns-then-count-room : goal.returns-then-count-room
 returns-then-count-room c =
-    let cfg = c.config-config.result.now in (
+    let cfg = c.first_config-config.result.now in (
       refl,
       search rules,
       λ life leads.
           c.bases_before-count.ensures ∙ ap (λ k. k * length cfg.regions) c.hosts.ensures.value ∙ sym (bases_count cfg 0 cfg.hosts)
-          ∙ ap (λ (k : Configuration). length (flat_map (host_bases k) (range_with_len 0 k.hosts))) c.config-config.ensures.config,
+          ∙ ap (λ (k : Configuration). length (flat_map (host_bases k) (range_with_len 0 k.hosts))) c.first_config-config.ensures.config,
     )
 
 pub loop-host-preserved : goal.loop-host-preserved
 loop-host-preserved c =
-    let cfg = c.config-config.result.now in
+    let cfg = c.first_config-config.result.now in
     let h = c.loop-host.host in
     let n = length cfg.regions in
     let place = c.bases_before.ensures in

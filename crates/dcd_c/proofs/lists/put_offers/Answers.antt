@@ -9,14 +9,14 @@ use Rattle.dcd_c.proofs.lists.put_offers.Goals as goal
 
 pub offer-extents-requires-clause-index : goal.offer-extents-requires-clause-index
 offer-extents-requires-clause-index c =
-    let number = offers_number c.args.device.now c.config-sound.ensures.alive c.control-kept.result.now c.control-kept.ensures.config c.control-kept.ensures.pasts c.args.host c.requires c.offers-i-end.result c.offers-i-end.ensures in
+    let number = offers_number c.args.device.now c.first_config-sound.ensures.alive c.control-kept.result.now c.control-kept.ensures.config c.control-kept.ensures.pasts c.args.host c.requires c.offers-i-end.result c.offers-i-end.ensures in
     omega (arith, number, c.loop-i-test.true)
 
 pub put_extents-requires : goal.put_extents-requires
 put_extents-requires c =
     let offers = (part_of c.control-kept.result.now.state c.args.host).lists.offers in
     let d = c.args.device.now in
-    let alive = c.config-sound.ensures.alive in
+    let alive = c.first_config-sound.ensures.alive in
     let xs = c.offer-extents.result.now in
     let is = offer_kept d alive c.control-kept.result.now c.control-kept.ensures.config c.control-kept.ensures.pasts c.args.host c.requires c.loop-i.i xs c.offer-extents.ensures in
     let all = c.offered_count-count.ensures alive.life alive.leads
@@ -28,7 +28,7 @@ loop-i-preserved c =
     let offers = (part_of c.control-kept.result.now.state c.args.host).lists.offers in
     let xs = c.offer-extents.result.now in
     let i = c.loop-i.i in
-    let is = offer_kept c.args.device.now c.config-sound.ensures.alive c.control-kept.result.now c.control-kept.ensures.config c.control-kept.ensures.pasts c.args.host c.requires i xs c.offer-extents.ensures in
+    let is = offer_kept c.args.device.now c.first_config-sound.ensures.alive c.control-kept.result.now c.control-kept.ensures.config c.control-kept.ensures.pasts c.args.host c.requires i xs c.offer-extents.ensures in
     let more = told_more offers i xs is in
     record {
       count = (λ j. c.loop-i.invariant.count j + length xs) ∙ ap (λ n. length (offers_from 0 (take i offers)) + n) (sym (length-map xs (extent_told (i % 2 ^ 16)))) ∙ sym (length-append (offers_from 0 (take i offers)) (map (extent_told (i % 2 ^ 16)) xs)) ∙ ap length (sym more);

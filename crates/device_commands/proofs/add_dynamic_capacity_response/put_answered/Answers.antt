@@ -1,6 +1,6 @@
 use Rattle.std.proofs.Common.{◌∙◌, ap, refl}
 use Rattle.std.proofs.lemmas.Result.{on_ok_weaker}
-use Rattle.list_rules.specs.extent_list.specs.ExtentLists.{tags_of}
+use Rattle.extent_list.specs.ExtentLists.{tags_of}
 use Rattle.device_commands.specs.declared.draft.DraftParts.{DraftParts}
 use Rattle.device_commands.proofs.add_dynamic_capacity_response.put_answered.Goals as goal
 

@@ -1,17 +1,17 @@
 use Rattle.std.proofs.Common.{◌≡◌, ◌+◌, ◌%◌, ◌/◌, ◌==◌, ◌||◌, not, true, false, List, Result, Ok, Err, length, arith, ap, subst, sym, ◌∙◌}
 use Rattle.std.specs.Prelude.{All}
 use Rattle.std.proofs.lemmas.Bool.{eq-eqb, ne_eqb}
-use Rattle.cci_codec.specs.field_bytes.specs.dcd_base.specs.declared.capacity.Extent.{Extent}
-use Rattle.cci_codec.specs.field_bytes.specs.dcd_base.specs.declared.media.Run.{Run}
-use Rattle.list_rules.specs.dcd_codes.specs.Rules.{ByRow}
-use Rattle.list_rules.specs.dcd_codes.specs.declared.refusals.Refusal.{Refusal}
+use Rattle.cci_codec.specs.dcd_base.specs.declared.capacity.Extent.{Extent}
+use Rattle.cci_codec.specs.dcd_base.specs.declared.media.Run.{Run}
+use Rattle.extent_list.specs.dcd_codes.specs.Rules.{ByRow}
+use Rattle.extent_list.specs.dcd_codes.specs.declared.refusals.Refusal.{Refusal}
 use Rattle.device_state.specs.device_rules.specs.Adding.{area_of}
 use Rattle.selection.specs.granule_map.specs.Blocks.{free_block_count, longest_free_run}
 use Rattle.selection.specs.granule_map.specs.StateLists.{is_free_at}
-use Rattle.list_rules.specs.media_map.specs.Places.{IsRun}
-use Rattle.list_rules.specs.media_map.specs.region_config.specs.Granules.{first_granule, region_granules}
-use Rattle.list_rules.specs.media_map.specs.region_config.specs.declared.region_spec.RegionSpec.{RegionSpec}
-use Rattle.list_rules.specs.media_map.specs.region_config.proofs.Faultless.{granules_within}
+use Rattle.extent_list.specs.media_map.specs.Places.{IsRun}
+use Rattle.extent_list.specs.media_map.specs.region_config.specs.Granules.{first_granule, region_granules}
+use Rattle.extent_list.specs.media_map.specs.region_config.specs.declared.region_spec.RegionSpec.{RegionSpec}
+use Rattle.extent_list.specs.media_map.specs.region_config.proofs.Faultless.{granules_within}
 use Rattle.selection.specs.Selections.{contiguous_runs, free_runs, too_few_free}
 use Rattle.device_commands.specs.InitiateDynamicCapacityAdd.{length_rule, length_runs, tagged_runs}
 use Rattle.device_commands.proofs.BlockChoices.{LieInRegion, between_few, between_runs, found_free, found_in, found_together, of_length}

@@ -2,7 +2,7 @@ use Rattle.std.proofs.Common.{◌≡◌, ◌+◌, ℕ, List, [], ◌∷◌, ◌+
 use Rattle.std.specs.Prelude.{if◌then◌else◌}
 use Rattle.std.specs.List.{enumerate_from}
 use Rattle.std.proofs.lemmas.List.{length-take-le, map-append, take_more}
-use Rattle.cci_codec.specs.field_bytes.specs.dcd_base.specs.declared.capacity.Extent.{Extent}
+use Rattle.cci_codec.specs.dcd_base.specs.declared.capacity.Extent.{Extent}
 use Rattle.device_state.specs.host_lists.proofs.TagCounting.{no_extent}
 use Rattle.device_commands.proofs.ListPages.{numbered_more}
 use Rattle.device_commands.proofs.choosing.with_tag.Goals as goal

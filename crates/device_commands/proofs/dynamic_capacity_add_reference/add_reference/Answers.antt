@@ -1,7 +1,7 @@
 use Rattle.std.proofs.Common.{not, sym, ap, true, ◌∙◌}
 use Rattle.std.specs.Prelude.{if◌then◌else◌, [], ◌∷◌}
-use Rattle.list_rules.specs.dcd_codes.specs.Rules.{◌breaks◌}
-use Rattle.list_rules.specs.dcd_codes.specs.declared.rules.Rule.{Rule}
+use Rattle.extent_list.specs.dcd_codes.specs.Rules.{◌breaks◌}
+use Rattle.extent_list.specs.dcd_codes.specs.declared.rules.Rule.{Rule}
 use Rattle.journal_core.specs.declared.outcome.Effect.{Effect}
 use Rattle.device_commands.proofs.Drafting.{changes_alone}
 use Rattle.device_commands.proofs.TagReadings.{tags_open, tags_referenced}

@@ -1,7 +1,7 @@
 use Rattle.std.proofs.Common.{◌++◌, length, map, ap, ◌∙◌, arith}
-use Rattle.list_rules.specs.media_map.specs.region_config.specs.Configurations.{Configuration}
+use Rattle.extent_list.specs.media_map.specs.region_config.specs.Configurations.{Configuration}
 use Rattle.host_payloads.specs.HostPayloads.{configuration_payload}
-use Rattle.device_state.specs.device_laws.proofs.Homes.{regions_same}
+use Rattle.device_state.specs.device_rules.proofs.Homes.{regions_same}
 use Rattle.device_commands.specs.declared.draft.DraftParts.{DraftParts}
 use Rattle.device_commands.specs.Drafts.{as_records}
 use Rattle.device_commands.proofs.ShownRegions.{region_known, region_past}

@@ -6,8 +6,8 @@ use Rattle.fm_payloads.specs.ManagerPayloads.{regions_head}
 use Rattle.host_payloads.specs.HostPayloads.{counts_bytes, region_bytes}
 use Rattle.host_payloads.specs.declared.views.RegionView.{RegionView}
 use Rattle.device_state.specs.device_rules.specs.Settings.{host_counts, manager_flags, page, region_seen}
-use Rattle.list_rules.specs.media_map.specs.region_config.specs.Configurations.{Configuration}
-use Rattle.list_rules.specs.media_map.specs.region_config.specs.Granules.{regions_of}
+use Rattle.extent_list.specs.media_map.specs.region_config.specs.Configurations.{Configuration}
+use Rattle.extent_list.specs.media_map.specs.region_config.specs.Granules.{regions_of}
 use Rattle.device_commands.proofs.ListPages.{flat_map-map}
 use Rattle.device_commands.proofs.Reached.{blocks_long}
 use Rattle.device_commands.proofs.get_host_dc_region_configuration.payload_of.Goals as goal

@@ -1,7 +1,7 @@
 use Rattle.std.proofs.Common.{[], arith, ap, sym, refl, ◌∙◌}
 use Rattle.std.proofs.lemmas.List.Folds.{list_any_at, list_any_more}
 use Rattle.std.proofs.lemmas.Option.{get_or_from_slice_get}
-use Rattle.list_rules.specs.extent_list.specs.ExtentLists.{has_extent_of}
+use Rattle.extent_list.specs.ExtentLists.{has_extent_of}
 use Rattle.device_commands.proofs.initiate_dynamic_capacity_add.is_offered.Goals as goal
 
 pub returns-then-has_extent : goal.returns-then-has_extent

@@ -1,6 +1,6 @@
 use Rattle.std.proofs.Common.{◌≡◌, false, take}
 use Rattle.std.specs.List.{list_any}
-use Rattle.list_rules.specs.extent_list.specs.ExtentLists.{has_extent_of}
+use Rattle.extent_list.specs.ExtentLists.{has_extent_of}
 use Rattle.device_commands.proofs.initiate_dynamic_capacity_add.is_offered.Given as goal
 
 abbrev pub invariant-loop-i : goal.invariant-loop-i

@@ -1,5 +1,5 @@
 use Rattle.std.proofs.Common.{◌≡◌, ◌∙◌, ◌++◌, ap, subst}
-use Rattle.list_rules.specs.extent_list.specs.ExtentLists.{tags_of}
+use Rattle.extent_list.specs.ExtentLists.{tags_of}
 use Rattle.device_state.specs.device_rules.specs.ReleaseOutcomes.{removals}
 use Rattle.device_state.specs.StateAfter.{part_of}
 use Rattle.device_state.specs.declared.parts.HostPart.{HostPart}

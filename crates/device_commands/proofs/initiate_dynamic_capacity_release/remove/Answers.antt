@@ -1,7 +1,7 @@
 use Rattle.std.proofs.Common.{List, Option, arith, sym, subst}
-use Rattle.cci_codec.specs.field_bytes.specs.dcd_base.specs.declared.capacity.Extent.{Extent}
-use Rattle.list_rules.specs.dcd_codes.specs.Rules.{ByRow}
-use Rattle.list_rules.specs.dcd_codes.specs.declared.rules.Rule.{Rule}
+use Rattle.cci_codec.specs.dcd_base.specs.declared.capacity.Extent.{Extent}
+use Rattle.extent_list.specs.dcd_codes.specs.Rules.{ByRow}
+use Rattle.extent_list.specs.dcd_codes.specs.declared.rules.Rule.{Rule}
 use Rattle.device_commands.specs.Drafts.{Drafts}
 use Rattle.device_state.specs.device_rules.specs.ReleaseOutcomes.{remove_rule}
 use Rattle.device_state.specs.device_rules.specs.Views.{view_of}

@@ -1,6 +1,6 @@
 use Rattle.std.proofs.Common.{subst, sym}
-use Rattle.cci_codec.specs.field_bytes.specs.dcd_base.specs.declared.steps.LogId.{LogId}
-use Rattle.list_rules.specs.dcd_codes.specs.Rules.{ByRow}
+use Rattle.cci_codec.specs.dcd_base.specs.declared.steps.LogId.{LogId}
+use Rattle.extent_list.specs.dcd_codes.specs.Rules.{ByRow}
 use Rattle.fm_payloads.specs.declared.requests.FmRequest.{FmRequest}
 use Rattle.journal_core.specs.Entries.{effects}
 use Rattle.device_state.specs.device_rules.specs.Logs.{log_of}

@@ -3,9 +3,9 @@ use Rattle.std.proofs.lemmas.Result.{on_ok_weaker}
 use Rattle.device_state.specs.device_rules.specs.ResponseOutcomes.{hold}
 use Rattle.device_state.specs.host_lists.proofs.Departures.{gives-back}
 use Rattle.device_state.specs.host_lists.specs.Answers.{GivesUp}
-use Rattle.list_rules.specs.extent_list.specs.ExtentLists.{count_in}
+use Rattle.extent_list.specs.ExtentLists.{count_in}
 use Rattle.journal_core.specs.declared.outcome.HeldKind.{HeldKind}
-use Rattle.list_rules.specs.media_map.specs.region_config.specs.Configurations.{Configuration}
+use Rattle.extent_list.specs.media_map.specs.region_config.specs.Configurations.{Configuration}
 use Rattle.release_core.specs.declared.releases.GivenBack.{GivenBack}
 use Rattle.device_commands.specs.ListsUpdates.{left_by}
 use Rattle.device_commands.specs.declared.draft.DraftParts.{DraftParts}

@@ -1,9 +1,9 @@
 use Rattle.std.proofs.Common.{◌≡◌, ◌<◌, ◌+◌, List, get_or, arith, ap, sym, ◌∙◌}
 use Rattle.std.specs.List.{range_with_len}
 use Rattle.std.proofs.lemmas.List.FromFn.{get_or-range_with_len, length-range_with_len}
-use Rattle.cci_codec.specs.field_bytes.specs.dcd_base.specs.declared.ids.HostId.{HostId}
-use Rattle.list_rules.specs.dcd_codes.proofs.RuleSteps.{each_in_found}
-use Rattle.list_rules.specs.dcd_codes.specs.Rules.{each_in}
+use Rattle.cci_codec.specs.dcd_base.specs.declared.ids.HostId.{HostId}
+use Rattle.extent_list.specs.dcd_codes.proofs.RuleSteps.{each_in_found}
+use Rattle.extent_list.specs.dcd_codes.specs.Rules.{each_in}
 use Rattle.device_state.specs.device_rules.specs.Outcomes.{log_full}
 use Rattle.device_commands.proofs.ListPages.{from_zero, take_range}
 use Rattle.device_commands.proofs.Rows.{each_in-push}

@@ -1,7 +1,7 @@
 use Rattle.std.proofs.Common.{◌≡◌, None}
 use Rattle.std.specs.List.{range_with_len}
-use Rattle.cci_codec.specs.field_bytes.specs.dcd_base.specs.declared.ids.HostId.{HostId}
-use Rattle.list_rules.specs.dcd_codes.specs.Rules.{each_in}
+use Rattle.cci_codec.specs.dcd_base.specs.declared.ids.HostId.{HostId}
+use Rattle.extent_list.specs.dcd_codes.specs.Rules.{each_in}
 use Rattle.device_state.specs.device_rules.specs.Outcomes.{log_full}
 use Rattle.device_state.specs.device_rules.specs.Views.{View}
 use Rattle.device_commands.specs.SetDcRegionConfiguration.{LogsAreOf}

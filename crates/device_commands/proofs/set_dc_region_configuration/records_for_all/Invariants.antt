@@ -1,6 +1,6 @@
 use Rattle.std.proofs.Common.{◌≡◌, map}
 use Rattle.std.specs.List.{range_with_len}
-use Rattle.cci_codec.specs.field_bytes.specs.dcd_base.specs.declared.ids.HostId.{HostId}
+use Rattle.cci_codec.specs.dcd_base.specs.declared.ids.HostId.{HostId}
 use Rattle.device_state.specs.device_rules.specs.Views.{View}
 use Rattle.device_commands.specs.Drafts.{as_records}
 use Rattle.device_commands.specs.SetDcRegionConfiguration.{ListsAreOf, region_record}

@@ -1,5 +1,5 @@
 use Rattle.std.proofs.Common.{◌≡◌, take}
-use Rattle.list_rules.specs.extent_list.specs.ExtentLists.{tags_of}
+use Rattle.extent_list.specs.ExtentLists.{tags_of}
 use Rattle.device_commands.proofs.tags.put_tags_of.Given as goal
 
 -- The tags so far.

@@ -1,7 +1,7 @@
 use Rattle.std.proofs.Common.{take}
 use Rattle.std.specs.Prelude.{fold}
 use Rattle.device_state.specs.Granules.{AreChanged}
-use Rattle.device_laws.specs.GranuleCells.{ended_run}
+use Rattle.device_rules.specs.GranuleCells.{ended_run}
 use Rattle.device_state.proofs.granules.settle_all.Given as goal
 
 abbrev pub invariant-loop-i : goal.invariant-loop-i

@@ -1,7 +1,7 @@
 use Rattle.std.proofs.Common.{take}
 use Rattle.std.specs.Prelude.{fold}
 use Rattle.device_state.specs.Granules.{AreChanged, IsLastRegion}
-use Rattle.device_laws.specs.GranuleCells.{unoffered_extent}
+use Rattle.device_rules.specs.GranuleCells.{unoffered_extent}
 use Rattle.device_state.proofs.granules.unoffer_all.Given as goal
 
 abbrev pub invariant-loop-i : goal.invariant-loop-i

@@ -1,5 +1,5 @@
 use Rattle.std.proofs.Common.{◌≡◌, map, take}
-use Rattle.list_rules.specs.media_map.specs.Places.{run_of}
+use Rattle.extent_list.specs.media_map.specs.Places.{run_of}
 use Rattle.device_state.proofs.listing.open.Given as goal
 
 abbrev pub invariant-loop-i : goal.invariant-loop-i

@@ -2,8 +2,8 @@ use Rattle.std.proofs.Common.{◌∙◌, Some, ap, sym}
 use Rattle.std.specs.Option.{option_map}
 use Rattle.std.specs.Prelude.{find}
 use Rattle.std.proofs.lemmas.Option.{get_or_from_slice_get}
-use Rattle.cci_codec.specs.field_bytes.specs.dcd_base.specs.declared.capacity.Extent.{Extent}
-use Rattle.list_rules.specs.extent_list.specs.ExtentLists.{has_range}
+use Rattle.cci_codec.specs.dcd_base.specs.declared.capacity.Extent.{Extent}
+use Rattle.extent_list.specs.ExtentLists.{has_range}
 use Rattle.device_state.proofs.Found.{found-at, found-none}
 use Rattle.device_state.proofs.listing.tag_at.Goals as goal
 

@@ -1,5 +1,5 @@
 use Rattle.std.proofs.Common.{◌∙◌, drop, sym}
-use Rattle.device_laws.specs.device_rules.specs.Outcomes.{no_extent}
+use Rattle.device_rules.specs.Outcomes.{no_extent}
 use Rattle.device_state.proofs.ToldTwice.{told_before}
 use Rattle.device_state.proofs.listing.tell_next.Goals as goal
 

@@ -1,5 +1,5 @@
 use Rattle.std.proofs.Common.{rules, ◌≡◌, None, Some, Ok, slice_index, refl, ap}
-use Rattle.field_bytes.specs.dcd_base.specs.declared.capacity.Tag.{Tag}
+use Rattle.dcd_base.specs.declared.capacity.Tag.{Tag}
 use Rattle.event_records.specs.Records.{record_fault}
 use Rattle.event_records.specs.declared.faults.RecordFault.{RecordFault}
 use Rattle.event_records.proofs.Records.{record_reads, record_read, not_read, same_event}

@@ -1,5 +1,5 @@
 use Rattle.std.proofs.Common.{rules, sym, ◌∙◌}
-use Rattle.field_bytes.proofs.Filling.{filled}
+use Rattle.dcd_base.proofs.Filling.{filled}
 use Rattle.event_records.proofs.Records.{record_in_parts}
 use Rattle.event_records.proofs.writing.fill_record.Goals as goal
 

@@ -1,7 +1,7 @@
 use Rattle.std.proofs.Common.{◌++◌}
 use Rattle.std.specs.Prelude.{codes}
 use Rattle.std.specs.Int.{w32}
-use Rattle.field_bytes.specs.Layouts.{number_at}
+use Rattle.dcd_base.specs.Layouts.{number_at}
 use Rattle.explainer.specs.PartWords.{labelled}
 use Rattle.explainer.specs.ReplyWords.{tags_heading}
 use Rattle.explainer.proofs.ReplyLists.{put_last, put_then}

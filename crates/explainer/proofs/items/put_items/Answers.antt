@@ -1,6 +1,6 @@
 use Rattle.std.proofs.Common.{◌≡◌, ◌++◌, ◌-◌, ◌+◌, take, drop, length, ap, sym, ◌∙◌, arith}
 use Rattle.std.specs.List.{flat_map}
-use Rattle.field_bytes.specs.Layouts.{pieces}
+use Rattle.dcd_base.specs.Layouts.{pieces}
 use Rattle.explainer.specs.ReplyKinds.{item_length}
 use Rattle.explainer.specs.ReplyWords.{item_line}
 use Rattle.explainer.proofs.ReplyLists.{items_left, one_item}

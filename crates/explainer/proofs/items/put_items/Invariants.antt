@@ -1,6 +1,6 @@
 use Rattle.std.proofs.Common.{◌≡◌, ◌++◌, ◌*◌, ◌-◌, ◌≤◌, length}
 use Rattle.std.specs.List.{flat_map}
-use Rattle.field_bytes.specs.Layouts.{pieces}
+use Rattle.dcd_base.specs.Layouts.{pieces}
 use Rattle.explainer.specs.ReplyKinds.{item_length}
 use Rattle.explainer.specs.ReplyWords.{item_line, item_lines}
 use Rattle.explainer.proofs.items.put_items.Given as goal

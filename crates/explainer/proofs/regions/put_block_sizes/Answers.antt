@@ -1,7 +1,7 @@
 use Rattle.std.proofs.Common.{◌++◌, ◌≡◌}
 use Rattle.std.specs.Prelude.{codes}
 use Rattle.std.specs.Int.{w32, w64}
-use Rattle.field_bytes.specs.Layouts.{number_at}
+use Rattle.dcd_base.specs.Layouts.{number_at}
 use Rattle.script_text.specs.text_lines.specs.Sizes.{sizes_text}
 use Rattle.explainer.specs.PartWords.{counts_words, decode_bytes, labelled, labelled_size, region_ranges, sizes_words}
 use Rattle.explainer.specs.ReplyWords.{tags_heading}

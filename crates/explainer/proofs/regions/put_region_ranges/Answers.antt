@@ -1,7 +1,7 @@
 use Rattle.std.proofs.Common.{◌++◌}
 use Rattle.std.specs.Prelude.{codes}
 use Rattle.std.specs.Int.{w64}
-use Rattle.field_bytes.specs.Layouts.{number_at}
+use Rattle.dcd_base.specs.Layouts.{number_at}
 use Rattle.explainer.specs.PartWords.{decode_bytes, labelled_size, region_ranges}
 use Rattle.explainer.proofs.ReplyLists.{put_last, put_then}
 use Rattle.explainer.proofs.regions.put_region_ranges.Goals as goal

@@ -1,5 +1,5 @@
 use Rattle.std.proofs.Common.{refl, rules}
-use Rattle.field_bytes.proofs.Filling.{filled}
+use Rattle.dcd_base.proofs.Filling.{filled}
 use Rattle.fm_payloads.proofs.encoding.fill_lists_wanted.Goals as goal
 
 pub returns : goal.returns

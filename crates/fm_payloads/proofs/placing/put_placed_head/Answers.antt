@@ -1,5 +1,5 @@
 use Rattle.std.proofs.Common.{◌∙◌, ◌++◌, append_assoc}
-use Rattle.field_bytes.specs.Layouts.{u16_bytes, u32_bytes, u64_bytes, u8_bytes}
+use Rattle.dcd_base.specs.Layouts.{u16_bytes, u32_bytes, u64_bytes, u8_bytes}
 use Rattle.fm_payloads.specs.ManagerPayloads.{placed_head}
 use Rattle.fm_payloads.proofs.placing.put_placed_head.Goals as goal
 

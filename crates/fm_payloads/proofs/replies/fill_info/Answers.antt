@@ -1,5 +1,5 @@
 use Rattle.std.proofs.Common.{◌+◌, ◌*◌, length, rules}
-use Rattle.field_bytes.proofs.Filling.{filled}
+use Rattle.dcd_base.proofs.Filling.{filled}
 use Rattle.fm_payloads.proofs.ManagerWritten.{info_spelled}
 use Rattle.fm_payloads.proofs.replies.fill_info.Goals as goal
 

@@ -1,5 +1,5 @@
 use Rattle.std.proofs.Common.{refl, rules}
-use Rattle.field_bytes.proofs.Filling.{filled}
+use Rattle.dcd_base.proofs.Filling.{filled}
 use Rattle.fm_payloads.specs.ManagerPayloads.{lists_head}
 use Rattle.fm_payloads.proofs.replies.fill_lists_head.Goals as goal
 

@@ -1,5 +1,5 @@
 use Rattle.std.proofs.Common.{◌≡◌, ◌+◌, ◌*◌, ◌++◌, flat_map, take}
-use Rattle.field_bytes.specs.Layouts.{u64_bytes}
+use Rattle.dcd_base.specs.Layouts.{u64_bytes}
 use Rattle.fm_payloads.proofs.replies.put_sizes.Given as goal
 
 abbrev pub invariant-loop-size : goal.invariant-loop-size

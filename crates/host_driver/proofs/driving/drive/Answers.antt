@@ -26,7 +26,7 @@ returns-clause-config c = c.in_ok-run_all.ensures.config ∙ c.in_ok-device.ensu
 pub returns-clause-drive : goal.returns-clause-drive
 returns-clause-drive c =
     let sound : IsSound c.args.config =
-    subst IsSound (c.config.ensures ∙ c.control.ensures.config ∙ c.in_ok-run_all.ensures.config ∙ c.in_ok-device.ensures.config) c.hosts-hosts.ensures.sound in
+    subst IsSound (c.first_config.ensures ∙ c.control.ensures.config ∙ c.in_ok-run_all.ensures.config ∙ c.in_ok-device.ensures.config) c.hosts-hosts.ensures.sound in
     let ran : HasLines c.args.config c.args.host c.args.most c.args.lines.now c.run_all.new.device c.run_all.new.driver =
     subst (λ lines. HasLines c.args.config c.args.host c.args.most lines c.run_all.new.device c.run_all.new.driver) c.as_slice.ensures
     (subst (λ (k : Standing). HasLines c.args.config k.host k.most c.as_slice.result.now c.run_all.new.device c.run_all.new.driver) c.new-driver.ensures

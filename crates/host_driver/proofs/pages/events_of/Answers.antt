@@ -1,7 +1,7 @@
 use Rattle.std.proofs.Common.{◌≡◌, ap, sym, ◌∙◌, take, None, arith}
 use Rattle.std.proofs.lemmas.Result.{err_from_is_err_and}
 use Rattle.event_records.specs.Records.{record_fault}
-use Rattle.field_bytes.proofs.Pieces.{pieces-goes_on}
+use Rattle.dcd_base.proofs.Pieces.{pieces-goes_on}
 use Rattle.host_driver.specs.Pages.{bad_at, event_in}
 use Rattle.host_driver.proofs.Events.{bad_behind, bad_here}
 use Rattle.host_driver.proofs.pages.events_of.Goals as goal

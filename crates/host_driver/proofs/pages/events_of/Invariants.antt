@@ -1,5 +1,5 @@
 use Rattle.std.proofs.Common.{◌≡◌, ◌++◌, ◌*◌, ◌-◌, length, map}
-use Rattle.field_bytes.specs.Layouts.{pieces}
+use Rattle.dcd_base.specs.Layouts.{pieces}
 use Rattle.host_driver.specs.Pages.{bad_record, event_in}
 use Rattle.host_driver.proofs.pages.events_of.Given as goal
 

@@ -1,5 +1,5 @@
 use Rattle.std.proofs.Common.{ap, sym, ◌∙◌}
-use Rattle.list_rules.specs.extent_list.specs.ExtentLists.{has_extent_of}
+use Rattle.extent_list.specs.ExtentLists.{has_extent_of}
 use Rattle.host_lists.proofs.Offered.{any_taken, none_taken, list_at}
 use Rattle.host_lists.proofs.tag_counts.has_in_offers.Goals as goal
 

@@ -1,6 +1,6 @@
 use Rattle.std.proofs.Common.{◌≡◌, false, take}
 use Rattle.std.specs.List.{list_any}
-use Rattle.list_rules.specs.extent_list.specs.ExtentLists.{has_extent_of}
+use Rattle.extent_list.specs.ExtentLists.{has_extent_of}
 use Rattle.host_lists.proofs.tag_counts.has_in_offers.Given as goal
 
 abbrev pub invariant-loop-i : goal.invariant-loop-i

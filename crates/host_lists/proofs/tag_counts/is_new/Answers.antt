@@ -1,6 +1,6 @@
 use Rattle.std.proofs.Common.{◌≡◌, ◌++◌, true, not, ap, sym, refl, ◌∙◌}
 use Rattle.std.proofs.lemmas.Bool.{and_right}
-use Rattle.list_rules.specs.extent_list.specs.ExtentLists.{has_extent_of}
+use Rattle.extent_list.specs.ExtentLists.{has_extent_of}
 use Rattle.host_lists.specs.Tags.{extents_before}
 use Rattle.host_lists.proofs.Offered.{has_extent_before}
 use Rattle.host_lists.proofs.tag_counts.is_new.Goals as goal

@@ -1,5 +1,5 @@
 use Rattle.std.proofs.Common.{◌+◌, ◌*◌, length, rules}
-use Rattle.event_records.specs.field_bytes.proofs.Filling.{filled}
+use Rattle.event_records.specs.dcd_base.proofs.Filling.{filled}
 use Rattle.host_payloads.proofs.Written.{list_fits, list_spelled}
 use Rattle.host_payloads.proofs.encoding.fill_list.Goals as goal
 

@@ -1,5 +1,5 @@
 use Rattle.std.proofs.Common.{rules}
-use Rattle.event_records.specs.field_bytes.proofs.Filling.{filled}
+use Rattle.event_records.specs.dcd_base.proofs.Filling.{filled}
 use Rattle.host_payloads.proofs.extents.extent_bytes.Goals as goal
 
 pub returns-clause-bytes : goal.returns-clause-bytes

@@ -1,6 +1,6 @@
 use Rattle.std.proofs.Common.{◌≡◌, ◌++◌, flat_map, take}
 use Rattle.std.specs.List.{AllByRecursion}
-use Rattle.event_records.specs.field_bytes.specs.Extents.{extent_bytes, FitsExtent}
+use Rattle.event_records.specs.dcd_base.specs.Extents.{extent_bytes, FitsExtent}
 use Rattle.host_payloads.proofs.extents.with_extents.Given as goal
 
 abbrev pub invariant-loop-extent : goal.invariant-loop-extent

@@ -1,6 +1,6 @@
 use Rattle.std.proofs.Common.{arith}
 use Rattle.host_payloads.specs.HostPayloads.{listed_extent}
-use Rattle.event_records.specs.field_bytes.proofs.Pieces.{pieces-goes_on}
+use Rattle.event_records.specs.dcd_base.proofs.Pieces.{pieces-goes_on}
 use Rattle.host_payloads.proofs.list_reading.listed_of.Goals as goal
 
 pub loop-preserved : goal.loop-preserved

@@ -1,5 +1,5 @@
 use Rattle.std.proofs.Common.{◌≡◌, ◌++◌, ◌*◌, ◌-◌, ◌≤◌, length, map}
-use Rattle.event_records.specs.field_bytes.specs.Layouts.{pieces}
+use Rattle.event_records.specs.dcd_base.specs.Layouts.{pieces}
 use Rattle.host_payloads.specs.HostPayloads.{listed_extent}
 use Rattle.host_payloads.proofs.list_reading.listed_of.Given as goal
 

@@ -1,5 +1,5 @@
 use Rattle.std.proofs.Common.{◌+◌, ◌*◌, arith, length, rules}
-use Rattle.event_records.specs.field_bytes.proofs.Filling.{filled}
+use Rattle.event_records.specs.dcd_base.proofs.Filling.{filled}
 use Rattle.host_payloads.proofs.PageLaws.{page_fits, page_spelled}
 use Rattle.host_payloads.proofs.pages.fill_page.Goals as goal
 

@@ -1,5 +1,5 @@
 use Rattle.std.proofs.Common.{◌+◌, ◌*◌, length, rules}
-use Rattle.event_records.specs.field_bytes.proofs.Filling.{filled}
+use Rattle.event_records.specs.dcd_base.proofs.Filling.{filled}
 use Rattle.host_payloads.proofs.Written.{configuration_spelled}
 use Rattle.host_payloads.proofs.replies.fill_configuration.Goals as goal
 

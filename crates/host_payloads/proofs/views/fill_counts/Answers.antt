@@ -1,5 +1,5 @@
 use Rattle.std.proofs.Common.{refl, rules}
-use Rattle.event_records.specs.field_bytes.proofs.Filling.{filled}
+use Rattle.event_records.specs.dcd_base.proofs.Filling.{filled}
 use Rattle.host_payloads.specs.HostPayloads.{counts_bytes}
 use Rattle.host_payloads.proofs.views.fill_counts.Goals as goal
 

@@ -1,6 +1,6 @@
 use Rattle.std.proofs.Common.{◌≡◌, ◌++◌, ap, sym, subst, ◌∙◌, rules, arith, length}
 use Rattle.std.specs.Prelude.{flat_map, filter}
-use Rattle.region_config.specs.dcd_base.specs.declared.steps.Stamp.{Stamp}
+use Rattle.cci_codec.specs.dcd_base.specs.declared.steps.Stamp.{Stamp}
 use Rattle.std.proofs.lemmas.List.Sorted.{answers_always}
 use Rattle.journal_core.specs.Merging.{Rising, has_stamp}
 use Rattle.journal_core.proofs.Merges.{stamp_key, sorted_by_stamp, merged_at, merged-rising, merged-ties, merged-length}

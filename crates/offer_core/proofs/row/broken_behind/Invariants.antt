@@ -1,5 +1,5 @@
 use Rattle.std.proofs.Common.{◌≡◌, None, take}
-use Rattle.list_rules.specs.dcd_codes.specs.Rules.{each_in}
+use Rattle.extent_list.specs.dcd_codes.specs.Rules.{each_in}
 use Rattle.offer_core.specs.Responses.{extent_rule}
 use Rattle.offer_core.proofs.row.broken_behind.Given as goal
 

@@ -16,7 +16,7 @@ returns-in-Ok c =
     let journal = c.args.device.now.journal in
     let entries = c.control-control.result.now.entries in
     let alike : PlanAlike entries journal = subst (λ es. PlanAlike es journal) (sym c.control-control.ensures.entries) (commands_alike k journal c.journal-journal.ensures.legal) in
-    let config : c.config.result.now ≡ k = c.config.ensures ∙ c.control-control.ensures.config in
+    let config : c.first_config.result.now ≡ k = c.first_config.ensures ∙ c.control-control.ensures.config in
     list_end k entries journal c.args.demands.now alike c.in-Ok.acts
     (subst (λ x. IsPlan x entries c.args.demands.now (Ok c.in-Ok.acts)) config c.in-Ok.ensures.planned)
     (subst (λ x. MeetsDemands x (effects entries) (effects (stepped x entries c.in-Ok.acts)) c.args.demands.now) config c.in-Ok.ensures.meets) c.take_list.result c.take_list.ensures.status
@@ -28,7 +28,7 @@ returns-in_ok-plan_refusal-in-Err c =
     let journal = c.args.device.now.journal in
     let entries = c.control-control.result.now.entries in
     let alike : PlanAlike entries journal = subst (λ es. PlanAlike es journal) (sym c.control-control.ensures.entries) (commands_alike k journal c.journal-journal.ensures.legal) in
-    let config : c.config.result.now ≡ k = c.config.ensures ∙ c.control-control.ensures.config in (
+    let config : c.first_config.result.now ≡ k = c.first_config.ensures ∙ c.control-control.ensures.config in (
       fault_end k entries journal c.args.demands.now alike c.in-Err.fault (search rules)
           (subst (λ x. IsPlan x entries c.args.demands.now (Err c.in-Err.fault)) config c.in-Err.ensures.planned),
       c.in_ok-plan_refusal-in-Err.ensures,

@@ -9,7 +9,7 @@ use Rattle.pool_planner.proofs.gaining.taking_step.Goals as goal
 pub accept_step-requires-2 : goal.accept_step-requires-2
 accept_step-requires-2 c =
     let control = c.args.control.now in
-    let sound : IsSound control.config = subst IsSound c.config.ensures c.hosts-hosts.ensures.sound in
+    let sound : IsSound control.config = subst IsSound c.first_config.ensures c.hosts-hosts.ensures.sound in
     omega (
       arith,
       offer_short (offers_of c.args.host (effects control.entries)) c.offer.result.now c.offer.ensures,

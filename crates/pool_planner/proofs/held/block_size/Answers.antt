@@ -11,10 +11,10 @@ use Rattle.pool_planner.proofs.held.block_size.Goals as goal
 pub region-requires : goal.region-requires
 region-requires c =
     let control = c.args.control.now in
-    omega (arith, c.requires, ap (λ (d : Configuration). length d.regions) c.present.ensures, blocks_long control.config (λ r. block_of control.config r (effects control.entries)))
+    omega (arith, c.requires, ap (λ (d : Configuration). length d.regions) c.config.ensures, blocks_long control.config (λ r. block_of control.config r (effects control.entries)))
 
 pub returns-clause-value : goal.returns-clause-value
 returns-clause-value c =
     let control = c.args.control.now in
-    ap (λ (s : RegionSpec). s.block) (c.region.ensures.value ∙ ap (λ (d : Configuration). region_spec d c.args.region) c.present.ensures
+    ap (λ (s : RegionSpec). s.block) (c.region.ensures.value ∙ ap (λ (d : Configuration). region_spec d c.args.region) c.config.ensures
     ∙ region_spec-with_blocks control.config (λ r. block_of control.config r (effects control.entries)) c.args.region c.requires)

@@ -22,7 +22,7 @@ returns-then-have-need c =
     let need_is : c.in_ok-need.need ≡ need_in cfg before q r = c.in_ok-need.ensures ∙ ap (sum_by (λ (x : Demand). if x.region == r then gain cfg before x else 0)) c.as_slice.ensures in
     let have_is : c.from-have.result ≡ free_in cfg after r = c.from-have.ensures ∙ c.free_blocks.ensures ∙ ap (λ (d : Configuration). free_in d after r) c.requires.same in
     let short : free_in cfg after r < need_in cfg before q r = subst (λ n. free_in cfg after r < n) need_is (subst (λ n. n < c.in_ok-need.need) have_is c.if-have-need.true) in
-    let known = rw (c.regions-region-end.ensures.value, c.config.ensures) at c.loop-region-test.true in
+    let known = rw (c.regions-region-end.ensures.value, c.first_config.ensures) at c.loop-region-test.true in
     let found = find_range (λ k. nat_lt (free_in cfg after k) (need_in cfg before q k)) 0 (length cfg.regions) r (omega arith) (omega (arith, known))
     (lt-ltb (free_in cfg after r) (need_in cfg before q r) short) (λ k low high. c.loop-region.invariant k high) in
     (λ i. Some (PlanFault.Short r (need_is i) (have_is i))) ∙ ap (option_map (λ k. PlanFault.Short k (need_in cfg before q k) (free_in cfg after k))) (sym found)
@@ -45,6 +45,6 @@ returns c =
     let before = effects c.args.control.now.entries in
     let after = effects c.args.tried.now.entries in
     let q = c.args.demands.now in
-    let past = rw (c.regions-region-end.ensures.value, c.config.ensures) at c.loop-region-test.false in
+    let past = rw (c.regions-region-end.ensures.value, c.first_config.ensures) at c.loop-region-test.false in
     ap (option_map (λ k. PlanFault.Short k (need_in cfg before q k) (free_in cfg after k)))
     (sym (find_none (λ k. nat_lt (free_in cfg after k) (need_in cfg before q k)) 0 (length cfg.regions) (λ k low high. c.loop-region.invariant k (omega (arith, high, past)))))

@@ -1,5 +1,5 @@
 use Rattle.std.proofs.Common.{All, ◌+◌, ◌<◌, ◌^◌}
-use Rattle.list_rules.specs.dcd_codes.specs.dcd_base.specs.declared.capacity.Extent.{Extent}
+use Rattle.extent_list.specs.dcd_codes.specs.dcd_base.specs.declared.capacity.Extent.{Extent}
 use Rattle.release_core.proofs.counting.count_rule.Goals as goal
 
 pub extents_left-requires-clause-ends : goal.extents_left-requires-clause-ends

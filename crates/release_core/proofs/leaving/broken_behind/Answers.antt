@@ -1,8 +1,8 @@
 use Rattle.std.proofs.Common.{sym, ◌∙◌, take, get_or, ◌≡◌, ◌≤◌, length, arith, subst, None}
 use Rattle.std.proofs.lemmas.List.{take_all}
-use Rattle.list_rules.specs.dcd_codes.proofs.RuleSteps.{each_in_found, each_in_more}
-use Rattle.list_rules.specs.dcd_codes.specs.Rules.{each_in}
-use Rattle.list_rules.proofs.FitFront.{each_fits}
+use Rattle.extent_list.specs.dcd_codes.proofs.RuleSteps.{each_in_found, each_in_more}
+use Rattle.extent_list.specs.dcd_codes.specs.Rules.{each_in}
+use Rattle.extent_list.proofs.FitFront.{each_fits}
 use Rattle.release_core.proofs.Members.{no_extent}
 use Rattle.release_core.proofs.Rows.{fit_keeps}
 use Rattle.release_core.specs.Leaving.{leaving_rule}

@@ -1,7 +1,7 @@
 use Rattle.std.proofs.Common.{List, ◌≡◌, IfOk, None, false, ap, refl, rules, subst, sym, ◌∙◌}
-use Rattle.list_rules.specs.dcd_codes.specs.dcd_base.specs.declared.capacity.Extent.{Extent}
-use Rattle.list_rules.specs.dcd_codes.specs.Rules.{each_in}
-use Rattle.list_rules.specs.Listing.{incomplete, too_many_listed}
+use Rattle.extent_list.specs.dcd_codes.specs.dcd_base.specs.declared.capacity.Extent.{Extent}
+use Rattle.extent_list.specs.dcd_codes.specs.Rules.{each_in}
+use Rattle.extent_list.specs.Listing.{incomplete, too_many_listed}
 use Rattle.release_core.specs.Leaving.{leaving_rule}
 use Rattle.release_core.specs.declared.leaving.Within.{Within}
 use Rattle.release_core.proofs.FreeToLeave.{all_can_leave}

@@ -1,10 +1,10 @@
 use Rattle.std.proofs.Common.{◌≡◌, ◌≤◌, None, false, length, ap, arith, rules, sym, ◌∙◌}
 use Rattle.std.proofs.lemmas.List.{take_all}
 use Rattle.std.specs.Prelude.{nat_le}
-use Rattle.list_rules.specs.dcd_codes.specs.dcd_base.specs.Words.{is_empty}
-use Rattle.list_rules.specs.dcd_codes.specs.Rules.{each_in}
-use Rattle.list_rules.specs.dcd_codes.proofs.RuleSteps.{each_in_found, each_in_more}
-use Rattle.list_rules.specs.Listing.{too_many_listed}
+use Rattle.extent_list.specs.dcd_codes.specs.dcd_base.specs.Words.{is_empty}
+use Rattle.extent_list.specs.dcd_codes.specs.Rules.{each_in}
+use Rattle.extent_list.specs.dcd_codes.proofs.RuleSteps.{each_in_found, each_in_more}
+use Rattle.extent_list.specs.Listing.{too_many_listed}
 use Rattle.release_core.specs.Leaving.{leaving_rule}
 use Rattle.release_core.specs.declared.leaving.Within.{Within}
 use Rattle.release_core.proofs.FreeToLeave.{all_can_leave}

@@ -1,5 +1,5 @@
 use Rattle.std.proofs.Common.{◌≡◌, None, take}
-use Rattle.list_rules.specs.dcd_codes.specs.Rules.{each_in}
+use Rattle.extent_list.specs.dcd_codes.specs.Rules.{each_in}
 use Rattle.release_core.specs.Leaving.{leaving_rule}
 use Rattle.release_core.proofs.removals.removal.Given as goal
 

@@ -1,6 +1,6 @@
 use Rattle.std.proofs.Common.{arith, ◌+◌, ◌*◌, length, ◌<◌}
 use Rattle.std.specs.Int.{w64}
-use Rattle.cci_codec.specs.field_bytes.specs.Layouts.{Number}
+use Rattle.cci_codec.specs.dcd_base.specs.Layouts.{Number}
 use Rattle.script_codec.proofs.Adding.{appends_member, within_seats}
 use Rattle.script_codec.proofs.writing.put_bases.Goals as goal
 

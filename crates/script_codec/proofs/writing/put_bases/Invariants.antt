@@ -1,6 +1,6 @@
 use Rattle.std.proofs.Common.{take, map, length, ◌+◌, ◌*◌}
 use Rattle.std.specs.Int.{w64}
-use Rattle.cci_codec.specs.field_bytes.specs.Layouts.{Number}
+use Rattle.cci_codec.specs.dcd_base.specs.Layouts.{Number}
 use Rattle.script_codec.specs.Writing.{AppendsLines}
 use Rattle.script_codec.proofs.writing.put_bases.Given as goal
 

@@ -1,6 +1,6 @@
 use Rattle.std.proofs.lemmas.Result.{on_ok_weaker}
 use Rattle.script_codec.specs.Writing.{AppendsLines}
-use Rattle.cci_codec.specs.field_bytes.specs.Layouts.{Reserved}
+use Rattle.cci_codec.specs.dcd_base.specs.Layouts.{Reserved}
 use Rattle.std.proofs.Common.{[], ◌∷◌}
 use Rattle.script_codec.proofs.Adding.{appends_then}
 use Rattle.script_codec.proofs.writing.put_region.Goals as goal

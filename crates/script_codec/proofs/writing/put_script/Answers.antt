@@ -3,7 +3,7 @@ use Rattle.std.specs.Prelude.{IsTrue}
 use Rattle.std.specs.Int.{w8}
 use Rattle.std.specs.List.{All}
 use Rattle.std.proofs.lemmas.Result.{on_ok_weaker}
-use Rattle.cci_codec.specs.field_bytes.specs.Layouts.{Number}
+use Rattle.cci_codec.specs.dcd_base.specs.Layouts.{Number}
 use Rattle.script_codec.specs.Writing.{AppendsLines, has_spelling}
 use Rattle.script_codec.proofs.Adding.{appends_then}
 use Rattle.script_codec.proofs.Writable.{writable_lines}

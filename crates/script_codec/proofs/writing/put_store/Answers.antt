@@ -1,7 +1,7 @@
 use Rattle.std.proofs.Common.{[], ◌∷◌}
 use Rattle.std.specs.Int.{w64}
 use Rattle.std.proofs.lemmas.Result.{on_ok_weaker}
-use Rattle.cci_codec.specs.field_bytes.specs.Layouts.{Number}
+use Rattle.cci_codec.specs.dcd_base.specs.Layouts.{Number}
 use Rattle.script_codec.specs.Writing.{AppendsLines}
 use Rattle.script_codec.proofs.Adding.{appends_then}
 use Rattle.script_codec.proofs.writing.put_store.Goals as goal

@@ -1,5 +1,5 @@
 use Rattle.std.proofs.Common.{refl, rules}
-use Rattle.field_bytes.proofs.Filling.{filled}
+use Rattle.dcd_base.proofs.Filling.{filled}
 use Rattle.script_gen.proofs.payloads.fill_clearing.Goals as goal
 
 pub returns : goal.returns

@@ -1,6 +1,6 @@
 use Rattle.std.proofs.Common.{◌≡◌, length, min, take}
 use Rattle.std.specs.Prelude.{flat_map}
-use Rattle.field_bytes.specs.Layouts.{spelling}
+use Rattle.dcd_base.specs.Layouts.{spelling}
 use Rattle.text_lines.specs.script_codec.specs.Scripts.{line_fields}
 use Rattle.script_text.proofs.sizes.size_of_lines.Given as goal
 

@@ -1,5 +1,5 @@
 use Rattle.std.proofs.Common.{◌≡◌, ◌+◌, List, rules, subst, sym, true}
-use Rattle.list_rules.specs.dcd_codes.specs.dcd_base.specs.declared.media.Run.{Run}
+use Rattle.extent_list.specs.dcd_codes.specs.dcd_base.specs.declared.media.Run.{Run}
 use Rattle.granule_map.specs.StateLists.{is_free_at}
 use Rattle.selection.specs.Selections.{AreBetween, are_free, contiguous_runs}
 use Rattle.selection.proofs.Chosen.{contiguous_are_free, contiguous_between}

@@ -1,11 +1,11 @@
 use Rattle.std.proofs.Common.{◌≡◌, [], None, ap, arith, false, rules, sym, ◌∙◌}
 use Rattle.std.proofs.lemmas.List.{take_all}
-use Rattle.list_rules.specs.dcd_codes.specs.dcd_base.specs.declared.capacity.Extent.{Extent}
-use Rattle.list_rules.specs.dcd_codes.specs.dcd_base.specs.Words.{is_empty}
-use Rattle.list_rules.specs.dcd_codes.specs.Rules.{each_in}
-use Rattle.list_rules.specs.dcd_codes.proofs.RuleSteps.{each_in_found, each_in_more}
+use Rattle.extent_list.specs.dcd_codes.specs.dcd_base.specs.declared.capacity.Extent.{Extent}
+use Rattle.extent_list.specs.dcd_codes.specs.dcd_base.specs.Words.{is_empty}
+use Rattle.extent_list.specs.dcd_codes.specs.Rules.{each_in}
+use Rattle.extent_list.specs.dcd_codes.proofs.RuleSteps.{each_in_found, each_in_more}
 use Rattle.granule_map.specs.StateLists.{is_free_at}
-use Rattle.list_rules.specs.Listing.{too_many_listed}
+use Rattle.extent_list.specs.Listing.{too_many_listed}
 use Rattle.selection.specs.Selections.{free_extent_rule}
 use Rattle.selection.proofs.Prescribed.{extent_broken, kept_apart, kept_free, kept_runs}
 use Rattle.selection.proofs.listed.prescriptive_rule.Goals as goal

@@ -1,5 +1,5 @@
 use Rattle.std.proofs.Common.{◌≡◌, None, take}
-use Rattle.list_rules.specs.dcd_codes.specs.Rules.{each_in}
+use Rattle.extent_list.specs.dcd_codes.specs.Rules.{each_in}
 use Rattle.granule_map.specs.StateLists.{is_free_at}
 use Rattle.selection.specs.Selections.{free_extent_rule}
 use Rattle.selection.proofs.listed.prescriptive_rule.Given as goal

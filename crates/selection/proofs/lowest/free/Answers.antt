@@ -2,8 +2,8 @@ use Rattle.std.proofs.Common.{◌≡◌, ◌+◌, ◌<◌, Err, List, arith, ref
 use Rattle.std.specs.List.{range_with_len}
 use Rattle.std.proofs.lemmas.List.FromFn.{length-range_with_len}
 use Rattle.std.proofs.lemmas.List.Sums.{count_by-le-length, length-filter}
-use Rattle.list_rules.specs.dcd_codes.specs.dcd_base.specs.declared.media.Run.{Run}
-use Rattle.list_rules.specs.dcd_codes.specs.declared.refusals.Refusal.{Refusal}
+use Rattle.extent_list.specs.dcd_codes.specs.dcd_base.specs.declared.media.Run.{Run}
+use Rattle.extent_list.specs.dcd_codes.specs.declared.refusals.Refusal.{Refusal}
 use Rattle.granule_map.specs.Blocks.{block_count, free_block_count, is_block_free}
 use Rattle.granule_map.specs.StateLists.{is_free_at}
 use Rattle.selection.specs.Picks.{PicksLowest}

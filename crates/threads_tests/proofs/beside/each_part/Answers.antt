@@ -1,5 +1,5 @@
 use Rattle.std.proofs.Common.{◌≡◌, length, get_or, subst, sym, rules}
-use Rattle.shared_device.specs.Passing.{IsOneOf, IsSamePass}
+use Rattle.script_runner.specs.shared_device.specs.Passing.{IsOneOf, IsSamePass}
 use Rattle.threads_tests.proofs.Passes.{all_each, one_at}
 use Rattle.threads_tests.proofs.beside.each_part.Goals as goal
 

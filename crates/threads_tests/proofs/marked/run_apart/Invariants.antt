@@ -1,6 +1,6 @@
 use Rattle.std.proofs.Common.{◌≡◌, ◌+◌, ◌*◌, ◌≤◌, length, IsTrue}
 use Rattle.std.specs.List.{list_all}
-use Rattle.workers.specs.script_codec.specs.Scripts.{is_sound_line}
+use Rattle.script_runner.specs.script_codec.specs.Scripts.{is_sound_line}
 use Rattle.threads_tests.specs.Desks.{AreDesks}
 use Rattle.threads_tests.proofs.marked.run_apart.Given as goal
 

@@ -1,5 +1,5 @@
 use Rattle.threads_tests.proofs.TallySteps.{last_at}
-use Rattle.block_shard.specs.ruled_cells.proofs.ClosingSteps.{in_front}
+use Rattle.script_runner.specs.shared_device.specs.ruled_cells.proofs.ClosingSteps.{in_front}
 use Rattle.threads_tests.proofs.runs.made.Goals as goal
 
 pub returns-clause-two : goal.returns-clause-two

@@ -1,8 +1,8 @@
 use Rattle.std.proofs.Common.{List, sym, subst}
 use Rattle.journal_core.specs.declared.entries.Entry.{Entry}
 use Rattle.threads_tests.specs.Tally.{IsIdle, MayHaveAdded, ledger_reads}
-use Rattle.block_shard.specs.ruled_cells.specs.Seats.{seat_number, seat_view, turns_of}
-use Rattle.shared_device.proofs.Turns.{given_again}
+use Rattle.script_runner.specs.shared_device.specs.ruled_cells.specs.Seats.{seat_number, seat_view, turns_of}
+use Rattle.script_runner.specs.shared_device.proofs.Turns.{given_again}
 use Rattle.threads_tests.proofs.TallySteps.{idle_again, same_cell}
 use Rattle.threads_tests.proofs.runs.step.Goals as goal
 

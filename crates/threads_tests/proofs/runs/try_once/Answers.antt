@@ -1,5 +1,5 @@
 use Rattle.std.proofs.Common.{◌∙◌, suc}
-use Rattle.shared_device.proofs.Turns.{given_again}
+use Rattle.script_runner.specs.shared_device.proofs.Turns.{given_again}
 use Rattle.threads_tests.proofs.TallySteps.{same_twice}
 use Rattle.threads_tests.proofs.runs.try_once.Goals as goal
 

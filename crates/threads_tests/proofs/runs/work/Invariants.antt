@@ -1,5 +1,5 @@
 use Rattle.std.proofs.Common.{◌≤◌, length}
-use Rattle.block_shard.specs.ruled_cells.specs.Seats.{IsSameSeat, NoTurns, seat_number, seat_view}
+use Rattle.script_runner.specs.shared_device.specs.ruled_cells.specs.Seats.{IsSameSeat, NoTurns, seat_number, seat_view}
 use Rattle.threads_tests.specs.Tally.{IsIdle}
 use Rattle.threads_tests.proofs.runs.work.Given as goal
 

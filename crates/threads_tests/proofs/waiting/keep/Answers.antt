@@ -1,4 +1,4 @@
-use Rattle.shared_device.proofs.Turns.{given_again}
+use Rattle.script_runner.specs.shared_device.proofs.Turns.{given_again}
 use Rattle.threads_tests.proofs.TallySteps.{same_twice}
 use Rattle.threads_tests.proofs.waiting.keep.Goals as goal
 

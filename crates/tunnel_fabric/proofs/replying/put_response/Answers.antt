@@ -1,6 +1,6 @@
 use Rattle.std.proofs.Common.{rules, ◌≡◌, ◌++◌, length, ap, ◌∙◌, append_assoc}
 use Rattle.std.proofs.lemmas.Result.{on_ok_weaker}
-use Rattle.field_bytes.specs.Layouts.{spelling}
+use Rattle.dcd_base.specs.Layouts.{spelling}
 use Rattle.cci_codec.specs.Messages.{response_head_fields}
 use Rattle.tunnel_fabric.proofs.Printed.{response_spelled}
 use Rattle.tunnel_fabric.proofs.replying.put_response.Goals as goal

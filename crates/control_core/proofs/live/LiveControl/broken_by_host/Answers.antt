@@ -1,6 +1,6 @@
 use Rattle.std.proofs.Common.{◌≡◌, ◌<◌, ◌≤◌, IfOk, ap, subst, sym, ◌∙◌}
 use Rattle.std.specs.Result.{result_err}
-use Rattle.cci_codec.specs.field_bytes.specs.dcd_base.specs.declared.steps.LogId.{LogId}
+use Rattle.cci_codec.specs.dcd_base.specs.declared.steps.LogId.{LogId}
 use Rattle.device_commands.specs.host_lists.specs.Lists.{extent_total}
 use Rattle.device_commands.proofs.FewExtents.{few_extents}
 use Rattle.device_commands.specs.device_rules.specs.Answers.{host_result_in}

@@ -1,8 +1,8 @@
 use Rattle.std.proofs.Common.{◌≡◌, ◌<◌, List, ap, sym, subst, ◌∙◌}
 use Rattle.std.specs.Prelude.{sum_by}
-use Rattle.cci_codec.specs.field_bytes.specs.dcd_base.specs.declared.capacity.Extent.{Extent}
+use Rattle.cci_codec.specs.dcd_base.specs.declared.capacity.Extent.{Extent}
 use Rattle.journal_core.specs.Entries.{effects}
-use Rattle.list_rules.specs.media_map.specs.Places.{run_of}
+use Rattle.extent_list.specs.media_map.specs.Places.{run_of}
 use Rattle.device_commands.specs.device_rules.specs.Counts.{granules_held}
 use Rattle.control_core.specs.HeldExtents.{AreHeld}
 use Rattle.control_core.specs.Pasts.{ByEveryPast, LiveControlled}

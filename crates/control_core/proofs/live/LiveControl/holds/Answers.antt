@@ -1,9 +1,9 @@
 use Rattle.std.proofs.Common.{◌≡◌, ◌<◌, sym, subst, ◌∙◌}
-use Rattle.cci_codec.specs.field_bytes.specs.dcd_base.specs.Hosts.{has_host}
+use Rattle.cci_codec.specs.dcd_base.specs.Hosts.{has_host}
 use Rattle.std.proofs.Common.{ap}
 use Rattle.journal_core.specs.Entries.{effects}
 use Rattle.journal_core.specs.Holders.{holds}
-use Rattle.list_rules.specs.media_map.specs.region_config.specs.Granules.{granule_total}
+use Rattle.extent_list.specs.media_map.specs.region_config.specs.Granules.{granule_total}
 use Rattle.control_core.specs.Pasts.{ByEveryPast, LiveControlled}
 use Rattle.control_core.proofs.live.LiveControl.holds.Goals as goal
 

@@ -1,7 +1,7 @@
 use Rattle.std.proofs.Common.{◌≡◌, ap, subst, ◌∙◌}
 use Rattle.std.specs.Prelude.{map}
 use Rattle.device_commands.specs.device_rules.specs.Tags.{all_granules, status}
-use Rattle.device_commands.specs.device_laws.specs.GranuleCells.{status_of}
+use Rattle.device_commands.specs.device_rules.specs.GranuleCells.{status_of}
 use Rattle.journal_core.specs.Entries.{effects}
 use Rattle.control_core.specs.Pasts.{ByEveryPast, LiveControlled}
 use Rattle.control_core.proofs.Reading.{states_told}

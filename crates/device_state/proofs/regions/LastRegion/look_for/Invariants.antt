@@ -1,5 +1,5 @@
 use Rattle.std.proofs.Common.{◌≡◌, ◌≤◌}
-use Rattle.list_rules.specs.media_map.specs.region_config.specs.Granules.{first_granule}
+use Rattle.extent_list.specs.media_map.specs.region_config.specs.Granules.{first_granule}
 use Rattle.device_state.specs.Granules.{IsLastRegion}
 use Rattle.device_state.proofs.regions.LastRegion.look_for.Given as goal
 

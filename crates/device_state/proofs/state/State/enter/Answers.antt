@@ -1,8 +1,8 @@
 use Rattle.std.proofs.Common.{◌∙◌, ap, arith, length, sym, subst}
 use Rattle.std.specs.Prelude.{All, fold}
 use Rattle.granule_map.specs.Tables.{cell_at}
-use Rattle.list_rules.specs.media_map.specs.region_config.specs.Configurations.{Configuration}
-use Rattle.list_rules.specs.media_map.specs.region_config.specs.Granules.{region_spec}
+use Rattle.extent_list.specs.media_map.specs.region_config.specs.Configurations.{Configuration}
+use Rattle.extent_list.specs.media_map.specs.region_config.specs.Granules.{region_spec}
 use Rattle.tag_refs.specs.Tables.{TagTable}
 use Rattle.device_state.specs.EnteredLists.{Fits, counted, lists_by, tags_over}
 use Rattle.device_state.specs.Updates.{IsOfDevice}

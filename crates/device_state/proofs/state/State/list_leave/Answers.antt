@@ -1,9 +1,9 @@
 use Rattle.std.proofs.Common.{◌≡◌, ◌<◌, ◌∙◌, List, ap, arith, get_or, length, rules, sym}
 use Rattle.std.specs.Prelude.{find, option_to_list}
-use Rattle.list_rules.specs.extent_list.specs.ExtentLists.{cut, has_range}
+use Rattle.extent_list.specs.ExtentLists.{cut, has_range}
 use Rattle.host_lists.specs.Lists.{Lists}
 use Rattle.journal_core.specs.declared.outcome.Effect.{Effect}
-use Rattle.list_rules.specs.media_map.specs.Places.{bytes_of_run, start_of}
+use Rattle.extent_list.specs.media_map.specs.Places.{bytes_of_run, start_of}
 use Rattle.device_state.specs.Entered.{with_lists}
 use Rattle.device_state.specs.EnteredLists.{each_tag, lists_by, tag_left, told}
 use Rattle.device_state.specs.StateAfter.{no_part, part_of}

@@ -1,6 +1,6 @@
 use Rattle.std.proofs.Common.{All, ◌≡◌, ◌+◌, ◌++◌, ◌<◌, ◌^◌, map, sym, subst, ◌∙◌}
-use Rattle.list_rules.specs.dcd_codes.specs.dcd_base.specs.declared.capacity.Extent.{Extent}
-use Rattle.list_rules.specs.extent_list.specs.ExtentLists.{marked}
+use Rattle.extent_list.specs.dcd_codes.specs.dcd_base.specs.declared.capacity.Extent.{Extent}
+use Rattle.extent_list.specs.ExtentLists.{marked}
 use Rattle.release_core.specs.Leaving.{AllCanLeave}
 use Rattle.host_lists.specs.Lists.{Lists}
 use Rattle.host_lists.proofs.Departures.{leaves-marked}

@@ -1,0 +1,10 @@
+use Rattle.std.proofs.Common.{◌≡◌, subst}
+use Rattle.journal_core.specs.Entries.{effects}
+use Rattle.device_commands.specs.device_rules.specs.Adding.{present}
+use Rattle.control_core.specs.Steps.{Controlled}
+use Rattle.control_core.proofs.Entering.{past_held}
+use Rattle.control_core.proofs.control.Control.config.Goals as goal
+
+pub returns : goal.returns
+returns c = subst (λ (d : Controlled). c.config.result.now ≡ present d.config (effects d.entries)) c.self.view_is
+    (c.config.ensures c.self.inside.entries.entries (past_held c.self.inside.live.config c.self.inside.entries.entries c.self.inside.live.state c.self.invariant))

@@ -1,5 +1,0 @@
-use Rattle.device_laws.proofs.ExclusiveHolding.{legal_exclusive}
-use Rattle.device_laws.proofs.holdings.law_exclusive.Goals as goal
-
-pub returns : goal.returns
-returns c = legal_exclusive

@@ -1,8 +1,0 @@
-use Rattle.device_laws.proofs.InOrderResponses.{legal_allows, legal_succeeds}
-use Rattle.device_laws.proofs.in_order.law_in_order.Goals as goal
-
-pub returns-clause-allowed : goal.returns-clause-allowed
-returns-clause-allowed c = legal_allows
-
-pub returns-clause-succeeds : goal.returns-clause-succeeds
-returns-clause-succeeds c = legal_succeeds

@@ -1,5 +1,0 @@
-use Rattle.device_laws.proofs.StatusZeros.{status-scrub}
-use Rattle.device_laws.proofs.laws.law_scrubbed.Goals as goal
-
-pub returns : goal.returns
-returns _ = λ c past n g. status-scrub c g past n

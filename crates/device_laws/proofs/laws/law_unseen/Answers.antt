@@ -1,5 +1,0 @@
-use Rattle.device_laws.proofs.ViewOthers.{view_of-other}
-use Rattle.device_laws.proofs.laws.law_unseen.Goals as goal
-
-pub returns : goal.returns
-returns _ = λ c before h k e meets other actor. view_of-other c before h k other e meets actor

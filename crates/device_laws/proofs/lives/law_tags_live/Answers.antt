@@ -1,5 +1,0 @@
-use Rattle.device_laws.proofs.OrderSteps.{tags_live}
-use Rattle.device_laws.proofs.lives.law_tags_live.Goals as goal
-
-pub returns : goal.returns
-returns c = tags_live

@@ -1,0 +1,26 @@
+use Rattle.std.proofs.Common.{◌≡◌, ◌∙◌, [], Err, ap, subst, sym}
+use Rattle.extent_list.specs.dcd_codes.specs.Rules.{code_of}
+use Rattle.extent_list.specs.dcd_codes.specs.declared.refusals.Refusal.{Refusal}
+use Rattle.extent_list.specs.dcd_codes.specs.declared.rules.Rule.{Rule}
+use Rattle.control_core.specs.device_rules.specs.Answers.{response}
+use Rattle.device_plain.specs.Alone.{DoesAlone}
+use Rattle.isolation_laws.specs.declared.items.SoloReply.{SoloReply}
+use Rattle.journal_core.specs.declared.acts.Act.{Act}
+use Rattle.journal_core.specs.declared.acts.Reply.{Reply}
+use Rattle.control_core.specs.device_commands.specs.HostMessages.{IsDrafted}
+use Rattle.device_plain.proofs.AloneCommands.{command_done, command_refused}
+use Rattle.device_plain.proofs.alone.Alone.command.Goals as goal
+
+pub returns-in-Ok : goal.returns-in-Ok
+returns-in-Ok c =
+    let done = command_done c.args.config.now c.args.host c.args.request.now c.args.self.now c.put_in_place.new.self c.in-Ok.draft c.in-Ok.ensures.few c.put_in_place.ensures.changed
+    (λ v word was. c.in-Ok.ensures.drafted v was.present_is was.lists_are was.log_is) in
+    rw (c.put_in_place.ensures.reply) done
+
+pub returns-in-Err-Broken : goal.returns-in-Err-Broken
+returns-in-Err-Broken c =
+    let reply_is : c.refused.result ≡ response c.args.request.now (code_of c.in-Err-Broken.rule) [] = c.refused.ensures ∙ ap (λ (r : Rule). response c.args.request.now (code_of r) []) c.in-Err-Broken.rule-is in
+    subst (λ (reply : Reply). DoesAlone c.args.config.now c.args.host (Act.Command c.args.request.now) c.args.self.now c.drop_held.new.self (SoloReply.Said reply)) (sym reply_is)
+    (command_refused c.args.config.now c.args.host c.args.request.now c.args.self.now c.drop_held.new.self c.drop_held.ensures c.in-Err-Broken.rule
+    (λ v word was. subst (λ (r : Refusal). IsDrafted c.args.config.now c.args.host v c.args.request.now (Err r)) c.in-Err-Broken.field-0-is
+    (c.in-Err-Broken.ensures.drafted v was.present_is was.lists_are was.log_is)))

@@ -1,0 +1,27 @@
+-- What a command changes of a device with one host alone.
+use Rattle.std.specs.Prelude.{◌≡◌, ℕ, List, [], ◌==◌, fold, Option, if◌then◌else◌}
+use Rattle.std.specs.List.{list_any}
+use Rattle.dcd_base.specs.declared.ids.HostId.{HostId}
+use Rattle.dcd_base.specs.declared.steps.LogId.{LogId}
+use Rattle.control_core.specs.device_state.specs.Entered.{log_by}
+use Rattle.granule_mem.specs.Contents.{word_among}
+use Rattle.control_core.specs.device_commands.specs.ListsUpdates.{left_by}
+use Rattle.control_core.specs.device_state.specs.host_lists.specs.Lists.{Lists}
+use Rattle.control_core.specs.device_state.specs.host_lists.specs.declared.lists_change.ListsChange.{ListsChange}
+use Rattle.journal_core.specs.declared.outcome.Effect.{Effect}
+use Rattle.isolation_laws.specs.Solo.{accepts_byte}
+use Rattle.device_plain.specs.declared.alone.Alone.{Alone}
+
+-- The log and the words are changed by these effects, and the lists by this change, where there is one.
+pub record ChangesAlone (h : HostId) (changes : List Effect) (change : Option ListsChange) (old new : Alone) : Type 0 where
+  pub present_stays : new.present ≡ old.present
+  pub lists_by : new.lists ≡ left_by change old.lists
+  pub log_by_all : new.log ≡ fold (log_by (LogId.Host h)) old.log changes
+  pub words_by : (d : ℕ) → word_among new.words.entries d ≡ (if list_any (accepts_byte d) changes then 0 else word_among old.words.entries d)
+
+-- the lists without the held one that a refused command of this opcode ends
+abbrev pub without_held : ℕ → Lists → Lists
+without_held opcode l =
+    if opcode == 0x4802 then record l { responses = [] }
+    else if opcode == 0x4803 then record l { releases = [] }
+    else l

@@ -1,0 +1,83 @@
+-- What a device with one host alone keeps, and what it makes of the host's items.
+use Rattle.std.specs.Prelude.{◌≡◌, ℕ, ◌+◌, ◌≤◌, ◌&&◌, not, if◌then◌else◌, List, [], ◌∷◌, ◌++◌, take, slice_get, Some}
+use Rattle.std.specs.List.{list_any}
+use Rattle.std.specs.declared.result.Result.{Result}
+use Rattle.std.specs.declared.result.Result.TheVariants.{Ok, Err}
+use Rattle.dcd_base.specs.declared.ids.HostId.{HostId}
+use Rattle.dcd_base.specs.declared.steps.LogId.{LogId}
+use Rattle.dcd_base.specs.declared.failures.AccessFault.{AccessFault}
+use Rattle.dcd_base.specs.declared.media.Place.{Place}
+use Rattle.control_core.specs.device_rules.specs.Answers.{host_result_in, reply_with}
+use Rattle.control_core.specs.device_rules.specs.Views.{View}
+use Rattle.granule_mem.specs.Contents.{word_among}
+use Rattle.control_core.specs.device_state.specs.StateAfter.{IsLogOf, lists_in}
+use Rattle.control_core.specs.device_state.specs.host_lists.specs.Lists.{extent_total}
+use Rattle.journal_core.specs.declared.acts.Act.{Act}
+use Rattle.journal_core.specs.declared.acts.Reply.{Reply}
+use Rattle.media_map.specs.Places.{locate}
+use Rattle.region_config.specs.Configurations.{Configuration}
+use Rattle.region_config.specs.Granules.{region_spec, with_blocks}
+use Rattle.region_config.specs.declared.region_spec.RegionSpec.{RegionSpec}
+use Rattle.isolation_laws.specs.Solo.{has_byte, solo, solo_after, solo_view, solo_word_after}
+use Rattle.device_plain.specs.declared.alone.Alone.{Alone}
+use Rattle.device_plain.specs.declared.alone.Stop.{Stop}
+use Rattle.isolation_laws.specs.declared.items.Item.{Item}
+use Rattle.isolation_laws.specs.declared.items.SoloReply.{SoloReply}
+use Rattle.device_plain.specs.declared.replying.SoloFault.{SoloFault}
+use Rattle.isolation_laws.specs.Unlawful.{IsUnlawful}
+
+-- ---- what is replied
+
+-- The reply to each act among the later items, after those before it.
+abbrev pub replies_after : Configuration → HostId → List Item → List Item → List SoloReply
+replies_after c h before [] = []
+replies_after c h before (Item.Own act ∷ later) = solo c h before act ∷ replies_after c h (before ++ Item.Own act ∷ []) later
+replies_after c h before (item ∷ later) = replies_after c h (before ++ item ∷ []) later
+
+abbrev pub solo_replies : Configuration → HostId → List Item → List SoloReply
+solo_replies c h items = replies_after c h [] items
+
+-- ---- what no legal journal brings
+
+abbrev pub IsFaultOf : Configuration → HostId → List Item → SoloFault → Type 0
+IsFaultOf c h items (SoloFault.Unlawful i) = (item : Item) × (slice_get items i ≡ Some item) × IsUnlawful c h (solo_view c h (take i items)) item
+IsFaultOf c h items SoloFault.NoMemory = Unit {0}
+
+-- ---- what is kept
+
+-- What the device keeps is what its host sees, and the word at each address is this one.
+pub record IsAlone (c : Configuration) (h : HostId) (v : View) (word : ℕ → ℕ) (a : Alone) : Type 0 where
+  pub present_is : a.present ≡ with_blocks c v.block
+  pub lists_are : a.lists ≡ lists_in v
+  pub few : extent_total a.lists ≤ 64
+  pub log_is : IsLogOf (LogId.Host h) v.log a.log
+  pub words_are : (d : ℕ) → word_among a.words.entries d ≡ word d
+
+-- An item is taken, whatever the host saw before; or no legal journal brings it.
+abbrev pub TakesItem : Configuration → HostId → Item → Alone → Alone → Result Unit Stop → Type 0
+TakesItem c h item old new (Ok _) = (v : View) (word : ℕ → ℕ) → IsAlone c h v word old → IsAlone c h (solo_after c h v item) (λ d. solo_word_after c h d v (word d) item) new
+TakesItem c h item old new (Err Stop.Unlawful) = (v : View) (word : ℕ → ℕ) → IsAlone c h v word old → IsUnlawful c h v item
+TakesItem c h item old new (Err Stop.NoMemory) = Unit {0}
+
+-- ---- what is replied to an act, by what the host sees and its words
+
+abbrev pub access_alone : Act → (ℕ → ℕ) → ℕ → RegionSpec → SoloReply
+access_alone (Act.Load e) word d spec = if not spec.shareable && spec.sanitize then SoloReply.Said (Reply.Word (word d)) else SoloReply.Unsaid
+access_alone act word d spec = SoloReply.Said Reply.Stored
+
+abbrev pub access_in : Configuration → View → (ℕ → ℕ) → Act → ℕ → Result Place AccessFault → SoloReply
+access_in c v word act d (Err fault) = SoloReply.Said (Reply.Refused fault)
+access_in c v word act d (Ok p) =
+    if list_any (has_byte d) v.accepted then access_alone act word d (region_spec c p.region)
+    else SoloReply.Said (Reply.Refused AccessFault.NotGranted)
+
+abbrev pub reply_in : Configuration → HostId → View → (ℕ → ℕ) → Act → SoloReply
+reply_in c h v word (Act.Command q) = SoloReply.Said (reply_with q (host_result_in c h v q))
+reply_in c h v word (Act.Load d) = access_in c v word (Act.Load d) d (locate c h d)
+reply_in c h v word (Act.Store d value) = access_in c v word (Act.Store d value) d (locate c h d)
+reply_in c h v word (Act.Scrub n) = SoloReply.Unsaid
+
+-- An act is done and replied, whatever the host saw before.
+abbrev pub DoesAlone : Configuration → HostId → Act → Alone → Alone → SoloReply → Type 0
+DoesAlone c h act old new reply = (v : View) (word : ℕ → ℕ) → IsAlone c h v word old →
+    (reply ≡ reply_in c h v word act) × IsAlone c h (solo_after c h v (Item.Own act)) (λ d. solo_word_after c h d v (word d) (Item.Own act)) new

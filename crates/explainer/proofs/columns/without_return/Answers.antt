@@ -1,0 +1,10 @@
+use Rattle.std.proofs.Common.{arith, ◌∙◌, sym}
+use Rattle.std.proofs.lemmas.Bool.{eqb-false}
+use Rattle.script_text.specs.text_lines.proofs.WordLaws.{ended_return, ended_other}
+use Rattle.explainer.proofs.columns.without_return.Goals as goal
+
+pub returns-then-line-ne13 : goal.returns-then-line-ne13
+returns-then-line-ne13 c = ended_other c.args.line.now c.if-line-ne13.true
+
+pub returns : goal.returns
+returns c = c.split_at.ensures.front ∙ ended_return c.args.line.now (omega (arith, eqb-false _ 0 (sym c.is_empty.ensures ∙ c.if-is_empty.false))) c.if-line-ne13.false

@@ -1,0 +1,15 @@
+use Rattle.std.proofs.Common.{ap, sym, ◌∙◌, position}
+use Rattle.extent_list.specs.ExtentLists.{lies_in}
+use Rattle.extent_list.proofs.FirstOwner.{no_extent}
+use Rattle.extent_list.proofs.Apart.{only_owner}
+use Rattle.extent_list.proofs.lookup.Owners.beside.Goals as goal
+
+pub returns-in-Some-clause-value : goal.returns-in-Some-clause-value
+returns-in-Some-clause-value c =
+    ap (position (lies_in c.args.extent.now)) (sym c.self.view_is)
+    ∙ only_owner c.self.inside.list.now c.args.extent.now c.in-Some.index no_extent (c.self.invariant c.if-self.true) c.if-extent-gt0.true c.in-Some.ensures.known (c.in-Some.ensures.owner no_extent)
+
+pub returns-in-Some-owner_at-clause-value : goal.returns-in-Some-owner_at-clause-value
+returns-in-Some-owner_at-clause-value c =
+    ap (position (lies_in c.args.extent.now)) (sym c.self.view_is)
+    ∙ only_owner c.self.inside.list.now c.args.extent.now c.in-Some-owner_at.index no_extent (c.self.invariant c.if-self.true) c.if-extent-gt0.true c.in-Some-owner_at.ensures.known (c.in-Some-owner_at.ensures.owner no_extent)

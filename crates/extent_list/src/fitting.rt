@@ -1,0 +1,109 @@
+//! An extent of a list beside its owner and those before it.
+
+ghost use Rattle.dcd_base.specs.Words.{◌or◌};
+ghost use Rattle.dcd_codes.specs.Rules.{◌breaks◌};
+ghost use Rattle.dcd_codes.specs.declared.rules.Rule.{Rule};
+ghost use Rattle.extent_list.specs.ExtentLists.{is_in, marked};
+ghost use Rattle.extent_list.specs.Listing.{is_shareable_at, not_whole, overlapping};
+ghost use Rattle.std.specs.Prelude.{◌≡◌, ◌==◌, ◌&&◌, ◌++◌, ◌^◌, ◌<◌, None, OnOk, length, map, not, true};
+
+use crate::lookup::Owners;
+use crate::owners::{is_shareable_at, shares_address};
+use dcd_base::{Extent, Extents, HostId, NoMemory};
+use dcd_codes::Rule;
+use media_map::region_config::Config;
+
+/// The first rule that an extent breaks beside its owner and the extents before it, whose number is its index:
+/// `missing`, where it lies in no owner; `Overlap` with the first of those before with which it shares an address;
+/// `NotWhole`, where its region is shareable and it is a part.
+///
+/// Where it is known to be `apart`, it shares no address with one before it. The owner is looked for at `near`
+/// first, which then becomes its index.
+pub fn unfit(
+    config: &Config,
+    host: HostId,
+    owners: &Owners,
+    near: &mut usize,
+    apart: bool,
+    before: &[Extent],
+    extent: &Extent,
+    missing: Rule,
+) -> Option<Rule>
+    requires host { host < config.now.hosts }
+    requires listed { length before.now < 2 ^ 32 }
+    requires apart { apart ≡ true → overlapping before.now extent.now ≡ None }
+    ensures { result ≡ (not (is_in owners.now extent.now) breaks missing
+        or overlapping before.now extent.now
+        or not_whole config.now host owners.now (length before.now) extent.now) }
+{
+    let index = match owners.index_of(extent, *near) {
+        Some(index) => index,
+        None => return Some(missing),
+    };
+    *near = index;
+    if let Some(rule) = sharing(apart, before, extent) {
+        return Some(rule);
+    }
+    let owner = &owners.as_slice()[index];
+    part_rule(config, host, owner, before.len() as u32, extent)
+}
+
+/// The rule that an extent breaks which shares an address with one before it. Where it is known to be
+/// `apart`, it does not.
+pub fn sharing(apart: bool, before: &[Extent], extent: &Extent) -> Option<Rule>
+    requires listed { length before.now < 2 ^ 32 }
+    requires apart { apart ≡ true → overlapping before.now extent.now ≡ None }
+    ensures { result ≡ overlapping before.now extent.now }
+{
+    if apart {
+        return None;
+    }
+    shares_address(before, extent)
+}
+
+/// The rule of a part of its owner, where the region is shareable.
+fn part_rule(
+    config: &Config,
+    host: HostId,
+    owner: &Extent,
+    index: u32,
+    extent: &Extent,
+) -> Option<Rule>
+    requires { host < config.now.hosts }
+    ensures { result ≡ (is_shareable_at config.now host extent.now
+        && not ((extent.now.start == owner.now.start) && (extent.now.length == owner.now.length))) breaks Rule.NotWhole index }
+{
+    if extent.start == owner.start && extent.length == owner.length {
+        return None;
+    }
+    if is_shareable_at(config, host, extent) {
+        return Some(Rule::NotWhole(index));
+    }
+    None
+}
+
+/// Puts the extents of the list behind the others, each with the tag and the sequence of the first owner in which it
+/// lies.
+pub fn put_marked(owners: &Owners, list: &[Extent], out: &mut Extents) -> Result<(), NoMemory>
+    ensures { OnOk result (out.new ≡ out.old ++ map (marked owners.now) list.now) }
+{
+    let mut near = owners.start(list);
+    for extent in list {
+        let (owner, place) = (&*owners).owner_of(extent, near);
+        out.push(marked_by(extent, owner))?;
+        near = place;
+    }
+    Ok(())
+}
+
+/// The extent with the tag and the sequence of this owner.
+pub(crate) fn marked_by(extent: &Extent, owner: &Extent) -> Extent
+    ensures { result ≡ record extent.now { tag = owner.now.tag; sequence = owner.now.sequence } }
+{
+    Extent {
+        start: extent.start,
+        length: extent.length,
+        tag: owner.tag,
+        sequence: owner.sequence,
+    }
+}

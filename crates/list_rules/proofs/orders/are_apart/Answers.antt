@@ -1,5 +1,0 @@
-use Rattle.list_rules.proofs.Apart.{none_shared}
-use Rattle.list_rules.proofs.orders.are_apart.Goals as goal
-
-pub returns-clause-apart : goal.returns-clause-apart
-returns-clause-apart c = λ yes. none_shared c.args.list.now (c.stand_apart.ensures.apart yes)

@@ -1,5 +1,0 @@
-use Rattle.list_rules.proofs.Shares.{SharedSoFar}
-use Rattle.list_rules.proofs.tags.are_all_shared.Given as goal
-
-abbrev pub invariant-loop-i : goal.invariant-loop-i
-invariant-loop-i l = SharedSoFar l.config l.host l.owners l.list l.i

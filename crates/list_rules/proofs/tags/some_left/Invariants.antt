@@ -1,8 +1,0 @@
-use Rattle.std.proofs.Common.{◌≡◌, None, take}
-use Rattle.extent_list.specs.ExtentLists.{tags_of}
-use Rattle.list_rules.specs.Listing.{too_few_of}
-use Rattle.list_rules.proofs.EachTag.{over}
-use Rattle.list_rules.proofs.tags.some_left.Given as goal
-
-abbrev pub invariant-loop-i : goal.invariant-loop-i
-invariant-loop-i l = over (too_few_of l.owners l.shared) (tags_of (take l.i l.shared)) ≡ None

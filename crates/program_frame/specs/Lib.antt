@@ -1,4 +1,0 @@
-pub mod Ends
-pub mod Meanings
-pub mod Runs
-pub mod Settling

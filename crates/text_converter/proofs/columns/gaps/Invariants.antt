@@ -1,6 +1,0 @@
-use Rattle.std.proofs.Common.{◌≡◌, drop}
-use Rattle.explainer.specs.text_lines.specs.Characters.{passed_from, is_gap}
-use Rattle.text_converter.proofs.columns.gaps.Given as goal
-
-abbrev pub invariant-loop-i : goal.invariant-loop-i
-invariant-loop-i l = passed_from is_gap l.i (drop l.i l.bytes) ≡ passed_from is_gap 0 l.bytes
