@@ -96,6 +96,7 @@ impl Control {
         ensures config { self.new.config ≡ self.old.config }
         ensures entries { self.new.entries ≡ self.old.entries }
         ensures room { OnOk result (0 < self.new.spare) }
+        ensures spare { self.old.spare ≤ self.new.spare }
         ensures entry { IfOk result (λ plan. plan.entry ≡ journal_entry self.old.config self.old.entries pass line actor act) }
         ensures short { IfOk result (λ plan. IsShort plan.entry.reply) }
         ensures changes { IfOk result (λ plan. AreChanges self.old.config (effects self.old.entries) plan.entry.effects plan.changes) }
@@ -136,6 +137,7 @@ impl Control {
         ensures config { self.new.config ≡ self.old.config }
         ensures entered { OnOk result (self.new.entries ≡ self.old.entries ++ journal_entry self.old.config self.old.entries pass line actor act.now ∷ []) }
         ensures kept { OnErr result (self.new.entries ≡ self.old.entries) }
+        ensures spare { OnErr result (self.old.spare ≤ self.new.spare) }
         ensures short { OnOk result (IsShort (journal_entry self.old.config self.old.entries pass line actor act.now).reply) }
         ensures effects { IfOk result (λ effects. effects ≡ (answer_to self.old.config self.old.entries actor act.now).1) }
     {
@@ -186,6 +188,7 @@ impl Control {
         ensures config { self.new.config ≡ self.old.config }
         ensures entered { OnOk result (self.new.entries ≡ self.old.entries ++ journal_entry self.old.config self.old.entries pass line actor act.now ∷ []) }
         ensures kept { OnErr result (self.new.entries ≡ self.old.entries) }
+        ensures spare { OnErr result (self.old.spare ≤ self.new.spare) }
         ensures effects { IfOk result (λ effects. effects ≡ (answer_to self.old.config self.old.entries actor act.now).1) }
     {
         self.entries.append_quiet(pass, line, actor, act, reply)?;
@@ -207,6 +210,7 @@ impl Control {
         ensures config { self.new.config ≡ self.old.config }
         ensures entered { OnOk result (self.new.entries ≡ self.old.entries ++ journal_entry self.old.config self.old.entries pass line actor act.now ∷ []) }
         ensures kept { OnErr result (self.new.entries ≡ self.old.entries) }
+        ensures spare { OnErr result (self.old.spare ≤ self.new.spare) }
         ensures effects { IfOk result (λ effects. effects ≡ (answer_to self.old.config self.old.entries actor act.now).1) }
     {
         self.make_room()?;
@@ -230,6 +234,7 @@ impl Control {
         ensures config { self.new.config ≡ self.old.config }
         ensures entered { OnOk result (self.new.entries ≡ self.old.entries ++ journal_entry self.old.config self.old.entries pass line actor act.now ∷ []) }
         ensures kept { OnErr result (self.new.entries ≡ self.old.entries) }
+        ensures spare { OnErr result (self.old.spare ≤ self.new.spare) }
     {
         self.entries
             .append(pass, line, actor, act, &step.reply, &step.effects)?;
@@ -285,6 +290,7 @@ impl Control {
         ensures config { self.new.config ≡ self.old.config }
         ensures entries { self.new.entries ≡ self.old.entries }
         ensures room { OnOk result (0 < self.new.spare) }
+        ensures spare { self.old.spare ≤ self.new.spare }
     {
         self.entries.make_room()?;
         self.live.make_room()
@@ -295,6 +301,7 @@ impl Control {
         ensures config { self.new.config ≡ self.old.config }
         ensures entries { self.new.entries ≡ self.old.entries }
         ensures room { OnOk result (0 < self.new.spare) }
+        ensures spare { self.old.spare ≤ self.new.spare }
     {
         self.entries.make_room_for(entry)?;
         self.live.make_room()

@@ -114,6 +114,7 @@ impl LiveControl {
         ensures room { OnOk result (0 < self.new.state.tags.spare) }
         ensures config { self.new.config ≡ self.old.config }
         ensures tags { self.new.state.tags.entries ≡ self.old.state.tags.entries }
+        ensures spare { self.old.state.tags.spare ≤ self.new.state.tags.spare }
         ensures kept { self.new.state ≡ record self.old.state { tags = self.new.state.tags } }
     {
         self.state.make_room()

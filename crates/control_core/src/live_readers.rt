@@ -1,5 +1,5 @@
 //! What a control without entries tells of its device, by every journal that leads to what it keeps: blocks, extents,
-//! granules and logs.
+//! granules, tags and logs.
 
 ghost use Rattle.control_core.specs.HeldExtents.{AreHeld};
 ghost use Rattle.control_core.specs.Pasts.{ByEveryPast};
@@ -7,7 +7,8 @@ ghost use Rattle.device_commands.specs.device_rules.specs.Adding.{is_free_now, p
 ghost use Rattle.device_commands.specs.device_rules.specs.Counts.{dirty_count, extent_count, free_count, granules_held, missed_of, records_of};
 ghost use Rattle.device_commands.specs.device_rules.specs.Hosts.{accepted_of, held_of, offers_of};
 ghost use Rattle.device_commands.specs.device_rules.specs.Logs.{log_of};
-ghost use Rattle.device_commands.specs.device_rules.specs.Tags.{all_granules, status};
+ghost use Rattle.device_commands.specs.device_rules.specs.TagCommands.{tag_seen};
+ghost use Rattle.device_commands.specs.device_rules.specs.Tags.{all_granules, open_tags, status};
 ghost use Rattle.device_commands.specs.device_state.specs.StateAfter.{part_of};
 ghost use Rattle.device_commands.specs.device_state.specs.Updates.{IsOfLog, log_in};
 ghost use Rattle.event_log.specs.Logs.{places_in, state_of};
@@ -20,7 +21,7 @@ ghost use Rattle.extent_list.specs.media_map.specs.region_config.specs.Granules.
 ghost use Rattle.std.specs.Prelude.{◌≡◌, ◌<◌, Some, length, map, slice_get, sum_by};
 
 use crate::live::LiveControl;
-use cci_codec::dcd_base::{Extent, Granule, HostId, LogId, RegionId, host_bits};
+use cci_codec::dcd_base::{Extent, Granule, HostId, LogId, RegionId, TagView, host_bits};
 use device_commands::run_of;
 use event_log::EventLog;
 use event_records::Event;
@@ -141,6 +142,21 @@ impl LiveControl {
         ensures { ByEveryPast self.now (λ past. result ≡ dirty_count self.now.config (effects past)) }
     {
         self.state.granules.dirty()
+    }
+
+    /// How many tags are live.
+    pub fn tags(&self) -> usize
+        ensures { ByEveryPast self.now (λ past. result ≡ length (open_tags self.now.config (effects past))) }
+    {
+        self.state.tags.len()
+    }
+
+    /// What the manager is shown of a live tag, in the order of opening.
+    pub fn tag(&self, index: usize) -> TagView
+        requires { index < length self.now.state.tags.entries }
+        ensures { ByEveryPast self.now (λ past. slice_get (map (tag_seen self.now.config (effects past)) (open_tags self.now.config (effects past))) index ≡ Some result) }
+    {
+        self.state.tags.at(index)
     }
 
     /// The log: its records, the handle of the next one and how many found it full.

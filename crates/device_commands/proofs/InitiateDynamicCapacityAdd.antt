@@ -49,7 +49,8 @@ use Rattle.device_state.specs.device_rules.specs.Pictures.{picture_of}
 use Rattle.device_state.specs.device_rules.specs.Standing.{IsMade, Stands}
 use Rattle.device_state.specs.device_rules.proofs.Homes.{first_same, made_is_run, region_of_same, supported_whole}
 use Rattle.device_state.specs.device_rules.proofs.ListSteps.{each-change, each-map}
-use Rattle.device_state.specs.device_rules.proofs.Overlaps.{neither, not_broken}
+use Rattle.device_state.specs.device_rules.proofs.Overlaps.{not_broken}
+use Rattle.selection.proofs.Prescribed.{neither}
 use Rattle.device_state.specs.device_rules.proofs.TagSteps.{same_tag-is}
 use Rattle.device_commands.proofs.CountedTags.{HasOne, no_more, own_first}
 use Rattle.device_commands.proofs.FreeGranules.{free_at}

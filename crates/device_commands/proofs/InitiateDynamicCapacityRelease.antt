@@ -41,7 +41,8 @@ use Rattle.device_state.specs.device_rules.proofs.Homes.{made_granular}
 use Rattle.device_state.specs.device_rules.proofs.LeftStanding.{going_of, going_rule}
 use Rattle.device_state.specs.device_rules.proofs.ListSteps.{each-change, each-map}
 use Rattle.device_state.specs.device_rules.proofs.OneLeave.{loose, whole_blocks}
-use Rattle.device_state.specs.device_rules.proofs.Overlaps.{neither, not_broken}
+use Rattle.device_state.specs.device_rules.proofs.Overlaps.{not_broken}
+use Rattle.selection.proofs.Prescribed.{neither}
 use Rattle.event_records.specs.declared.events.EventKind.{EventKind}
 use Rattle.journal_core.specs.Entries.{effects}
 use Rattle.journal_core.specs.declared.entries.Entry.{Entry}

@@ -20,7 +20,8 @@ use Rattle.release_core.specs.Leaving.{count_after}
 use Rattle.release_core.specs.Releases.{give_back_rule}
 use Rattle.selection.proofs.Placed.{is_made_of_granules, placed}
 use Rattle.device_state.specs.device_rules.proofs.LeftStanding.{going_rule}
-use Rattle.device_state.specs.device_rules.proofs.Overlaps.{neither, not_broken, row_each}
+use Rattle.device_state.specs.device_rules.proofs.Overlaps.{not_broken, row_each}
+use Rattle.selection.proofs.Prescribed.{neither}
 
 -- the extent is made of granules of one region
 abbrev pub Granular : Configuration → HostId → Extent → Type 0

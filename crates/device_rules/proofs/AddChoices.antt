@@ -22,7 +22,7 @@ use Rattle.granule_map.proofs.RunSteps.{below_from_none}
 use Rattle.extent_list.specs.Listing.{too_many_listed}
 use Rattle.selection.specs.Selections.{all_free, are_free, contiguous_runs, free_extent_rule, free_runs, is_free_block, prescribed_rule}
 use Rattle.selection.proofs.Chosen.{contiguous_are_free, free_are_free, free_some}
-use Rattle.selection.proofs.Prescribed.{kept}
+use Rattle.selection.proofs.Prescribed.{kept, neither}
 use Rattle.device_rules.specs.Adding.{area_of, extents_of, per_block, with_tag, region_free_blocks as blocks_free, region_longest_free as blocks_together}
 use Rattle.device_rules.specs.Pictures.{count_on}
 use Rattle.device_rules.specs.Standing.{IsMade}
@@ -30,7 +30,7 @@ use Rattle.device_rules.proofs.BlockRuns.{IsBlockRun, apart_count, contiguous_ap
 use Rattle.device_rules.proofs.Homes.{extent_same, first_same, made_region, placed_made, run_same, size_same, supported_some, supported_whole}
 use Rattle.device_rules.proofs.ListSteps.{any-map, each-change, each-map, many, many-map}
 use Rattle.device_rules.proofs.OneOffer.{reaches}
-use Rattle.device_rules.proofs.Overlaps.{Spread, neither, not_broken, row_each, row_spread, spread_once}
+use Rattle.device_rules.proofs.Overlaps.{Spread, not_broken, row_each, row_spread, spread_once}
 
 -- ---- with tag and sequence
 

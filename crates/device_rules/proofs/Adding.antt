@@ -35,7 +35,8 @@ use Rattle.device_rules.proofs.Holding.{present_whole}
 use Rattle.device_rules.proofs.Homes.{made_of_region, made_region}
 use Rattle.device_rules.proofs.ListSteps.{each-at, each-map, many}
 use Rattle.device_rules.proofs.OneOffer.{IsFresh, IsOffer, IsShared, offer_lives, offer_stands, reaches, stands_for}
-use Rattle.device_rules.proofs.Overlaps.{neither, not_broken}
+use Rattle.device_rules.proofs.Overlaps.{not_broken}
+use Rattle.selection.proofs.Prescribed.{neither}
 use Rattle.device_rules.proofs.Settling.{outcome_keeps}
 
 -- the rules of the row that an offer keeps

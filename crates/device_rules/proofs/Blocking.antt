@@ -27,7 +27,8 @@ use Rattle.device_rules.proofs.FreeGranules.{free_none, free_untagged, has-many}
 use Rattle.device_rules.proofs.Holding.{in_run, present_whole}
 use Rattle.device_rules.proofs.ListSteps.{each-both, each-change, many}
 use Rattle.device_rules.proofs.OneOffer.{stands_for}
-use Rattle.device_rules.proofs.Overlaps.{neither, not_broken}
+use Rattle.device_rules.proofs.Overlaps.{not_broken}
+use Rattle.selection.proofs.Prescribed.{neither}
 use Rattle.device_rules.proofs.Settling.{outcome_keeps}
 
 -- where no number of a range passes, none does

@@ -36,7 +36,8 @@ use Rattle.device_rules.proofs.LeftStanding.{going_of, going_rule, left_lives, l
 use Rattle.device_rules.proofs.ListSteps.{each-change}
 use Rattle.device_rules.proofs.OneAnswer.{tags_of-has}
 use Rattle.device_rules.proofs.OneLeave.{loose}
-use Rattle.device_rules.proofs.Overlaps.{neither, not_broken}
+use Rattle.device_rules.proofs.Overlaps.{not_broken}
+use Rattle.selection.proofs.Prescribed.{neither}
 use Rattle.device_rules.proofs.Quiet.{hold_quiet, is_quiet, quiet_front, quiet_outcome_keeps, unhold_quiet}
 use Rattle.device_rules.proofs.Settling.{outcome_keeps}
 

@@ -56,7 +56,8 @@ use Rattle.device_rules.proofs.ListSteps.{any-map, each-back, each-change, each-
 use Rattle.device_rules.proofs.OneAnswer.{IsAnswer}
 use Rattle.device_rules.proofs.OneLeave.{accepted_made, loose}
 use Rattle.device_rules.proofs.OneOffer.{reaches}
-use Rattle.device_rules.proofs.Overlaps.{neither, not_broken}
+use Rattle.device_rules.proofs.Overlaps.{not_broken}
+use Rattle.selection.proofs.Prescribed.{neither}
 use Rattle.device_rules.proofs.Responding.{answer_of}
 use Rattle.device_rules.proofs.EffectKinds.{PassClearing, PassHeld, PassLists, clear_passes, give_back_passes, hold_passes, reference_passes, removals_pass, respond_passes}
 use Rattle.device_rules.proofs.Leaving.{both_pass, is_quiet, leaves_tags}

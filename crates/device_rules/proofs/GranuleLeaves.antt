@@ -26,8 +26,8 @@ use Rattle.device_rules.specs.Pictures.{extents_at, picture_of}
 use Rattle.device_rules.specs.Standing.{Stands}
 use Rattle.device_rules.proofs.FreeGranules.{shared_claim}
 use Rattle.device_rules.specs.GranuleStates.{stands_for}
-use Rattle.extent_list.proofs.EachTag.{or_assoc}
-use Rattle.device_rules.proofs.HostSearches.{or_false, or_true}
+use Rattle.extent_list.proofs.EachTag.{or_assoc, or_false}
+use Rattle.device_rules.proofs.HostSearches.{or_true}
 use Rattle.device_rules.proofs.Leaving.{after_front, is_quiet}
 use Rattle.device_rules.proofs.RunEffects.{in_extents}
 use Rattle.device_rules.proofs.StatusParts.{tagged_still}

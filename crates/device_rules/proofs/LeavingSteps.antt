@@ -32,7 +32,8 @@ use Rattle.device_rules.proofs.LeftStanding.{going_of, going_rule, marked_has}
 use Rattle.device_rules.proofs.OneAnswer.{tags_of-has}
 use Rattle.device_rules.proofs.OneLeave.{loose}
 use Rattle.device_rules.proofs.OpenLive.{has_cut}
-use Rattle.device_rules.proofs.Overlaps.{neither, not_broken}
+use Rattle.device_rules.proofs.Overlaps.{not_broken}
+use Rattle.selection.proofs.Prescribed.{neither}
 use Rattle.device_rules.proofs.Quiet.{quiet_front, unhold_quiet}
 use Rattle.device_rules.proofs.EffectKinds.{removals_pass}
 use Rattle.device_rules.proofs.Leaving.{last_offer-over, leaves_tags}

@@ -27,7 +27,8 @@ use Rattle.device_rules.proofs.ListSteps.{any-map, each-change}
 use Rattle.device_rules.proofs.OneAnswer.{tags_of-has}
 use Rattle.device_rules.proofs.OneLeave.{loose, stands_from, whole_blocks}
 use Rattle.device_rules.proofs.OneOffer.{any-implies}
-use Rattle.device_rules.proofs.Overlaps.{Spread, neither, not_broken, row_each, row_spread}
+use Rattle.device_rules.proofs.Overlaps.{Spread, not_broken, row_each, row_spread}
+use Rattle.selection.proofs.Prescribed.{neither}
 use Rattle.device_rules.proofs.Settling.{any-range}
 
 module _ (c : Configuration) (sound : IsSound c) (p : Picture) (before : Sound c p) (h : HostId) (host : h < c.hosts) (W : Extent → Type 0)

@@ -25,7 +25,7 @@ use Rattle.device_rules.specs.Standing.{Sound}
 use Rattle.device_rules.proofs.ListSteps.{each-change}
 use Rattle.device_rules.proofs.OneAnswer.{IsAnswer, answer_picture, q}
 use Rattle.device_rules.proofs.OpenLive.{IsOpened, fewer_opened, has_marked, keeps, lives_less, offer_opened, outcome_opened, removals_opened}
-use Rattle.device_rules.proofs.Overlaps.{neither}
+use Rattle.selection.proofs.Prescribed.{neither}
 use Rattle.device_rules.proofs.Pictures.{picture-append}
 use Rattle.device_rules.proofs.Quiet.{is_quiet, quiet_front, quiet_picture, unhold_quiet}
 use Rattle.device_rules.proofs.Responding.{answer_of}

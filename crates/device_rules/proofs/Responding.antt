@@ -31,7 +31,8 @@ use Rattle.device_rules.proofs.Holding.{present_whole}
 use Rattle.device_rules.proofs.Homes.{placed_made, region_at_same, shareable_same}
 use Rattle.device_rules.proofs.ListSteps.{each-change}
 use Rattle.device_rules.proofs.OneAnswer.{IsAnswer, answer_lives, answer_picture, answer_stands, q}
-use Rattle.device_rules.proofs.Overlaps.{Spread, neither, not_broken, row_each, row_spread, spread_once}
+use Rattle.device_rules.proofs.Overlaps.{Spread, not_broken, row_each, row_spread, spread_once}
+use Rattle.selection.proofs.Prescribed.{neither}
 use Rattle.device_rules.proofs.Quiet.{hold_quiet, quiet_front, quiet_outcome_keeps, unhold_quiet}
 use Rattle.device_rules.proofs.Settling.{outcome_keeps}
 

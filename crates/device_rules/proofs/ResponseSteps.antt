@@ -24,7 +24,7 @@ use Rattle.device_rules.specs.Pictures.{Picture, picture_after}
 use Rattle.device_rules.specs.Standing.{Sound}
 use Rattle.device_rules.proofs.OneAnswer.{IsAnswer, answer_picture, q, tags_of-has}
 use Rattle.device_rules.proofs.OpenLive.{has_marked}
-use Rattle.device_rules.proofs.Overlaps.{neither}
+use Rattle.selection.proofs.Prescribed.{neither}
 use Rattle.device_rules.proofs.Quiet.{quiet_front, unhold_quiet}
 use Rattle.device_rules.proofs.Responding.{answer_of}
 use Rattle.device_rules.proofs.HostOfTagsSet.{Told}

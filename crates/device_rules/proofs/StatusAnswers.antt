@@ -14,7 +14,8 @@ use Rattle.journal_core.specs.Holders.{holding_after, holds, is_soiled, is_taken
 use Rattle.journal_core.proofs.HoldingSteps.{holds-append, is_taken-append}
 use Rattle.device_rules.specs.Hosts.{offers_after, offers_of}
 use Rattle.device_rules.specs.Tags.{Held, Tagged, Dirty, Free, is_held, is_offered, is_tagged, status}
-use Rattle.device_rules.proofs.HostSearches.{any_gains, any_none, or_false, or_true}
+use Rattle.device_rules.proofs.HostSearches.{any_gains, any_none, or_true}
+use Rattle.extent_list.proofs.EachTag.{or_false}
 use Rattle.device_rules.proofs.Leaving.{after_front, both_pass, is_quiet, leaves_offers, leaves_soil, leaves_tags, holding-over, map_passes, offers-over, quiet_holders, quiet_offers, quiet_soil, quiet_tags, quiet_taking, taking-over}
 use Rattle.device_rules.proofs.RunEffects.{in_extents, takes, holding-takes, taking-takes}
 use Rattle.device_rules.proofs.StatusParts.{offers_of-append, held_status, left_status, status_is, tagged_status, soiled-left, tagged-left}

@@ -17,7 +17,8 @@ use Rattle.journal_core.specs.declared.outcome.Effect.{Effect}
 use Rattle.journal_core.specs.Holders.{is_soiled, is_taken}
 use Rattle.device_rules.specs.Hosts.{offers_after, offers_of}
 use Rattle.device_rules.specs.Tags.{Offered, Tagged, is_held, is_offered, is_tagged, last_offer, last_offer_after, open_tags, status, tag_runs, tags_after}
-use Rattle.device_rules.proofs.HostSearches.{any_gains, or_false, or_true}
+use Rattle.device_rules.proofs.HostSearches.{any_gains, or_true}
+use Rattle.extent_list.proofs.EachTag.{or_false}
 use Rattle.device_rules.proofs.RunEffects.{in_extents}
 use Rattle.device_rules.proofs.StatusParts.{offered_status, status_is, tagged_status, held-left, soiled-left, taken-left}
 use Rattle.device_rules.specs.GranuleStates.{is_granule_offered, stands_for}

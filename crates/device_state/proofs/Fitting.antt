@@ -51,7 +51,8 @@ use Rattle.device_rules.proofs.Homes.{made_granular, made_is_run, made_region}
 use Rattle.device_rules.proofs.LeftStanding.{going_of, going_rule}
 use Rattle.device_rules.proofs.LegalSound.{legal_is_sound}
 use Rattle.device_rules.proofs.OneLeave.{loose}
-use Rattle.device_rules.proofs.Overlaps.{neither, not_broken}
+use Rattle.device_rules.proofs.Overlaps.{not_broken}
+use Rattle.selection.proofs.Prescribed.{neither}
 use Rattle.device_rules.specs.Pictures.{Picture, extents_at, picture_of}
 use Rattle.device_rules.specs.Standing.{IsMade, IsTogether, Stands}
 use Rattle.device_rules.proofs.LeavingSteps.{removal_row}

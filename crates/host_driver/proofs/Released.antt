@@ -23,7 +23,7 @@ use Rattle.device_plain.specs.device_rules.proofs.Going.{IsGoing}
 use Rattle.device_plain.specs.device_rules.proofs.Holding.{present_whole}
 use Rattle.device_plain.specs.device_rules.proofs.Homes.{made_bytes, made_starts}
 use Rattle.device_plain.specs.device_rules.proofs.LeftStanding.{going_of, going_rule}
-use Rattle.device_plain.specs.device_rules.proofs.Overlaps.{neither}
+use Rattle.selection.proofs.Prescribed.{neither}
 use Rattle.device_plain.specs.isolation_laws.proofs.RemovalViews.{IsOwnRun}
 use Rattle.host_driver.specs.Driving.{bare}
 use Rattle.host_driver.proofs.Answered.{CanGive}

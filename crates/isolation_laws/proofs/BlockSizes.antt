@@ -14,7 +14,7 @@ use Rattle.event_records.specs.declared.events.EventKind.{EventKind}
 use Rattle.journal_core.specs.declared.outcome.Effect.{Effect}
 use Rattle.extent_list.specs.media_map.specs.region_config.specs.Configurations.{Configuration}
 use Rattle.extent_list.specs.media_map.specs.region_config.specs.Granules.{hosts_of, is_supported, region_spec}
-use Rattle.device_rules.proofs.Overlaps.{neither}
+use Rattle.selection.proofs.Prescribed.{neither}
 use Rattle.device_rules.specs.Logs.{log_after, log_of}
 use Rattle.device_rules.specs.Outcomes.{Outcome, effects_of, entered, entered_all, log_full, no_extent, record_for}
 use Rattle.device_rules.specs.Settings.{set_outcome}

@@ -29,7 +29,7 @@ use Rattle.device_rules.proofs.Holding.{home_made, present_whole}
 use Rattle.device_rules.proofs.Homes.{made_of_region}
 use Rattle.device_rules.proofs.ListSteps.{any-map, each-at, each-back, each-both, each-change, each-front}
 use Rattle.device_rules.proofs.OneOffer.{reaches}
-use Rattle.device_rules.proofs.Overlaps.{neither}
+use Rattle.selection.proofs.Prescribed.{neither}
 use Rattle.device_rules.proofs.Responding.{answer_of}
 use Rattle.device_rules.specs.Adding.{add_outcome, add_rule, offered}
 use Rattle.device_rules.specs.Answers.{host_outcome, host_rule, manager_outcome, manager_rule}

@@ -29,7 +29,8 @@ use Rattle.device_rules.specs.Invariants.{Holdings}
 use Rattle.device_rules.specs.Outcomes.{Outcome, effects_of}
 use Rattle.device_rules.specs.Tags.{dirty_granules, all_granules, is_dirty, is_held, is_offered, is_tagged, open_tags, status}
 use Rattle.device_rules.specs.GranuleStates.{is_granule_offered, stands_for}
-use Rattle.device_rules.proofs.HostSearches.{any_at, or_false}
+use Rattle.device_rules.proofs.HostSearches.{any_at}
+use Rattle.extent_list.proofs.EachTag.{or_false}
 use Rattle.device_rules.proofs.JoinedRuns.{any_taken, joined_has, passes_there}
 use Rattle.device_rules.proofs.Leaving.{after_front, holding-over, is_quiet, leaves_holders, leaves_offers, map_passes}
 use Rattle.device_rules.proofs.OutcomeSteps.{after-outcome, over-outcome}

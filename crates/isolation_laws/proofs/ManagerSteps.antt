@@ -26,7 +26,8 @@ use Rattle.release_core.specs.Removals.{by_tag_rule, prescribed_removal_rule}
 use Rattle.device_rules.specs.Pictures.{picture_of}
 use Rattle.device_rules.specs.Standing.{Sound}
 use Rattle.device_rules.proofs.Adding.{added, row_of}
-use Rattle.device_rules.proofs.Overlaps.{neither, not_broken}
+use Rattle.device_rules.proofs.Overlaps.{not_broken}
+use Rattle.selection.proofs.Prescribed.{neither}
 use Rattle.device_rules.specs.Adding.{add_outcome, add_rule, offered}
 use Rattle.device_rules.specs.Answers.{effects_with, manager_outcome, manager_result, manager_rule, unless}
 use Rattle.device_rules.specs.EventCommands.{clear_outcome}

@@ -19,7 +19,8 @@ use Rattle.device_rules.specs.Standing.{Sound, Stands}
 use Rattle.device_rules.proofs.AddChoices.{contiguous_reached, free_reached, marked_runs, prescribed_reached, reach_runs}
 use Rattle.device_rules.proofs.Adding.{IsRow}
 use Rattle.device_rules.proofs.OneOffer.{reaches}
-use Rattle.device_rules.proofs.Overlaps.{neither, not_broken}
+use Rattle.device_rules.proofs.Overlaps.{not_broken}
+use Rattle.selection.proofs.Prescribed.{neither}
 use Rattle.device_rules.specs.Adding.{is_free_now, offered, present, with_tag, region_longest_free as blocks_together}
 use Rattle.device_rules.specs.Tags.{Dirty, Free, Held, Offered, Tagged, is_free, is_held, is_offered, is_tagged, status}
 

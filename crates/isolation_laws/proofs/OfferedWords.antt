@@ -35,7 +35,7 @@ use Rattle.device_rules.proofs.LegalSound.{legal_is_sound}
 use Rattle.device_rules.proofs.ListSteps.{any-map, each-at, each-back, each-change, each-front, many-any, many-append}
 use Rattle.device_rules.proofs.OneAnswer.{any-of-each}
 use Rattle.device_rules.proofs.OneOffer.{any-implies, reaches}
-use Rattle.device_rules.proofs.Overlaps.{neither}
+use Rattle.selection.proofs.Prescribed.{neither}
 use Rattle.device_rules.proofs.Responding.{answer_of}
 use Rattle.device_rules.specs.Answers.{dropped, host_outcome, host_result, host_rule, unless}
 use Rattle.device_rules.specs.Hosts.{accepted_of, offers_of}

@@ -24,7 +24,7 @@ use Rattle.device_rules.proofs.Homes.{made_bytes, made_starts}
 use Rattle.device_rules.proofs.LeftStanding.{going_of, going_rule}
 use Rattle.device_rules.proofs.ListSteps.{each-change, each-map}
 use Rattle.device_rules.proofs.OneLeave.{loose}
-use Rattle.device_rules.proofs.Overlaps.{neither}
+use Rattle.selection.proofs.Prescribed.{neither}
 use Rattle.isolation_laws.proofs.RemovalViews.{IsOwnRun}
 
 module _ (c : Configuration) (sound : IsSound c) (p : Picture) (s : Stands c p) (h : HostId) (known : h < c.hosts) where

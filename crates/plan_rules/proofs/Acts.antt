@@ -26,7 +26,8 @@ use Rattle.isolation_laws.specs.device_rules.specs.Outcomes.{Outcome}
 use Rattle.isolation_laws.specs.device_rules.specs.Views.{View, view_of}
 use Rattle.isolation_laws.specs.device_rules.proofs.EffectKinds.{clear_passes}
 use Rattle.plan_rules.specs.Kept.{KeepsHosts, effects_behind}
-use Rattle.plan_rules.proofs.Keeping.{blocks_over, host_kept, leaves_blocks, leaves_host, outcome_blocks, outcome_host_kept}
+use Rattle.plan_rules.proofs.Keeping.{blocks_over, host_kept, leaves_host, outcome_blocks, outcome_host_kept}
+use Rattle.isolation_laws.proofs.RemovalViews.{no_block as leaves_blocks}
 use Rattle.plan_rules.proofs.LettingGo.{lets_offers_go, scrubs_keep}
 use Rattle.plan_rules.specs.Holding.{Step, entry_of_step}
 use Rattle.plan_rules.specs.Listing.{by_host}

@@ -51,7 +51,8 @@ use Rattle.plan_rules.proofs.Allowed.{each_may_go}
 use Rattle.plan_rules.proofs.Answering.{manager_does}
 use Rattle.plan_rules.proofs.ClosedTags.{AreClosed, leaves_are}
 use Rattle.plan_rules.proofs.Cutting.{Outside, cut_all_those, outside_from}
-use Rattle.plan_rules.proofs.Keeping.{leaves_blocks, leaves_held, leaves_host, others_kept, outcome_accepted, outcome_held, outcome_offers}
+use Rattle.plan_rules.proofs.Keeping.{leaves_held, leaves_host, others_kept, outcome_accepted, outcome_held, outcome_offers}
+use Rattle.isolation_laws.proofs.RemovalViews.{no_block as leaves_blocks}
 use Rattle.plan_rules.proofs.PrivateTags.{legal_is_closed}
 use Rattle.plan_rules.proofs.WholeTags.{region_complete}
 

@@ -52,7 +52,8 @@ use Rattle.isolation_laws.specs.device_rules.proofs.Holding.{present_whole}
 use Rattle.isolation_laws.specs.device_rules.proofs.Homes.{bytes_same, first_same, made_of_region, made_region, size_same, supported_some, supported_whole}
 use Rattle.isolation_laws.specs.device_rules.proofs.LegalSound.{legal_is_sound}
 use Rattle.isolation_laws.specs.device_rules.proofs.OneOffer.{reaches}
-use Rattle.isolation_laws.specs.device_rules.proofs.Overlaps.{neither, not_broken}
+use Rattle.isolation_laws.specs.device_rules.proofs.Overlaps.{not_broken}
+use Rattle.selection.proofs.Prescribed.{neither}
 use Rattle.isolation_laws.specs.device_rules.proofs.StatusOffers.{status-not_offered, status-offered}
 use Rattle.plan_rules.specs.Kept.{KeepsOthers, begins_in}
 use Rattle.plan_rules.specs.Taking.{IsOfferedFree, OffersFreeBlocks, blocks_free_now, free_offer_of}

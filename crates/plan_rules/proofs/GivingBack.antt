@@ -55,7 +55,8 @@ use Rattle.isolation_laws.specs.device_rules.specs.Logs.{log_of}
 use Rattle.journal_core.specs.Holders.{holding_after, holds}
 use Rattle.isolation_laws.specs.device_rules.proofs.LogHistories.{leaves_logs}
 use Rattle.plan_rules.proofs.KeptLogs.{log_kept}
-use Rattle.plan_rules.proofs.Keeping.{leaves_blocks, leaves_held, leaves_host, others_kept, outcome_accepted, outcome_held, outcome_holds, outcome_offers}
+use Rattle.plan_rules.proofs.Keeping.{leaves_held, leaves_host, others_kept, outcome_accepted, outcome_held, outcome_holds, outcome_offers}
+use Rattle.isolation_laws.proofs.RemovalViews.{no_block as leaves_blocks}
 use Rattle.plan_rules.proofs.LastBytes.{IsLong, IsTail, cut_last, each-reverse, filter-reverse, last_behind, last_each, last_few, last_parts, same_last, whole_more, without_elsewhere, without_few, without_in, without_there, long, long-reverse, sum_whole, without_long}
 
 -- who holds a granule behind leaves held it before

@@ -38,7 +38,8 @@ use Rattle.isolation_laws.specs.device_rules.proofs.LogSteps.{same_log-self}
 use Rattle.plan_rules.specs.Kept.{KeepsHosts, KeepsOthers}
 use Rattle.plan_rules.specs.LettingGo.{ClearsWholeLogs, IsOfferLetGo, LetsOffersGo, ScrubsKeep, log_handles}
 use Rattle.plan_rules.proofs.Answering.{host_does}
-use Rattle.plan_rules.proofs.Keeping.{blocks_over, host_kept, leaves_blocks, leaves_held, leaves_host, others_kept, outcome_accepted, outcome_blocks, outcome_held, outcome_host_kept, outcome_offers}
+use Rattle.plan_rules.proofs.Keeping.{blocks_over, host_kept, leaves_held, leaves_host, others_kept, outcome_accepted, outcome_blocks, outcome_held, outcome_host_kept, outcome_offers}
+use Rattle.isolation_laws.proofs.RemovalViews.{no_block as leaves_blocks}
 
 -- ---- a log
 

@@ -41,7 +41,8 @@ use Rattle.isolation_laws.specs.device_rules.specs.Pictures.{Picture, picture_af
 use Rattle.isolation_laws.specs.device_rules.specs.Standing.{Sound}
 use Rattle.isolation_laws.specs.device_rules.proofs.Holding.{first_is_sound}
 use Rattle.isolation_laws.specs.device_rules.proofs.LegalSound.{clear_quiet, dropped_quiet, entry_keeps}
-use Rattle.isolation_laws.specs.device_rules.proofs.Overlaps.{neither, not_broken}
+use Rattle.isolation_laws.specs.device_rules.proofs.Overlaps.{not_broken}
+use Rattle.selection.proofs.Prescribed.{neither}
 use Rattle.isolation_laws.specs.device_rules.proofs.Quiet.{hold_quiet, is_quiet, quiet_front, quiet_picture, unhold_quiet, zeroes_quiet}
 use Rattle.extent_list.specs.ExtentLists.{marked, real_tags}
 use Rattle.extent_list.specs.Listing.{too_many_listed}

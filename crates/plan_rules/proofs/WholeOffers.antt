@@ -59,7 +59,8 @@ use Rattle.plan_rules.proofs.ClosedTags.{IsClosed}
 use Rattle.journal_core.specs.Holders.{holding_after, holds}
 use Rattle.isolation_laws.specs.device_rules.proofs.LogHistories.{leaves_logs}
 use Rattle.plan_rules.proofs.KeptLogs.{response_kept}
-use Rattle.plan_rules.proofs.Keeping.{leaves_blocks, leaves_held, leaves_host, others_kept, outcome_accepted, outcome_blocks, outcome_held, outcome_holds, outcome_offers}
+use Rattle.plan_rules.proofs.Keeping.{leaves_held, leaves_host, others_kept, outcome_accepted, outcome_blocks, outcome_held, outcome_holds, outcome_offers}
+use Rattle.isolation_laws.proofs.RemovalViews.{no_block as leaves_blocks}
 use Rattle.plan_rules.proofs.PrivateTags.{legal_is_closed}
 use Rattle.plan_rules.proofs.WholeTags.{each_distinct, tags_each}
 

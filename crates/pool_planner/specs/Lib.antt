@@ -4,3 +4,4 @@ pub mod PlanPrinting
 pub mod PlanRuns
 pub mod PlanStatuses
 pub mod Trials
+pub use Rattle.plan_rules

@@ -31,6 +31,7 @@ pub use bad_names::{bad_dead, bad_demand};
 pub use gain_steps::{accept_step, add_step};
 pub use holdings::{blocks_in, extents_in_region};
 pub use messages::PlanStep;
+pub use plan_rules;
 pub use planning::{Planned, plan};
 pub use program::run_plan;
 pub use release_steps::{clear_step, refusal_step, removal_step};

@@ -1,4 +1,5 @@
 pub mod Actors
+pub mod CauseWords
 pub mod Chains
 pub mod Characters
 pub mod Commands

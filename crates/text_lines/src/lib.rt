@@ -1,10 +1,11 @@
 //! Lines of a script in words: what a person writes and reads.
 //!
 //! `opening` reads the first word of a line and `rest` what stands behind it. Where the words are no line, they answer the
-//! first fault, with its line and its word.
+//! first fault, with its line and its word. `put_cause` says why a command is refused.
 #![tactic(auto)]
 
 mod actors;
+mod causes;
 mod characters;
 mod commands;
 mod extents;
@@ -30,6 +31,7 @@ mod word_faults;
 mod words;
 
 pub use actors::Frame;
+pub use causes::{put_cause, put_code_number};
 pub use commands::{HostCommand, ManagerCommand};
 pub use extents::{extent_of, put_extent};
 pub use faults::{Cause, TextFault, Wanted};

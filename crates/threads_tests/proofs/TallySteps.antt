@@ -23,7 +23,7 @@ use Rattle.script_runner.specs.shared_device.specs.ruled_cells.specs.Calls.{IsOf
 use Rattle.script_runner.specs.shared_device.specs.ruled_cells.proofs.Places.{some_some}
 use Rattle.script_runner.specs.shared_device.specs.ruled_cells.proofs.ClosingSteps.{at_end}
 use Rattle.script_runner.specs.shared_device.specs.ruled_cells.proofs.RuleSteps.{rest_same}
-use Rattle.script_runner.specs.shared_device.specs.ruled_cells.proofs.Order.{never, two}
+use Rattle.script_runner.specs.shared_device.specs.ruled_cells.proofs.Order.{never}
 
 module _ {F : Type 0} (chief : ChiefReads F) where
   abbrev w : Names F Tally
