@@ -2,7 +2,7 @@
 
 ghost use Rattle.script_gen.specs.script_codec.specs.Writing.{IsWritable};
 
-use crate::seeing::{see, see_list};
+use crate::seeing::see;
 use dcd_base::{Bytes, NoMemory};
 use script_gen::generate;
 use script_gen::script_codec::{Script, entries_of, write};

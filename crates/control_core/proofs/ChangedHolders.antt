@@ -20,9 +20,9 @@ use Rattle.extent_list.specs.media_map.specs.region_config.specs.Granules.{granu
 use Rattle.device_commands.specs.device_rules.proofs.HostBits.{with_has, without_has}
 use Rattle.cci_codec.specs.dcd_base.specs.Hosts.{has_host, with_host, without_host}
 use Rattle.device_commands.specs.device_rules.specs.ChangedRuns.{AreChanges, IsSoundChange}
-use Rattle.device_commands.specs.device_state.specs.StateAfter.{IsStateAfter}
+use Rattle.manager_commands.specs.device_state.specs.StateAfter.{IsStateAfter}
 use Rattle.control_core.specs.PutChanges.{AreOfOneHost, ArePut, NameNoOthers, bits_after, is_of_host}
-use Rattle.device_commands.specs.device_state.specs.declared.state.State.{State}
+use Rattle.manager_commands.specs.device_state.specs.declared.state.State.{State}
 
 -- ---- bits of the other hosts
 

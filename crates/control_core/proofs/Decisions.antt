@@ -28,7 +28,7 @@ use Rattle.device_commands.specs.device_rules.specs.ResponseOutcomes.{response_r
 use Rattle.device_commands.specs.device_rules.specs.Views.{View, view_after, view_of}
 use Rattle.control_core.specs.Deciding.{IsDecidedBy, IsShort}
 use Rattle.control_core.specs.Doing.{IsDone}
-use Rattle.device_commands.specs.device_state.specs.Updates.{IsOfLog}
+use Rattle.manager_commands.specs.device_state.specs.Updates.{IsOfLog}
 use Rattle.control_core.specs.declared.decided.Decided.{Decided}
 
 -- ---- the logs that are told are of the device

@@ -7,23 +7,23 @@ use Rattle.cci_codec.specs.dcd_base.specs.declared.ids.HostId.{HostId}
 use Rattle.extent_list.specs.dcd_codes.specs.declared.codes.Code.{Code}
 use Rattle.extent_list.specs.ExtentLists.{has_extent_of}
 use Rattle.extent_list.specs.media_map.specs.region_config.specs.Configurations.{Configuration}
-use Rattle.device_commands.specs.host_lists.specs.Lists.{Lists}
+use Rattle.extent_list.specs.HostLists.{Lists}
 use Rattle.journal_core.specs.Entries.{effects}
 use Rattle.journal_core.specs.declared.entries.Entry.{Entry}
 use Rattle.journal_core.specs.declared.outcome.Effect.{Effect}
 use Rattle.device_commands.specs.Drafts.{Drafts}
-use Rattle.device_commands.specs.device_state.specs.StateAfter.{lists_in, IsStateAfter}
+use Rattle.manager_commands.specs.device_state.specs.StateAfter.{IsStateAfter}
+use Rattle.device_commands.specs.device_rules.specs.Views.{lists_in, view_after, view_of}
 use Rattle.device_commands.specs.declared.draft.DraftParts.{DraftParts}
 use Rattle.device_commands.specs.device_rules.specs.Answers.{response}
 use Rattle.device_commands.specs.device_rules.specs.Hosts.{accepted_after, accepted_of, offers_after, offers_of}
 use Rattle.device_commands.specs.device_rules.specs.Logs.{log_of}
 use Rattle.device_commands.specs.device_rules.specs.Outcomes.{Outcome, effects_of, ended, entered_all}
-use Rattle.device_commands.specs.device_rules.specs.Views.{view_after, view_of}
 use Rattle.device_commands.specs.device_rules.specs.TagTable.{IsTable, among, among_offers, ending}
 use Rattle.tag_refs.specs.declared.entries.TagEntry.{TagEntry}
 use Rattle.control_core.specs.Doing.{IsDone, IsOfHost}
 use Rattle.control_core.specs.Recording.{records_entered}
-use Rattle.device_commands.specs.device_state.specs.declared.state.State.{State}
+use Rattle.manager_commands.specs.device_state.specs.declared.state.State.{State}
 use Rattle.control_core.proofs.Recorded.{told_is}
 
 module _ (c : Configuration) (before : List Entry) (h : HostId) (o : Outcome) (of : IsOfHost c before h o) where

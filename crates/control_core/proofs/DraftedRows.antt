@@ -12,8 +12,8 @@ use Rattle.fm_payloads.specs.declared.requests.FmRequest.{FmRequest}
 use Rattle.journal_core.specs.Entries.{effects}
 use Rattle.journal_core.specs.declared.entries.Entry.{Entry}
 use Rattle.extent_list.specs.media_map.specs.region_config.specs.Configurations.{Configuration}
-use Rattle.device_commands.specs.HostMessages.{IsDrafted}
-use Rattle.device_commands.specs.ManagerMessages.{rule_after}
+use Rattle.host_commands.specs.HostMessages.{IsDrafted}
+use Rattle.manager_commands.specs.ManagerMessages.{rule_after}
 use Rattle.device_commands.specs.declared.draft.DraftParts.{DraftParts}
 use Rattle.device_commands.specs.device_rules.specs.Answers.{host_outcome, host_result, host_result_in, manager_outcome, manager_result, unless}
 use Rattle.device_commands.specs.device_rules.specs.Views.{View, view_of}

@@ -10,12 +10,12 @@ use Rattle.journal_core.specs.Entries.{next_stamp}
 use Rattle.journal_core.proofs.EachSteps.{Each-push}
 use Rattle.extent_list.specs.media_map.specs.region_config.specs.Configurations.{Configuration}
 use Rattle.device_commands.specs.device_rules.specs.Legal.{Meets}
-use Rattle.device_commands.specs.device_state.specs.Entered.{IsEntered}
-use Rattle.device_commands.specs.device_state.specs.EnteredLists.{Fits, lists_of}
-use Rattle.device_commands.specs.device_state.specs.StateAfter.{IsReached}
-use Rattle.device_commands.specs.device_state.specs.Updates.{IsOfDevice}
-use Rattle.device_commands.specs.device_state.specs.declared.state.State.{State}
-use Rattle.device_commands.specs.device_state.proofs.EnteredSteps.{fits as legal_fits, kept-entered, of_device}
+use Rattle.manager_commands.specs.device_state.specs.Entered.{IsEntered}
+use Rattle.manager_commands.specs.device_state.specs.EnteredLists.{Fits, lists_of}
+use Rattle.manager_commands.specs.device_state.specs.StateAfter.{IsReached}
+use Rattle.manager_commands.specs.device_state.specs.Updates.{IsOfDevice}
+use Rattle.manager_commands.specs.device_state.specs.declared.state.State.{State}
+use Rattle.manager_commands.specs.device_state.proofs.EnteredSteps.{fits as legal_fits, kept-entered, of_device}
 use Rattle.control_core.specs.Deciding.{Holds, IsShort}
 use Rattle.control_core.specs.Pasts.{EntersStep, IsOfStep, IsPast, LiveControlled}
 use Rattle.control_core.specs.PutChanges.{AreOfOneHost}

@@ -23,7 +23,7 @@ use Rattle.journal_core.specs.declared.acts.Reply.{Reply}
 use Rattle.journal_core.specs.declared.entries.Entry.{Entry}
 use Rattle.journal_core.specs.declared.outcome.Effect.{Effect}
 use Rattle.device_commands.specs.Drafts.{IsOutcome, as_records}
-use Rattle.device_commands.specs.device_state.specs.StateAfter.{IsStateAfter}
+use Rattle.manager_commands.specs.device_state.specs.StateAfter.{IsStateAfter}
 use Rattle.device_commands.specs.declared.draft.DraftParts.{DraftParts}
 use Rattle.device_commands.specs.declared.log_records.LogRecords.{LogRecords}
 use Rattle.device_commands.specs.device_rules.specs.Answers.{effects_with, manager_outcome, manager_result, manager_rule, reply_with, response, unless}
@@ -39,12 +39,12 @@ use Rattle.control_core.specs.Deciding.{IsDecidedBy, IsShort}
 use Rattle.control_core.specs.Doing.{IsDone}
 use Rattle.control_core.specs.Managing.{Manages, less_lists}
 use Rattle.control_core.specs.Recording.{records_entered}
-use Rattle.device_commands.specs.device_state.specs.Updates.{IsOfLog}
+use Rattle.manager_commands.specs.device_state.specs.Updates.{IsOfLog}
 use Rattle.control_core.specs.declared.decided.Decided.{Decided}
-use Rattle.device_commands.specs.device_state.specs.declared.state.State.{State}
+use Rattle.manager_commands.specs.device_state.specs.declared.state.State.{State}
 use Rattle.control_core.proofs.Decisions.{records_known}
 use Rattle.control_core.proofs.Recorded.{told_is}
-use Rattle.device_commands.specs.ManagerMessages.{DraftsFor}
+use Rattle.manager_commands.specs.ManagerMessages.{DraftsFor}
 
 -- ---- the draft
 

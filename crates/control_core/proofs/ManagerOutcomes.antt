@@ -20,9 +20,9 @@ use Rattle.device_commands.specs.device_rules.proofs.LeavingSteps.{removal_row}
 use Rattle.device_commands.specs.device_rules.proofs.Adding.{row_of}
 use Rattle.control_core.specs.Doing.{IsOfHost}
 use Rattle.control_core.specs.Managing.{less_lists}
-use Rattle.device_commands.specs.device_state.specs.StateAfter.{IsStateAfter}
-use Rattle.device_commands.specs.device_state.specs.Updates.{IsOfLog}
-use Rattle.device_commands.specs.device_state.specs.declared.state.State.{State}
+use Rattle.manager_commands.specs.device_state.specs.StateAfter.{IsStateAfter}
+use Rattle.manager_commands.specs.device_state.specs.Updates.{IsOfLog}
+use Rattle.manager_commands.specs.device_state.specs.declared.state.State.{State}
 use Rattle.control_core.proofs.Decisions.{records_known}
 
 pub remove_host : (c : Configuration) (before : List Entry) (h flags r bytes : ℕ) (tag : Tag) (list : List Extent) → manager_rule c (effects before) (λ k. view_of c k before) (FmRequest.Remove h flags r bytes tag list) ≡ None → h < c.hosts

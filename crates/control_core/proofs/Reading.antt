@@ -8,13 +8,13 @@ use Rattle.cci_codec.specs.dcd_base.specs.declared.capacity.Extent.{Extent}
 use Rattle.cci_codec.specs.dcd_base.specs.declared.ids.HostId.{HostId}
 use Rattle.cci_codec.specs.dcd_base.specs.declared.steps.LogId.{LogId}
 use Rattle.event_log.specs.LogStates.{LogState}
-use Rattle.event_log.specs.Logs.{places_in, state_of}
+use Rattle.event_log.specs.Logs.{places_in, state_of, IsLogOf}
 use Rattle.device_commands.specs.device_rules.specs.GranuleCells.{status_of}
 use Rattle.selection.specs.granule_map.specs.StateLists.{count_of, same_state}
 use Rattle.selection.specs.granule_map.specs.declared.states.GranuleState.{GranuleState}
 use Rattle.selection.specs.granule_map.specs.Tables.{cell_at}
-use Rattle.device_commands.specs.device_state.specs.StateAfter.{IsLogOf, IsReached, IsStateAfter, part_of}
-use Rattle.device_commands.specs.host_lists.specs.Lists.{Lists}
+use Rattle.manager_commands.specs.device_state.specs.StateAfter.{IsReached, IsStateAfter, part_of}
+use Rattle.extent_list.specs.HostLists.{Lists}
 use Rattle.journal_core.specs.Entries.{effects}
 use Rattle.journal_core.specs.declared.entries.Entry.{Entry}
 use Rattle.journal_core.specs.declared.outcome.Effect.{Effect}
@@ -30,8 +30,8 @@ use Rattle.device_commands.specs.device_rules.proofs.Homes.{made_granular, made_
 use Rattle.device_commands.specs.device_rules.proofs.LegalSound.{legal_is_sound}
 use Rattle.device_commands.specs.device_rules.specs.Pictures.{picture_of}
 use Rattle.device_commands.specs.device_rules.specs.Standing.{IsHome, Stands}
-use Rattle.device_commands.proofs.FreeGranules.{free_at}
-use Rattle.device_commands.proofs.Reached.{total_kept}
+use Rattle.manager_commands.proofs.FreeGranules.{free_at}
+use Rattle.manager_commands.proofs.Reached.{total_kept}
 use Rattle.device_commands.specs.device_rules.specs.Adding.{area_of, is_free_now, per_block, present, region_free_blocks}
 use Rattle.selection.specs.granule_map.specs.Blocks.{free_block_count}
 use Rattle.selection.specs.granule_map.specs.StateLists.{is_free_at}
@@ -42,8 +42,8 @@ use Rattle.device_commands.specs.device_rules.specs.Hosts.{accepted_of, held_of,
 use Rattle.device_commands.specs.device_rules.specs.Logs.{log_of}
 use Rattle.device_commands.specs.device_rules.specs.Tags.{Status, all_granules, is_dirty, is_free, status}
 use Rattle.control_core.specs.HeldExtents.{AreHeld, IsHeld}
-use Rattle.device_commands.specs.device_state.specs.Updates.{IsOfLog, log_in}
-use Rattle.device_commands.specs.device_state.specs.declared.state.State.{State}
+use Rattle.manager_commands.specs.device_state.specs.Updates.{IsOfLog, log_in}
+use Rattle.manager_commands.specs.device_state.specs.declared.state.State.{State}
 
 -- ---- granules
 

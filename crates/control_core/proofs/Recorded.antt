@@ -7,22 +7,22 @@ use Rattle.std.proofs.lemmas.List.{drop_more, length_push, take_more}
 use Rattle.std.proofs.Math.Nat.{mod-add-mod}
 use Rattle.cci_codec.specs.dcd_base.specs.declared.steps.LogId.{LogId}
 use Rattle.event_log.specs.LogStates.{LogState, handle_after}
-use Rattle.event_log.specs.Logs.{Log, missed_by, next_handle, recorded, room_in}
+use Rattle.event_log.specs.Logs.{Log, missed_by, next_handle, recorded, room_in, IsLogOf}
 use Rattle.event_records.specs.declared.events.Event.{Event}
 use Rattle.event_records.specs.declared.events.EventKind.{EventKind}
 use Rattle.journal_core.specs.Entries.{effects}
 use Rattle.journal_core.specs.declared.entries.Entry.{Entry}
 use Rattle.journal_core.specs.declared.outcome.Effect.{Effect}
 use Rattle.extent_list.specs.media_map.specs.region_config.specs.Configurations.{Configuration}
-use Rattle.device_commands.specs.device_state.specs.StateAfter.{IsLogOf, IsStateAfter}
+use Rattle.manager_commands.specs.device_state.specs.StateAfter.{IsStateAfter}
 use Rattle.device_commands.specs.Drafts.{as_records}
 use Rattle.device_commands.specs.declared.log_records.LogRecords.{LogRecords}
 use Rattle.device_commands.specs.device_rules.specs.Logs.{log_after, log_of}
 use Rattle.device_commands.specs.device_rules.specs.Outcomes.{entered, entered_all, no_extent}
 use Rattle.device_commands.specs.device_rules.proofs.LogSteps.{IsSound, IsSound-recorded, room-recorded, same_log-self}
 use Rattle.control_core.specs.Recording.{records_by, records_entered}
-use Rattle.device_commands.specs.device_state.specs.Updates.{IsOfLog, log_in}
-use Rattle.device_commands.specs.device_state.specs.declared.state.State.{State}
+use Rattle.manager_commands.specs.device_state.specs.Updates.{IsOfLog, log_in}
+use Rattle.manager_commands.specs.device_state.specs.declared.state.State.{State}
 
 -- the next handle goes on
 handle-recorded : (log : Log) (e : Event) → next_handle (recorded log e) ≡ handle_after (next_handle log)

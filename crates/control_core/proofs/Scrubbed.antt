@@ -6,9 +6,9 @@ use Rattle.journal_core.specs.declared.acts.Act.{Act}
 use Rattle.journal_core.specs.declared.acts.Reply.{Reply}
 use Rattle.journal_core.specs.declared.outcome.Effect.{Effect}
 use Rattle.control_core.specs.Deciding.{IsDecided}
-use Rattle.device_commands.specs.device_state.specs.declared.state.State.{State}
-use Rattle.device_commands.specs.Scrub.{IsZeroed}
-use Rattle.device_commands.specs.declared.scrub.Zeroed.{Zeroed}
+use Rattle.manager_commands.specs.device_state.specs.declared.state.State.{State}
+use Rattle.manager_commands.specs.Scrub.{IsZeroed}
+use Rattle.manager_commands.specs.declared.scrub.Zeroed.{Zeroed}
 
 -- A scrub comes to this.
 pub is_scrub : (c : Configuration) (s : State) (n : ℕ) (z : Zeroed) → IsZeroed c s n z →

@@ -27,7 +27,7 @@ use Rattle.extent_list.specs.media_map.specs.region_config.proofs.Searches.{or_p
 use Rattle.extent_list.specs.media_map.specs.region_config.specs.declared.region_spec.RegionSpec.{RegionSpec}
 use Rattle.journal_core.specs.declared.outcome.Effect.{Effect}
 use Rattle.tag_refs.specs.declared.entries.TagEntry.{TagEntry}
-use Rattle.device_commands.specs.host_lists.specs.Lists.{Lists}
+use Rattle.extent_list.specs.HostLists.{Lists}
 use Rattle.host_payloads.specs.HostPayloads.{configuration_fields, configuration_head_fields, configuration_payload, counts_bytes, counts_fields, events_fields, events_head_fields, events_payload, extents_payload, page_fields, region_bytes, view_fields}
 use Rattle.cci_codec.specs.dcd_base.specs.Extents.{extent_bytes, extent_fields}
 use Rattle.host_payloads.specs.declared.requests.HostRequest.{HostRequest}
@@ -45,9 +45,9 @@ use Rattle.device_commands.specs.device_rules.specs.TagCommands.{tag_seen}
 use Rattle.device_commands.specs.device_rules.specs.Tags.{open_tags}
 use Rattle.device_commands.specs.device_rules.specs.Views.{View, generation_in, view_of}
 use Rattle.control_core.specs.Fitting.{PartFits, RequestFits, TagFits}
-use Rattle.device_commands.specs.device_state.specs.StateAfter.{IsStateAfter, IsPart}
-use Rattle.device_commands.specs.device_state.specs.declared.parts.HostPart.{HostPart}
-use Rattle.device_commands.specs.device_state.specs.declared.state.State.{State}
+use Rattle.manager_commands.specs.device_state.specs.StateAfter.{IsStateAfter, IsPart}
+use Rattle.manager_commands.specs.device_state.specs.declared.parts.HostPart.{HostPart}
+use Rattle.manager_commands.specs.device_state.specs.declared.state.State.{State}
 
 -- ---- lengths of layouts
 

@@ -5,7 +5,7 @@ use Rattle.std.proofs.lemmas.List.Elements.{All-push}
 use Rattle.cci_codec.specs.dcd_base.specs.declared.ids.HostId.{HostId}
 use Rattle.cci_codec.specs.dcd_base.specs.declared.media.Change.{Change}
 use Rattle.cci_codec.specs.dcd_base.specs.declared.media.Run.{Run}
-use Rattle.device_commands.specs.device_state.specs.Updates.{IsOfDevice}
+use Rattle.manager_commands.specs.device_state.specs.Updates.{IsOfDevice}
 use Rattle.journal_core.specs.declared.outcome.Effect.{Effect}
 use Rattle.extent_list.specs.media_map.specs.region_config.specs.Configurations.{Configuration}
 use Rattle.extent_list.specs.media_map.specs.region_config.specs.Granules.{granule_total}

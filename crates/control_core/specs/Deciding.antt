@@ -9,9 +9,9 @@ use Rattle.journal_core.specs.declared.entries.Entry.{Entry}
 use Rattle.journal_core.specs.Merging.{Rising}
 use Rattle.device_commands.specs.device_rules.specs.Answers.{answer}
 use Rattle.device_commands.specs.device_rules.specs.Legal.{Legal}
-use Rattle.device_commands.specs.device_state.specs.StateAfter.{IsStateAfter}
+use Rattle.manager_commands.specs.device_state.specs.StateAfter.{IsStateAfter}
 use Rattle.control_core.specs.declared.decided.Decided.{Decided}
-use Rattle.device_commands.specs.device_state.specs.declared.state.State.{State}
+use Rattle.manager_commands.specs.device_state.specs.declared.state.State.{State}
 
 -- The payload of a response has at most 2,048 bytes: as much as the longest page, with some to spare.
 abbrev pub IsShort : Reply → Type 0

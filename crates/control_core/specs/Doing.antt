@@ -13,9 +13,9 @@ use Rattle.control_core.specs.Deciding.{IsDecidedBy}
 use Rattle.extent_list.specs.media_map.specs.region_config.specs.Configurations.{Configuration}
 use Rattle.journal_core.specs.Entries.{effects}
 use Rattle.journal_core.specs.declared.entries.Entry.{Entry}
-use Rattle.device_commands.specs.HostMessages.{IsDrafted}
+use Rattle.host_commands.specs.HostMessages.{IsDrafted}
 use Rattle.device_commands.specs.Drafts.{Drafts}
-use Rattle.device_commands.specs.device_state.specs.StateAfter.{IsStateAfter}
+use Rattle.manager_commands.specs.device_state.specs.StateAfter.{IsStateAfter}
 use Rattle.device_commands.specs.declared.draft.DraftParts.{DraftParts}
 use Rattle.device_commands.specs.device_rules.specs.Answers.{host_result_in, response}
 use Rattle.device_commands.specs.device_rules.specs.Hosts.{accepted_of, offers_of}
@@ -25,7 +25,7 @@ use Rattle.device_commands.specs.device_rules.specs.Views.{view_of}
 use Rattle.device_commands.specs.device_rules.specs.TagTable.{IsTable, among, among_offers, ending}
 use Rattle.tag_refs.specs.declared.entries.TagEntry.{TagEntry}
 use Rattle.control_core.specs.declared.decided.Decided.{Decided}
-use Rattle.device_commands.specs.device_state.specs.declared.state.State.{State}
+use Rattle.manager_commands.specs.device_state.specs.declared.state.State.{State}
 
 -- It answers the outcome, and has its effects.
 pub record IsDone (c : Configuration) (before : List Entry) (q : Request) (o : Outcome) (d : Decided) : Type 0 where

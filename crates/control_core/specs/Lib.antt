@@ -10,6 +10,8 @@ pub mod PutChanges
 pub mod Recording
 pub mod Steps
 pub use Rattle.device_commands.specs.device_rules
-pub use Rattle.device_commands.specs.device_state
+pub use Rattle.manager_commands.specs.device_state
 pub use Rattle.device_commands
+pub use Rattle.host_commands
+pub use Rattle.manager_commands
 pub use Rattle.kept_journal

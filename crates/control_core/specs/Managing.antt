@@ -18,9 +18,9 @@ use Rattle.device_commands.specs.device_rules.specs.Legal.{Legal}
 use Rattle.device_commands.specs.device_rules.specs.Outcomes.{Outcome, ended}
 use Rattle.control_core.specs.Deciding.{IsDecided}
 use Rattle.control_core.specs.Doing.{IsDone}
-use Rattle.device_commands.specs.device_state.specs.StateAfter.{IsStateAfter}
+use Rattle.manager_commands.specs.device_state.specs.StateAfter.{IsStateAfter}
 use Rattle.control_core.specs.declared.decided.Decided.{Decided}
-use Rattle.device_commands.specs.device_state.specs.declared.state.State.{State}
+use Rattle.manager_commands.specs.device_state.specs.declared.state.State.{State}
 
 -- The message comes to this, or breaks this rule first.
 abbrev pub Manages : Configuration → State → Request → Result Decided Refusal → Type 0

@@ -13,8 +13,8 @@ use Rattle.cci_codec.specs.dcd_base.specs.Hosts.{has_host, with_host, without_ho
 use Rattle.device_commands.specs.device_rules.specs.ChangedRuns.{IsWithinRegion, holders_after, touches, AreChanges, IsSoundChange, LiesIn}
 use Rattle.journal_core.specs.Entries.{effects as effects_of}
 use Rattle.journal_core.specs.declared.entries.Entry.{Entry}
-use Rattle.device_commands.specs.device_state.specs.StateAfter.{IsStateAfter}
-use Rattle.device_commands.specs.device_state.specs.declared.state.State.{State}
+use Rattle.manager_commands.specs.device_state.specs.StateAfter.{IsStateAfter}
+use Rattle.manager_commands.specs.device_state.specs.declared.state.State.{State}
 
 -- the granules that the effect gives, takes or zeroes
 abbrev pub touched_by : Effect → Option Run

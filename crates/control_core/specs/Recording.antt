@@ -11,15 +11,15 @@ use Rattle.std.specs.List.{list_any}
 use Rattle.cci_codec.specs.dcd_base.specs.declared.capacity.Tag.{Tag}
 use Rattle.cci_codec.specs.dcd_base.specs.declared.ids.HostId.{HostId}
 use Rattle.extent_list.specs.ExtentLists.{has_extent_of}
-use Rattle.device_commands.specs.host_lists.specs.Lists.{Lists}
+use Rattle.extent_list.specs.HostLists.{Lists}
 use Rattle.journal_core.specs.Entries.{effects}
 use Rattle.journal_core.specs.declared.entries.Entry.{Entry}
 use Rattle.extent_list.specs.media_map.specs.region_config.specs.Configurations.{Configuration}
 use Rattle.device_commands.specs.device_rules.specs.TagTable.{ending}
 use Rattle.tag_refs.specs.Tables.{is_used, passes, set_by}
 use Rattle.tag_refs.specs.declared.entries.TagEntry.{TagEntry}
-use Rattle.device_commands.specs.device_state.specs.StateAfter.{IsStateAfter}
-use Rattle.device_commands.specs.device_state.specs.declared.state.State.{State}
+use Rattle.manager_commands.specs.device_state.specs.StateAfter.{IsStateAfter}
+use Rattle.manager_commands.specs.device_state.specs.declared.state.State.{State}
 
 -- one record, by the next handle and the room of its log, and the next handle after it
 abbrev pub record_by : LogId → ℕ → ℕ → Event → Effect

@@ -5,9 +5,9 @@ ghost use Rattle.control_core.specs.Pasts.{ByEveryPast};
 ghost use Rattle.control_core.specs.Steps.{MayStep};
 ghost use Rattle.cci_codec.specs.dcd_base.specs.declared.steps.Actor.{Actor};
 ghost use Rattle.extent_list.specs.dcd_codes.specs.declared.rules.Rule.{Rule as BrokenRule};
-ghost use Rattle.device_commands.specs.ManagerMessages.{FewCleared, ManagerAnswers};
+ghost use Rattle.manager_commands.specs.ManagerMessages.{FewCleared, ManagerAnswers};
 ghost use Rattle.device_commands.specs.device_rules.specs.Answers.{broken as broken_by};
-ghost use Rattle.device_commands.specs.device_state.specs.StateAfter.{IsReached};
+ghost use Rattle.manager_commands.specs.device_state.specs.StateAfter.{IsReached};
 ghost use Rattle.journal_core.specs.declared.acts.Act.{Act};
 ghost use Rattle.std.specs.Prelude.{◌≡◌, ◌<◌, IfOk, Option};
 
@@ -15,15 +15,16 @@ use crate::control::Control;
 use crate::live::LiveControl;
 use cci_codec::Request;
 use cci_codec::dcd_base::{Actor, HostId, NoMemory};
-use device_commands::device_state::State;
-use device_commands::{
-    AddRequest, Draft, RemoveRequest, Room, add, add_reference, host_draft, quiet_draft, remove,
-    remove_reference,
-};
+use device_commands::{Draft, Room};
 use extent_list::dcd_codes::{Refusal, Rule};
 use extent_list::media_map::region_config::Config;
 use fm_payloads::{FmRequest, PayloadFault, decode};
+use host_commands::host_draft;
 use journal_core::Act;
+use manager_commands::device_state::State;
+use manager_commands::{
+    AddRequest, RemoveRequest, add, add_reference, quiet_draft, remove, remove_reference,
+};
 use std::alloc::Global;
 
 impl Control {
@@ -68,7 +69,6 @@ impl LiveControl {
         let part = state.part(host);
         let mut room = Room::new(self.alloc);
         rule_of(host_draft(
-            self.alloc,
             config,
             &state.present,
             host,

@@ -3,14 +3,14 @@
 ghost use Rattle.control_core.specs.PutChanges.{AreChangesFrom, IsRunAdded, StayInside, StaySound, change_to, AreOfOneHost, ArePut};
 ghost use Rattle.control_core.specs.PutChanges.{IsRegionOrNone, NameNoOthers, PutOne, bits_by, is_zero, touched_by};
 ghost use Rattle.device_commands.specs.device_rules.specs.ChangedRuns.{IsWithinRegion, IsSoundChange, LiesIn};
-ghost use Rattle.device_commands.specs.device_state.specs.Updates.{IsOfDevice};
+ghost use Rattle.manager_commands.specs.device_state.specs.Updates.{IsOfDevice};
 ghost use Rattle.extent_list.specs.media_map.specs.region_config.specs.Granules.{granule_total};
 ghost use Rattle.std.specs.Prelude.{◌≡◌, ℕ, ◌==◌, ◌+◌, ◌<◌, ◌≤◌, All, IfOk, List, OnOk, [], false, length, slice_index_or, take};
 
 use cci_codec::dcd_base::{Change, Changes, Granule, NoMemory, Run, host_bits};
-use device_commands::device_state::{Holders, State};
 use extent_list::media_map::region_config::Config;
 use journal_core::Effect;
+use manager_commands::device_state::{Holders, State};
 use std::alloc::Global;
 
 /// The holders of so many granules at most are compared one by one, and of more many at a time.

@@ -168,6 +168,7 @@ impl Control {
         requires { MayStep self.old.config actor.now act.now }
         ensures config { self.new.config ≡ self.old.config }
         ensures entries { self.new.entries ≡ self.old.entries }
+        ensures spare { self.new.spare ≡ self.old.spare }
         ensures decided { IfOk result (λ d. IsDecidedBy self.new.config self.new.entries actor.now act.now d) }
     {
         self.live.decide(actor, act, &mut self.room)

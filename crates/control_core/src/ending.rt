@@ -4,8 +4,8 @@ ghost use Rattle.control_core.specs.Recording.{ending_with, ends_by_lists};
 ghost use Rattle.std.specs.Prelude.{◌≡◌, ◌<◌, ◌++◌, ◌∷◌, [], IfOk, OnOk};
 
 use cci_codec::dcd_base::{HostId, NoMemory, Seq, Tag};
-use device_commands::device_state::State;
 use device_commands::host_lists::Changed;
+use manager_commands::device_state::State;
 use std::alloc::Global;
 
 /// Of these tags those that end once the host has these lists.

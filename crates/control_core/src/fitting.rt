@@ -7,9 +7,9 @@ ghost use Rattle.std.specs.Prelude.{All};
 ghost use Rattle.tag_refs.specs.declared.entries.TagEntry.{TagEntry};
 
 use cci_codec::dcd_base::{Extent, Tag};
-use device_commands::device_state::{HostPart, State};
 use event_log::EventLog;
 use fm_payloads::FmRequest;
+use manager_commands::device_state::{HostPart, State};
 use tag_refs::Tags;
 
 /// The tags that a request of the manager reads have sixteen bytes each.

@@ -8,8 +8,8 @@ ghost use Rattle.device_commands.specs.DraftContents.{draft_in};
 ghost use Rattle.device_commands.specs.ListsUpdates.{left_by};
 ghost use Rattle.extent_list.specs.dcd_codes.specs.declared.codes.Code.{Code};
 ghost use Rattle.device_commands.specs.device_rules.specs.Answers.{response};
-ghost use Rattle.device_commands.specs.device_state.specs.StateAfter.{IsReached, part_of};
-ghost use Rattle.device_commands.specs.device_state.specs.Updates.{IsOfLog};
+ghost use Rattle.manager_commands.specs.device_state.specs.StateAfter.{IsReached, part_of};
+ghost use Rattle.manager_commands.specs.device_state.specs.Updates.{IsOfLog};
 ghost use Rattle.device_commands.specs.host_lists.specs.Changes.{changed_by};
 ghost use Rattle.cci_codec.specs.dcd_base.specs.declared.steps.Actor.{Actor};
 ghost use Rattle.device_commands.specs.declared.log_records.LogRecords.{LogRecords};
@@ -23,14 +23,13 @@ use crate::fitting::part_fits;
 use crate::recording::{put_ends, put_records_of_logs};
 use cci_codec::Request;
 use cci_codec::dcd_base::{Bytes, HostId, NoMemory, Seq, Tag};
-use device_commands::device_state::State;
 use device_commands::host_lists::{Changed, HostLists, ListsChange};
-use device_commands::{
-    Content, Draft, DraftedStep, ListsUpdate, Room, answer, dropped, host_draft, refused,
-};
+use device_commands::{Content, Draft, DraftedStep, ListsUpdate, Room, answer, refused};
 use extent_list::dcd_codes::{Code, Refusal, Rule, number_of};
 use extent_list::media_map::region_config::Config;
+use host_commands::{dropped, host_draft};
 use journal_core::{Effects, Reply};
+use manager_commands::device_state::State;
 use std::alloc::Global;
 use std::mem::{replace, swap};
 
@@ -52,7 +51,6 @@ pub(crate) fn host_step(
 {
     let part = state.part(host);
     let drafted = host_draft(
-        alloc,
         config,
         &state.present,
         host,

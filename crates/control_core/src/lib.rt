@@ -2,7 +2,8 @@
 //!
 //! `LiveControl` decides and enters steps and keeps nothing of the past. `Control` has its entries beside it:
 //! `Control::prepare` takes all the memory that a step needs and decides it, `Control::apply` enters it and cannot
-//! fail. What the device keeps is `device_commands::device_state::State`, and each command has a room in `device_commands`.
+//! fail. What the device keeps is `device_state::State`. Each command has a file in `host_commands`,
+//! in `manager_commands` or, where hosts and the manager both have it, in `device_commands`.
 #![tactic(auto)]
 
 mod broken;
@@ -24,8 +25,11 @@ mod step_effects;
 pub use control::Control;
 pub use decided::{Decided, Decision};
 pub use device_commands;
-pub use device_commands::{device_rules, device_state};
+pub use device_commands::device_rules;
+pub use host_commands;
 pub use kept_journal;
 pub use live::LiveControl;
+pub use manager_commands;
+pub use manager_commands::device_state;
 pub use plan::Plan;
 pub use step_effects::StepEffects;

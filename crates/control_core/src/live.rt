@@ -15,9 +15,9 @@ use crate::manager_steps::manager_step;
 use crate::scrub_steps::scrub_step;
 use cci_codec::dcd_base::{Actor, Changes, NoMemory};
 use device_commands::Room;
-use device_commands::device_state::State;
 use extent_list::media_map::region_config::Config;
 use journal_core::{Act, Effect, Effects};
+use manager_commands::device_state::State;
 use std::alloc::Global;
 use std::marker::Model;
 
@@ -34,7 +34,7 @@ pub struct LiveControl {
 
 impl Model for LiveControl {
     ghost use Rattle.control_core.specs.Pasts.{LiveControlled};
-    ghost use Rattle.device_commands.specs.device_state.specs.StateAfter.{IsReached};
+    ghost use Rattle.manager_commands.specs.device_state.specs.StateAfter.{IsReached};
 
     ghost Value = { LiveControlled };
 

@@ -9,8 +9,8 @@ ghost use Rattle.device_commands.specs.device_rules.specs.Hosts.{accepted_of, he
 ghost use Rattle.device_commands.specs.device_rules.specs.Logs.{log_of};
 ghost use Rattle.device_commands.specs.device_rules.specs.TagCommands.{tag_seen};
 ghost use Rattle.device_commands.specs.device_rules.specs.Tags.{all_granules, open_tags, status};
-ghost use Rattle.device_commands.specs.device_state.specs.StateAfter.{part_of};
-ghost use Rattle.device_commands.specs.device_state.specs.Updates.{IsOfLog, log_in};
+ghost use Rattle.manager_commands.specs.device_state.specs.StateAfter.{part_of};
+ghost use Rattle.manager_commands.specs.device_state.specs.Updates.{IsOfLog, log_in};
 ghost use Rattle.event_log.specs.Logs.{places_in, state_of};
 ghost use Rattle.device_commands.specs.device_rules.specs.GranuleCells.{status_of};
 ghost use Rattle.journal_core.specs.Entries.{effects};

@@ -1,12 +1,12 @@
 //! A command of the Fabric Manager, from its message to its response and effects.
 
 ghost use Rattle.control_core.specs.Deciding.{IsDecided};
-ghost use Rattle.device_commands.specs.device_state.specs.StateAfter.{IsReached};
+ghost use Rattle.manager_commands.specs.device_state.specs.StateAfter.{IsReached};
 ghost use Rattle.control_core.specs.Decisions.{decided_by};
 ghost use Rattle.device_commands.specs.DraftContents.{draft_in};
 ghost use Rattle.control_core.specs.Managing.{EntersDraft, Manages};
-ghost use Rattle.device_commands.specs.ManagerMessages.{FewCleared};
-ghost use Rattle.device_commands.specs.device_state.specs.Updates.{IsOfLog};
+ghost use Rattle.manager_commands.specs.ManagerMessages.{FewCleared};
+ghost use Rattle.manager_commands.specs.device_state.specs.Updates.{IsOfLog};
 ghost use Rattle.cci_codec.specs.dcd_base.specs.declared.steps.Actor.{Actor};
 ghost use Rattle.fm_payloads.specs.ManagerPayloads.{manager_request};
 ghost use Rattle.fm_payloads.specs.declared.requests.FmRequest.{FmRequest};
@@ -23,14 +23,14 @@ use crate::host_steps::{put_success, recorded};
 use crate::recording::{put_ends, put_records_of_logs};
 use cci_codec::Request;
 use cci_codec::dcd_base::{Extents, HostId, NoMemory, Seq, Tag};
-use device_commands::device_state::State;
-use device_commands::{
-    AddRequest, Content, Draft, DraftedStep, RemoveRequest, Room, add, add_reference, quiet_draft,
-    refused, remove, remove_reference,
-};
+use device_commands::{Content, Draft, DraftedStep, Room, refused};
 use extent_list::dcd_codes::{Refusal, Rule};
 use extent_list::media_map::region_config::Config;
 use fm_payloads::{FmRequest, PayloadFault, decode};
+use manager_commands::device_state::State;
+use manager_commands::{
+    AddRequest, RemoveRequest, add, add_reference, quiet_draft, remove, remove_reference,
+};
 use std::alloc::Global;
 
 /// What a message of the manager comes to. What changes extents or tags stands apart, so that one that only reads makes no room for what that needs.

@@ -6,7 +6,7 @@ ghost use Rattle.device_commands.specs.device_rules.specs.Counts.{dirty_count, e
 ghost use Rattle.device_commands.specs.device_rules.specs.Hosts.{accepted_of, held_of, offers_of};
 ghost use Rattle.device_commands.specs.device_rules.specs.Logs.{log_of};
 ghost use Rattle.device_commands.specs.device_rules.specs.Tags.{all_granules, status};
-ghost use Rattle.device_commands.specs.device_state.specs.Updates.{IsOfLog};
+ghost use Rattle.manager_commands.specs.device_state.specs.Updates.{IsOfLog};
 ghost use Rattle.event_log.specs.Logs.{places_in, state_of};
 ghost use Rattle.device_commands.specs.device_rules.specs.GranuleCells.{status_of};
 ghost use Rattle.journal_core.specs.Entries.{effects};

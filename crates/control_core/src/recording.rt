@@ -1,17 +1,17 @@
 //! The effects of a step: its changes, the ends of tags, and its records.
 
 ghost use Rattle.control_core.specs.Recording.{AreToldBehind, IsToldBehind, records_by};
-ghost use Rattle.device_commands.specs.device_state.specs.Updates.{IsOfLog};
+ghost use Rattle.manager_commands.specs.device_state.specs.Updates.{IsOfLog};
 ghost use Rattle.device_commands.specs.declared.log_records.LogRecords.{LogRecords};
 ghost use Rattle.journal_core.specs.declared.outcome.Effect.{Effect};
 ghost use Rattle.std.specs.Prelude.{◌≡◌, ◌++◌, ◌+◌, ◌-◌, ◌≤◌, ℕ, All, OnOk, length, map, vec_capacity, vec_len};
 
 use cci_codec::dcd_base::{Extent, LogId, NoMemory, Tag};
-use device_commands::device_state::State;
 use device_commands::{LogRecords, ShortList};
 use event_log::{EventLog, handle_after};
 use event_records::Event;
 use journal_core::{Effect, Effects};
+use manager_commands::device_state::State;
 use std::mem::{ManuallyDrop, replace};
 
 /// Puts the ends of tags behind the changes.

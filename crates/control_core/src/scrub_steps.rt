@@ -2,16 +2,17 @@
 
 ghost use Rattle.control_core.specs.Deciding.{IsDecided};
 ghost use Rattle.cci_codec.specs.dcd_base.specs.declared.steps.Actor.{Actor};
-ghost use Rattle.device_commands.specs.device_state.specs.StateAfter.{IsReached};
+ghost use Rattle.manager_commands.specs.device_state.specs.StateAfter.{IsReached};
 ghost use Rattle.journal_core.specs.declared.acts.Act.{Act};
 ghost use Rattle.std.specs.Prelude.{IfOk};
 
 use crate::decided::Decision;
 use cci_codec::dcd_base::NoMemory;
-use device_commands::device_state::State;
-use device_commands::{Room, zero_dirty};
+use device_commands::Room;
 use extent_list::media_map::region_config::Config;
 use journal_core::Reply;
+use manager_commands::device_state::State;
+use manager_commands::zero_dirty;
 use std::alloc::Global;
 
 /// What a scrub of so many granules at most comes to.

@@ -11,10 +11,10 @@ use Rattle.journal_core.specs.Entries.{effects}
 use Rattle.journal_core.specs.declared.entries.Entry.{Entry}
 use Rattle.device_plain.specs.Lives.{ByEveryLife, IsAlive, IsLife, Living}
 use Rattle.device_plain.specs.control_core.specs.Pasts.{ByEveryPast, IsPast, LiveControlled}
-use Rattle.device_plain.specs.control_core.specs.device_commands.proofs.FewExtents.{few_extents}
+use Rattle.device_plain.specs.control_core.specs.manager_commands.proofs.FewExtents.{few_extents}
 use Rattle.device_plain.specs.device_rules.specs.Hosts.{offers_of}
 use Rattle.device_plain.specs.device_state.specs.StateAfter.{part_of}
-use Rattle.device_plain.specs.device_state.specs.host_lists.specs.Lists.{Lists}
+use Rattle.extent_list.specs.HostLists.{Lists}
 use Rattle.dcd_c.specs.Lists.{extent_told, offers_from}
 
 -- one more offer

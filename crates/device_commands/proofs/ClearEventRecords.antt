@@ -4,11 +4,10 @@ use Rattle.cci_codec.specs.dcd_base.specs.declared.steps.LogId.{LogId}
 use Rattle.std.specs.declared.result.Result.{Result}
 use Rattle.extent_list.specs.dcd_codes.specs.declared.refusals.Refusal.{Refusal}
 use Rattle.extent_list.specs.dcd_codes.specs.Rules.{ByRow}
-use Rattle.event_log.specs.Logs.{Log, places_in, state_of}
+use Rattle.event_log.specs.Logs.{Log, places_in, state_of, IsLogOf}
 use Rattle.event_log.specs.LogStates.{LogState}
-use Rattle.device_state.specs.device_rules.specs.EventCommands.{clear_outcome, clear_rule}
+use Rattle.device_rules.specs.EventCommands.{clear_outcome, clear_rule}
 use Rattle.device_commands.specs.ClearEventRecords.{clearing_outcome, clearing_rule}
-use Rattle.device_state.specs.StateAfter.{IsLogOf}
 use Rattle.device_commands.specs.Drafts.{IsOutcome}
 use Rattle.device_commands.specs.declared.draft.DraftParts.{DraftParts}
 

@@ -8,9 +8,9 @@ use Rattle.extent_list.specs.media_map.specs.region_config.specs.Configurations.
 use Rattle.extent_list.specs.media_map.specs.region_config.specs.Granules.{base_of, region_spec, with_blocks}
 use Rattle.extent_list.specs.media_map.specs.region_config.proofs.PresentBlocks.{region_spec-with_blocks}
 use Rattle.host_payloads.specs.declared.views.RegionView.{RegionView}
-use Rattle.device_state.specs.device_rules.specs.Settings.{no_such_region, region_seen}
-use Rattle.device_state.specs.device_rules.specs.Views.{View}
-use Rattle.device_state.specs.device_rules.proofs.Homes.{base_same}
+use Rattle.device_rules.specs.Settings.{no_such_region, region_seen}
+use Rattle.device_rules.specs.Views.{View}
+use Rattle.device_rules.proofs.Homes.{base_same}
 use Rattle.device_commands.specs.declared.pages.Flags.{Flags}
 use Rattle.device_commands.specs.ShownFlags.{flags_of}
 

@@ -5,12 +5,11 @@ use Rattle.extent_list.specs.dcd_codes.specs.declared.rules.Rule.{Rule}
 use Rattle.extent_list.specs.dcd_codes.specs.Rules.{◌breaks◌, ByRow}
 use Rattle.event_log.specs.LogStates.{LogState, clear_fault}
 use Rattle.journal_core.specs.declared.outcome.Effect.{Effect}
-use Rattle.device_state.specs.device_rules.specs.EventCommands.{cleared, rule_of, clear_outcome, clear_rule}
-use Rattle.device_state.specs.device_rules.specs.Outcomes.{Outcome}
+use Rattle.device_rules.specs.EventCommands.{cleared, rule_of, clear_outcome, clear_rule}
+use Rattle.device_rules.specs.Outcomes.{Outcome}
 use Rattle.std.specs.declared.result.Result.{Result}
 use Rattle.extent_list.specs.dcd_codes.specs.declared.refusals.Refusal.{Refusal}
-use Rattle.event_log.specs.Logs.{Log}
-use Rattle.device_state.specs.StateAfter.{IsLogOf}
+use Rattle.event_log.specs.Logs.{Log, IsLogOf}
 use Rattle.device_commands.specs.Drafts.{IsOutcome}
 use Rattle.device_commands.specs.declared.draft.DraftParts.{DraftParts}
 

@@ -4,11 +4,10 @@ use Rattle.cci_codec.specs.dcd_base.specs.declared.ids.HostId.{HostId}
 use Rattle.cci_codec.specs.dcd_base.specs.declared.steps.LogId.{LogId}
 use Rattle.event_records.specs.declared.events.Event.{Event}
 use Rattle.extent_list.specs.media_map.specs.region_config.specs.Configurations.{Configuration}
-use Rattle.device_state.specs.host_lists.specs.declared.lists_change.ListsChange.{ListsChange}
-use Rattle.device_state.specs.device_rules.specs.Outcomes.{Outcome}
-use Rattle.device_state.specs.device_rules.specs.Views.{View, view_after}
+use Rattle.host_lists.specs.declared.lists_change.ListsChange.{ListsChange}
+use Rattle.device_rules.specs.Outcomes.{Outcome}
+use Rattle.device_rules.specs.Views.{View, view_after, lists_in}
 use Rattle.device_commands.specs.ListsUpdates.{left_by}
-use Rattle.device_state.specs.StateAfter.{lists_in}
 use Rattle.device_commands.specs.declared.draft.DraftParts.{DraftParts}
 use Rattle.device_commands.specs.declared.log_records.LogRecords.{LogRecords}
 

@@ -5,10 +5,9 @@ use Rattle.cci_codec.specs.dcd_base.specs.declared.steps.LogId.{LogId}
 use Rattle.extent_list.specs.dcd_codes.specs.Rules.{ByRow}
 use Rattle.extent_list.specs.dcd_codes.specs.declared.refusals.Refusal.{Refusal}
 use Rattle.event_log.specs.LogStates.{LogState}
-use Rattle.event_log.specs.Logs.{Log}
-use Rattle.device_state.specs.device_rules.specs.EventCommands.{events_reply, log_named, no_such_log}
-use Rattle.device_state.specs.device_rules.specs.Outcomes.{only}
-use Rattle.device_state.specs.StateAfter.{IsLogOf}
+use Rattle.event_log.specs.Logs.{Log, IsLogOf}
+use Rattle.device_rules.specs.EventCommands.{events_reply, log_named, no_such_log}
+use Rattle.device_rules.specs.Outcomes.{only}
 use Rattle.device_commands.specs.Drafts.{IsOutcome}
 use Rattle.device_commands.specs.declared.draft.DraftParts.{DraftParts}
 

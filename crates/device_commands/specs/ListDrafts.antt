@@ -4,16 +4,15 @@ use Rattle.cci_codec.specs.dcd_base.specs.declared.capacity.Tag.{Tag}
 use Rattle.cci_codec.specs.dcd_base.specs.declared.capacity.Extent.{Extent}
 use Rattle.cci_codec.specs.dcd_base.specs.declared.ids.HostId.{HostId}
 use Rattle.event_records.specs.declared.events.EventKind.{EventKind}
-use Rattle.device_state.specs.device_rules.specs.Outcomes.{records_of_extents}
+use Rattle.device_rules.specs.Outcomes.{records_of_extents}
 use Rattle.device_commands.specs.declared.log_records.LogRecords.{LogRecords}
 use Rattle.cci_codec.specs.dcd_base.specs.declared.steps.LogId.{LogId}
 use Rattle.event_records.specs.declared.events.Event.{Event}
 use Rattle.journal_core.specs.declared.outcome.Effect.{Effect}
-use Rattle.device_state.specs.host_lists.specs.Lists.{Lists}
-use Rattle.device_state.specs.host_lists.specs.declared.lists_change.ListsChange.{ListsChange}
-use Rattle.device_state.specs.device_rules.specs.Views.{View}
+use Rattle.extent_list.specs.HostLists.{Lists}
+use Rattle.host_lists.specs.declared.lists_change.ListsChange.{ListsChange}
+use Rattle.device_rules.specs.Views.{View, lists_in}
 use Rattle.device_commands.specs.declared.draft.DraftParts.{DraftParts}
-use Rattle.device_state.specs.StateAfter.{lists_in}
 use Rattle.device_commands.specs.Drafts.{as_records}
 use Rattle.device_commands.specs.ListsUpdates.{left_by}
 

@@ -1,8 +1,8 @@
 -- What a step changes of the lists of a host, where it changes them.
 use Rattle.std.specs.Prelude.{Bool, true, false, Option, Some, None}
-use Rattle.device_state.specs.host_lists.specs.Changes.{changed_by}
-use Rattle.device_state.specs.host_lists.specs.Lists.{Lists}
-use Rattle.device_state.specs.host_lists.specs.declared.lists_change.ListsChange.{ListsChange}
+use Rattle.host_lists.specs.Changes.{changed_by}
+use Rattle.extent_list.specs.HostLists.{Lists}
+use Rattle.host_lists.specs.declared.lists_change.ListsChange.{ListsChange}
 
 -- the change, where it is there
 abbrev pub change_where : Bool → ListsChange → Option ListsChange

@@ -7,7 +7,7 @@ ghost use Rattle.device_commands.specs.ClearEventRecords.{AnswersClear, changing
 ghost use Rattle.device_commands.specs.ClearEventRecords.{log_handles_rule, whole_outcome, whole_rule};
 ghost use Rattle.device_commands.specs.DraftContents.{IsBlank, draft_in, no_draft};
 ghost use Rattle.extent_list.specs.dcd_codes.specs.Rules.{ByRow};
-ghost use Rattle.device_state.specs.device_rules.specs.EventCommands.{cleared, rule_of};
+ghost use Rattle.device_rules.specs.EventCommands.{cleared, rule_of};
 ghost use Rattle.device_commands.specs.Drafts.{IsOutcome};
 ghost use Rattle.journal_core.specs.declared.outcome.Effect.{Effect};
 ghost use Rattle.std.specs.Prelude.{◌≡◌, ◌++◌, ◌≤◌, [], IfOk, None, OnOk, length};

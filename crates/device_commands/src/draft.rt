@@ -7,7 +7,7 @@ use crate::lists_update::ListsUpdate;
 use crate::log_records::LogRecords;
 use crate::rooms::Room;
 use cci_codec::dcd_base::{Bytes, NoMemory, Seq, ShortList, Tag};
-use device_state::host_lists::ListsChange;
+use host_lists::ListsChange;
 use journal_core::{Effects, Reply};
 use std::alloc::Global;
 use std::marker::Model;
@@ -141,7 +141,7 @@ impl Draft {
 
     /// The draft whose parts lie in a step.
     #[inline(always)]
-    pub(crate) fn of_step(step: Box<DraftedStep>) -> Draft
+    pub fn of_step(step: Box<DraftedStep>) -> Draft
         ensures { result ≡ draft_in step.value }
     {
         Draft {

@@ -4,14 +4,14 @@
 //! Bytes: docs/formats.md, 'Commands of a host', 'Replies to a host'.
 
 ghost use Rattle.device_commands.specs.GetEventRecords.{AnswersEvents};
-ghost use Rattle.device_state.specs.device_rules.specs.Outcomes.{only};
+ghost use Rattle.device_rules.specs.Outcomes.{only};
 ghost use Rattle.host_payloads.specs.HostPayloads.{events_payload};
 ghost use Rattle.std.specs.Prelude.{◌≡◌, ◌≤◌, IfOk, None, [], length, nat_lt, take, false};
 
 use crate::draft::Draft;
 use crate::rooms::Room;
 use cci_codec::dcd_base::limits::REPLY_RECORDS;
-use cci_codec::dcd_base::{Bytes, LogId, NoMemory, Seq};
+use cci_codec::dcd_base::{Bytes, NoMemory, Seq};
 use event_log::EventLog;
 use event_records::Event;
 use extent_list::dcd_codes::{Refusal, Rule};

@@ -1,9 +1,9 @@
 //! Extents that leave their host.
 
-ghost use Rattle.device_state.specs.device_rules.specs.ReleaseOutcomes.{removals, soils};
+ghost use Rattle.device_rules.specs.ReleaseOutcomes.{removals};
 ghost use Rattle.journal_core.specs.declared.outcome.Effect.{Effect};
 ghost use Rattle.extent_list.specs.media_map.specs.Places.{is_granular};
-ghost use Rattle.std.specs.Prelude.{◌≡◌, ◌++◌, ◌∷◌, ◌<◌, All, IsTrue, OnOk};
+ghost use Rattle.std.specs.Prelude.{◌≡◌, ◌++◌, ◌<◌, All, IsTrue, OnOk};
 
 use crate::runs::run_of;
 use cci_codec::dcd_base::{Extent, HostId, NoMemory, Run};
@@ -12,7 +12,7 @@ use journal_core::{Effect, Effects};
 use std::mem::replace;
 
 /// Each of the extents leaves the host; where the removal cleans, its granules are soiled at once.
-pub(crate) fn put_leaves(
+pub fn put_leaves(
     config: &Config,
     host: HostId,
     clean: bool,

@@ -1,58 +1,43 @@
-//! The commands of the device: what each replies, changes and tells, from what the device keeps.
+//! What the commands of hosts and of the Fabric Manager share, and the two commands that both have.
 //!
-//! Each command has a room, a file of its own by the specification's name. It answers a draft, or the first rule of its
-//! row that the command breaks; nothing that the device keeps is changed. In each room come, in this order, what is
-//! read, the first broken rule, the reply and the changes. `host_messages` and `manager_messages` say which command a
-//! message is. Beside the rooms stand what several share: `draft`, `lists_update`, `log_records`, `held_lists`, `leaves`, `pages`,
-//! `putting`, `rooms`, `runs`, `tags` and `responses`.
+//! Each command has a file of its own by the specification's name: those of hosts in `host_commands`, those of the
+//! manager in `manager_commands`, and here the two of event logs, which both have. It answers a draft, or the first rule
+//! of its row that the command breaks; nothing that the device keeps is changed. In each such file come, in this order,
+//! what is read, the first broken rule, the reply and the changes. Beside them stands what several share:
+//! `draft`, `few`, `leaves`, `lists_update`, `log_records`, `pages`, `putting`, `responses`, `rooms`, `runs` and `tags`.
+//! None of it reads more of the device than its configuration, a host's lists and a log.
 #![tactic(auto)]
 
-mod add_dynamic_capacity_response;
-mod choosing;
 mod clear_event_records;
 mod draft;
-mod dynamic_capacity_add_reference;
-mod dynamic_capacity_list_tags;
-mod dynamic_capacity_remove_reference;
 mod few;
-mod get_dc_region_extent_lists;
-mod get_dcd_info;
-mod get_dynamic_capacity_configuration;
-mod get_dynamic_capacity_extent_list;
 mod get_event_records;
-mod get_host_dc_region_configuration;
-mod held_lists;
-mod host_messages;
-mod initiate_dynamic_capacity_add;
-mod initiate_dynamic_capacity_release;
 mod leaves;
 mod lists_update;
 mod log_records;
-mod manager_messages;
 mod pages;
 mod putting;
-mod release_dynamic_capacity;
 mod responses;
 mod rooms;
 mod runs;
-mod scrub;
-mod set_dc_region_configuration;
 mod tags;
 
 pub use cci_codec::dcd_base::ShortList;
-pub use device_state;
-pub use device_state::{device_rules, host_lists};
+pub use clear_event_records::clear_events;
+pub use device_rules;
 pub use draft::{Content, Draft, DraftParts, DraftedStep};
-pub use dynamic_capacity_add_reference::add_reference;
-pub use dynamic_capacity_remove_reference::remove_reference;
-pub use held_lists::dropped;
-pub use host_messages::host_draft;
-pub use initiate_dynamic_capacity_add::{AddRequest, add};
-pub use initiate_dynamic_capacity_release::{RemoveRequest, remove};
+pub use few::Few;
+pub use get_event_records::get_events;
+pub use host_lists;
+pub use leaves::put_leaves;
 pub use lists_update::ListsUpdate;
-pub use log_records::{LogRecords, event_for, no_extent, records_of_extents};
-pub use manager_messages::quiet_draft;
+pub use log_records::{
+    LogRecords, each_record, event_by_tags, event_for, no_extent, one_record, records_of_extents,
+    records_to,
+};
+pub use pages::{Flags, extents_page, host_counts, regions_seen};
+pub use putting::put_effect;
 pub use responses::{answer, refused};
 pub use rooms::Room;
 pub use runs::run_of;
-pub use scrub::{Zeroed, zero_dirty};
+pub use tags::{put_tags_of, tags_of};

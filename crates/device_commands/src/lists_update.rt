@@ -1,14 +1,14 @@
 //! What a step changes of the lists of a host, in memory that stays for the next step.
 
 ghost use Rattle.device_commands.specs.ListsUpdates.{left_by};
-ghost use Rattle.device_state.specs.host_lists.specs.Answers.{GivesUp, HostResponds, lists_without};
-ghost use Rattle.release_core.specs.Leaving.{AllCanLeave};
+ghost use Rattle.host_lists.specs.Answers.{GivesUp, HostResponds, lists_without};
+ghost use Rattle.host_lists.specs.release_core.specs.Leaving.{AllCanLeave};
 ghost use Rattle.std.specs.Option.{option_copied};
 ghost use Rattle.std.specs.Prelude.{◌≡◌, ◌++◌, ◌∷◌, [], IfOk, IsSome, None, OnOk, false};
 
 use cci_codec::dcd_base::{Extent, Extents, NoMemory};
-use device_state::host_lists::{Changed, HostLists, ListsChange, Responded};
-use release_core::GivenBack;
+use host_lists::release_core::GivenBack;
+use host_lists::{Changed, HostLists, ListsChange, Responded};
 use std::marker::Model;
 
 /// What a step changes of the lists of a host, where it changes them.
@@ -22,7 +22,7 @@ pub struct ListsUpdate {
 
 impl Model for ListsUpdate {
     ghost use Rattle.device_commands.specs.ListsUpdates.{change_where};
-    ghost use Rattle.device_state.specs.host_lists.specs.declared.lists_change.ListsChange.{ListsChange};
+    ghost use Rattle.host_lists.specs.declared.lists_change.ListsChange.{ListsChange};
     ghost use Rattle.std.specs.Prelude.{Option};
 
     ghost Value = { Option ListsChange };

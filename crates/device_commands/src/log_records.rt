@@ -1,22 +1,18 @@
-//! Records that a command adds to event logs, and whether a log has room for them.
+//! Records that a command adds to event logs.
 
-ghost use Rattle.device_state.specs.device_rules.specs.Outcomes.{record_for, records_of_extents, no_extent, log_full};
-ghost use Rattle.device_state.specs.device_rules.specs.Views.{View};
+ghost use Rattle.device_rules.specs.Outcomes.{record_for, records_of_extents, no_extent};
+ghost use Rattle.device_rules.specs.Views.{View, lists_in};
 ghost use Rattle.event_records.specs.declared.events.EventKind.{EventKind};
-ghost use Rattle.device_state.specs.StateAfter.{lists_in, part_of, IsLogOf};
 ghost use Rattle.cci_codec.specs.dcd_base.specs.Limits.{tags_supported};
 ghost use Rattle.extent_list.specs.ExtentLists.{real_tags};
-ghost use Rattle.device_state.specs.host_lists.specs.Lists.{extent_total, extents_of_lists};
+ghost use Rattle.extent_list.specs.HostLists.{extent_total, extents_of_lists};
 ghost use Rattle.std.specs.Prelude.{◌≡◌, ◌-◌, ◌≤◌, ◌∷◌, [], IfOk, ◌<◌, length, map};
 ghost use Rattle.cci_codec.specs.dcd_base.specs.declared.steps.LogId.{LogId};
 ghost use Rattle.device_commands.specs.Drafts.{as_records};
-ghost use Rattle.event_log.specs.Logs.{Log};
 
 use cci_codec::dcd_base::{Extent, HostId, LogId, NoMemory, Seq, ShortList, no_tag};
-use device_state::State;
-use device_state::host_lists::Changed;
 use event_records::{Event, EventKind};
-use extent_list::dcd_codes::Rule;
+use host_lists::Changed;
 use std::alloc::Global;
 
 /// Records for one log, in order. The log gives each its handle.
@@ -42,7 +38,7 @@ pub fn event_for(
 
 /// What is told of an extent, where it is known how many tags the host has available by these lists. The handle is 0.
 #[inline(always)]
-pub(crate) fn event_by_tags(
+pub fn event_by_tags(
     host: HostId,
     lists: &Changed,
     tags_available: u32,
@@ -103,7 +99,7 @@ fn records_by_tags(
 
 /// The same, for any number of extents.
 #[inline(never)]
-pub(crate) fn each_record(
+pub fn each_record(
     alloc: Global,
     host: HostId,
     lists: &Changed,
@@ -165,20 +161,4 @@ pub fn no_extent() -> Extent
         tag: no_tag(),
         sequence: 0,
     }
-}
-
-/// The rule that is broken where the host's log has fewer free places than records are due.
-pub(crate) fn log_full(state: &State, host: HostId, need: u32) -> Option<Rule>
-    requires { host < length state.now.hosts.items }
-    ensures { (log : Log) → IsLogOf (LogId.Host host) log (part_of state.now host).log → result ≡ log_full host log need }
-{
-    let have = state.part(host).log.room();
-    if have < need {
-        return Some(Rule::LogFull {
-            host: host.0,
-            need,
-            have,
-        });
-    }
-    None
 }

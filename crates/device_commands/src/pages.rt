@@ -1,10 +1,9 @@
 //! What pages of replies show: regions, extents, and what a host may have.
 
 ghost use Rattle.device_commands.specs.ShownFlags.{AreSeen, flags_of as flags_shown};
-ghost use Rattle.device_state.specs.device_rules.specs.Settings.{host_counts, page, region_seen};
-ghost use Rattle.device_state.specs.device_rules.specs.Views.{View};
-ghost use Rattle.device_state.specs.StateAfter.{lists_in};
-ghost use Rattle.device_state.specs.host_lists.specs.Lists.{extent_total};
+ghost use Rattle.device_rules.specs.Settings.{host_counts, page, region_seen};
+ghost use Rattle.device_rules.specs.Views.{View, lists_in};
+ghost use Rattle.extent_list.specs.HostLists.{extent_total};
 ghost use Rattle.host_payloads.specs.declared.views.RegionView.{RegionView};
 ghost use Rattle.extent_list.specs.media_map.specs.region_config.specs.Granules.{with_blocks};
 ghost use Rattle.extent_list.specs.media_map.specs.region_config.specs.Configurations.{Configuration};
@@ -13,8 +12,8 @@ ghost use Rattle.std.specs.Prelude.{◌≡◌, ◌<◌, ◌≤◌, length, min};
 use crate::few::Few;
 use cci_codec::dcd_base::limits::{EXTENTS, PAGE_EXTENTS, TAGS};
 use cci_codec::dcd_base::{Extent, HostId, RegionId};
-use device_state::host_lists::HostLists;
 use extent_list::media_map::region_config::{Config, RegionSpec};
+use host_lists::HostLists;
 use host_payloads::{Counts, RegionView};
 
 /// What stands in the place of a region that is not shown.

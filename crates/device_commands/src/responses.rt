@@ -1,7 +1,7 @@
 //! Responses to messages.
 
 ghost use Rattle.extent_list.specs.dcd_codes.specs.Rules.{code_of as code_for};
-ghost use Rattle.device_state.specs.device_rules.specs.Answers.{response};
+ghost use Rattle.device_rules.specs.Answers.{response};
 ghost use Rattle.std.specs.Prelude.{◌≡◌, []};
 
 use cci_codec::dcd_base::Bytes;

@@ -18,7 +18,8 @@ use std::mem::{ManuallyDrop, replace, swap};
 pub struct Room {
     alloc: Global,
     payload: Bytes,
-    pub(crate) runs: Runs,
+    /// The memory of the runs that an offer is chosen of, which whoever chooses takes out and puts back.
+    pub runs: Runs,
     extents: Extents,
     step: Option<Box<DraftedStep>>,
 }
@@ -42,7 +43,7 @@ impl Room {
 
     /// A payload without bytes, in which a reply can be written. It takes no new memory.
     #[inline(always)]
-    pub(crate) fn payload(&mut self) -> Bytes
+    pub fn payload(&mut self) -> Bytes
         ensures { result ≡ [] }
     {
         let mut payload = replace(&mut self.payload, Bytes::new(self.alloc));
@@ -52,7 +53,7 @@ impl Room {
 
     /// A payload without bytes, in which so many can be written without more memory.
     #[inline(always)]
-    pub(crate) fn payload_for(&mut self, bytes: usize) -> Result<Bytes, NoMemory>
+    pub fn payload_for(&mut self, bytes: usize) -> Result<Bytes, NoMemory>
         ensures { IfOk result (λ payload. payload ≡ []) }
     {
         let mut items = replace(&mut self.payload, Bytes::new(self.alloc)).into_vec();
@@ -95,7 +96,7 @@ impl Room {
 
     /// The parts of a draft that has nothing yet but what was kept of lists and of records.
     #[inline(never)]
-    pub(crate) fn blank(&mut self) -> Result<Box<DraftedStep>, NoMemory>
+    pub fn blank(&mut self) -> Result<Box<DraftedStep>, NoMemory>
         ensures { IfOk result (λ step. IsBlank step.value) }
     {
         match self.step.take() {
@@ -119,7 +120,7 @@ impl Room {
 
     /// A list without extents, in which so many can be put without more memory.
     #[inline(always)]
-    pub(crate) fn extents(&mut self, most: usize) -> Result<Vec<Extent>, NoMemory>
+    pub fn extents(&mut self, most: usize) -> Result<Vec<Extent>, NoMemory>
         ensures items { IfOk result (λ extents. extents.items ≡ []) }
         ensures len { IfOk result (λ extents. vec_len extents ≡ 0) }
         ensures room { IfOk result (λ extents. most ≤ vec_capacity extents) }

@@ -18,7 +18,7 @@ pub fn tags_of(alloc: Global, extents: &[Extent]) -> Result<Seq<Tag>, NoMemory>
 }
 
 /// Puts each tag of the extents once into a list that has none yet, in the order of first appearance.
-pub(crate) fn put_tags_of(extents: &[Extent], tags: &mut Seq<Tag>) -> Result<(), NoMemory>
+pub fn put_tags_of(extents: &[Extent], tags: &mut Seq<Tag>) -> Result<(), NoMemory>
     requires { tags.old ≡ [] }
     ensures { OnOk result (tags.new ≡ tags_of extents.now) }
 {

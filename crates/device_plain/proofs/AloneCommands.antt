@@ -9,12 +9,12 @@ use Rattle.dcd_base.specs.declared.steps.LogId.{LogId}
 use Rattle.extent_list.specs.dcd_codes.specs.Rules.{code_of}
 use Rattle.extent_list.specs.dcd_codes.specs.declared.codes.Code.{Code}
 use Rattle.extent_list.specs.dcd_codes.specs.declared.rules.Rule.{Rule}
-use Rattle.control_core.specs.device_commands.specs.HostMessages.{IsDraft}
+use Rattle.control_core.specs.host_commands.specs.HostMessages.{IsDraft}
 use Rattle.control_core.specs.device_commands.specs.ListsUpdates.{left_by}
-use Rattle.control_core.specs.device_state.specs.StateAfter.{IsLogOf}
+use Rattle.event_log.specs.Logs.{IsLogOf}
 use Rattle.control_core.specs.device_commands.specs.declared.draft.DraftParts.{DraftParts}
 use Rattle.control_core.specs.device_state.specs.host_lists.specs.Changes.{changed_by}
-use Rattle.control_core.specs.device_state.specs.host_lists.specs.Lists.{Lists, extent_total}
+use Rattle.extent_list.specs.HostLists.{Lists, extent_total}
 use Rattle.control_core.specs.device_state.specs.host_lists.specs.declared.lists_change.ListsChange.{ListsChange}
 use Rattle.journal_core.specs.declared.acts.Act.{Act}
 use Rattle.journal_core.specs.declared.acts.Reply.{Reply}

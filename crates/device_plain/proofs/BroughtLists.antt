@@ -5,10 +5,9 @@ use Rattle.std.proofs.Math.Nat.{mod-add-mod}
 use Rattle.std.proofs.lemmas.List.Sums.{sum_by_push}
 use Rattle.dcd_base.specs.declared.capacity.Extent.{Extent}
 use Rattle.dcd_base.specs.declared.ids.HostId.{HostId}
-use Rattle.control_core.specs.device_rules.specs.Views.{View, extents_in}
+use Rattle.control_core.specs.device_rules.specs.Views.{View, extents_in, lists_in}
 use Rattle.extent_list.specs.ExtentLists.{count_in, cut_all}
-use Rattle.control_core.specs.device_state.specs.StateAfter.{lists_in}
-use Rattle.control_core.specs.device_state.specs.host_lists.specs.Lists.{Lists, extent_total, next_generation}
+use Rattle.extent_list.specs.HostLists.{Lists, extent_total, next_generation}
 use Rattle.region_config.specs.Configurations.{Configuration}
 use Rattle.device_plain.specs.Alone.{IsAlone}
 use Rattle.device_plain.specs.declared.alone.Alone.{Alone}

@@ -4,7 +4,7 @@ use Rattle.dcd_base.specs.declared.ids.HostId.{HostId}
 use Rattle.event_log.proofs.Histories.{begins}
 use Rattle.event_log.specs.LogStates.{new_log}
 use Rattle.granule_mem.specs.Contents.{word_among}
-use Rattle.control_core.specs.device_state.specs.host_lists.specs.Lists.{extent_total, no_lists}
+use Rattle.extent_list.specs.HostLists.{extent_total, no_lists}
 use Rattle.region_config.specs.Configurations.{Configuration}
 use Rattle.control_core.specs.device_rules.specs.Views.{first_view}
 use Rattle.control_core.specs.device_state.proofs.Fresh.{own_blocks}

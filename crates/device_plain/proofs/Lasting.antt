@@ -14,7 +14,8 @@ use Rattle.control_core.specs.device_rules.specs.Adding.{present}
 use Rattle.control_core.specs.device_rules.specs.Logs.{log_of}
 use Rattle.control_core.specs.device_rules.specs.Views.{View, view_after, view_of}
 use Rattle.control_core.specs.device_rules.proofs.ViewSteps.{view_of-push}
-use Rattle.control_core.specs.device_state.specs.StateAfter.{IsLogOf, IsPart, IsStateAfter, part_of}
+use Rattle.control_core.specs.device_state.specs.StateAfter.{IsPart, IsStateAfter, part_of}
+use Rattle.event_log.specs.Logs.{IsLogOf}
 use Rattle.control_core.specs.device_state.specs.declared.state.State.{State}
 use Rattle.tag_refs.specs.declared.entries.TagEntry.{TagEntry}
 use Rattle.device_plain.proofs.MemorySteps.{effects_stay}

@@ -5,9 +5,8 @@ use Rattle.std.proofs.lemmas.List.{length_push}
 use Rattle.dcd_base.specs.declared.steps.LogId.{LogId}
 use Rattle.event_log.proofs.Histories.{follows, stays}
 use Rattle.event_log.specs.LogStates.{LogState, with_record}
-use Rattle.event_log.specs.Logs.{Log, logged, places_in, recorded}
+use Rattle.event_log.specs.Logs.{Log, logged, places_in, recorded, IsLogOf}
 use Rattle.event_records.specs.declared.events.Event.{Event}
-use Rattle.control_core.specs.device_state.specs.StateAfter.{IsLogOf}
 
 pub put_count : (log : LogState) (events : List Event) → length (fold with_record log events).records ≡ length log.records + length events
 put_count log [] = omega arith

@@ -5,9 +5,8 @@ use Rattle.std.specs.List.{list_all}
 use Rattle.std.proofs.lemmas.Bool.{false≢true}
 use Rattle.dcd_base.specs.declared.ids.HostId.{HostId}
 use Rattle.dcd_base.specs.declared.steps.LogId.{LogId}
-use Rattle.event_log.specs.Logs.{IsHistory}
+use Rattle.event_log.specs.Logs.{IsHistory, IsLogOf}
 use Rattle.event_log.specs.LogStates.{LogState}
-use Rattle.control_core.specs.device_state.specs.StateAfter.{IsLogOf}
 use Rattle.host_payloads.specs.declared.requests.HostRequest.{HostRequest}
 use Rattle.journal_core.specs.declared.outcome.Effect.{Effect}
 use Rattle.region_config.specs.Configurations.{Configuration}

@@ -8,12 +8,11 @@ use Rattle.std.proofs.lemmas.List.Concat.{length-flat_map}
 use Rattle.dcd_base.specs.declared.capacity.Extent.{Extent}
 use Rattle.dcd_base.specs.declared.ids.HostId.{HostId}
 use Rattle.dcd_base.specs.declared.steps.LogId.{LogId}
-use Rattle.control_core.specs.device_rules.specs.Views.{View, extents_in}
+use Rattle.control_core.specs.device_rules.specs.Views.{View, extents_in, lists_in}
 use Rattle.event_log.specs.LogStates.{LogState, with_record}
-use Rattle.event_log.specs.Logs.{logged, records_in}
+use Rattle.event_log.specs.Logs.{logged, records_in, IsLogOf}
 use Rattle.event_records.specs.declared.events.Event.{Event}
-use Rattle.control_core.specs.device_state.specs.StateAfter.{IsLogOf, lists_in}
-use Rattle.control_core.specs.device_state.specs.host_lists.specs.Lists.{extent_total}
+use Rattle.extent_list.specs.HostLists.{extent_total}
 use Rattle.region_config.specs.Configurations.{Configuration}
 use Rattle.device_plain.specs.Alone.{IsAlone, TakesItem}
 use Rattle.isolation_laws.specs.Solo.{solo_after, solo_word_after, with_log_records}

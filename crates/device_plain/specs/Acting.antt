@@ -6,7 +6,7 @@ use Rattle.dcd_base.specs.declared.steps.LogId.{LogId}
 use Rattle.control_core.specs.device_state.specs.Entered.{log_by}
 use Rattle.granule_mem.specs.Contents.{word_among}
 use Rattle.control_core.specs.device_commands.specs.ListsUpdates.{left_by}
-use Rattle.control_core.specs.device_state.specs.host_lists.specs.Lists.{Lists}
+use Rattle.extent_list.specs.HostLists.{Lists}
 use Rattle.control_core.specs.device_state.specs.host_lists.specs.declared.lists_change.ListsChange.{ListsChange}
 use Rattle.journal_core.specs.declared.outcome.Effect.{Effect}
 use Rattle.isolation_laws.specs.Solo.{accepts_byte}

@@ -8,10 +8,10 @@ use Rattle.dcd_base.specs.declared.steps.LogId.{LogId}
 use Rattle.dcd_base.specs.declared.failures.AccessFault.{AccessFault}
 use Rattle.dcd_base.specs.declared.media.Place.{Place}
 use Rattle.control_core.specs.device_rules.specs.Answers.{host_result_in, reply_with}
-use Rattle.control_core.specs.device_rules.specs.Views.{View}
+use Rattle.control_core.specs.device_rules.specs.Views.{View, lists_in}
 use Rattle.granule_mem.specs.Contents.{word_among}
-use Rattle.control_core.specs.device_state.specs.StateAfter.{IsLogOf, lists_in}
-use Rattle.control_core.specs.device_state.specs.host_lists.specs.Lists.{extent_total}
+use Rattle.event_log.specs.Logs.{IsLogOf}
+use Rattle.extent_list.specs.HostLists.{extent_total}
 use Rattle.journal_core.specs.declared.acts.Act.{Act}
 use Rattle.journal_core.specs.declared.acts.Reply.{Reply}
 use Rattle.media_map.specs.Places.{locate}

@@ -2,7 +2,7 @@
 
 ghost use Rattle.control_core.specs.device_commands.specs.ListsUpdates.{left_by};
 ghost use Rattle.control_core.specs.device_rules.specs.Answers.{response};
-ghost use Rattle.control_core.specs.device_state.specs.host_lists.specs.Lists.{extent_total};
+ghost use Rattle.extent_list.specs.HostLists.{extent_total};
 ghost use Rattle.device_plain.specs.Acting.{ChangesAlone, without_held};
 ghost use Rattle.device_plain.specs.Alone.{DoesAlone};
 ghost use Rattle.isolation_laws.specs.Solo.{has_byte as has_byte_in};
@@ -12,9 +12,10 @@ ghost use Rattle.std.specs.Prelude.{◌≡◌, ◌<◌, ◌≤◌, IfOk, None};
 use crate::alone::Alone;
 use crate::words_alone::{clear_words, has_byte, store_word, word_at};
 use cci_codec::Request;
-use control_core::device_commands::host_lists::ListsChange;
-use control_core::device_commands::{Draft, DraftParts, Room, answer, host_draft, refused};
+use control_core::device_commands::{Draft, DraftParts, Room, answer, refused};
 use control_core::device_state::change_log_named;
+use control_core::device_state::host_lists::ListsChange;
+use control_core::host_commands::host_draft;
 use dcd_base::{AccessFault, HostId, LogId, NoMemory};
 use extent_list::dcd_codes::{Code, Refusal};
 use isolation_laws::SoloReply;
@@ -67,7 +68,6 @@ impl Alone {
     {
         let mut room = Room::new(alloc);
         match host_draft(
-            alloc,
             config,
             &self.present,
             host,

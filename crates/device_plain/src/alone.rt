@@ -5,7 +5,7 @@ ghost use Rattle.control_core.specs.device_rules.specs.Views.{first_view};
 ghost use Rattle.device_plain.specs.Alone.{IsAlone};
 ghost use Rattle.std.specs.Prelude.{IfOk};
 
-use control_core::device_commands::host_lists::HostLists;
+use control_core::device_state::host_lists::HostLists;
 use dcd_base::NoMemory;
 use dcd_base::limits::HOST_RECORDS;
 use event_log::EventLog;

@@ -3,7 +3,7 @@
 ghost use Rattle.dcd_base.specs.declared.ids.HostId.{HostId};
 ghost use Rattle.control_core.specs.device_rules.specs.Outcomes.{records_of_extents};
 ghost use Rattle.event_log.specs.LogStates.{with_record};
-ghost use Rattle.control_core.specs.device_state.specs.host_lists.specs.Lists.{extent_total};
+ghost use Rattle.extent_list.specs.HostLists.{extent_total};
 ghost use Rattle.device_plain.specs.Alone.{TakesItem};
 ghost use Rattle.device_plain.specs.Telling.{Logs, resized};
 ghost use Rattle.isolation_laws.specs.declared.items.Item.{Item};
@@ -11,8 +11,8 @@ ghost use Rattle.region_config.specs.Configurations.{Configuration};
 ghost use Rattle.std.specs.Prelude.{◌≡◌, ◌+◌, ◌^◌, ◌<◌, ◌≤◌, ◌↔◌, All, IsTrue, OnErr, OnOk, fold, length};
 
 use crate::alone::{Alone, Stop};
-use control_core::device_commands::host_lists::Changed;
 use control_core::device_commands::{event_for, no_extent, records_of_extents};
+use control_core::device_state::host_lists::Changed;
 use dcd_base::limits::EXTENTS;
 use dcd_base::{Extent, Extents, HostId, RegionId};
 use event_log::EventLog;

@@ -1,6 +1,6 @@
 //! What a device with one host alone replies.
 
-ghost use Rattle.control_core.specs.device_state.specs.host_lists.specs.Lists.{extent_total};
+ghost use Rattle.extent_list.specs.HostLists.{extent_total};
 ghost use Rattle.device_plain.specs.Alone.{IsFaultOf, TakesItem, solo_replies as solo_replies_of};
 ghost use Rattle.device_plain.specs.Telling.{Replies};
 ghost use Rattle.std.specs.Prelude.{◌≡◌, ◌<◌, ◌≤◌, IfErr, IfOk, OnOk};

@@ -15,6 +15,7 @@ use Rattle.device_rules.specs.Hosts.{offers_after, offers_of, accepted_after, ac
 use Rattle.event_log.specs.Logs.{Log, empty_log}
 use Rattle.device_rules.specs.Logs.{log_after, log_of}
 use Rattle.extent_list.specs.ExtentLists.{real_tags}
+use Rattle.extent_list.specs.HostLists.{Lists}
 
 -- all that the answers to one host's commands depend on, beside the configuration
 pub record View : Type 0 where
@@ -75,3 +76,13 @@ extents_available v = extents_supported - length (extents_in v)
 
 abbrev pub tags_available : View → ℕ
 tags_available v = tags_supported - length (real_tags (extents_in v))
+
+-- the lists that a view shows
+abbrev pub lists_in : View → Lists
+lists_in v = record {
+  accepted = v.accepted;
+  offers = v.offers;
+  responses = v.responses;
+  releases = v.releases;
+  generation = generation_in v;
+}

@@ -15,7 +15,7 @@ use Rattle.cci_codec.specs.dcd_base.specs.Words.{same_tag}
 use Rattle.extent_list.specs.dcd_codes.specs.declared.rules.Rule.{Rule}
 use Rattle.extent_list.specs.ExtentLists.{count_in, cut, has_range, marked, piece}
 use Rattle.fm_payloads.specs.declared.requests.FmRequest.{FmRequest}
-use Rattle.host_lists.specs.Lists.{Lists}
+use Rattle.extent_list.specs.HostLists.{Lists}
 use Rattle.host_payloads.specs.declared.requests.HostRequest.{HostRequest}
 use Rattle.journal_core.specs.Entries.{effects}
 use Rattle.journal_core.specs.declared.entries.Entry.{Entry}
@@ -40,7 +40,7 @@ use Rattle.device_rules.specs.Outcomes.{Outcome, effects_of, ended, entered_all}
 use Rattle.device_rules.specs.ReleaseOutcomes.{is_cleaning, is_forced, leaves, policy_in, removals}
 use Rattle.device_rules.specs.ResponseOutcomes.{answered, hold, unhold}
 use Rattle.device_rules.specs.Tags.{is_referenced}
-use Rattle.device_rules.specs.Views.{View, view_of}
+use Rattle.device_rules.specs.Views.{View, view_of, lists_in}
 use Rattle.device_rules.proofs.EffectKinds.{PassClearing, PassRecords, any_log, clear_passes, reference_passes, tells_any, told_passes, zeroes_pass}
 use Rattle.device_rules.proofs.Leaving.{both_pass, map_passes}
 use Rattle.device_rules.proofs.LegalSteps.{Cases, step_case}
@@ -52,12 +52,12 @@ use Rattle.device_rules.proofs.LeftStanding.{going_of, going_rule}
 use Rattle.device_rules.proofs.LegalSound.{legal_is_sound}
 use Rattle.device_rules.proofs.OneLeave.{loose}
 use Rattle.device_rules.proofs.Overlaps.{not_broken}
-use Rattle.selection.proofs.Prescribed.{neither}
+use Rattle.release_core.proofs.Members.{neither}
 use Rattle.device_rules.specs.Pictures.{Picture, extents_at, picture_of}
 use Rattle.device_rules.specs.Standing.{IsMade, IsTogether, Stands}
 use Rattle.device_rules.proofs.LeavingSteps.{removal_row}
 use Rattle.device_state.specs.EnteredLists.{Fits, HasPlaces, all_lists_by, lists_of, room_by}
-use Rattle.device_state.specs.StateAfter.{IsStateAfter, lists_in}
+use Rattle.device_state.specs.StateAfter.{IsStateAfter}
 use Rattle.device_state.specs.declared.state.State.{State}
 
 -- ---- effects that need no place

@@ -8,11 +8,11 @@ use Rattle.std.proofs.lemmas.Nat.Bits.{bit_at-zero}
 use Rattle.cci_codec.specs.dcd_base.specs.declared.ids.HostId.{HostId}
 use Rattle.cci_codec.specs.dcd_base.specs.declared.steps.LogId.{LogId}
 use Rattle.event_log.proofs.Histories.{begins}
-use Rattle.event_log.specs.Logs.{empty_log}
+use Rattle.event_log.specs.Logs.{empty_log, IsLogOf}
 use Rattle.device_rules.specs.GranuleCells.{IsCell}
 use Rattle.granule_map.specs.declared.states.GranuleState.{GranuleState}
 use Rattle.granule_map.specs.Tables.{CellTable, cell_at}
-use Rattle.device_state.specs.StateAfter.{IsLogOf, IsStateAfter, IsPart, no_part}
+use Rattle.device_state.specs.StateAfter.{IsStateAfter, IsPart, no_part}
 use Rattle.extent_list.specs.media_map.specs.region_config.specs.Configurations.{Configuration}
 use Rattle.extent_list.specs.media_map.specs.region_config.specs.declared.region_spec.RegionSpec.{RegionSpec}
 use Rattle.extent_list.specs.media_map.specs.region_config.specs.Granules.{granule_total, hosts_of, no_region, region_of, region_spec, with_blocks}

@@ -11,12 +11,13 @@ use Rattle.cci_codec.specs.dcd_base.specs.declared.capacity.Tag.{Tag}
 use Rattle.cci_codec.specs.dcd_base.specs.declared.ids.HostId.{HostId}
 use Rattle.cci_codec.specs.dcd_base.specs.declared.steps.LogId.{LogId}
 use Rattle.event_log.specs.LogStates.{LogState}
-use Rattle.event_log.specs.Logs.{empty_log, places_in, state_of}
+use Rattle.event_log.specs.Logs.{empty_log, places_in, state_of, IsLogOf}
 use Rattle.device_rules.specs.GranuleCells.{IsCell}
 use Rattle.device_rules.specs.GranuleTable.{AreKnown, StaysRight}
 use Rattle.granule_map.specs.Tables.{cell_at}
-use Rattle.device_state.specs.StateAfter.{IsLogOf, lists_in, IsStateAfter, IsPart, no_part, part_of}
-use Rattle.host_lists.specs.Lists.{Lists, next_generation}
+use Rattle.device_state.specs.StateAfter.{IsStateAfter, IsPart, no_part, part_of}
+use Rattle.device_rules.specs.Views.{lists_in, View, view_after, view_of}
+use Rattle.extent_list.specs.HostLists.{Lists, next_generation}
 use Rattle.journal_core.proofs.EachSteps.{Each-push}
 use Rattle.journal_core.proofs.JournalSteps.{effects-push, over-push}
 use Rattle.journal_core.specs.Entries.{effects}
@@ -40,7 +41,6 @@ use Rattle.device_rules.specs.Hosts.{accepted_after, block_after, block_of, held
 use Rattle.device_rules.specs.Legal.{Legal, Meets}
 use Rattle.device_rules.specs.Logs.{log_after, log_of}
 use Rattle.device_rules.specs.Tags.{last_offer, open_tags, tag_runs}
-use Rattle.device_rules.specs.Views.{View, view_after, view_of}
 use Rattle.device_rules.proofs.LegalLogs.{legal_logs}
 use Rattle.device_state.proofs.DeviceEffects.{each_of_device}
 use Rattle.device_state.proofs.HolderBits.{holding_over, length-over, none_over}

@@ -11,7 +11,7 @@ use Rattle.cci_codec.specs.dcd_base.specs.declared.capacity.Extent.{Extent}
 use Rattle.cci_codec.specs.dcd_base.specs.declared.ids.HostId.{HostId}
 use Rattle.cci_codec.specs.dcd_base.specs.declared.media.Run.{Run}
 use Rattle.extent_list.specs.ExtentLists.{cut}
-use Rattle.host_lists.specs.Lists.{Lists, next_generation}
+use Rattle.extent_list.specs.HostLists.{Lists, next_generation}
 use Rattle.journal_core.specs.declared.outcome.Effect.{Effect}
 use Rattle.journal_core.specs.declared.outcome.HeldKind.{HeldKind}
 use Rattle.extent_list.specs.media_map.specs.Places.{bytes_of_run, start_of}

@@ -6,7 +6,7 @@ use Rattle.cci_codec.specs.dcd_base.specs.declared.ids.HostId.{HostId}
 use Rattle.cci_codec.specs.dcd_base.specs.declared.steps.LogId.{LogId}
 use Rattle.event_log.specs.LogStates.{LogState}
 use Rattle.granule_map.specs.Tables.{Cell, cell_at}
-use Rattle.host_lists.specs.Lists.{Lists}
+use Rattle.extent_list.specs.HostLists.{Lists}
 use Rattle.journal_core.specs.declared.outcome.Effect.{Effect}
 use Rattle.offer_core.specs.Offerings.{oldest_of}
 use Rattle.extent_list.specs.media_map.specs.region_config.specs.Configurations.{Configuration}

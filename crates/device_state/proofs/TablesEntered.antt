@@ -11,7 +11,7 @@ use Rattle.cci_codec.specs.dcd_base.specs.declared.capacity.Tag.{Tag}
 use Rattle.cci_codec.specs.dcd_base.specs.declared.ids.HostId.{HostId}
 use Rattle.cci_codec.specs.dcd_base.specs.declared.media.Run.{Run}
 use Rattle.extent_list.specs.ExtentLists.{cut, has_extent_of, has_range, piece}
-use Rattle.host_lists.specs.Lists.{Lists}
+use Rattle.extent_list.specs.HostLists.{Lists}
 use Rattle.journal_core.specs.declared.outcome.Effect.{Effect}
 use Rattle.extent_list.specs.media_map.specs.Places.{bytes_of_run, start_of}
 use Rattle.offer_core.specs.Offerings.{oldest_of}

@@ -10,7 +10,7 @@ use Rattle.cci_codec.specs.dcd_base.specs.declared.capacity.Extent.{Extent}
 use Rattle.cci_codec.specs.dcd_base.specs.declared.capacity.Tag.{Tag}
 use Rattle.cci_codec.specs.dcd_base.specs.declared.ids.HostId.{HostId}
 use Rattle.device_rules.proofs.TagSearches.{one_tag}
-use Rattle.host_lists.specs.Lists.{Lists}
+use Rattle.extent_list.specs.HostLists.{Lists}
 use Rattle.extent_list.specs.ExtentLists.{has_extent_of}
 use Rattle.tag_refs.specs.Tables.{entries_changed, is_entry_of, set_by}
 use Rattle.tag_refs.specs.declared.entries.TagEntry.{TagEntry}

@@ -11,7 +11,7 @@ use Rattle.event_log.specs.LogStates.{LogState, with_missed, with_record, withou
 use Rattle.event_records.specs.declared.events.Event.{Event}
 use Rattle.device_rules.specs.GranuleCells.{cell_over}
 use Rattle.granule_map.specs.Tables.{cell_at}
-use Rattle.host_lists.specs.Lists.{Lists}
+use Rattle.extent_list.specs.HostLists.{Lists}
 use Rattle.journal_core.specs.declared.outcome.Effect.{Effect}
 use Rattle.offer_core.specs.Offerings.{oldest_of}
 use Rattle.extent_list.specs.media_map.specs.region_config.specs.Blocks.{with_block}

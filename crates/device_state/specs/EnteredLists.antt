@@ -6,7 +6,7 @@ use Rattle.cci_codec.specs.dcd_base.specs.declared.capacity.Tag.{Tag}
 use Rattle.cci_codec.specs.dcd_base.specs.declared.ids.HostId.{HostId}
 use Rattle.cci_codec.specs.dcd_base.specs.declared.media.Run.{Run}
 use Rattle.extent_list.specs.ExtentLists.{count_in, has_extent_of, has_range}
-use Rattle.host_lists.specs.Lists.{Lists, next_generation}
+use Rattle.extent_list.specs.HostLists.{Lists, next_generation}
 use Rattle.journal_core.specs.declared.outcome.Effect.{Effect}
 use Rattle.journal_core.specs.declared.outcome.HeldKind.{HeldKind}
 use Rattle.extent_list.specs.media_map.specs.Places.{IsRun, bytes_of_run, has_address, is_granular, run_of, start_of}

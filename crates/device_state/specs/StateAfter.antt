@@ -5,8 +5,7 @@ use Rattle.cci_codec.specs.dcd_base.specs.declared.steps.LogId.{LogId}
 use Rattle.extent_list.specs.media_map.specs.region_config.specs.Configurations.{Configuration}
 use Rattle.extent_list.specs.media_map.specs.region_config.specs.Granules.{granule_total}
 use Rattle.extent_list.specs.media_map.specs.region_config.specs.Soundness.{IsSound}
-use Rattle.event_log.specs.LogStates.{LogState, new_log}
-use Rattle.event_log.specs.Logs.{IsHistory, Log, places_in, state_of}
+use Rattle.event_log.specs.LogStates.{new_log}
 use Rattle.journal_core.specs.Entries.{effects}
 use Rattle.journal_core.specs.Holders.{holds}
 use Rattle.journal_core.specs.declared.entries.Entry.{Entry}
@@ -14,13 +13,14 @@ use Rattle.cci_codec.specs.dcd_base.specs.Hosts.{has_host}
 use Rattle.granule_map.specs.Tables.{cell_at}
 use Rattle.device_rules.specs.GranuleCells.{IsCell}
 use Rattle.device_rules.specs.TagTable.{IsTable}
-use Rattle.host_lists.specs.Lists.{Lists, no_lists}
+use Rattle.extent_list.specs.HostLists.{no_lists}
 use Rattle.device_rules.specs.Adding.{present}
 use Rattle.device_rules.specs.Legal.{Legal}
 use Rattle.device_rules.specs.Logs.{log_of}
-use Rattle.device_rules.specs.Views.{View, generation_in, view_of}
+use Rattle.device_rules.specs.Views.{View, view_of, lists_in}
 use Rattle.device_state.specs.declared.parts.HostPart.{HostPart}
 use Rattle.device_state.specs.declared.state.State.{State}
+use Rattle.event_log.specs.Logs.{IsLogOf}
 
 -- the part of a host that has nothing, and the part of a host by its number
 abbrev pub no_part : HostPart
@@ -28,21 +28,6 @@ no_part = record { lists = no_lists; log = new_log 64 }
 
 abbrev pub part_of : State → HostId → HostPart
 part_of s h = slice_index_or s.hosts.items h no_part
-
--- the lists that a view shows
-abbrev pub lists_in : View → Lists
-lists_in v = record {
-  accepted = v.accepted;
-  offers = v.offers;
-  responses = v.responses;
-  releases = v.releases;
-  generation = generation_in v;
-}
-
--- The log is the one of this history.
-pub record IsLogOf (l : LogId) (history : Log) (log : LogState) : Type 0 where
-  pub is : log ≡ state_of (places_in l) history
-  pub told : IsHistory history
 
 -- What is kept of a host is what it sees.
 pub record IsPart (h : HostId) (v : View) (part : HostPart) : Type 0 where

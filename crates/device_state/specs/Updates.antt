@@ -7,9 +7,9 @@ use Rattle.extent_list.specs.media_map.specs.region_config.specs.Granules.{is_su
 use Rattle.journal_core.specs.Entries.{effects}
 use Rattle.journal_core.specs.declared.entries.Entry.{Entry}
 use Rattle.journal_core.specs.declared.outcome.Effect.{Effect}
-use Rattle.device_state.specs.StateAfter.{lists_in, part_of, IsStateAfter}
-use Rattle.host_lists.specs.Lists.{Lists}
-use Rattle.device_rules.specs.Views.{view_after, view_of}
+use Rattle.device_state.specs.StateAfter.{part_of, IsStateAfter}
+use Rattle.device_rules.specs.Views.{lists_in, view_after, view_of}
+use Rattle.extent_list.specs.HostLists.{Lists}
 use Rattle.device_state.specs.Entered.{IsEntered}
 use Rattle.device_state.specs.EnteredLists.{Fits, lists_of}
 use Rattle.event_log.specs.LogStates.{LogState}

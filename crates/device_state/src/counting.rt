@@ -3,7 +3,7 @@
 ghost use Rattle.device_state.specs.Entered.{with_lists};
 ghost use Rattle.device_state.specs.Stages.{AreCounted, AreMoved};
 ghost use Rattle.device_state.specs.StateAfter.{part_of};
-ghost use Rattle.host_lists.specs.Lists.{next_generation};
+ghost use Rattle.extent_list.specs.HostLists.{next_generation};
 ghost use Rattle.std.specs.List.{list_any};
 ghost use Rattle.std.specs.Prelude.{◌≡◌, ◌==◌, ◌<◌, ◌≤◌, length, option_to_list};
 ghost use Rattle.device_rules.specs.Hosts.{moves};

@@ -71,3 +71,8 @@ pub record StaysHistory (log : Log) : Type 0 where
   pub missed : IsHistory (missed_by log)
   pub cleared : (n : ℕ) → n ≤ length (records_in log) → IsHistory (cleared_of n log)
   pub reset_too : IsHistory (reset log)
+
+-- The log is the one of this history.
+pub record IsLogOf (l : LogId) (history : Log) (log : LogState) : Type 0 where
+  pub is : log ≡ state_of (places_in l) history
+  pub told : IsHistory history

@@ -4,6 +4,7 @@ ghost use Rattle.extent_list.specs.Fitting.{Fits, FrontEnds, FrontFits, IsOwned,
 ghost use Rattle.extent_list.specs.Listing.{overlapping};
 ghost use Rattle.std.specs.Prelude.{◌≡◌, ◌==◌, ◌&&◌, ◌<◌, ◌≤◌, None, false, length, true};
 
+use crate::fitting::Before;
 use crate::lookup::Owners;
 use crate::orders::are_apart;
 use crate::owners::{lies_in, shares_some};
@@ -81,9 +82,10 @@ fn fit_behind(
     let apart = are_apart(list);
     let mut near = 0;
     for i in known..list.len() {
-        let (before, _) = list.split_at(i);
+        let (extents, _) = list.split_at(i);
+        let before = Before { extents, apart };
         if !fits_behind(
-            config, host, owners, &mut near, region, area, apart, before, &list[i],
+            config, host, owners, &mut near, region, area, &before, &list[i],
         ) {
             return i;
         }
@@ -91,8 +93,7 @@ fn fit_behind(
     list.len()
 }
 
-/// Whether the extent fits behind those before it. Where it is known to be `apart`, it shares no address with them; its
-/// owner is looked for at `near` first, and its place in this region.
+/// Whether the extent fits behind those before it. Its owner is looked for at `near` first, and its place in this region.
 #[inline(always)]
 fn fits_behind(
     config: &Config,
@@ -101,28 +102,41 @@ fn fits_behind(
     near: &mut usize,
     region: RegionId,
     area: &Area,
-    apart: bool,
-    before: &[Extent],
+    before: &Before,
     extent: &Extent,
 ) -> bool
     requires host { host < config.now.hosts }
     requires region { region < length config.now.regions }
     requires area { area.now ≡ area_of config.now host region }
     requires some { 0 < area.now.block }
-    requires apart { apart ≡ true → overlapping before.now extent.now ≡ None }
-    ensures fit { result ≡ true → Fits config.now host owners.now before.now extent.now }
-    ensures unfit { result ≡ false → Fits config.now host owners.now before.now extent.now → ⊥ }
+    requires apart { before.now.apart ≡ true → overlapping before.now.extents.now extent.now ≡ None }
+    ensures fit { result ≡ true → Fits config.now host owners.now before.now.extents.now extent.now }
+    ensures unfit { result ≡ false → Fits config.now host owners.now before.now.extents.now extent.now → ⊥ }
 {
     // That regions lie apart, which a configuration says of itself where it is read.
     let _regions = config.regions();
     if area.has(extent) {
-        return is_owned_behind(owners, near, area.shareable, apart, before, extent);
+        return is_owned_behind(
+            owners,
+            near,
+            area.shareable,
+            before.apart,
+            before.extents,
+            extent,
+        );
     }
     let other = Area::of(config, host, region_at(config, host, extent.start));
     if !other.has(extent) {
         return false;
     }
-    is_owned_behind(owners, near, other.shareable, apart, before, extent)
+    is_owned_behind(
+        owners,
+        near,
+        other.shareable,
+        before.apart,
+        before.extents,
+        extent,
+    )
 }
 
 /// Whether the extent lies in an owner, whole in a shareable region, and shares no address with those before it.

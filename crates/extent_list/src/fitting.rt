@@ -13,52 +13,58 @@ use dcd_base::{Extent, Extents, HostId, NoMemory};
 use dcd_codes::Rule;
 use media_map::region_config::Config;
 
+/// What stands before an extent in its list.
+#[derive(Clone, Copy, Debug)]
+pub struct Before<'a> {
+    /// The extents before it.
+    pub extents: &'a [Extent],
+    /// Whether it is known that it shares no address with one of them.
+    pub apart: bool,
+}
+
 /// The first rule that an extent breaks beside its owner and the extents before it, whose number is its index:
 /// `missing`, where it lies in no owner; `Overlap` with the first of those before with which it shares an address;
 /// `NotWhole`, where its region is shareable and it is a part.
 ///
-/// Where it is known to be `apart`, it shares no address with one before it. The owner is looked for at `near`
-/// first, which then becomes its index.
+/// The owner is looked for at `near` first, which then becomes its index.
 pub fn unfit(
     config: &Config,
     host: HostId,
     owners: &Owners,
     near: &mut usize,
-    apart: bool,
-    before: &[Extent],
+    before: &Before,
     extent: &Extent,
     missing: Rule,
 ) -> Option<Rule>
     requires host { host < config.now.hosts }
-    requires listed { length before.now < 2 ^ 32 }
-    requires apart { apart ≡ true → overlapping before.now extent.now ≡ None }
+    requires listed { length before.now.extents.now < 2 ^ 32 }
+    requires apart { before.now.apart ≡ true → overlapping before.now.extents.now extent.now ≡ None }
     ensures { result ≡ (not (is_in owners.now extent.now) breaks missing
-        or overlapping before.now extent.now
-        or not_whole config.now host owners.now (length before.now) extent.now) }
+        or overlapping before.now.extents.now extent.now
+        or not_whole config.now host owners.now (length before.now.extents.now) extent.now) }
 {
     let index = match owners.index_of(extent, *near) {
         Some(index) => index,
         None => return Some(missing),
     };
     *near = index;
-    if let Some(rule) = sharing(apart, before, extent) {
+    if let Some(rule) = sharing(before, extent) {
         return Some(rule);
     }
     let owner = &owners.as_slice()[index];
-    part_rule(config, host, owner, before.len() as u32, extent)
+    part_rule(config, host, owner, before.extents.len() as u32, extent)
 }
 
-/// The rule that an extent breaks which shares an address with one before it. Where it is known to be
-/// `apart`, it does not.
-pub fn sharing(apart: bool, before: &[Extent], extent: &Extent) -> Option<Rule>
-    requires listed { length before.now < 2 ^ 32 }
-    requires apart { apart ≡ true → overlapping before.now extent.now ≡ None }
-    ensures { result ≡ overlapping before.now extent.now }
+/// The rule that an extent breaks which shares an address with one before it.
+pub fn sharing(before: &Before, extent: &Extent) -> Option<Rule>
+    requires listed { length before.now.extents.now < 2 ^ 32 }
+    requires apart { before.now.apart ≡ true → overlapping before.now.extents.now extent.now ≡ None }
+    ensures { result ≡ overlapping before.now.extents.now extent.now }
 {
-    if apart {
+    if before.apart {
         return None;
     }
-    shares_address(before, extent)
+    shares_address(before.extents, extent)
 }
 
 /// The rule of a part of its owner, where the region is shareable.

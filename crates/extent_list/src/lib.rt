@@ -22,7 +22,7 @@ mod tags;
 
 pub use dcd_codes;
 pub use fitted_front::fit_front;
-pub use fitting::{put_marked, sharing, unfit};
+pub use fitting::{Before, put_marked, sharing, unfit};
 pub use limits::{too_many_extents, too_many_listed};
 pub use list::{ExtentList, TooMany};
 pub use lookup::Owners;
@@ -33,4 +33,4 @@ pub use pieces::{has_range_in, shares_range_with};
 pub use placing::{misplaced, region_at};
 pub use standing::stand_apart;
 pub use tag_rules::{incomplete, incomplete_among};
-pub use tags::{has_extent_of, has_no_tags, same_tag};
+pub use tags::{has_extent_of, same_tag};

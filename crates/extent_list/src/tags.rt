@@ -1,10 +1,9 @@
 //! Tags among extents.
 
-ghost use Rattle.dcd_base.specs.Words.{is_zero_tag, same_tag};
+ghost use Rattle.dcd_base.specs.Words.{same_tag};
 ghost use Rattle.extent_list.specs.ExtentLists.{has_extent_of};
 ghost use Rattle.std.specs.Int.{from_le_bytes, w64};
-ghost use Rattle.std.specs.List.{list_all};
-ghost use Rattle.std.specs.Prelude.{◌≡◌, ◌==◌, ℕ, ◌+◌, ◌<◌, ◌≤◌, drop, length, slice_index, take};
+ghost use Rattle.std.specs.Prelude.{◌≡◌, ℕ, ◌+◌, ◌<◌, ◌≤◌, drop, length, slice_index, take};
 
 use dcd_base::{Extent, Tag};
 
@@ -32,22 +31,4 @@ pub fn has_extent_of(tag: &Tag, extents: &[Extent]) -> bool
     ensures { result ≡ has_extent_of tag.now extents.now }
 {
     extents.iter().any(|extent| same_tag(&extent.tag, tag))
-}
-
-/// Whether none of the extents has a tag.
-pub fn has_no_tags(extents: &[Extent]) -> bool
-    ensures { result ≡ list_all (λ x. is_zero_tag x.tag) extents.now }
-{
-    let mut bits = 0;
-    for extent in extents {
-        bits |= bits_of(&extent.tag);
-    }
-    bits == 0
-}
-
-/// The bits that stand in a half of the tag or in the other.
-fn bits_of(tag: &Tag) -> u64
-    ensures { (result == 0) ≡ is_zero_tag tag.now }
-{
-    number_of(&tag.0, 0) | number_of(&tag.0, 8)
 }

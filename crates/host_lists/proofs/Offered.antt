@@ -10,7 +10,7 @@ use Rattle.extent_list.specs.dcd_codes.specs.dcd_base.specs.declared.capacity.Ex
 use Rattle.extent_list.specs.dcd_codes.specs.dcd_base.specs.declared.capacity.Tag.{Tag}
 use Rattle.extent_list.specs.dcd_codes.specs.dcd_base.specs.Words.{same_tag}
 use Rattle.extent_list.specs.ExtentLists.{count_in, has_extent_of}
-use Rattle.host_lists.specs.Lists.{Lists, extent_total, extents_of_lists}
+use Rattle.extent_list.specs.HostLists.{Lists, extent_total, extents_of_lists}
 use Rattle.offer_core.specs.declared.offer.Offer.{Offer}
 use Rattle.offer_core.specs.Offerings.{lists_of, oldest_of}
 use Rattle.host_lists.specs.Tags.{extents_before}

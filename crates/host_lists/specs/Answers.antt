@@ -5,7 +5,7 @@ use Rattle.extent_list.specs.dcd_codes.specs.dcd_base.specs.Words.{is_empty}
 use Rattle.extent_list.specs.ExtentLists.{cut_all, marked}
 use Rattle.release_core.specs.declared.releases.GivenBack.{GivenBack}
 use Rattle.host_lists.specs.declared.responded.Responded.{Responded}
-use Rattle.host_lists.specs.Lists.{Lists, next_generation}
+use Rattle.extent_list.specs.HostLists.{Lists, next_generation}
 
 -- the generation after a change of these extents; without any there is no change
 abbrev pub generation_after : List Extent → ℕ → ℕ

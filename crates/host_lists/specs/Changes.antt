@@ -3,7 +3,7 @@ use Rattle.std.specs.Prelude.{◌+◌, ◌&&◌, Bool, if◌then◌else◌, nat_
 use Rattle.extent_list.specs.dcd_codes.specs.dcd_base.specs.declared.capacity.Extent.{Extent}
 use Rattle.extent_list.specs.ExtentLists.{count_in}
 use Rattle.offer_core.specs.Offerings.{lists_of}
-use Rattle.host_lists.specs.Lists.{Lists}
+use Rattle.extent_list.specs.HostLists.{Lists}
 use Rattle.host_lists.specs.declared.lists_change.ListsChange.{ListsChange}
 use Rattle.host_lists.specs.declared.lists_change.OffersChange.{OffersChange}
 use Rattle.host_lists.specs.declared.lists_change.ReleasesChange.{ReleasesChange}

@@ -1,4 +1,4 @@
 pub mod Answers
 pub mod Changes
-pub mod Lists
 pub mod Tags
+pub use Rattle.release_core

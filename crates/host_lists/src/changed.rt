@@ -3,7 +3,7 @@
 ghost use Rattle.extent_list.specs.dcd_codes.specs.dcd_base.specs.Limits.{extents_supported, tags_supported};
 ghost use Rattle.extent_list.specs.ExtentLists.{count_in, has_extent_of, real_tags};
 ghost use Rattle.host_lists.specs.Changes.{changed_by, with_offer};
-ghost use Rattle.host_lists.specs.Lists.{extent_total, extents_of_lists};
+ghost use Rattle.extent_list.specs.HostLists.{extent_total, extents_of_lists};
 ghost use Rattle.host_lists.specs.Tags.{capped, tag_count};
 ghost use Rattle.offer_core.specs.Offerings.{lists_of};
 ghost use Rattle.std.specs.List.{list_any};
@@ -28,7 +28,7 @@ pub struct Changed<'a> {
 
 impl<'a> Model for Changed<'a> {
     ghost use Rattle.host_lists.specs.Changes.{changed_by};
-    ghost use Rattle.host_lists.specs.Lists.{Lists};
+    ghost use Rattle.extent_list.specs.HostLists.{Lists};
 
     ghost Value = { Lists };
 

@@ -1,7 +1,7 @@
 //! Changes of an accepted list, and how they are counted.
 
 ghost use Rattle.host_lists.specs.Answers.{generation_after};
-ghost use Rattle.host_lists.specs.Lists.{next_generation};
+ghost use Rattle.extent_list.specs.HostLists.{next_generation};
 ghost use Rattle.std.specs.Prelude.{◌≡◌, ◌++◌, ◌+◌, ◌≤◌, length};
 
 use extent_list::ExtentList;

@@ -2,7 +2,7 @@
 
 ghost use Rattle.extent_list.specs.ExtentLists.{count_in, cut};
 ghost use Rattle.extent_list.specs.Rooms.{IsCutInAddresses};
-ghost use Rattle.host_lists.specs.Lists.{next_generation};
+ghost use Rattle.extent_list.specs.HostLists.{next_generation};
 ghost use Rattle.std.specs.Prelude.{◌≡◌, ◌++◌, ◌∷◌, ◌+◌, ◌<◌, ◌≤◌, [], drop, length};
 
 use crate::changes::next_generation;

@@ -22,4 +22,5 @@ pub use accepted::AcceptedList;
 pub use changed::Changed;
 pub use lists::HostLists;
 pub use lists_change::{ListsChange, OffersChange, ReleasesChange};
+pub use release_core;
 pub use responded::Responded;

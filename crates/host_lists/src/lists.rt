@@ -2,7 +2,7 @@
 
 ghost use Rattle.extent_list.specs.dcd_codes.specs.dcd_base.specs.Limits.{extents_supported, tags_supported};
 ghost use Rattle.extent_list.specs.ExtentLists.{count_in, has_extent_of, real_tags};
-ghost use Rattle.host_lists.specs.Lists.{extent_total, extents_of_lists, no_lists};
+ghost use Rattle.extent_list.specs.HostLists.{extent_total, extents_of_lists, no_lists};
 ghost use Rattle.host_lists.specs.Tags.{capped, tag_count};
 ghost use Rattle.offer_core.specs.Offerings.{lists_of, oldest_of};
 ghost use Rattle.std.specs.List.{list_any};
@@ -32,7 +32,7 @@ pub struct HostLists {
 }
 
 impl Model for HostLists {
-    ghost use Rattle.host_lists.specs.Lists.{Lists};
+    ghost use Rattle.extent_list.specs.HostLists.{Lists};
     ghost use Rattle.offer_core.specs.Offerings.{lists_of};
 
     ghost Value = { Lists };

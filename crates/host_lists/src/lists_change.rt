@@ -1,7 +1,7 @@
 //! What a step changes of a host's lists.
 
 ghost use Rattle.host_lists.specs.Changes.{accepted_with, changed_by, offers_with, releases_with, responses_with, with_more, with_offer};
-ghost use Rattle.host_lists.specs.Lists.{Lists};
+ghost use Rattle.extent_list.specs.HostLists.{Lists};
 ghost use Rattle.offer_core.specs.Offerings.{lists_of};
 ghost use Rattle.std.specs.Prelude.{◌≡◌, [], drop};
 

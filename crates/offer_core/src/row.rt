@@ -14,7 +14,8 @@ use extent_list::dcd_codes::dcd_base::limits::LISTED_EXTENTS;
 use extent_list::dcd_codes::dcd_base::{Extent, Extents, HostId, NoMemory};
 use extent_list::media_map::region_config::Config;
 use extent_list::{
-    Owners, are_apart, fit_front, incomplete_among, misplaced, region_at, too_many_extents, unfit,
+    Before, Owners, are_apart, fit_front, incomplete_among, misplaced, region_at, too_many_extents,
+    unfit,
 };
 
 /// The first rule of its row that a response breaks (CXL 3.1, 8.2.9.9.9.3): this list of a message behind the held one.
@@ -107,14 +108,13 @@ fn broken_behind(
     let apart = are_apart(whole);
     let mut near = 0;
     for i in fit..whole.len() {
-        if let Some(rule) = broken_answered_extent(
-            config,
-            host,
-            offer,
-            &mut near,
+        let before = Before {
+            extents: &whole[..i],
             apart,
-            &whole[..i],
-            &whole[i],
+        };
+        let extent = &whole[i];
+        if let Some(rule) = broken_answered_extent(
+            config, host, offer, &mut near, &before, extent,
         ) {
             return Some(rule);
         }
@@ -122,29 +122,28 @@ fn broken_behind(
     None
 }
 
-/// The first rule that an extent of the list breaks behind those before it, whose number is its index. Where it
-/// is known to be `apart`, it shares no address with them; its owner is looked for at `near` first.
+/// The first rule that an extent of the list breaks behind those before it, whose number is its index. Its owner is
+/// looked for at `near` first.
 fn broken_answered_extent(
     config: &Config,
     host: HostId,
     offer: &Owners,
     near: &mut usize,
-    apart: bool,
-    before: &[Extent],
+    before: &Before,
     extent: &Extent,
 ) -> Option<Rule>
     requires host { host < config.now.hosts }
-    requires listed { length before.now < 2 ^ 32 }
-    requires apart { apart ≡ true → overlapping before.now extent.now ≡ None }
-    ensures { result ≡ extent_rule config.now host offer.now before.now extent.now }
+    requires listed { length before.now.extents.now < 2 ^ 32 }
+    requires apart { before.now.apart ≡ true → overlapping before.now.extents.now extent.now ≡ None }
+    ensures { result ≡ extent_rule config.now host offer.now before.now.extents.now extent.now }
 {
-    let index = before.len() as u32;
+    let index = before.extents.len() as u32;
     let region = region_at(config, host, extent.start);
     if let Some(rule) = misplaced(config, host, region, index, extent) {
         return Some(rule);
     }
     let missing = Rule::NotOffered(index);
-    unfit(config, host, offer, near, apart, before, extent, missing)
+    unfit(config, host, offer, near, before, extent, missing)
 }
 
 /// How many extents the offers behind the oldest have together.

@@ -10,7 +10,7 @@ ghost use Rattle.std.specs.Prelude.{◌≡◌, ◌^◌, ◌<◌, ◌≤◌, None
 use extent_list::dcd_codes::Rule;
 use extent_list::dcd_codes::dcd_base::{Extent, HostId, RegionId};
 use extent_list::media_map::region_config::Config;
-use extent_list::{Owners, are_apart, fit_front, misplaced, region_at, unfit};
+use extent_list::{Before, Owners, are_apart, fit_front, misplaced, region_at, unfit};
 
 /// Where the extents of a list have to lie.
 #[derive(Debug, Drop)]
@@ -57,15 +57,12 @@ fn broken_behind(
     let (bounds, apart) = (Within::AnyRegion, are_apart(list));
     let mut near = 0;
     for i in fit..list.len() {
-        if let Some(rule) = broken_leaving_extent(
-            config,
-            host,
-            accepted,
-            &mut near,
-            &bounds,
+        let before = Before {
+            extents: &list[..i],
             apart,
-            &list[..i],
-            &list[i],
+        };
+        if let Some(rule) = broken_leaving_extent(
+            config, host, accepted, &mut near, &bounds, &before, &list[i],
         ) {
             return Some(rule);
         }
@@ -73,30 +70,29 @@ fn broken_behind(
     None
 }
 
-/// The first rule that an extent of the list breaks behind those before it, whose number is its index. Where it
-/// is known to be `apart`, it shares no address with them; its owner is looked for at `near` first.
+/// The first rule that an extent of the list breaks behind those before it, whose number is its index. Its owner is
+/// looked for at `near` first.
 pub(crate) fn broken_leaving_extent(
     config: &Config,
     host: HostId,
     accepted: &Owners,
     near: &mut usize,
     bounds: &Within,
-    apart: bool,
-    before: &[Extent],
+    before: &Before,
     extent: &Extent,
 ) -> Option<Rule>
     requires host { host < config.now.hosts }
-    requires listed { length before.now < 2 ^ 32 }
-    requires apart { apart ≡ true → overlapping before.now extent.now ≡ None }
-    ensures { result ≡ leaving_rule config.now host accepted.now bounds.now before.now extent.now }
+    requires listed { length before.now.extents.now < 2 ^ 32 }
+    requires apart { before.now.apart ≡ true → overlapping before.now.extents.now extent.now ≡ None }
+    ensures { result ≡ leaving_rule config.now host accepted.now bounds.now before.now.extents.now extent.now }
 {
-    let index = before.len() as u32;
+    let index = before.extents.len() as u32;
     let region = region_for(config, host, bounds, extent);
     if let Some(rule) = misplaced(config, host, region, index, extent) {
         return Some(rule);
     }
     let missing = Rule::NotAccepted(index);
-    unfit(config, host, accepted, near, apart, before, extent, missing)
+    unfit(config, host, accepted, near, before, extent, missing)
 }
 
 /// The region in which the extent has to lie: the one that the command names, or else the one that has its first address.

@@ -14,7 +14,7 @@ use extent_list::dcd_codes::dcd_base::{
 use extent_list::dcd_codes::{Refusal, Rule};
 use extent_list::media_map::region_config::Config;
 use extent_list::{
-    ExtentList, Owners, are_apart, has_extent_of, incomplete_among, too_many_listed,
+    Before, ExtentList, Owners, are_apart, has_extent_of, incomplete_among, too_many_listed,
 };
 use std::alloc::Global;
 
@@ -60,14 +60,17 @@ pub fn removal(
     let (accepted_owners, apart) = (Owners::of(owners), are_apart(listed));
     let mut near = 0;
     for i in 0..listed.len() {
+        let before = Before {
+            extents: &listed[..i],
+            apart,
+        };
         if let Some(rule) = broken_leaving_extent(
             config,
             host,
             &accepted_owners,
             &mut near,
             &bounds,
-            apart,
-            &listed[..i],
+            &before,
             &listed[i],
         ) {
             return Err(Refusal::Broken(rule));

@@ -7,7 +7,6 @@ ghost use Rattle.std.specs.List.{flat_map};
 ghost use Rattle.std.specs.Prelude.{◌≡◌, ◌+◌, ◌*◌, ◌<◌, ◌^◌, length, min, nat_le};
 
 use journal_core::Act;
-use region_config::Config;
 use text_lines::script_codec::{Line, Script};
 
 /// The most bytes of a script.

@@ -11,7 +11,7 @@ use crate::blocks::are_free;
 use extent_list::dcd_codes::Rule;
 use extent_list::dcd_codes::dcd_base::{Extent, Extents, HostId, RegionId, Run};
 use extent_list::media_map::region_config::Config;
-use extent_list::{are_apart, misplaced, sharing, too_many_listed};
+use extent_list::{Before, are_apart, misplaced, sharing, too_many_listed};
 use granule_map::GranuleMap;
 
 /// The first rule that the listed extents of the host break. Where there is none, their runs of granules in the order
@@ -47,32 +47,33 @@ pub fn prescriptive_rule(
     let listed = list.as_slice();
     let apart = are_apart(listed);
     for i in 0..listed.len() {
-        let before = &listed[..i];
-        if let Some(rule) = extent_rule(map, config, host, region, apart, before, &listed[i]) {
+        let before = Before {
+            extents: &listed[..i],
+            apart,
+        };
+        if let Some(rule) = extent_rule(map, config, host, region, &before, &listed[i]) {
             return Some(rule);
         }
     }
     None
 }
 
-/// The first rule that an extent breaks behind those before it. Where it is known to be `apart`, it shares no address
-/// with them.
+/// The first rule that an extent breaks behind those before it.
 fn extent_rule(
     map: &GranuleMap,
     config: &Config,
     host: HostId,
     region: RegionId,
-    apart: bool,
-    before: &[Extent],
+    before: &Before,
     extent: &Extent,
 ) -> Option<Rule>
     requires host { host < config.now.hosts }
     requires granules { length map.now.states ≡ granule_total config.now }
-    requires few { length before.now < 2 ^ 32 }
-    requires apart { apart ≡ true → overlapping before.now extent.now ≡ None }
-    ensures { result ≡ free_extent_rule config.now host (is_free_at map.now.states) region before.now extent.now }
+    requires few { length before.now.extents.now < 2 ^ 32 }
+    requires apart { before.now.apart ≡ true → overlapping before.now.extents.now extent.now ≡ None }
+    ensures { result ≡ free_extent_rule config.now host (is_free_at map.now.states) region before.now.extents.now extent.now }
 {
-    let index = before.len() as u32;
+    let index = before.extents.len() as u32;
     if let Some(rule) = misplaced(config, host, region, index, extent) {
         return Some(rule);
     }
@@ -82,7 +83,7 @@ fn extent_rule(
     if !are_free(map, run.first.0, run.count) {
         return Some(Rule::NotFree(index));
     }
-    sharing(apart, before, extent)
+    sharing(before, extent)
 }
 
 /// The run of an extent that is made of granules of one region.

@@ -10,7 +10,7 @@ ghost use Rattle.selection.specs.Selections.{AreApart, AreBetween, NextRun, are_
 ghost use Rattle.std.specs.Prelude.{◌≡◌, ◌+◌, ◌<◌, IfOk, IsTrue, OnOk, [], length};
 
 use crate::blocks::run_of_blocks;
-use extent_list::dcd_codes::dcd_base::{Granule, NoMemory, Run, Runs};
+use extent_list::dcd_codes::dcd_base::{NoMemory, Run, Runs};
 use extent_list::dcd_codes::{Refusal, Rule};
 use granule_map::GranuleMap;
 

@@ -1,6 +1,6 @@
 //! The line on a fabric that is refused.
 
-ghost use Rattle.std.specs.Prelude.{◌≡◌, ◌++◌, IfOk, decimal};
+ghost use Rattle.std.specs.Prelude.{◌≡◌, IfOk};
 ghost use Rattle.tunnel_fabric.specs.Printing.{fabric_fault_number, fabric_fault_place, fabric_refusal};
 
 use crate::FabricFault;

@@ -1,6 +1,6 @@
 use Rattle.std.proofs.Common.{subst, sym}
 use Rattle.fm_payloads.specs.declared.requests.FmRequest.{FmRequest}
-use Rattle.device_commands.specs.ManagerMessages.{ManagerAnswers}
+use Rattle.manager_commands.specs.ManagerMessages.{ManagerAnswers}
 use Rattle.control_core.proofs.broken.manager_draft.Goals as goal
 
 pub returns-in-Add : goal.returns-in-Add

@@ -1,6 +1,6 @@
 use Rattle.std.proofs.Common.{◌∙◌, ap}
-use Rattle.device_commands.specs.device_state.specs.declared.parts.HostPart.{HostPart}
-use Rattle.device_commands.specs.host_lists.specs.Lists.{Lists}
+use Rattle.manager_commands.specs.device_state.specs.declared.parts.HostPart.{HostPart}
+use Rattle.extent_list.specs.HostLists.{Lists}
 use Rattle.device_commands.specs.ListsUpdates.{left_by}
 use Rattle.control_core.specs.Recording.{ending_with}
 use Rattle.control_core.proofs.host_steps.ended_by.Goals as goal

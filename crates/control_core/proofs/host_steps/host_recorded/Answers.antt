@@ -5,7 +5,7 @@ use Rattle.extent_list.specs.dcd_codes.specs.declared.refusals.Refusal.{Refusal}
 use Rattle.device_commands.specs.declared.draft.DraftParts.{DraftParts}
 use Rattle.device_commands.specs.device_rules.specs.Answers.{host_outcome}
 use Rattle.device_commands.specs.device_rules.specs.Views.{view_of}
-use Rattle.device_commands.specs.device_state.specs.StateAfter.{part_of}
+use Rattle.manager_commands.specs.device_state.specs.StateAfter.{part_of}
 use Rattle.control_core.specs.Doing.{Does, Drafted}
 use Rattle.control_core.specs.declared.decided.Decided.{Decided}
 use Rattle.control_core.specs.Fitting.{PartFits}

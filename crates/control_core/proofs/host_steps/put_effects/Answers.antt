@@ -4,7 +4,7 @@ use Rattle.std.proofs.lemmas.Result.{on_ok_weaker}
 use Rattle.device_commands.specs.ListsUpdates.{left_by}
 use Rattle.journal_core.specs.Entries.{effects}
 use Rattle.journal_core.specs.declared.outcome.Effect.{Effect}
-use Rattle.device_commands.specs.device_state.specs.StateAfter.{part_of}
+use Rattle.manager_commands.specs.device_state.specs.StateAfter.{part_of}
 use Rattle.control_core.specs.Recording.{ending_with, records_entered}
 use Rattle.control_core.proofs.host_steps.put_effects.Goals as goal
 

@@ -4,7 +4,7 @@ use Rattle.std.proofs.lemmas.Bool.{eqb-true}
 use Rattle.std.proofs.lemmas.Result.{on_ok_weaker}
 use Rattle.cci_codec.specs.dcd_base.specs.declared.capacity.Tag.{Tag}
 use Rattle.cci_codec.specs.dcd_base.specs.declared.ids.HostId.{HostId}
-use Rattle.device_commands.specs.device_state.specs.StateAfter.{part_of}
+use Rattle.manager_commands.specs.device_state.specs.StateAfter.{part_of}
 use Rattle.extent_list.specs.ExtentLists.{has_extent_of}
 use Rattle.journal_core.specs.declared.outcome.Effect.{Effect}
 use Rattle.device_commands.specs.device_rules.specs.TagTable.{ending}

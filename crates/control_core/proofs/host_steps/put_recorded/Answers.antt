@@ -4,7 +4,7 @@ use Rattle.device_commands.specs.DraftContents.{draft_in}
 use Rattle.device_commands.specs.ListsUpdates.{left_by}
 use Rattle.device_commands.specs.declared.draft.DraftedStep.{DraftedStep}
 use Rattle.device_commands.specs.device_rules.specs.Answers.{response}
-use Rattle.device_commands.specs.device_state.specs.StateAfter.{part_of}
+use Rattle.manager_commands.specs.device_state.specs.StateAfter.{part_of}
 use Rattle.control_core.specs.Doing.{IsDone}
 use Rattle.control_core.proofs.Doing.{all_effects}
 use Rattle.control_core.proofs.host_steps.put_recorded.Goals as goal

@@ -1,7 +1,7 @@
 use Rattle.std.proofs.Common.{◌∙◌, All, IfOk, length, ap, subst, sym}
 use Rattle.std.proofs.lemmas.Result.{IfOk-weaker}
 use Rattle.device_commands.specs.device_rules.specs.Views.{view_of}
-use Rattle.device_commands.specs.device_state.specs.Updates.{IsOfLog}
+use Rattle.manager_commands.specs.device_state.specs.Updates.{IsOfLog}
 use Rattle.device_commands.specs.DraftContents.{parts_of_content}
 use Rattle.device_commands.specs.Drafts.{Drafts}
 use Rattle.device_commands.specs.declared.draft.DraftParts.{DraftParts}

@@ -1,10 +1,10 @@
 use Rattle.std.proofs.Common.{◌∙◌, ap, subst, sym}
 use Rattle.cci_codec.specs.dcd_base.specs.declared.steps.Actor.{Actor}
-use Rattle.device_commands.specs.host_lists.specs.Lists.{Lists}
+use Rattle.extent_list.specs.HostLists.{Lists}
 use Rattle.journal_core.specs.declared.acts.Act.{Act}
 use Rattle.control_core.specs.Deciding.{IsDecidedBy}
-use Rattle.device_commands.specs.HeldLists.{unheld_by}
-use Rattle.device_commands.specs.device_state.specs.declared.parts.HostPart.{HostPart}
+use Rattle.host_commands.specs.HeldLists.{unheld_by}
+use Rattle.manager_commands.specs.device_state.specs.declared.parts.HostPart.{HostPart}
 use Rattle.control_core.specs.declared.decided.Decided.{Decided}
 use Rattle.control_core.proofs.Decisions.{refused_host}
 use Rattle.control_core.proofs.host_steps.refused_by.Goals as goal

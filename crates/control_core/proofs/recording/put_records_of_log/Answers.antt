@@ -1,6 +1,6 @@
 use Rattle.std.proofs.Common.{◌++◌, ◌-◌, ◌∙◌, ap, length, subst, sym}
 use Rattle.std.proofs.lemmas.Result.{on_ok_weaker}
-use Rattle.device_commands.specs.device_state.specs.StateAfter.{IsLogOf}
+use Rattle.event_log.specs.Logs.{IsLogOf}
 use Rattle.journal_core.specs.Entries.{effects}
 use Rattle.device_commands.specs.device_rules.specs.Logs.{log_of}
 use Rattle.control_core.specs.Recording.{records_by}

@@ -1,5 +1,5 @@
 use Rattle.std.proofs.Common.{◌≡◌, ◌++◌, ◌+◌, ◌*◌, ◌≤◌, length, take, vec_capacity, vec_len}
-use Rattle.device_state.specs.device_rules.specs.ReleaseOutcomes.{removals}
+use Rattle.device_rules.specs.ReleaseOutcomes.{removals}
 use Rattle.device_commands.proofs.leaves.put_leaves.Given as goal
 
 -- The extents so far have left, and there is room for the others.

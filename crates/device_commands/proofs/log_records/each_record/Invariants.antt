@@ -1,7 +1,6 @@
 use Rattle.std.proofs.Common.{◌≡◌, ◌++◌, ◌+◌, ◌≤◌, drop, length, vec_capacity, vec_len}
-use Rattle.device_state.specs.device_rules.specs.Outcomes.{records_of_extents}
-use Rattle.device_state.specs.device_rules.specs.Views.{View}
-use Rattle.device_state.specs.StateAfter.{lists_in}
+use Rattle.device_rules.specs.Outcomes.{records_of_extents}
+use Rattle.device_rules.specs.Views.{View, lists_in}
 use Rattle.device_commands.proofs.log_records.each_record.Given as goal
 
 -- The records so far, and those of the rest, are all, and there is room for the rest.

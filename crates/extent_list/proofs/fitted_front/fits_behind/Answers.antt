@@ -10,8 +10,8 @@ returns-then-has-clause-fit c = λ yes.
     let x = c.args.extent.now in
     let fits : fits_area (area_of config c.args.host c.args.region) x ≡ true = ap (λ (a : Area). fits_area a x) (sym c.requires.area) ∙ sym c.has.ensures ∙ c.if-has.true in
     let placed = fits_placed config c.args.host c.args.region x c.regions-regions.ensures.sound c.requires.host c.requires.region fits in
-    fit_by config c.args.host c.args.owners.now c.args.before.now x c.args.region placed.at placed
-    (subst (λ (a : Area). IsOwnedBehind a.shareable c.args.owners.now c.args.before.now x) c.requires.area (c.is_owned_behind.ensures.fit yes))
+    fit_by config c.args.host c.args.owners.now c.args.before.now.extents.now x c.args.region placed.at placed
+    (subst (λ (a : Area). IsOwnedBehind a.shareable c.args.owners.now c.args.before.now.extents.now x) c.requires.area (c.is_owned_behind.ensures.fit yes))
 
 pub returns-then-has-clause-unfit : goal.returns-then-has-clause-unfit
 returns-then-has-clause-unfit c = λ no good.
@@ -20,4 +20,4 @@ returns-then-has-clause-unfit c = λ no good.
     let fits : fits_area (area_of config c.args.host c.args.region) x ≡ true = ap (λ (a : Area). fits_area a x) (sym c.requires.area) ∙ sym c.has.ensures ∙ c.if-has.true in
     let placed = fits_placed config c.args.host c.args.region x c.regions-regions.ensures.sound c.requires.host c.requires.region fits in
     c.is_owned_behind.ensures.unfit no
-    (subst (λ (a : Area). IsOwnedBehind a.shareable c.args.owners.now c.args.before.now x) (sym c.requires.area) (owned_by config c.args.host c.args.owners.now c.args.before.now x c.args.region placed.at good))
+    (subst (λ (a : Area). IsOwnedBehind a.shareable c.args.owners.now c.args.before.now.extents.now x) (sym c.requires.area) (owned_by config c.args.host c.args.owners.now c.args.before.now.extents.now x c.args.region placed.at good))

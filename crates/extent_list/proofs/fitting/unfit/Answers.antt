@@ -27,6 +27,6 @@ returns c =
     let shareable = is_shareable_at c.args.config.now c.args.host x in
     let owner : get_or c.as_slice.result.now c.in-Some.index no_extent ≡ owner_of owners x =
     ap (λ (xs : List Extent). get_or xs c.in-Some.index no_extent) c.as_slice.ensures ∙ owner_at owners x c.in-Some.index no_extent place in
-    let part : c.part_rule.result ≡ not_whole c.args.config.now c.args.host owners (length c.args.before.now) x =
-    c.part_rule.ensures ∙ ap (λ (o : Extent). (shareable && not ((x.start == o.start) && (x.length == o.length))) breaks Rule.NotWhole (length c.args.before.now)) owner in
+    let part : c.part_rule.result ≡ not_whole c.args.config.now c.args.host owners (length c.args.before.now.extents.now) x =
+    c.part_rule.ensures ∙ ap (λ (o : Extent). (shareable && not ((x.start == o.start) && (x.length == o.length))) breaks Rule.NotWhole (length c.args.before.now.extents.now)) owner in
     part ∙ sym (row_part _ c.args.missing _ _ (in_at owners x c.in-Some.index no_extent place) (sym c.sharing.ensures ∙ c.in_default.is))

@@ -4,7 +4,7 @@ use Rattle.region_config.specs.Granules.{region_spec}
 use Rattle.region_config.specs.declared.region_spec.RegionSpec.{RegionSpec}
 use Rattle.region_config.proofs.PresentBlocks.{region_spec-with_blocks}
 use Rattle.journal_core.specs.Entries.{effects}
-use Rattle.device_plain.specs.control_core.specs.device_commands.proofs.Reached.{blocks_long}
+use Rattle.device_plain.specs.control_core.specs.manager_commands.proofs.Reached.{blocks_long}
 use Rattle.device_plain.specs.device_rules.specs.Hosts.{block_of}
 use Rattle.pool_planner.proofs.held.block_size.Goals as goal
 

@@ -3,7 +3,7 @@ use Rattle.std.specs.Prelude.{slice_get}
 use Rattle.event_records.specs.declared.events.Event.{Event}
 use Rattle.journal_core.specs.Entries.{effects}
 use Rattle.device_commands.specs.device_rules.specs.Counts.{records_of}
-use Rattle.device_commands.specs.device_state.specs.Updates.{IsOfLog}
+use Rattle.manager_commands.specs.device_state.specs.Updates.{IsOfLog}
 use Rattle.control_core.specs.Steps.{Controlled}
 use Rattle.control_core.proofs.Entering.{past_held}
 use Rattle.control_core.proofs.Reading.{records_told}

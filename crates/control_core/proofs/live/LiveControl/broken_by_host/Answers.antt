@@ -1,12 +1,12 @@
 use Rattle.std.proofs.Common.{◌≡◌, ◌<◌, ◌≤◌, IfOk, ap, subst, sym, ◌∙◌}
 use Rattle.std.specs.Result.{result_err}
 use Rattle.cci_codec.specs.dcd_base.specs.declared.steps.LogId.{LogId}
-use Rattle.device_commands.specs.host_lists.specs.Lists.{extent_total}
-use Rattle.device_commands.proofs.FewExtents.{few_extents}
+use Rattle.extent_list.specs.HostLists.{extent_total}
+use Rattle.manager_commands.proofs.FewExtents.{few_extents}
 use Rattle.device_commands.specs.device_rules.specs.Answers.{host_result_in}
 use Rattle.device_commands.specs.device_rules.specs.Views.{view_of}
-use Rattle.device_commands.specs.device_state.specs.StateAfter.{IsLogOf}
-use Rattle.device_commands.specs.device_state.specs.declared.parts.HostPart.{HostPart}
+use Rattle.event_log.specs.Logs.{IsLogOf}
+use Rattle.manager_commands.specs.device_state.specs.declared.parts.HostPart.{HostPart}
 use Rattle.control_core.specs.Pasts.{ByEveryPast, IsPast, LiveControlled}
 use Rattle.control_core.proofs.DraftedRows.{host_row}
 use Rattle.control_core.proofs.Entering.{by_every}

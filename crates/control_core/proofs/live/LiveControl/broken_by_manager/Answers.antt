@@ -2,7 +2,7 @@ use Rattle.std.proofs.Common.{◌≡◌, IfOk, rules, subst}
 use Rattle.std.specs.Result.{result_err}
 use Rattle.std.specs.declared.result.Result.TheVariants.{Ok}
 use Rattle.fm_payloads.specs.ManagerPayloads.{manager_request}
-use Rattle.device_commands.specs.ManagerMessages.{DraftsFor, outcome_after}
+use Rattle.manager_commands.specs.ManagerMessages.{DraftsFor, outcome_after}
 use Rattle.device_commands.specs.device_rules.specs.Answers.{manager_result}
 use Rattle.control_core.specs.Pasts.{ByEveryPast, IsPast, LiveControlled}
 use Rattle.control_core.proofs.DraftedRows.{manager_row}

@@ -3,7 +3,7 @@ use Rattle.std.specs.Prelude.{All}
 use Rattle.journal_core.specs.declared.outcome.Effect.{Effect}
 use Rattle.control_core.specs.Pasts.{LiveControlled}
 use Rattle.control_core.specs.PutChanges.{AreOfOneHost}
-use Rattle.device_commands.specs.device_state.specs.Updates.{IsOfDevice}
+use Rattle.manager_commands.specs.device_state.specs.Updates.{IsOfDevice}
 use Rattle.control_core.proofs.Entering.{step_of_device, step_of_one}
 use Rattle.control_core.proofs.live.LiveControl.changes_by.Goals as goal
 

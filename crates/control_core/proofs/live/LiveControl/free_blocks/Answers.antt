@@ -1,7 +1,7 @@
 use Rattle.std.proofs.Common.{◌≡◌, ◌<◌, ap, arith, length, subst, sym, ◌∙◌}
 use Rattle.selection.specs.granule_map.specs.Blocks.{free_block_count}
 use Rattle.journal_core.specs.Entries.{effects}
-use Rattle.device_commands.proofs.Reached.{regions_kept, total_kept}
+use Rattle.manager_commands.proofs.Reached.{regions_kept, total_kept}
 use Rattle.device_commands.specs.device_rules.specs.Adding.{area_of, is_free_now, present, region_free_blocks}
 use Rattle.control_core.specs.Pasts.{ByEveryPast, LiveControlled}
 use Rattle.control_core.proofs.Reading.{free_blocks_told}

@@ -6,7 +6,7 @@ use Rattle.extent_list.specs.media_map.specs.Places.{run_of}
 use Rattle.device_commands.specs.device_rules.specs.Counts.{granules_held}
 use Rattle.control_core.specs.HeldExtents.{AreHeld}
 use Rattle.control_core.specs.Pasts.{ByEveryPast, LiveControlled}
-use Rattle.device_commands.specs.device_state.specs.declared.parts.HostPart.{HostPart}
+use Rattle.manager_commands.specs.device_state.specs.declared.parts.HostPart.{HostPart}
 use Rattle.control_core.proofs.Reading.{accepted_told, granules_told, held_in_kept}
 use Rattle.control_core.proofs.live.LiveControl.granules_held.Goals as goal
 

@@ -3,7 +3,7 @@ use Rattle.journal_core.specs.Entries.{effects}
 use Rattle.journal_core.specs.declared.outcome.HeldKind.{HeldKind}
 use Rattle.device_commands.specs.device_rules.specs.Hosts.{held_of}
 use Rattle.control_core.specs.Pasts.{ByEveryPast, LiveControlled}
-use Rattle.device_commands.specs.device_state.specs.declared.parts.HostPart.{HostPart}
+use Rattle.manager_commands.specs.device_state.specs.declared.parts.HostPart.{HostPart}
 use Rattle.control_core.proofs.Reading.{responses_told}
 use Rattle.control_core.proofs.live.LiveControl.held_responses.Goals as goal
 

@@ -1,6 +1,6 @@
 use Rattle.std.proofs.Common.{◌≡◌, length, sym, subst, ◌∙◌}
 use Rattle.journal_core.specs.Entries.{effects}
-use Rattle.device_commands.proofs.TagReadings.{tags_length}
+use Rattle.manager_commands.proofs.TagReadings.{tags_length}
 use Rattle.device_commands.specs.device_rules.specs.Tags.{open_tags}
 use Rattle.control_core.specs.Pasts.{ByEveryPast, LiveControlled}
 use Rattle.control_core.proofs.live.LiveControl.tags.Goals as goal

@@ -7,7 +7,7 @@ use Rattle.device_plain.specs.Alone.{DoesAlone}
 use Rattle.isolation_laws.specs.declared.items.SoloReply.{SoloReply}
 use Rattle.journal_core.specs.declared.acts.Act.{Act}
 use Rattle.journal_core.specs.declared.acts.Reply.{Reply}
-use Rattle.control_core.specs.device_commands.specs.HostMessages.{IsDrafted}
+use Rattle.control_core.specs.host_commands.specs.HostMessages.{IsDrafted}
 use Rattle.device_plain.proofs.AloneCommands.{command_done, command_refused}
 use Rattle.device_plain.proofs.alone.Alone.command.Goals as goal
 

@@ -2,7 +2,7 @@ use Rattle.std.proofs.Common.{◌≡◌, ◌+◌, ◌≤◌, List, length, inl, 
 use Rattle.dcd_base.specs.declared.capacity.Extent.{Extent}
 use Rattle.control_core.specs.device_rules.specs.Outcomes.{records_of_extents}
 use Rattle.event_records.specs.declared.events.EventKind.{EventKind}
-use Rattle.control_core.specs.device_state.specs.host_lists.specs.Lists.{extent_total}
+use Rattle.extent_list.specs.HostLists.{extent_total}
 use Rattle.isolation_laws.specs.declared.items.Item.{Item}
 use Rattle.device_plain.proofs.BroughtLists.{keeps_offer, offered_to, offered_total, too_many_offered, with_offer}
 use Rattle.device_plain.proofs.ToldAlone.{takes_told}

@@ -4,7 +4,7 @@ use Rattle.std.proofs.lemmas.Bool.{false≢true}
 use Rattle.dcd_base.specs.declared.capacity.Extent.{Extent}
 use Rattle.control_core.specs.device_rules.specs.Outcomes.{records_of_extents}
 use Rattle.event_records.specs.declared.events.EventKind.{EventKind}
-use Rattle.control_core.specs.device_state.specs.host_lists.specs.Lists.{Lists, extent_total}
+use Rattle.extent_list.specs.HostLists.{Lists, extent_total}
 use Rattle.isolation_laws.specs.declared.items.Item.{Item}
 use Rattle.device_plain.proofs.BroughtLists.{keeps_taken, taken_from, too_many_left, without_taken}
 use Rattle.device_plain.proofs.ToldAlone.{takes_told}

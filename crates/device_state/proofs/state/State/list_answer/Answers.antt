@@ -1,5 +1,5 @@
 use Rattle.std.proofs.Common.{◌≡◌, ◌<◌, ◌++◌, ◌∙◌, ap, arith, drop, length, sym}
-use Rattle.host_lists.specs.Lists.{Lists}
+use Rattle.extent_list.specs.HostLists.{Lists}
 use Rattle.journal_core.specs.declared.outcome.Effect.{Effect}
 use Rattle.offer_core.specs.Offerings.{oldest_of}
 use Rattle.device_state.specs.Entered.{with_lists}

@@ -1,7 +1,7 @@
 use Rattle.std.proofs.Common.{◌≡◌, ◌<◌, ◌∙◌, List, ap, arith, get_or, length, rules, sym}
 use Rattle.std.specs.Prelude.{find, option_to_list}
 use Rattle.extent_list.specs.ExtentLists.{cut, has_range}
-use Rattle.host_lists.specs.Lists.{Lists}
+use Rattle.extent_list.specs.HostLists.{Lists}
 use Rattle.journal_core.specs.declared.outcome.Effect.{Effect}
 use Rattle.extent_list.specs.media_map.specs.Places.{bytes_of_run, start_of}
 use Rattle.device_state.specs.Entered.{with_lists}

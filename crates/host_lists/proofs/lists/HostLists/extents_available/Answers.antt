@@ -1,5 +1,5 @@
 use Rattle.std.proofs.Common.{ap, arith, length}
-use Rattle.host_lists.specs.Lists.{Lists, extent_total}
+use Rattle.extent_list.specs.HostLists.{Lists, extent_total}
 use Rattle.host_lists.proofs.Offered.{length_extents}
 use Rattle.host_lists.proofs.lists.HostLists.extents_available.Goals as goal
 

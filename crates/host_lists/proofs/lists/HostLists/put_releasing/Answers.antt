@@ -2,7 +2,7 @@ use Rattle.std.proofs.Common.{All, ◌≡◌, ◌+◌, ◌++◌, ◌<◌, ◌^�
 use Rattle.extent_list.specs.dcd_codes.specs.dcd_base.specs.declared.capacity.Extent.{Extent}
 use Rattle.extent_list.specs.ExtentLists.{marked}
 use Rattle.release_core.specs.Leaving.{AllCanLeave}
-use Rattle.host_lists.specs.Lists.{Lists}
+use Rattle.extent_list.specs.HostLists.{Lists}
 use Rattle.host_lists.proofs.Departures.{leaves-marked}
 use Rattle.host_lists.proofs.lists.HostLists.put_releasing.Goals as goal
 

@@ -1,6 +1,6 @@
 use Rattle.std.proofs.Common.{◌≡◌, ◌++◌, ap, arith, length, length-append, sym, ◌∙◌}
 use Rattle.std.proofs.lemmas.List.{length-map}
-use Rattle.host_lists.specs.Lists.{Lists, extents_of_lists}
+use Rattle.extent_list.specs.HostLists.{Lists, extents_of_lists}
 use Rattle.offer_core.specs.declared.offer.Offer.{Offer}
 use Rattle.offer_core.specs.Offerings.{lists_of}
 use Rattle.host_lists.specs.Tags.{capped, extents_before, tag_count}

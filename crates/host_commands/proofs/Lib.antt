@@ -1,0 +1,5 @@
+pub mod AddDynamicCapacityResponse
+pub mod HostDrafts
+pub mod ListedExtents
+pub mod ListsAfter
+pub mod ReleaseDynamicCapacity

@@ -1,0 +1,16 @@
+-- What is answered of a host's accepted extents, 4801h.
+use Rattle.std.specs.Prelude.{◌≡◌, ℕ, length}
+use Rattle.std.specs.declared.result.Result.{Result}
+use Rattle.extent_list.specs.dcd_codes.specs.Rules.{ByRow}
+use Rattle.extent_list.specs.dcd_codes.specs.declared.refusals.Refusal.{Refusal}
+use Rattle.extent_list.specs.HostLists.{Lists}
+use Rattle.device_commands.specs.device_rules.specs.Outcomes.{only}
+use Rattle.device_commands.specs.device_rules.specs.Settings.{extents_reply, past_end}
+use Rattle.device_commands.specs.device_rules.specs.Views.{View, lists_in}
+use Rattle.device_commands.specs.Drafts.{IsOutcome}
+use Rattle.device_commands.specs.declared.draft.DraftParts.{DraftParts}
+
+-- By its row, for each view that the lists show.
+abbrev pub AnswersExtents : Lists → ℕ → ℕ → Result DraftParts Refusal → Type 0
+AnswersExtents lists count first result = (v : View) → lists ≡ lists_in v →
+    ByRow (past_end first (length v.accepted)) (IsOutcome (only (extents_reply v count first))) result

@@ -1,0 +1,6 @@
+pub mod AddDynamicCapacityResponse
+pub mod GetDynamicCapacityConfiguration
+pub mod GetDynamicCapacityExtentList
+pub mod HeldLists
+pub mod HostMessages
+pub mod ReleaseDynamicCapacity

@@ -1,0 +1,15 @@
+pub mod BlockChoices
+pub mod CountedTags
+pub mod Drafting
+pub mod FewExtents
+pub mod FreeGranules
+pub mod InitiateDynamicCapacityAdd
+pub mod InitiateDynamicCapacityRelease
+pub mod ListPages
+pub mod Present
+pub mod Reached
+pub mod Rows
+pub mod SetDcRegionConfiguration
+pub mod TagReadings
+pub mod TaggedRuns
+pub mod ZeroedGranules

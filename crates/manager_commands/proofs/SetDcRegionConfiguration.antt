@@ -1,0 +1,127 @@
+-- The row of a new block size, by what is kept of the region.
+use Rattle.std.proofs.Common.{◌≡◌, ℕ, zero, suc, ◌<◌, ◌≤◌, Bool, true, false, not, ◌==◌, List, [], ◌∷◌, map, length, Option, Some, None, refl, sym, ap, subst, ◌∙◌, arith, ltb}
+use Rattle.std.specs.Prelude.{count_by, if◌then◌else◌, option_map}
+use Rattle.std.specs.List.{range_with_len}
+use Rattle.std.proofs.lemmas.Bool.{le-leb, lt-ltb, ne_eqb}
+use Rattle.std.proofs.lemmas.List.Sums.{length-filter}
+use Rattle.event_records.specs.dcd_base.specs.Words.{flag_of, ◌or◌}
+use Rattle.event_records.specs.dcd_base.specs.declared.ids.HostId.{HostId}
+use Rattle.extent_list.specs.dcd_codes.specs.Rules.{◌breaks◌, each_in}
+use Rattle.extent_list.specs.dcd_codes.specs.declared.rules.Rule.{Rule}
+use Rattle.selection.specs.granule_map.specs.StateLists.{is_free_at}
+use Rattle.journal_core.specs.Entries.{effects}
+use Rattle.journal_core.specs.declared.entries.Entry.{Entry}
+use Rattle.extent_list.specs.media_map.specs.region_config.specs.Blocks.{block_fault}
+use Rattle.extent_list.specs.media_map.specs.region_config.specs.Configurations.{Configuration}
+use Rattle.extent_list.specs.media_map.specs.region_config.specs.Granules.{first_granule, granule_total, region_granules, hosts_of, is_supported, region_spec, sizes_in}
+use Rattle.extent_list.specs.media_map.specs.region_config.specs.Soundness.{IsSound}
+use Rattle.extent_list.specs.media_map.specs.region_config.specs.declared.faults.BlockFault.{BlockFault}
+use Rattle.extent_list.specs.media_map.specs.region_config.specs.declared.region_spec.RegionSpec.{RegionSpec}
+use Rattle.extent_list.specs.media_map.specs.region_config.proofs.Faultless.{granules_within}
+use Rattle.extent_list.specs.media_map.specs.region_config.proofs.PresentBlocks.{granules_in-with_blocks}
+use Rattle.selection.proofs.Agreeing.{Agree}
+use Rattle.device_state.specs.device_rules.specs.Adding.{is_free_now}
+use Rattle.device_state.specs.device_rules.specs.Hosts.{block_of}
+use Rattle.device_state.specs.device_rules.specs.Outcomes.{log_full}
+use Rattle.device_state.specs.device_rules.specs.Settings.{in_use, no_such_region, set_outcome, set_rule}
+use Rattle.device_state.specs.device_rules.specs.Tags.{is_free, status}
+use Rattle.device_state.specs.device_rules.specs.Views.{View}
+use Rattle.manager_commands.proofs.FreeGranules.{filter_agree, free_at}
+use Rattle.manager_commands.proofs.Reached.{first_kept, hosts_kept, region_kept}
+use Rattle.manager_commands.proofs.Rows.{kept_rule, not_up_to}
+use Rattle.manager_commands.specs.SetDcRegionConfiguration.{region_record, size_rule, used_in}
+use Rattle.device_commands.specs.Drafts.{IsOutcome}
+use Rattle.device_commands.specs.declared.draft.DraftParts.{DraftParts}
+use Rattle.journal_core.specs.declared.outcome.Effect.{Effect}
+use Rattle.device_state.specs.StateAfter.{IsStateAfter}
+use Rattle.device_state.specs.declared.state.State.{State}
+
+-- the rule that a fault is
+abbrev pub rule_of : BlockFault → Rule
+rule_of (BlockFault.NotSupportedSize size) = Rule.NotSupportedSize size
+rule_of BlockFault.SanitizeDiffers = Rule.SanitizeDiffers
+rule_of (BlockFault.InUse granules) = Rule.RegionInUse granules
+
+some_used : (n : ℕ) → ltb 0 n ≡ not (n == 0)
+some_used zero = refl
+some_used (suc n) = lt-ltb 0 (suc n) (omega arith) ∙ sym (ap not (ne_eqb (suc n) 0 (λ e. omega (arith, e))))
+
+pub size_rule-is : (spec : RegionSpec) (size : ℕ) (sanitize : Bool) (used : ℕ) → size_rule spec size sanitize used ≡ option_map rule_of (block_fault spec size sanitize used)
+size_rule-is spec size sanitize used = ap (λ b. (not (is_supported spec size) breaks Rule.NotSupportedSize size) or (not (flag_of sanitize == flag_of spec.sanitize) breaks Rule.SanitizeDiffers) or (b breaks Rule.RegionInUse used)) (some_used used)
+    ∙ by (not (is_supported spec size)) (not (flag_of sanitize == flag_of spec.sanitize)) (not (used == 0))
+  where
+    by : (a b c : Bool) → ((a breaks Rule.NotSupportedSize size) or (b breaks Rule.SanitizeDiffers) or (c breaks Rule.RegionInUse used))
+        ≡ option_map rule_of ((if a then Some (BlockFault.NotSupportedSize size) else None) or (if b then Some BlockFault.SanitizeDiffers else None) or (if c then Some (BlockFault.InUse used) else None))
+    by true b c = refl
+    by false true c = refl
+    by false false true = refl
+    by false false false = refl
+
+-- another block leaves the sizes that are supported
+other_block : (spec : RegionSpec) (b size : ℕ) (sanitize : Bool) (used : ℕ) → size_rule (record spec { block = b }) size sanitize used ≡ size_rule spec size sanitize used
+unfolding sizes_in
+other_block spec b size sanitize used = refl
+
+module _ (c : Configuration) (sound : IsSound c) (journal : List Entry) (s : State) (kept : IsStateAfter c journal s) (r : ℕ) (known : r < length c.regions) where
+  granules_same : region_granules s.present r ≡ region_granules c r
+  granules_same = ap (λ (d : Configuration). region_granules d r) kept.present_is ∙ granules_in-with_blocks c (λ k. block_of c k (effects journal)) r
+
+  -- the tests of the granules agree
+  pub free_agree : Agree (is_free_at s.granules.states) (is_free_now c (effects journal)) 0 (granule_total c)
+  free_agree g low high = free_at c (effects journal) s.granules kept.granule_count kept.cells g high
+
+  used_agree : count_by (λ g. not (is_free_at s.granules.states g)) (range_with_len (first_granule c r) (region_granules c r)) ≡ in_use c (effects journal) r
+  used_agree =
+      let p : ℕ → Bool = λ g. not (is_free_at s.granules.states g) in
+      let q : ℕ → Bool = λ g. not (is_free (status c g (effects journal))) in
+      let rs : List ℕ = range_with_len (first_granule c r) (region_granules c r) in
+      sym (length-filter p rs)
+      ∙ ap length (filter_agree p q (first_granule c r) (region_granules c r) (λ g low high. ap not (free_agree g (omega arith) (omega (arith, high, granules_within c r known)))))
+      ∙ length-filter q rs
+
+  used_kept : used_in s r ≡ in_use c (effects journal) r
+  used_kept = (λ i. count_by (λ g. not (is_free_at s.granules.states g)) (range_with_len (first_kept c journal s kept r i) (granules_same i))) ∙ used_agree
+
+  module _ (view_for : HostId → View) (sanitize : Bool) (size : ℕ) where
+    abbrev logs_rule : Option Rule
+    logs_rule = each_in (hosts_of c) (λ before h. log_full h (view_for h).log 1)
+
+    rules : Option Rule → Option Rule
+    rules first =
+        first
+        or (not (is_supported (region_spec c r) size) breaks Rule.NotSupportedSize size)
+        or (not (flag_of sanitize == flag_of (region_spec c r).sanitize) breaks Rule.SanitizeDiffers)
+        or (ltb 0 (in_use c (effects journal) r) breaks Rule.RegionInUse (in_use c (effects journal) r))
+        or logs_rule
+
+    -- the row is that of the size, and then of the logs
+    pub set_rule-is : no_such_region c r ≡ None → set_rule c (effects journal) view_for r sanitize size ≡ (size_rule (region_spec s.present r) size sanitize (used_in s r) or logs_rule)
+    unfolding rules
+    set_rule-is none =
+        ap rules none
+        ∙ ap (λ (o : Option Rule). o or logs_rule)
+        (sym ((λ i. size_rule (region_kept c journal s kept r known i) size sanitize (used_kept i)) ∙ other_block (region_spec c r) (block_of c r (effects journal)) size sanitize (in_use c (effects journal) r)))
+
+    here : no_such_region c r ≡ None
+    here = kept_rule _ (Rule.NoSuchRegion r) (not_up_to (length c.regions) r known)
+
+    -- the size breaks a rule
+    pub set_rule-size : (rule : Rule) → size_rule (region_spec s.present r) size sanitize (used_in s r) ≡ Some rule → set_rule c (effects journal) view_for r sanitize size ≡ Some rule
+    set_rule-size rule broken = set_rule-is here ∙ ap (λ (o : Option Rule). o or logs_rule) broken
+
+    -- it breaks none
+    pub set_rule-logs : (found : Option Rule) → size_rule (region_spec s.present r) size sanitize (used_in s r) ≡ None →
+        each_in (hosts_of s.present) (λ before h. log_full h (view_for h).log 1) ≡ found → set_rule c (effects journal) view_for r sanitize size ≡ found
+    set_rule-logs found fine logs =
+        set_rule-is here ∙ ap (λ (o : Option Rule). o or logs_rule) fine
+        ∙ ap (λ n. each_in (range_with_len 0 n) (λ (before : List HostId) h. log_full h (view_for h).log 1)) (sym (hosts_kept c journal s kept)) ∙ logs
+
+    -- each host of the device is told
+    pub told_all : (d : DraftParts) → IsOutcome (set_outcome s.present view_for r size) d → IsOutcome (set_outcome c view_for r size) d
+    told_all d is =
+        subst (λ n. IsOutcome (record { payload = []; changes = Effect.Block r size ∷ []; tags = []; log_records = map (region_record view_for r) (range_with_len 0 n) }) d) (hosts_kept c journal s kept) is
+
+-- a region past the last
+pub unknown_region : (c : Configuration) (journal : List Entry) (view_for : HostId → View) (r : ℕ) (sanitize : Bool) (size : ℕ) → length c.regions ≤ r →
+    set_rule c (effects journal) view_for r sanitize size ≡ Some (Rule.NoSuchRegion r)
+unknown_region c journal view_for r sanitize size past = rw (le-leb (length c.regions) r past) refl
