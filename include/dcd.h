@@ -211,6 +211,18 @@ uint32_t dcd_memory(const struct dcd_device *device, struct dcd_memory_state *st
 uint32_t dcd_extents(const struct dcd_device *device, uint8_t host, struct dcd_extent *extents, size_t room, uint64_t *count);
 uint32_t dcd_offers(const struct dcd_device *device, uint8_t host, struct dcd_extent *extents, size_t room, uint64_t *count);
 
+/* A live tag, in a shareable region: a host holds it, is offered it, or the manager has a reference to it. */
+struct dcd_tag {
+    uint8_t tag[16];
+    uint16_t holders;   /* bit h stands where host h holds it, */
+    uint16_t offered;   /* and where host h is offered it */
+    uint8_t referenced; /* 1 where the manager has a reference to it, else 0 */
+    uint8_t reserved[3];
+};
+
+/* The live tags, as 5608h shows them: in the order in which they were opened. */
+uint32_t dcd_tags(const struct dcd_device *device, struct dcd_tag *tags, size_t room, uint64_t *count);
+
 /* The records of the log of a host or of DCD_MANAGER, the oldest first, each of DCD_RECORD bytes as in a response to 0100h
    (CXL 3.1, 8.2.9.2.1.6). Room and count are in bytes. They stay in the log until 0101h clears them. */
 uint32_t dcd_records(const struct dcd_device *device, uint8_t log, uint8_t *records, size_t room, uint64_t *count);
@@ -235,6 +247,10 @@ struct dcd_refusal {
 
 uint32_t dcd_refusal(const struct dcd_device *device, uint8_t actor, const uint8_t *message, size_t message_length,
                      struct dcd_refusal *refusal);
+
+/* That rule as a sentence, in one line: 'no host 7; there are 0 and 1'. Where none is broken, it has no bytes. */
+uint32_t dcd_refusal_text(const struct dcd_device *device, uint8_t actor, const uint8_t *message, size_t message_length,
+                          char *text, size_t room, uint64_t *length);
 
 /* The names of statuses ('DCD_NO_ROOM'), of return codes ('Invalid Extent List'), of rules ('NotOffered') and of the faults of
    heads ('BadConfig'), by their numbers; and why a head was refused, in one line. */

@@ -258,7 +258,7 @@ static void interrupt(void) {
 static void manage(uint16_t opcode, unsigned host, uint8_t policy, uint8_t region, uint8_t tag, unsigned block, unsigned blocks) {
     uint8_t payload[72] = {(uint8_t)host, 0, policy, region}, room[DCD_MOST_RESPONSE];
     struct dcd_refusal refusal = {.size = sizeof refusal};
-    char text[80];
+    char text[160];
     uint64_t length = 0;
     payload[12] = tag;
     put(payload + 28, 4, blocks ? 1 : 0);
@@ -266,13 +266,11 @@ static void manage(uint16_t opcode, unsigned host, uint8_t policy, uint8_t regio
     put(payload + 40, 8, (uint64_t)blocks * BLOCK);
     struct word word = request(opcode, payload, blocks ? 72 : 32);
     must("refusal", dcd_refusal(&device, DCD_MANAGER, word.message, word.length, &refusal));
+    must("sentence", dcd_refusal_text(&device, DCD_MANAGER, word.message, word.length, text, sizeof text, &length));
     must("message", dcd_send(&device, DCD_MANAGER, word.message, word.length, room, sizeof room, &length));
     apply();
     if (number(room + 8, 2) != refusal.code) fail("a rule is told with another code");
-    if (refusal.rule != 0) {
-        must("name", dcd_rule_name(refusal.rule, text, sizeof text, &length));
-        fail("%04xh is refused: %s %" PRIu64, opcode, text, refusal.values[0]);
-    }
+    if (refusal.rule != 0 || text[0] != 0) fail("%04xh is refused: %s", opcode, text);
     interrupt();
 }
 
@@ -349,6 +347,8 @@ static void take_all(unsigned host) {
 
 int main(void) {
     struct dcd_memory_state all = {.size = sizeof all};
+    struct dcd_tag tag = {.holders = 0};
+    uint64_t tags = 0;
     open_pool();
     for (unsigned host = 0; host < GUESTS; host++) start(host);
 
@@ -371,6 +371,8 @@ int main(void) {
     expect(1, 1, 0, 0x3333);
     store(1, 1, 1, 0x5555);
     expect(0, 1, 1, 0x5555);
+    must("tags", dcd_tags(&device, &tag, 1, &tags));
+    if (tags != 1 || tag.tag[0] != 0x77 || tag.holders != 3) fail("the tag is told with other hosts");
 
     listed(HOSTILE, RESPOND, MORE, 1, 0);  /* the hostile guest lists memory of h1 with More: Success, and nothing is granted */
     listed(HOSTILE, RESPOND, 0, 2, 0x0F);  /* and ends its list: Invalid Physical Address */

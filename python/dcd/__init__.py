@@ -11,8 +11,8 @@
         print(host.load(extents[0].dpa))
 """
 from .device import Device, FabricManager, Host, record_of
-from .values import (NO_TAG, AccessRefused, BadHead, Change, DcdError, Extent, HostState, Kind, MemoryState, OfferedExtent, Policy, Record, Refused,
-                     Region, Run, Step)
+from .values import (NO_TAG, AccessRefused, BadHead, Change, DcdError, Extent, HostState, Kind, LiveTag, MemoryState, OfferedExtent, Policy, Record,
+                     Refused, Region, Run, Step)
 
-__all__ = ["NO_TAG", "AccessRefused", "BadHead", "Change", "DcdError", "Device", "Extent", "FabricManager", "Host", "HostState", "Kind", "MemoryState",
-           "OfferedExtent", "Policy", "Record", "Refused", "Region", "Run", "Step", "record_of"]
+__all__ = ["NO_TAG", "AccessRefused", "BadHead", "Change", "DcdError", "Device", "Extent", "FabricManager", "Host", "HostState", "Kind", "LiveTag",
+           "MemoryState", "OfferedExtent", "Policy", "Record", "Refused", "Region", "Run", "Step", "record_of"]

@@ -6,8 +6,8 @@ from types import TracebackType
 from typing import Any, Callable, Iterable, List, Optional, Sequence, Tuple, Type, Union
 
 from . import library as lib
-from .values import (NO_TAG, AccessRefused, BadHead, Change, DcdError, Extent, HostState, Kind, MemoryState, OfferedExtent, Policy, Record, Refused,
-                     Region, Run, Step)
+from .values import (NO_TAG, AccessRefused, BadHead, Change, DcdError, Extent, HostState, Kind, LiveTag, MemoryState, OfferedExtent, Policy, Record,
+                     Refused, Region, Run, Step)
 
 _LISTED = struct.Struct("<QQ8x")
 _EXTENT = struct.Struct("<QQ16sH6x")
@@ -177,11 +177,11 @@ class FabricManager(_Actor):
         """5607h."""
         self.command(0x5607, tag)
 
-    def dynamic_capacity_list_tags(self, first: int = 0, count: int = 84) -> List[Tuple[bytes, Tuple[int, ...], Tuple[int, ...], bool]]:
-        """5608h: live tags with the hosts that hold them, the hosts that are offered them, and whether the manager refers to them."""
+    def dynamic_capacity_list_tags(self, first: int = 0, count: int = 84) -> List[LiveTag]:
+        """5608h: a page of the live tags."""
         data = self.command(0x5608, struct.pack("<LL", first, count))
         parts = [struct.unpack_from("<16sHHB", data, at) for at in range(16, len(data), 24)]
-        return [(tag, _bits(holders), _bits(offered), bool(flags & 1)) for tag, holders, offered, flags in parts]
+        return [LiveTag(tag, _bits(holders), _bits(offered), bool(flags & 1)) for tag, holders, offered, flags in parts]
 
 
 class Device:
@@ -279,6 +279,10 @@ class Device:
         numbers, count = list(self._items("dcd_bases", c_uint64)), self.state().regions
         return [[int(base) for base in numbers[at:at + count]] for at in range(0, len(numbers), count)]
 
+    def tags(self) -> List[LiveTag]:
+        """The live tags, all of them, without a message."""
+        return [LiveTag(bytes(it.tag), _bits(it.holders), _bits(it.offered), bool(it.referenced)) for it in self._items("dcd_tags", lib.CTag)]
+
     def refusal(self, actor: int, message: bytes) -> Optional[Refused]:
         """Why the message would be refused now, or nothing."""
         told = lib.CRefusal(size=ctypes.sizeof(lib.CRefusal))
@@ -286,7 +290,8 @@ class Device:
         if told.rule == 0:
             return None
         code, rule = lib.text_of(self._library.dcd_code_name, told.code), lib.text_of(self._library.dcd_rule_name, told.rule)
-        return Refused(told.code, code, rule, tuple(told.values[:told.value_count]))
+        text = lib.text_of(self._library.dcd_refusal_text, byref(self._handle), actor, message, len(message))
+        return Refused(told.code, code, rule, tuple(told.values[:told.value_count]), text)
 
     def _load(self, host: int, dpa: int) -> int:
         word = c_uint64()

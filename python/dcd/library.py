@@ -45,6 +45,10 @@ class CExtent(Structure):
     _fields_ = [("dpa", c_uint64), ("length", c_uint64), ("tag", c_uint8 * 16), ("sequence", c_uint16), ("offer", c_uint16), ("reserved", c_uint32)]
 
 
+class CTag(Structure):
+    _fields_ = [("tag", c_uint8 * 16), ("holders", c_uint16), ("offered", c_uint16), ("referenced", c_uint8), ("reserved", c_uint8 * 3)]
+
+
 class CRefusal(Structure):
     _fields_ = [("size", c_uint32), ("rule", c_uint16), ("code", c_uint16), ("values", c_uint64 * 3), ("value_count", c_uint32), ("reserved", c_uint32)]
 
@@ -64,10 +68,12 @@ _CALLS = {
     "dcd_memory": [_HANDLE, POINTER(CMemoryState)],
     "dcd_extents": [_HANDLE, c_uint8, POINTER(CExtent), c_size_t, _NUMBER],
     "dcd_offers": [_HANDLE, c_uint8, POINTER(CExtent), c_size_t, _NUMBER],
+    "dcd_tags": [_HANDLE, POINTER(CTag), c_size_t, _NUMBER],
     "dcd_records": [_HANDLE, c_uint8, c_char_p, c_size_t, _NUMBER],
     "dcd_regions": [_HANDLE, POINTER(CRegion), c_size_t, _NUMBER],
     "dcd_bases": [_HANDLE, _NUMBER, c_size_t, _NUMBER],
     "dcd_refusal": [_HANDLE, c_uint8, c_char_p, c_size_t, POINTER(CRefusal)],
+    "dcd_refusal_text": [_HANDLE, c_uint8, c_char_p, c_size_t, *_TEXT],
     "dcd_status_name": [c_uint32, *_TEXT],
     "dcd_code_name": [c_uint16, *_TEXT],
     "dcd_rule_name": [c_uint16, *_TEXT],

@@ -35,6 +35,15 @@ class OfferedExtent(Extent):
     offer: int = 0
 
 
+@dataclass(frozen=True)
+class LiveTag:
+    """A live tag of a shareable region: the hosts that hold it, those that are offered it, whether the manager has a reference."""
+    tag: bytes
+    holders: Tuple[int, ...]
+    offered: Tuple[int, ...]
+    referenced: bool
+
+
 class Kind(enum.IntEnum):
     """What a record says (CXL 3.1, 8.2.9.2.1.6)."""
     ADD_CAPACITY = 0
@@ -138,8 +147,9 @@ class AccessRefused(DcdError):
 
 
 class Refused(Exception):
-    """The device refused a command: its return code and the rule that the command broke, with the rule's values."""
+    """The device refused a command. The message is the sentence of the rule that the command broke; `rule` is the name of the rule,
+    `values` has its values, and `code` is the return code."""
 
-    def __init__(self, code: int, code_name: str, rule: str, values: Tuple[int, ...]) -> None:
-        super().__init__(f"{code_name}: {rule} {' '.join(map(str, values))}".rstrip())
+    def __init__(self, code: int, code_name: str, rule: str, values: Tuple[int, ...], text: str) -> None:
+        super().__init__(text or rule)
         self.code, self.code_name, self.rule, self.values = code, code_name, rule, values

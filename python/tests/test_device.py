@@ -1,7 +1,7 @@
 """The package against the library: python -m unittest in the folder python/ (DCD_LIBRARY names the shared object)."""
 import unittest
 
-from dcd import AccessRefused, BadHead, Change, Device, Extent, Kind, Policy, Refused, Region
+from dcd import AccessRefused, BadHead, Change, Device, Extent, Kind, LiveTag, Policy, Refused, Region
 
 MIB = 1 << 20
 TAG = bytes([0x77]) + bytes(15)
@@ -74,7 +74,7 @@ class Lives(unittest.TestCase):
             with self.assertRaises(Refused) as told:
                 it.manager.initiate_dynamic_capacity_add(7, 0, MIB)
             self.assertEqual((told.exception.rule, told.exception.values, told.exception.code_name), ("NoSuchHost", (7,), "Invalid Input"))
-            self.assertEqual(str(told.exception), "Invalid Input: NoSuchHost 7")
+            self.assertEqual(str(told.exception), "no host 7; there are 0 and 1")
 
     def test_sharing_by_a_tag(self) -> None:
         with device() as it:
@@ -84,7 +84,19 @@ class Lives(unittest.TestCase):
             theirs = it.hosts[1].accept()[0]
             it.hosts[0].store(mine.dpa, 7)
             self.assertEqual(it.hosts[1].load(theirs.dpa), 7)
-            self.assertEqual(it.manager.dynamic_capacity_list_tags()[0][:2], (TAG, (0, 1)))
+            self.assertEqual(it.tags(), [LiveTag(TAG, (0, 1), (), False)])
+            self.assertEqual(it.manager.dynamic_capacity_list_tags(), it.tags())
+
+    def test_a_tag_ends(self) -> None:
+        with device() as it:
+            self.assertEqual(it.tags(), [])
+            it.manager.initiate_dynamic_capacity_add(1, 1, MIB, tag=TAG)
+            it.manager.dynamic_capacity_add_reference(TAG)
+            self.assertEqual(it.tags(), [LiveTag(TAG, (), (1,), True)])
+            it.hosts[1].add_dynamic_capacity_response()
+            self.assertEqual(it.tags(), [LiveTag(TAG, (), (), True)])
+            it.manager.dynamic_capacity_remove_reference(TAG)
+            self.assertEqual(it.tags(), [])
 
     def test_maps_are_holdings(self) -> None:
         """Who applies the runs from the start has what each host holds."""

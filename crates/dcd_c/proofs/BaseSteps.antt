@@ -1,6 +1,6 @@
 -- The bases of the hosts, one host after another.
-use Rattle.std.proofs.Common.{◌≡◌, ℕ, zero, suc, ◌+◌, ◌*◌, ◌<◌, ◌≤◌, [], ◌∷◌, ◌++◌, ap, ◌∙◌, append-nil, arith, flat_map, length}
-use Rattle.std.proofs.Math.Nat.{mul-le-mul_right, suc-mul}
+use Rattle.std.proofs.Common.{◌≡◌, ℕ, zero, suc, ◌+◌, ◌*◌, [], ◌∷◌, ◌++◌, ap, ◌∙◌, append-nil, arith, flat_map, length}
+use Rattle.std.proofs.Math.Nat.{suc-mul}
 use Rattle.std.proofs.lemmas.Grind.{flat_map-append}
 use Rattle.std.proofs.lemmas.List.{length-append}
 use Rattle.std.proofs.lemmas.List.FromFn.{length-map-range_with_len}
@@ -42,13 +42,8 @@ bases_more c h =
     ap (flat_map (host_bases c)) (range_more h) ∙ flat_map-append (host_bases c) (range_with_len 0 h) (h ∷ [])
     ∙ ap (λ bs. flat_map (host_bases c) (range_with_len 0 h) ++ bs) (append-nil (host_bases c h))
 
--- where the next host's are, and that they have room
+-- where the next host's are
 pub base_next : (h n : ℕ) → (h + 1) * n ≡ h * n + n
 base_next h n =
     let same : h + 1 ≡ suc h = omega arith in
     ap (λ k. k * n) same ∙ suc-mul h n
-
-pub base_within : (h hosts n room : ℕ) → h < hosts → hosts * n ≤ room → h * n + n ≤ room
-base_within h hosts n room below all =
-    let next : h + 1 ≤ hosts = omega (arith, below) in
-    omega (arith, all, base_next h n, mul-le-mul_right n next)

@@ -6,5 +6,6 @@ mod RunSteps
 mod Filling
 mod OfferSteps
 mod RecordSteps
+mod TagSteps
 mod BaseSteps
 mod Spelled

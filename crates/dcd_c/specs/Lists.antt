@@ -1,8 +1,9 @@
--- Lists in the caller's room: extents, records, regions, bases.
+-- Lists in the caller's room: extents, tags, records, regions, bases.
 use Rattle.std.specs.Prelude.{◌≡◌, ℕ, suc, ◌+◌, ◌*◌, ◌%◌, ◌^◌, ◌<◌, ◌≤◌, List, [], ◌∷◌, ◌++◌, drop, flat_map, length, map, Bool, true, false, Option, Some, None, Result, Ok, Err}
 use Rattle.std.specs.List.{range_with_len}
 use Rattle.dcd_base.specs.declared.capacity.Extent.{Extent}
 use Rattle.dcd_base.specs.declared.steps.LogId.{LogId}
+use Rattle.dcd_base.specs.declared.tags.TagView.{TagView}
 use Rattle.event_records.specs.Records.{record_bytes}
 use Rattle.region_config.specs.Configurations.{Configuration}
 use Rattle.region_config.specs.Granules.{base_of}
@@ -12,12 +13,15 @@ use Rattle.journal_core.specs.declared.entries.Entry.{Entry}
 use Rattle.device_plain.specs.device_rules.specs.Adding.{present}
 use Rattle.device_plain.specs.device_rules.specs.Counts.{records_of}
 use Rattle.device_plain.specs.device_rules.specs.Hosts.{accepted_of, offers_of}
+use Rattle.device_plain.specs.device_rules.specs.TagCommands.{tag_seen}
+use Rattle.device_plain.specs.device_rules.specs.Tags.{open_tags}
 use Rattle.device_plain.specs.Lives.{ByEveryLife, Living}
 use Rattle.dcd_c.specs.Calls.{log_numbered}
 use Rattle.dcd_c.specs.declared.faults.Fault.{Fault}
 use Rattle.dcd_c.specs.declared.heads.RegionTold.{RegionTold}
 use Rattle.dcd_c.specs.declared.lists.ExtentTold.{ExtentTold}
 use Rattle.dcd_c.specs.declared.sessions.Session.{Session}
+use Rattle.dcd_c.specs.declared.tags.TagTold.{TagTold}
 
 -- What putting a list into the caller's room answers, by every journal that leads to the device: the list stands there and is
 -- counted, or there is too little room for it.
@@ -62,6 +66,14 @@ TellsRecords log was is d (Err fault) = ⊥
 abbrev pub flag_number : Bool → ℕ → ℕ
 flag_number true bit = bit
 flag_number false bit = 0
+
+-- what the manager is shown of a tag, as C sees it
+abbrev pub tag_told : TagView → TagTold
+tag_told v = record { tag = v.tag.0; holders = v.holders; offered = v.offered; referenced = flag_number v.referenced 1; reserved = 0; reserved_too = 0 }
+
+-- the live tags, in the order of opening
+abbrev pub tags_told : Living → List Entry → List TagTold
+tags_told d life = map tag_told (map (tag_seen d.config (effects life)) (open_tags d.config (effects life)))
 
 -- What putting the records of a log answers, if there is one of this number.
 abbrev pub TellsLogAt : Option LogId → List ℕ → List ℕ → Living → Result ℕ Fault → Type 0

@@ -1,16 +1,19 @@
--- The rule that a request would break now.
-use Rattle.std.specs.Prelude.{◌≡◌, ◌≢◌, ℕ, List, slice_index, Option, Some, None, Result, Ok, Err}
+-- The rule that a request would break now, and its sentence.
+use Rattle.std.specs.Prelude.{◌≡◌, ◌≢◌, ℕ, List, [], slice_index, Option, Some, None, Result, Ok, Err}
 use Rattle.cci_codec.specs.Messages.{ReadsRequest, message_fault}
 use Rattle.cci_codec.specs.declared.faults.MessageFault.{MessageFault}
 use Rattle.cci_codec.specs.declared.messages.Request.{Request}
 use Rattle.dcd_base.specs.declared.steps.Actor.{Actor}
 use Rattle.dcd_codes.specs.Rules.{code_of, number_of}
 use Rattle.dcd_codes.specs.declared.rules.Rule.{Rule}
+use Rattle.region_config.specs.Configurations.{Configuration}
 use Rattle.journal_core.specs.declared.acts.Act.{Act}
+use Rattle.text_lines.specs.CauseWords.{cause_words}
 use Rattle.device_plain.specs.device_rules.specs.Answers.{broken}
 use Rattle.device_plain.specs.Lives.{ByEveryLife, Living}
 use Rattle.dcd_c.specs.Calls.{actor_numbered}
 use Rattle.dcd_c.specs.RuleNumbers.{rule_number, rule_values, value_count}
+use Rattle.dcd_c.specs.Words.{PutsWords}
 use Rattle.dcd_c.specs.declared.faults.Fault.{Fault}
 use Rattle.dcd_c.specs.declared.refusals.RefusalTold.{RefusalTold}
 
@@ -48,3 +51,23 @@ AsksRule number message d (Err fault) = ⊥
 abbrev pub AsksRefusal : ℕ → List ℕ → Living → Result RefusalTold Fault → Type 0
 AsksRefusal number message d (Ok told) = (rule : Option Rule) × IsBrokenBy d number message rule × (told ≡ refusal_told rule)
 AsksRefusal number message d (Err fault) = AsksRule number message d (Err fault)
+
+-- the sentence of a rule, of no bytes where none is broken
+abbrev pub refusal_words : Configuration → Option Rule → List ℕ
+refusal_words c None = []
+refusal_words c (Some rule) = cause_words c rule
+
+-- What putting the sentence of a rule answers. It takes memory.
+abbrev pub PutsSentence : Configuration → Option Rule → List ℕ → List ℕ → Result ℕ Fault → Type 0
+PutsSentence c rule was is (Err Fault.NoMemory) = is ≡ was
+PutsSentence c rule was is outcome = PutsWords (refusal_words c rule) was is outcome
+
+-- What putting that of the rule that a message breaks answers.
+abbrev pub PutsRule : ℕ → List ℕ → List ℕ → List ℕ → Living → Result ℕ Fault → Type 0
+PutsRule number message was is d outcome = (rule : Option Rule) × IsBrokenBy d number message rule × PutsSentence d.config rule was is outcome
+
+-- The same, or why there is none: then the room is as it was.
+abbrev pub PutsRefusal : ℕ → List ℕ → List ℕ → List ℕ → Living → Result ℕ Fault → Type 0
+PutsRefusal number message was is d (Ok n) = PutsRule number message was is d (Ok n)
+PutsRefusal number message was is d (Err (Fault.NoRoom n)) = PutsRule number message was is d (Err (Fault.NoRoom n))
+PutsRefusal number message was is d (Err fault) = (is ≡ was) × AsksRule number message d (Err fault)

@@ -53,9 +53,13 @@ fault_word n =
     else if n == 12 then codes "BadLanes"
     else []
 
--- What putting a name into a caller's room answers: its bytes and a NUL stand there, and the length is told without the NUL.
+-- What putting words into a caller's room answers: their bytes and a NUL stand there, and the length is told without the NUL.
+abbrev pub PutsWords : List ℕ → List ℕ → List ℕ → Result ℕ Fault → Type 0
+PutsWords words was is (Ok n) = (n ≡ length words) × (is ≡ words ++ 0 ∷ drop (suc n) was)
+PutsWords words was is (Err (Fault.NoRoom n)) = (n ≡ length words) × (length was ≤ n) × (is ≡ was)
+PutsWords words was is (Err fault) = ⊥
+
+-- The same of a name, which has bytes.
 abbrev pub PutsName : List ℕ → List ℕ → List ℕ → Result ℕ Fault → Type 0
-PutsName name was is (Ok n) = (n ≡ length name) × (1 ≤ n) × (is ≡ name ++ 0 ∷ drop (suc n) was)
-PutsName name was is (Err (Fault.NoRoom n)) = (n ≡ length name) × (1 ≤ n) × (length was ≤ n) × (is ≡ was)
 PutsName name was is (Err Fault.NoName) = (name ≡ []) × (is ≡ was)
-PutsName name was is (Err fault) = ⊥
+PutsName name was is outcome = (1 ≤ length name) × PutsWords name was is outcome

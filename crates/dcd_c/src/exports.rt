@@ -4,9 +4,9 @@ ghost use Rattle.dcd_c.specs.Calls.{AnswersLoad, AnswersStore, AnswersTurn, Call
 ghost use Rattle.dcd_c.specs.Asking.{AsksHost, AsksMemory, AsksPlace, TellsState};
 ghost use Rattle.dcd_c.specs.HeadFaults.{TellsOpened};
 ghost use Rattle.dcd_c.specs.Changes.{TellsChanged};
-ghost use Rattle.dcd_c.specs.Lists.{TellsHostItems, TellsItems, TellsLog, TellsPlace, accepted_told, bases_told, offers_told, regions_told};
+ghost use Rattle.dcd_c.specs.Lists.{TellsHostItems, TellsItems, TellsLog, TellsPlace, accepted_told, bases_told, offers_told, regions_told, tags_told};
 ghost use Rattle.dcd_c.specs.Opening.{OpensWith};
-ghost use Rattle.dcd_c.specs.Refusals.{AsksRefusal};
+ghost use Rattle.dcd_c.specs.Refusals.{AsksRefusal, PutsRefusal};
 ghost use Rattle.dcd_c.specs.RuleNumbers.{rule_word};
 ghost use Rattle.dcd_c.specs.Texts.{PutsText, fault_text};
 ghost use Rattle.dcd_c.specs.Words.{PutsName, code_word, fault_word, status_word};
@@ -27,9 +27,10 @@ use crate::lists::{
     ExtentTold, bases_asked, extents_asked, offers_asked, records_asked, regions_asked,
 };
 use crate::names::{code_name, fault_name, put_name, status_name};
-use crate::refusals::{REFUSAL, RefusalTold, refusal_asked};
+use crate::refusals::{REFUSAL, RefusalTold, refusal_asked, sentence_asked};
 use crate::rule_numbers::rule_name;
 use crate::sending::sent;
+use crate::tags::{TagTold, tags_asked};
 use crate::telling::{tell_done, tell_number};
 use crate::texts::put_fault;
 use std::alloc::Global;
@@ -235,6 +236,21 @@ pub extern "C" fn dcd_offers(
     tell_number(&outcome, count)
 }
 
+/// Puts the live tags into the room, in the order of opening.
+#[unsafe(no_mangle)]
+pub extern "C" fn dcd_tags(
+    handle: &mut Handle,
+    alloc: Global,
+    room: &mut [TagTold],
+    count: &mut u64,
+) -> u32
+    ensures told { TellsNumber result count.old count.new (TellsPlace room.old room.new (TellsItems tags_told room.old room.new) handle.old.place.device) }
+    ensures kept { handle.new.place.device ≡ handle.old.place.device }
+{
+    let outcome = tags_asked(handle, alloc, room);
+    tell_number(&outcome, count)
+}
+
 /// Puts the records of the log into the room.
 #[unsafe(no_mangle)]
 pub extern "C" fn dcd_records(
@@ -303,6 +319,23 @@ pub extern "C" fn dcd_refusal(
         }
         Err(fault) => fault.status(),
     }
+}
+
+/// Puts the sentence of the rule that the message of the actor would break now into the room, with a NUL behind it.
+#[unsafe(no_mangle)]
+pub extern "C" fn dcd_refusal_text(
+    handle: &mut Handle,
+    alloc: Global,
+    actor: u8,
+    message: &[u8],
+    room: &mut [u8],
+    length: &mut u64,
+) -> u32
+    ensures told { TellsNumber result length.old length.new (TellsPlace room.old room.new (PutsRefusal actor message.now room.old room.new) handle.old.place.device) }
+    ensures kept { handle.new.place.device ≡ handle.old.place.device }
+{
+    let outcome = sentence_asked(handle, alloc, actor, message, room);
+    tell_number(&outcome, length)
 }
 
 /// Puts the name of a status into the room, with a NUL behind it.

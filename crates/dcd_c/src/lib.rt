@@ -25,5 +25,6 @@ mod rule_numbers;
 mod sending;
 mod sessions;
 mod stepping;
+mod tags;
 mod telling;
 mod texts;

@@ -1,24 +1,31 @@
 //! The names of statuses, return codes and faults of heads, in the caller's room.
 
-ghost use Rattle.dcd_c.specs.Words.{PutsName, code_word, fault_word, status_word};
+ghost use Rattle.dcd_c.specs.Words.{PutsName, PutsWords, code_word, fault_word, status_word};
 ghost use Rattle.std.specs.Prelude.{◌≡◌};
 
 use crate::faults::Fault;
 use dcd_base::{put_byte, put_bytes};
 
-/// Puts the name and a NUL at the start of the room, and answers how many bytes the name has.
+/// Puts the words and a NUL at the start of the room, and answers how many bytes the words have.
+pub(crate) fn put_words(words: &[u8], room: &mut [u8]) -> Result<u64, Fault>
+    ensures { PutsWords words.now room.old room.new result }
+{
+    if words.len() >= room.len() {
+        return Err(Fault::NoRoom(words.len() as u64));
+    }
+    put_bytes(room, 0, words);
+    put_byte(room, words.len(), 0);
+    Ok(words.len() as u64)
+}
+
+/// Puts a name in the same way. What has no bytes is no name.
 pub(crate) fn put_name(name: &[u8], room: &mut [u8]) -> Result<u64, Fault>
     ensures { PutsName name.now room.old room.new result }
 {
     if name.is_empty() {
         return Err(Fault::NoName);
     }
-    if name.len() >= room.len() {
-        return Err(Fault::NoRoom(name.len() as u64));
-    }
-    put_bytes(room, 0, name);
-    put_byte(room, name.len(), 0);
-    Ok(name.len() as u64)
+    put_words(name, room)
 }
 
 /// The name of a status. It has no bytes where the number has no name.
