@@ -3,12 +3,15 @@ import os
 import re
 import sys
 import tempfile
+import time
 
 import generated
 import runs
 import workers
 
 DONE, STRACE = 0, "/usr/bin/strace"
+# So many loads of one word, while a command wants the same shard; and the seconds within which the command ends.
+HOT, WITHIN = 60_000, 1.0
 # A line of strace that tells what making a thread answered, which is the number of the thread.
 MADE = re.compile(rb"clone3?\b.*= [1-9]\d*$")
 
@@ -31,9 +34,27 @@ def trials():
     yield "--gen 5", ("--gen", "5"), b"", generated.generated(5)
 
 
+def hot_lane(dcdsim):
+    """Runs a command beside one hot lane ten times. The run ends after the command, so it bounds what the command waited."""
+    script, longest, places = workers.one_hot_lane(HOT), 0.0, []
+    for _ in range(10):
+        begun = time.monotonic()
+        ended = runs.run(dcdsim, (), script)
+        longest = max(longest, time.monotonic() - begun)
+        entries = [line.split(b" ") for line in ended.written.split(b"\n") if line[:1].isdigit()]
+        places += [at for at, words in enumerate(entries) if words[2:4] == [b"h1", b"cmd"]][-1:]
+        if ended.status != DONE or len(entries) != HOT + 5:
+            print(f"FOUND: one hot lane: the run ended so: {ended}", flush=True)
+            return True
+    if longest > WITHIN:
+        print(f"FOUND: one hot lane: a run took {longest:.2f} s", flush=True)
+    print(f"one hot lane: {HOT:,} loads of one word and a command at the same shard: {longest:.2f} s at most; the command is entry {min(places):,} to {max(places):,}", flush=True)
+    return longest > WITHIN
+
+
 def count_all(dcdsim):
     """Counts the threads of each trial in both modes, and prints what is wrong."""
-    found = 0
+    found = hot_lane(dcdsim)
     if not os.access(STRACE, os.X_OK):
         sys.exit(f"hostile/try: there is no {STRACE}")
     for name, words, given, script in trials():

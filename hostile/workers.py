@@ -56,6 +56,16 @@ def all_at_once():
     return device() + b"".join(lines) + b"\0"
 
 
+def one_hot_lane(loads):
+    """Host 0 loads one word again and again while host 1 gives back a block whose granule is of the same shard."""
+    own, other = (0, MIB), (16 * MIB, MIB)
+    lines = [command(MANAGER, offer(host, PRESCRIPTIVE, 0, extents=[it])) for host, it in enumerate((own, other))] + [mark()]
+    lines += [command(host, respond([it])) for host, it in enumerate((own, other))] + [mark()]
+    hot = [load(0, 0)] * loads
+    lines += hot[:loads // 10] + [command(1, give_back([other]))] + hot[loads // 10:]
+    return head(2, [region(1, 32 * MIB, MIB, MIB, 0)], [0] * 2) + b"".join(lines) + b"\0"
+
+
 SCRIPTS = {"hosts at once": hosts_at_once(), "lanes at once": lanes_at_once(), "all at once": all_at_once()}
 
 
