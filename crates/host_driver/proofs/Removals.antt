@@ -1,16 +1,20 @@
 -- What the manager takes from a host by force can be taken: it lies in the accepted extents, and no two of it share an address.
-use Rattle.std.proofs.Common.{◌≡◌, ◌+◌, ◌<◌, true, false, List, [], length, Option, Some, None, Ok, Err, inl, inr, refl, sym, subst, ◌∙◌, ltb}
-use Rattle.std.specs.Prelude.{filter_map}
-use Rattle.std.specs.List.{list_all}
+use Rattle.std.proofs.Common.{◌≡◌, ℕ, ◌+◌, ◌^◌, ◌<◌, ◌≤◌, Bool, true, false, List, [], ◌∷◌, length, map, Option, Some, None, Ok, Err, inl, inr, refl, sym, ap, subst, ◌∙◌, arith, ltb}
+use Rattle.std.specs.Prelude.{filter_map, if◌then◌else◌, ◌==◌}
+use Rattle.std.specs.List.{AllByRecursion, list_all}
 use Rattle.std.specs.declared.result.Result.{Result}
-use Rattle.std.proofs.lemmas.Bool.{and_from, cases_lt, eq-eqb, false≢true, lt-ltb}
+use Rattle.std.proofs.lemmas.Bool.{and_from, cases_eq, cases_lt, eq-eqb, false≢true, lt-ltb}
+use Rattle.dcd_base.specs.Words.{◌or◌, same_tag}
 use Rattle.dcd_base.specs.declared.capacity.Extent.{Extent}
+use Rattle.dcd_base.specs.declared.capacity.Tag.{Tag}
 use Rattle.dcd_base.specs.declared.ids.HostId.{HostId}
 use Rattle.dcd_base.specs.declared.steps.Actor.{Actor}
 use Rattle.dcd_base.specs.declared.steps.LogId.{LogId}
+use Rattle.dcd_codes.specs.Rules.{each_in}
 use Rattle.dcd_codes.specs.declared.rules.Rule.{Rule}
+use Rattle.event_log.specs.Logs.{room_in}
 use Rattle.event_records.specs.declared.events.EventKind.{EventKind}
-use Rattle.extent_list.specs.ExtentLists.{overlaps}
+use Rattle.extent_list.specs.ExtentLists.{count_in, is_in, marked, overlaps}
 use Rattle.dcd_base.specs.declared.faults.PayloadFault.{PayloadFault as ManagerFault}
 use Rattle.fm_payloads.specs.ManagerPayloads.{manager_request}
 use Rattle.fm_payloads.specs.declared.requests.FmRequest.{FmRequest}
@@ -18,29 +22,48 @@ use Rattle.journal_core.specs.Entries.{effects}
 use Rattle.journal_core.specs.declared.acts.Act.{Act}
 use Rattle.journal_core.specs.declared.entries.Entry.{Entry}
 use Rattle.journal_core.specs.declared.outcome.Effect.{Effect}
+use Rattle.extent_list.specs.Listing.{incomplete, too_many_extents}
+use Rattle.media_map.specs.Places.{region_at}
+use Rattle.region_config.proofs.Faultless.{region_ends}
 use Rattle.region_config.specs.Configurations.{Configuration}
+use Rattle.region_config.specs.Granules.{with_blocks}
 use Rattle.region_config.specs.Soundness.{IsSound}
+use Rattle.release_core.specs.Leaving.{count_after}
+use Rattle.release_core.specs.Removals.{by_tag_rule, prescribed_removal_rule, extents_of_tag}
+use Rattle.device_plain.specs.device_rules.specs.Adding.{add_outcome, add_rule, offered}
 use Rattle.device_plain.specs.device_rules.specs.Answers.{effects_with, manager_outcome, manager_result, manager_rule, scrubbed, unless, zeroes}
 use Rattle.device_plain.specs.device_rules.specs.EventCommands.{clear_outcome}
 use Rattle.device_plain.specs.device_rules.specs.Legal.{Meets, right_answer}
 use Rattle.device_plain.specs.device_rules.specs.Logs.{log_of}
-use Rattle.device_plain.specs.device_rules.specs.Outcomes.{Outcome, effects_of}
+use Rattle.device_plain.specs.device_rules.specs.Outcomes.{Outcome, effects_of, log_full}
+use Rattle.device_plain.specs.device_rules.specs.ReleaseOutcomes.{is_cleaning, is_forced, policy_in, remove_outcome, remove_rule, removed, removals}
 use Rattle.device_plain.specs.device_rules.specs.Settings.{set_outcome}
 use Rattle.device_plain.specs.device_rules.specs.TagCommands.{add_reference_outcome, remove_reference_outcome}
 use Rattle.device_plain.specs.device_rules.specs.Tags.{is_referenced}
-use Rattle.device_plain.specs.device_rules.specs.Views.{view_of}
-use Rattle.device_plain.specs.device_rules.proofs.EffectKinds.{clear_passes, reference_passes, zeroes_pass}
-use Rattle.device_plain.specs.device_rules.specs.Pictures.{picture_of}
-use Rattle.device_plain.specs.device_rules.specs.Standing.{Sound}
+use Rattle.device_plain.specs.device_rules.specs.Views.{View, view_after, view_of}
+use Rattle.device_plain.specs.device_rules.proofs.EffectKinds.{clear_passes, reference_passes, removals_pass, zeroes_pass}
+use Rattle.device_plain.specs.device_rules.proofs.ListSteps.{each-both, each-change, each-map}
+use Rattle.device_plain.specs.device_rules.specs.Pictures.{Picture, picture_of}
+use Rattle.device_plain.specs.device_rules.specs.Standing.{IsMade, Sound}
+use Rattle.device_plain.specs.device_rules.proofs.AllLeave.{Behind}
+use Rattle.device_plain.specs.device_rules.proofs.Going.{IsGoing, some_going}
+use Rattle.device_plain.specs.device_rules.proofs.LeftStanding.{going_of, going_rule}
+use Rattle.device_plain.specs.device_rules.proofs.OneLeave.{loose}
+use Rattle.selection.proofs.Prescribed.{neither}
+use Rattle.device_plain.specs.device_rules.proofs.LogHistories.{leaves_logs}
+use Rattle.device_plain.specs.device_rules.proofs.LogOutcomes.{last_of, room_for}
 use Rattle.device_plain.specs.device_rules.proofs.LogSteps.{IsSound as IsSoundLog}
-use Rattle.device_plain.specs.device_rules.proofs.ViewOthers.{answer-leaves}
+use Rattle.device_plain.specs.device_rules.proofs.ViewOthers.{add-leaves, answer-leaves, remove-leaves}
 use Rattle.device_plain.specs.device_rules.proofs.ViewsLeft.{leaves_view, outcome-leaves}
 use Rattle.device_plain.specs.isolation_laws.specs.Solo.{block_item, acts_for, extents_recorded}
 use Rattle.device_plain.specs.isolation_laws.specs.declared.items.Item.{Item}
+use Rattle.device_plain.specs.isolation_laws.proofs.OwnRecords.{told_log_records}
 use Rattle.device_plain.specs.isolation_laws.proofs.RecordItems.{blocks_outcome, told_passing}
+use Rattle.device_plain.specs.isolation_laws.proofs.RemovalViews.{removing}
 use Rattle.host_driver.proofs.Brought.{CanGo}
-use Rattle.host_driver.proofs.Exchanging.{Beside}
+use Rattle.host_driver.proofs.Exchanging.{Beside, stays_in}
 use Rattle.host_driver.proofs.Midway.{seen_in}
+use Rattle.host_driver.proofs.Passing.{EachLies, cut_by}
 
 -- ---- extents that may leave
 
@@ -54,10 +77,54 @@ is_beside_of x y apart = elim (cases_lt y.start (x.start + x.length)) [
   ]
 ]
 
+lies_all : (xs accepted : List Extent) → AllByRecursion (λ (x : Extent). 0 < x.length) xs → AllByRecursion (λ x. is_in accepted x ≡ true) xs → Behind xs → EachLies accepted xs
+lies_all [] accepted some inside behind = tt
+lies_all (x ∷ xs) accepted (s, some) (first, inside) (apart, behind) = (
+  first,
+  lies_all xs (cut_by accepted x) some
+      (each-both (λ (y : Extent). 0 < y.length) (λ y. (is_in accepted y ≡ true) × (overlaps y x ≡ false)) (λ y. is_in (cut_by accepted x) y ≡ true)
+      (λ y more both. stays_in x.start x.length y.start y.length accepted more (is_beside_of x y both.1) both.0) xs some
+      (each-both (λ y. is_in accepted y ≡ true) (λ y. overlaps y x ≡ false) (λ y. (is_in accepted y ≡ true) × (overlaps y x ≡ false)) (λ y a b. (a, b)) xs inside apart))
+      behind,
+)
+
+module _ (c : Configuration) (sound : IsSound c) (p : Picture) (h : HostId) where
+  pub going_can : (v : View) → v.accepted ≡ p.accepted h → (known : h < c.hosts) → (ys : List Extent) → IsGoing c p h ys → CanGo (seen_in v) ys
+  going_can v same known ys g =
+      let some : AllByRecursion (λ (y : Extent). 0 < y.length) ys =
+      each-change (λ y. IsMade c (p.block (region_at c h y.start)) h (region_at c h y.start) y) (λ (y : Extent). 0 < y.length) (λ y m. m.some) ys g.made in
+      let inside = subst (λ xs. AllByRecursion (λ x. is_in xs x ≡ true) ys) (sym same) g.inside in
+      record {
+        some = some;
+        ends = each-change (λ y. IsMade c (p.block (region_at c h y.start)) h (region_at c h y.start) y) (λ (y : Extent). y.start + y.length < 2 ^ 64)
+            (λ y m. let below = region_ends c h (region_at c h y.start) sound known m.known in omega (arith, below, m.within)) ys g.made;
+        inside = inside;
+        lies = lies_all ys v.accepted some inside g.behind;
+      }
+
+-- marks change no addresses
+marked_can : (v : View) (owners ys : List Extent) → CanGo (seen_in v) ys → CanGo (seen_in v) (map (marked owners) ys)
+marked_can v owners ys can = record {
+  some = each-map (λ (x : Extent). 0 < x.length) (λ (x : Extent). 0 < x.length) (marked owners) (λ x some. some) ys can.some;
+  ends = each-map (λ (x : Extent). x.start + x.length < 2 ^ 64) (λ (x : Extent). x.start + x.length < 2 ^ 64) (marked owners) (λ x ends. ends) ys can.ends;
+  inside = each-map (λ x. is_in v.accepted x ≡ true) (λ x. is_in v.accepted x ≡ true) (marked owners) (λ x inside. inside) ys can.inside;
+  lies = lies_marked owners ys v.accepted can.lies;
+}
+  where
+    lies_marked : (owners ys table : List Extent) → EachLies table ys → EachLies table (map (marked owners) ys)
+    lies_marked owners [] table lies = tt
+    lies_marked owners (y ∷ ys) table (first, lies) = (first, lies_marked owners ys (cut_by table y) lies)
+
+cons_nil : {X : Type 0} (x : X) (xs : List X) → x ∷ xs ≡ [] → ⊥
+cons_nil x xs e = omega (arith, ap length e)
+
 -- ---- what a step tells a host that is taken from it
 
 module _ (c : Configuration) (sound : IsSound c) (before : List Entry) (now : Sound c (picture_of c (effects before))) (h : HostId) (known : h < c.hosts)
     (history : IsSoundLog (log_of (LogId.Host h) (effects before))) where
+  abbrev v : View
+  v = view_of c h before
+
   -- What these effects tell the host that is taken from it can be taken, where they set no block size.
   abbrev TakesWell : List Effect → Type 0
   TakesWell new = filter_map block_item new ≡ [] → CanGo (seen_in (view_of c h before)) (extents_recorded h EventKind.Forced new)
@@ -70,7 +137,65 @@ module _ (c : Configuration) (sound : IsSound c) (before : List Entry) (now : So
 
   -- ---- 5604h
 
+  add_own : (policy r bytes : ℕ) (tag : Tag) (list : List Extent) → add_rule c (effects before) (λ k. view_of c k before) h policy r bytes tag list ≡ None →
+      TakesWell (effects_of c (effects before) (add_outcome c (effects before) (λ k. view_of c k before) h policy r bytes tag list))
+  add_own policy r bytes tag list row =
+      let new : List Extent = offered c (effects before) h policy r bytes tag list in
+      let o : Outcome = add_outcome c (effects before) (λ k. view_of c k before) h policy r bytes tag list in
+      none_taken (effects_of c (effects before) o)
+      (told_log_records c h v (effects before) refl history (view_after c h v (Effect.Offer h new ∷ [])) EventKind.Add new (room_for h v.log (length new) (last_of _ _ row)) o refl refl EventKind.Forced)
+
+  add_case : (k policy r bytes : ℕ) (tag : Tag) (list : List Extent) → add_rule c (effects before) (λ k. view_of c k before) k policy r bytes tag list ≡ None →
+      TakesWell (effects_of c (effects before) (add_outcome c (effects before) (λ k. view_of c k before) k policy r bytes tag list))
+  add_case k policy r bytes tag list row = elim (cases_eq k h) [
+    | inl same ↦ subst (λ k. TakesWell (effects_of c (effects before) (add_outcome c (effects before) (λ k. view_of c k before) k policy r bytes tag list))) (sym same)
+        (add_own policy r bytes tag list (ap (λ k. add_rule c (effects before) (λ k. view_of c k before) k policy r bytes tag list) (sym same) ∙ row))
+    | inr other ↦ passed (effects_of c (effects before) (add_outcome c (effects before) (λ k. view_of c k before) k policy r bytes tag list))
+        (add-leaves c k h other (effects before) (λ k. view_of c k before) policy r bytes tag list)
+  ]
+
   -- ---- 5605h
+
+  by_force : (forced clean : Bool) (all : List Extent) → (forced ≡ true → CanGo (seen_in (view_of c h before)) all) → length all ≤ room_in (LogId.Host h) (log_of (LogId.Host h) (effects before)) →
+      TakesWell (effects_of c (effects before) (removing c h (view_of c h before) forced clean all))
+  by_force true clean all can room = λ blocks. subst (CanGo (seen_in (view_of c h before)))
+      (sym (told_log_records c h v (effects before) refl history (view_after c h v (removals c h clean all)) EventKind.Forced all room (removing c h v true clean all) refl
+      (removals_pass leaves_logs h (λ run. refl) (λ run. refl) c true clean all) EventKind.Forced)) (can refl)
+  by_force false clean all can room =
+      none_taken (effects_of c (effects before) (removing c h v false clean all))
+      (told_log_records c h v (effects before) refl history (view_after c h v []) EventKind.Release all room (removing c h v false clean all) refl refl EventKind.Forced)
+
+  -- by tag, or listed
+  removed_can : (by_tag : Bool) (r : ℕ) (tag : Tag) (list : List Extent)
+      → (if by_tag then by_tag_rule v.accepted tag else prescribed_removal_rule (with_blocks c v.block) h v.accepted (count_in v.offers) r list true) ≡ None
+      → CanGo (seen_in (view_of c h before)) (if by_tag then extents_of_tag tag v.accepted else map (marked v.accepted) list)
+  removed_can true r tag list row =
+      let p : Picture = picture_of c (effects before) in
+      going_can c sound p h v refl known (extents_of_tag tag v.accepted) (some_going c sound p (loose c p now.stands) h known (λ x. same_tag x.tag tag))
+  removed_can false r tag list row =
+      let p : Picture = picture_of c (effects before) in
+      let w : Configuration = with_blocks c v.block in
+      let front = neither _ (too_many_extents (count_after v.accepted (count_in v.offers) list)) row in
+      let rules = neither _ (each_in list (going_rule w h v.accepted (λ x. r)) or incomplete w h v.accepted list) front.0 in
+      marked_can v v.accepted list (going_can c sound p h v refl known list (going_of c sound p now.stands h known (λ x. r) list rules.1))
+
+  remove_own : (flags r : ℕ) (tag : Tag) (list : List Extent) → remove_rule c (λ k. view_of c k before) h flags r tag list ≡ None →
+      TakesWell (effects_of c (effects before) (remove_outcome c (λ k. view_of c k before) h flags tag list))
+  remove_own flags r tag list row =
+      let all : List Extent = removed v.accepted flags tag list in
+      let by_row : Bool → Option Rule = λ forced. if policy_in flags == 0 then by_tag_rule v.accepted tag else prescribed_removal_rule (with_blocks c v.block) h v.accepted (count_in v.offers) r list forced in
+      let front = neither _ (log_full h v.log (length all)) row in
+      let rules = neither _ (by_row (is_forced flags)) front.0 in
+      by_force (is_forced flags) (is_cleaning flags) all (λ is. removed_can (policy_in flags == 0) r tag list (ap by_row (sym is) ∙ rules.1)) (room_for h v.log (length all) (last_of _ _ row))
+
+  remove_case : (k flags r : ℕ) (tag : Tag) (list : List Extent) → remove_rule c (λ k. view_of c k before) k flags r tag list ≡ None →
+      TakesWell (effects_of c (effects before) (remove_outcome c (λ k. view_of c k before) k flags tag list))
+  remove_case k flags r tag list row = elim (cases_eq k h) [
+    | inl same ↦ subst (λ k. TakesWell (effects_of c (effects before) (remove_outcome c (λ k. view_of c k before) k flags tag list))) (sym same)
+        (remove_own flags r tag list (ap (λ k. remove_rule c (λ k. view_of c k before) k flags r tag list) (sym same) ∙ row))
+    | inr other ↦ passed (effects_of c (effects before) (remove_outcome c (λ k. view_of c k before) k flags tag list))
+        (remove-leaves c k h other (effects before) (λ k. view_of c k before) flags tag list)
+  ]
 
   -- ---- all of them
 
