@@ -6,7 +6,6 @@ pub use dcd_base;
 mod codes;
 mod refusals;
 mod rules;
-mod words;
 
 pub use codes::{Code, number_of};
 pub use refusals::Refusal;

@@ -13,7 +13,7 @@ abbrev pub joined : (ℕ → ℕ → Bool) → List ℕ → List (ℕ × ℕ)
 joined together [] = []
 joined together (n ∷ ns) = joined_onto together n (joined together ns)
 
--- of the numbers below a limit, those that pass a test, how many do from one on, and the most from any on
+-- of the numbers below a limit, those that pass a test
 abbrev pub passing : (ℕ → Bool) → ℕ → List ℕ
 passing test limit = filter test (range_with_len 0 limit)
 
@@ -21,9 +21,11 @@ passing test limit = filter test (range_with_len 0 limit)
 abbrev pub lowest_from : (ℕ → Bool) → ℕ → ℕ → ℕ → List ℕ
 lowest_from test limit from most = take most (filter test (range_with_len from (limit - from)))
 
+-- how many from one on pass, up to the limit
 abbrev pub run_from : (ℕ → Bool) → ℕ → ℕ → ℕ
 run_from test limit n = prefix_len test (range_with_len n (limit - n))
 
+-- the most that pass from any on
 abbrev pub longest_run : (ℕ → Bool) → ℕ → ℕ
 longest_run test limit = fold max 0 (map (run_from test limit) (range_with_len 0 limit))
 
