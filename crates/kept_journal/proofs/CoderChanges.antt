@@ -1,14 +1,13 @@
 -- The bytes of a slot, told one after another.
-use Rattle.std.proofs.Common.{◌≡◌, ◌≢◌, ℕ, ◌+◌, ◌*◌, ◌^◌, ◌<◌, ◌≤◌, Bool, true, false, cond, eqb, List, [], ◌∷◌, ◌++◌, length, get_or, take, set, refl, sym, ap, ◌∙◌, arith}
+use Rattle.std.proofs.Common.{◌≡◌, ◌≢◌, ℕ, zero, suc, ◌+◌, ◌-◌, ◌*◌, ◌^◌, ◌<◌, ◌≤◌, List, [], ◌∷◌, ◌++◌, length, get_or, take, set, refl, sym, ap, subst, ◌∙◌, arith}
 use Rattle.std.specs.Int.{w64, from_le_bytes, to_le_bytes}
-use Rattle.std.proofs.lemmas.Bool.{eqb-true}
 use Rattle.std.proofs.lemmas.List.{get_or-set_other, get_or-set_same, length-set, take-set, take_more}
 use Rattle.std.proofs.lemmas.Nat.{from_le_bytes-to_le_bytes_8}
 use Rattle.dcd_base.proofs.Fields.{IsBytes}
 use Rattle.kept_journal.specs.declared.coding.Coder.{Coder}
-use Rattle.kept_journal.specs.Coding.{AddsBytes, AddsChange, CodesTo}
+use Rattle.kept_journal.specs.Coding.{AddsBytes, CodesTo}
 use Rattle.kept_journal.specs.Slots.{slots_in, with_slot}
-use Rattle.kept_journal.proofs.CoderSteps.{codes_byte, codes_none, codes_still}
+use Rattle.kept_journal.proofs.CoderSteps.{codes_byte, codes_none, codes_number}
 use Rattle.kept_journal.proofs.Slotting.{IsBytes-set, bytes_small, with_slot-same}
 
 -- From coder a on the first bytes of slot k were told, whose bytes were the old ones and are to be the wanted ones.
@@ -38,27 +37,44 @@ change_starts a k n old wanted wide fits is is_wanted = record {
   coded = codes_none a _ (ap (λ (z : List ℕ). with_slot (slots_in a.slots) k (from_le_bytes w64 z)) is ∙ ap (λ m. with_slot (slots_in a.slots) k m) (from_le_bytes-to_le_bytes_8 _ fits) ∙ with_slot-same (slots_in a.slots) k);
 }
 
--- the next byte is as it has to be, and nothing is told
-change_skips : {a b c : Coder} {k i : ℕ} {old wanted : List ℕ} → InChange a b k i old wanted → i < 8 → get_or old i 0 ≡ get_or wanted i 0 → AddsBytes b c [] → InChange a c k (i + 1) old wanted
-change_skips {a} {b} {c} {k} {i} {old} {wanted} h lt same adds = record {
-  bytes = h.bytes;
-  kept = adds.slots ∙ h.kept;
-  wide = ap length adds.slots ∙ h.wide;
-  eight = h.eight;
-  eight_wanted = h.eight_wanted;
-  small = h.small;
-  small_wanted = h.small_wanted;
-  same =
-      take_more h.bytes i 0 (omega (arith, h.eight))
-      ∙ ap (λ (z : List ℕ). z ++ get_or h.bytes i 0 ∷ []) h.same
-      ∙ ap (λ n. take i wanted ++ n ∷ []) (h.rest i (omega arith) ∙ same)
-      ∙ sym (take_more wanted i 0 (omega (arith, h.eight_wanted)));
-  rest = λ j le. h.rest j (omega arith);
-  coded = codes_still h.coded adds;
-}
+-- the next byte is as it has to be
+change_skips_one : {a b : Coder} {k i : ℕ} {old wanted : List ℕ} → InChange a b k i old wanted → i < 8 → get_or old i 0 ≡ get_or wanted i 0 → InChange a b k (suc i) old wanted
+change_skips_one {a} {b} {k} {i} {old} {wanted} h lt same =
+    let more : suc i ≡ i + 1 = omega arith in record {
+      bytes = h.bytes;
+      kept = h.kept;
+      wide = h.wide;
+      eight = h.eight;
+      eight_wanted = h.eight_wanted;
+      small = h.small;
+      small_wanted = h.small_wanted;
+      same =
+          ap (λ m. take m h.bytes) more
+          ∙ take_more h.bytes i 0 (omega (arith, h.eight))
+          ∙ ap (λ (z : List ℕ). z ++ get_or h.bytes i 0 ∷ []) h.same
+          ∙ ap (λ n. take i wanted ++ n ∷ []) (h.rest i (omega arith) ∙ same)
+          ∙ sym (take_more wanted i 0 (omega (arith, h.eight_wanted)))
+          ∙ ap (λ m. take m wanted) (sym more);
+      rest = λ j le. h.rest j (omega arith);
+      coded = h.coded;
+    }
 
--- it is told
-change_tells : {a b c : Coder} {k i : ℕ} {old wanted : List ℕ} → InChange a b k i old wanted → k < 16 → i < 8 → AddsBytes b c ((8 * k + i) ∷ get_or wanted i 0 ∷ []) → InChange a c k (i + 1) old wanted
+skips_so_many : {a b : Coder} {k : ℕ} {old wanted : List ℕ} (d i : ℕ) → InChange a b k i old wanted → i + d ≤ 8 → ((j : ℕ) → i ≤ j → j < i + d → get_or old j 0 ≡ get_or wanted j 0) → InChange a b k (i + d) old wanted
+skips_so_many {a} {b} {k} {old} {wanted} zero i h le same =
+    let e : i ≡ i + 0 = omega arith in subst (λ m. InChange a b k m old wanted) e h
+skips_so_many {a} {b} {k} {old} {wanted} (suc d) i h le same =
+    let e : suc i + d ≡ i + suc d = omega arith in
+    subst (λ m. InChange a b k m old wanted) e
+    (skips_so_many d (suc i) (change_skips_one h (omega arith) (same i (omega arith) (omega arith))) (omega arith) (λ j from below. same j (omega arith) (omega arith)))
+
+-- the bytes up to a place are as they have to be
+pub change_skips : {a b : Coder} {k i : ℕ} {old wanted : List ℕ} (n next : ℕ) → InChange a b k i old wanted → wanted ≡ to_le_bytes w64 n → i ≤ next → next ≤ 8 → ((j : ℕ) → i ≤ j → j < next → get_or old j 0 ≡ get_or (to_le_bytes w64 n) j 0) → InChange a b k next old wanted
+change_skips {a} {b} {k} {i} {old} {wanted} n next h is from le same =
+    let e : i + (next - i) ≡ next = omega arith in
+    subst (λ m. InChange a b k m old wanted) e
+    (skips_so_many (next - i) i h (omega arith) (λ j from below. same j from (omega arith) ∙ ap (λ (z : List ℕ). get_or z j 0) (sym is)))
+
+pub change_tells : {a b c : Coder} {k i : ℕ} {old wanted : List ℕ} → InChange a b k i old wanted → k < 16 → i < 8 → AddsBytes b c ((8 * k + i) ∷ get_or wanted i 0 ∷ []) → InChange a c k (i + 1) old wanted
 change_tells {a} {b} {c} {k} {i} {old} {wanted} h in_slots lt adds =
     let n = get_or wanted i 0 in
     let long : i < length h.bytes = omega (arith, h.eight) in
@@ -79,10 +95,8 @@ change_tells {a} {b} {c} {k} {i} {old} {wanted} h in_slots lt adds =
       coded = codes_byte a b c k i n h.bytes in_slots lt h.eight h.small h.coded adds;
     }
 
--- the next byte is told, unless it is as it has to be
-pub change_goes_on : {a b c : Coder} {k i : ℕ} {old wanted : List ℕ} → InChange a b k i old wanted → k < 16 → i < 8 → AddsChange b c (8 * k + i) (get_or old i 0) (get_or wanted i 0) → InChange a c k (i + 1) old wanted
-change_goes_on {a} {b} {c} {k} {i} {old} {wanted} h in_slots lt adds = by (eqb (get_or wanted i 0) (get_or old i 0)) refl adds
-  where
-    by : (t : Bool) → eqb (get_or wanted i 0) (get_or old i 0) ≡ t → AddsBytes b c (cond t [] ((8 * k + i) ∷ get_or wanted i 0 ∷ [])) → InChange a c k (i + 1) old wanted
-    by true same none = change_skips h lt (sym (eqb-true (get_or wanted i 0) (get_or old i 0) same)) none
-    by false other some = change_tells h in_slots lt some
+pub change_ends : {a b : Coder} {k i : ℕ} {old wanted : List ℕ} (n : ℕ) → InChange a b k i old wanted → i ≡ 8 → wanted ≡ to_le_bytes w64 n → n < 2 ^ 64 → CodesTo a b (with_slot (slots_in a.slots) k n) []
+change_ends {a} {b} {k} {i} {old} {wanted} n h e is fits =
+    codes_number a b k n h.bytes wanted h.eight h.eight_wanted
+    (ap (λ m. take m h.bytes) (sym e) ∙ h.same ∙ ap (λ m. take m wanted) e)
+    (ap (from_le_bytes w64) is ∙ from_le_bytes-to_le_bytes_8 n fits) h.coded

@@ -1,7 +1,8 @@
 -- What a coder writes, step by step.
-use Rattle.std.proofs.Common.{◌≡◌, ℕ, ◌+◌, ◌*◌, ◌/◌, ◌%◌, ◌<◌, ◌≤◌, Bool, true, cond, List, [], ◌∷◌, ◌++◌, length, set, Some, None, refl, sym, ap, subst, ◌∙◌, arith, append_assoc, append-nil}
+use Rattle.std.proofs.Common.{◌≡◌, ℕ, ◌+◌, ◌*◌, ◌/◌, ◌%◌, ◌<◌, ◌≤◌, Bool, true, cond, List, [], ◌∷◌, ◌++◌, length, take, set, Some, None, refl, sym, ap, subst, ◌∙◌, arith, append_assoc, append-nil}
 use Rattle.std.specs.Int.{w64, from_le_bytes}
 use Rattle.std.proofs.lemmas.Bool.{le-ltb, lt-ltb}
+use Rattle.std.proofs.lemmas.List.{take_all}
 use Rattle.dcd_base.proofs.Fields.{IsBytes}
 use Rattle.kept_journal.specs.declared.coding.Coder.{Coder}
 use Rattle.kept_journal.specs.declared.tokens.Token.{Token}
@@ -105,6 +106,12 @@ codes_byte a b c k place byte bytes lt in_eight len small before adds = record {
       );
   front = front_then before.front adds.front;
 }
+
+-- a slot all of whose bytes are set
+pub codes_number : (a b : Coder) (k n : ℕ) (bytes wanted : List ℕ) → length bytes ≡ 8 → length wanted ≡ 8 → take 8 bytes ≡ take 8 wanted → from_le_bytes w64 wanted ≡ n → CodesTo a b (with_slot (slots_in a.slots) k (from_le_bytes w64 bytes)) [] → CodesTo a b (with_slot (slots_in a.slots) k n) []
+codes_number a b k n bytes wanted len len' same is before =
+    let whole : bytes ≡ wanted = sym (take_all 8 bytes (omega arith)) ∙ same ∙ take_all 8 wanted (omega arith) in
+    subst (λ m. CodesTo a b (with_slot (slots_in a.slots) k m) []) (ap (from_le_bytes w64) whole ∙ is) before
 
 -- the end of a token
 pub codes_end : (a b : Coder) (kind : ℕ) → 128 ≤ kind → AddsBytes a b (kind ∷ []) → CodesTo a b (slots_in b.slots) (token_of kind (slots_in a.slots) ∷ [])

@@ -1,3 +1,4 @@
+pub mod ByteBits
 pub mod CoderChanges
 pub mod CoderSteps
 pub mod EventSlots

@@ -1,5 +1,5 @@
 -- What a coder has written.
-use Rattle.std.specs.Prelude.{◌≡◌, ◌==◌, ℕ, ◌++◌, List, [], ◌∷◌, None, IsFalse, if◌then◌else◌}
+use Rattle.std.specs.Prelude.{◌≡◌, ℕ, ◌++◌, List, None, IsFalse}
 use Rattle.journal_core.specs.declared.outcome.Effect.{Effect}
 use Rattle.kept_journal.specs.declared.coding.Coder.{Coder}
 use Rattle.kept_journal.specs.declared.tokens.Token.{Token}
@@ -32,10 +32,6 @@ pub record AddsBytes (old new : Coder) (added : List ℕ) : Type 0 where
   pub slots : new.slots ≡ old.slots
   pub appended : IsFalse new.failed → IsFalse old.failed × (new.bytes.items ≡ old.bytes.items ++ added)
   pub front : IsFront old.bytes.items new.bytes.items
-
--- So came this place and this byte, unless the byte is the one that was told.
-abbrev pub AddsChange : Coder → Coder → ℕ → ℕ → ℕ → Type 0
-AddsChange old new place told byte = AddsBytes old new (if byte == told then [] else place ∷ byte ∷ [])
 
 -- The bytes that came behind the old ones tell these effects.
 pub record TellsEffects (old new : List ℕ) (effects : List Effect) : Type 0 where

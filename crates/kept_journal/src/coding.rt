@@ -1,7 +1,7 @@
 //! Effects to bytes.
 
 ghost use Rattle.event_records.specs.Records.{kind_number};
-ghost use Rattle.kept_journal.specs.Coding.{AddsBytes, AddsChange, Codes, CodesTo, IsFront, TellsEffects};
+ghost use Rattle.kept_journal.specs.Coding.{AddsBytes, Codes, CodesTo, IsFront, TellsEffects};
 ghost use Rattle.kept_journal.specs.Slots.{FitsWhat, no_slots, number_of_held, number_of_log, slots_in, slotted_event, slotted_extent, slotted_log, slotted_run, slotted_tag, telling_event, telling_extent, telling_flag, telling_held, telling_host, telling_log, telling_run, telling_tag, telling_what, with_slot};
 ghost use Rattle.kept_journal.specs.Tokens.{token_of, tokens_of};
 ghost use Rattle.kept_journal.specs.declared.tokens.Token.{Token};
@@ -69,32 +69,39 @@ impl Coder {
         }
     }
 
-    /// Writes the place of a byte in a slot, and the byte, unless the byte is the one that was told.
-    fn push_change(&mut self, slot: usize, place: usize, told: u8, byte: u8)
+    /// Writes the place of a byte in a slot, and the byte.
+    fn push_change(&mut self, slot: usize, place: usize, byte: u8)
         requires slot { slot < 16 }
         requires place { place < 8 }
-        ensures { AddsChange self.old self.new (8 * slot + place) told byte }
+        ensures { AddsBytes self.old self.new ((8 * slot + place) ∷ byte ∷ []) }
     {
-        if byte != told {
-            self.push((8 * slot + place) as u8);
-            self.push(byte);
-        }
+        self.push((8 * slot + place) as u8);
+        self.push(byte);
     }
 
     /// Writes the bytes by which a number differs from that in the slot.
+    #[inline(never)]
     fn push_changes(&mut self, slot: usize, number: u64)
         requires { slot < 16 }
         ensures slots { self.new.slots ≡ self.old.slots }
         ensures coded { CodesTo self.old self.new (with_slot (slots_in self.old.slots) slot number) [] }
     {
-        let told = self.slots[slot].to_le_bytes();
+        let told = self.slots[slot];
         let wanted = number.to_le_bytes();
-        for place in 0..8 {
-            self.push_change(slot, place, told[place], wanted[place]);
+        let mut place = 0;
+        // The bits that differ, from the byte at the place on.
+        let mut differing = told ^ number;
+        while differing != 0 {
+            let alike = differing.trailing_zeros() as usize / 8;
+            place += alike;
+            self.push_change(slot, place, wanted[place]);
+            place += 1;
+            differing = differing >> (8 * alike) >> 8;
         }
     }
 
     /// Puts a number into a slot, and writes what that changes.
+    #[inline(always)]
     fn set(&mut self, slot: usize, number: u64)
         requires { slot < 16 }
         ensures slots { slots_in self.new.slots ≡ with_slot (slots_in self.old.slots) slot number }
