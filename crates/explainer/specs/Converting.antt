@@ -1,7 +1,7 @@
 -- What a text, a script or a frame is turned into.
 use Rattle.std.specs.Prelude.{◌≡◌, ◌≢◌, ℕ, ◌<◌, ◌≤◌, List, length, Some, Result, Ok, Err}
 use Rattle.explainer.specs.Explaining.{IsExplained}
-use Rattle.journal_check.specs.Frames.{needed, script_part, text_part}
+use Rattle.script_text.specs.script_codec.specs.Frames.{needed, script_part, text_part}
 use Rattle.script_text.specs.script_codec.specs.Reading.{first_fault}
 use Rattle.script_text.specs.script_codec.specs.Scripts.{ReadsScript}
 use Rattle.script_text.specs.script_codec.specs.Writing.{script_bytes}

@@ -1,13 +1,14 @@
 //! Texts into scripts, scripts into texts, and what a run printed into words.
 
-ghost use Rattle.journal_check.specs.Frames.{needed, script_part, text_part};
+ghost use Rattle.script_text.specs.script_codec.specs.Frames.{needed};
 ghost use Rattle.std.specs.Prelude.{◌≡◌, ◌≤◌, length};
 ghost use Rattle.explainer.specs.Converting.{Converts};
 ghost use Rattle.explainer.specs.declared.converting.Task.{Task};
 
 use crate::columns::{Place, place_in};
 use crate::explaining::explain;
-use dcd_base::{Bytes, NoMemory, u32_at};
+use dcd_base::{Bytes, NoMemory};
+use script_text::script_codec::frames::{need_of, parts_of};
 use script_text::script_codec::{ScriptFault, read, write};
 use script_text::{Cause, TextFault, parse, print};
 use std::alloc::Global;
@@ -81,28 +82,6 @@ fn text_of(alloc: Global, bytes: &[u8]) -> Result<Bytes, Refusal>
         Err(ScriptFault::NoMemory) => Err(Refusal::NoMemory),
         Err(fault) => Err(Refusal::Script(fault)),
     }
-}
-
-/// How many bytes a frame needs for its script.
-fn need_of(input: &[u8]) -> u64
-    ensures { result ≡ needed input.now }
-{
-    if input.len() < 4 {
-        4
-    } else {
-        4 + u64::from(u32_at(input, 0))
-    }
-}
-
-/// The script and the text of a frame.
-fn parts_of(input: &[u8]) -> (&[u8], &[u8])
-    requires { needed input.now ≤ length input.now }
-    ensures script { result.0.now ≡ script_part input.now }
-    ensures text { result.1.now ≡ text_part input.now }
-{
-    let count = u32_at(input, 0) as usize;
-    let (_, rest) = input.split_at(4);
-    rest.split_at(count)
 }
 
 /// The explanation of a frame that has all bytes of its script.

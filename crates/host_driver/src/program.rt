@@ -15,11 +15,8 @@ use crate::words::{DriveChoice, chosen};
 use dcd_base::{Bytes, Failed, HostId, NoMemory, Sink, Source};
 use edge_io::{Program, Stop, run};
 use report::refusal;
-use report::script_codec::{Script, ScriptFault, read};
+use report::script_codec::{MOST_BYTES, Script, ScriptFault, read};
 use std::alloc::Global;
-
-/// The most bytes that a script has.
-const MOST_BYTES: usize = 16_777_216;
 
 /// The program.
 #[derive(Clone, Copy, Debug, PartialEq, Eq)]

@@ -16,7 +16,8 @@ use Rattle.journal_check.specs.declared.status.CheckStatus.{CheckStatus}
 use Rattle.journal_check.specs.CheckPlanning.{IsAnswer, IsAnswered, IsCheckPlannedFor, IsRefusedFrame, IsSoundInput, bytes_of, checker}
 use Rattle.journal_check.specs.CheckStatuses.{check_end}
 use Rattle.journal_check.specs.FirstWrong.{IsChecked}
-use Rattle.journal_check.specs.Frames.{IsFrame, most_input, script_part, text_part}
+use Rattle.journal_check.specs.Frames.{IsFrame, most_input}
+use Rattle.report.specs.script_codec.specs.Frames.{script_part, text_part}
 
 abbrev Decided : Type 0
 Decided = Result (CheckStatus × Printed) NoMemory

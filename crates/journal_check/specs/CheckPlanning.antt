@@ -11,7 +11,8 @@ use Rattle.journal_check.specs.declared.printing.Printed.{Printed}
 use Rattle.journal_check.specs.declared.status.CheckStatus.{CheckStatus}
 use Rattle.journal_check.specs.CheckStatuses.{check_end}
 use Rattle.journal_check.specs.FirstWrong.{IsChecked}
-use Rattle.journal_check.specs.Frames.{most_input, needed, script_part, text_part, IsFrame}
+use Rattle.journal_check.specs.Frames.{most_input, IsFrame}
+use Rattle.report.specs.script_codec.specs.Frames.{needed, script_part, text_part}
 
 unfoldable pub yes_line : List ℕ
 yes_line = line_of (codes "yes" ∷ [])

@@ -1,17 +1,18 @@
 //! The top call.
 
 ghost use Rattle.journal_check.specs.CheckPlanning.{IsAnswer, IsAnswered, IsCheckPlannedFor, IsPrintable, bytes_of, checker};
-ghost use Rattle.journal_check.specs.Frames.{IsFrame, needed, script_part, text_part};
+ghost use Rattle.journal_check.specs.Frames.{IsFrame};
 ghost use Rattle.edge_io.specs.Runs.{Ran};
 ghost use Rattle.report.specs.script_codec.specs.Writing.{IsWritable};
-ghost use Rattle.std.specs.Prelude.{◌≡◌, ◌≤◌, IfOk, length};
+ghost use Rattle.std.specs.Prelude.{◌≤◌, IfOk, length};
 
 use crate::checking::check;
 use crate::printing::{Printed, no_at, yes};
 use crate::status::CheckStatus;
-use dcd_base::{Bytes, Failed, NoMemory, Sink, Source, u32_at, write_all};
+use dcd_base::{Bytes, Failed, NoMemory, Sink, Source, write_all};
 use edge_io::{Program, Stop, no_words, run};
 use report::refusal;
+use report::script_codec::frames::{need_of, parts_of};
 use report::script_codec::{Script, ScriptFault, read};
 use std::alloc::Global;
 
@@ -98,17 +99,6 @@ pub fn run_check<S: Source, K: Sink>(
     run(&Checker, alloc, words, source, sink)
 }
 
-/// How many bytes an input needs.
-fn need_of(input: &[u8]) -> u64
-    ensures { result ≡ needed input.now }
-{
-    if input.len() < 4 {
-        4
-    } else {
-        4 + u64::from(u32_at(input, 0))
-    }
-}
-
 /// Checks an input, where it has all bytes that it needs.
 fn check_input(alloc: Global, input: &[u8]) -> Result<(CheckStatus, Printed), NoMemory>
     requires { length input.now ≤ 402653184 }
@@ -123,17 +113,6 @@ fn check_input(alloc: Global, input: &[u8]) -> Result<(CheckStatus, Printed), No
     } else {
         check_frame(alloc, input)
     }
-}
-
-/// The script and the text of a frame.
-fn parts_of(input: &[u8]) -> (&[u8], &[u8])
-    requires { needed input.now ≤ length input.now }
-    ensures script { result.0.now ≡ script_part input.now }
-    ensures text { result.1.now ≡ text_part input.now }
-{
-    let count = u32_at(input, 0) as usize;
-    let (_, rest) = input.split_at(4);
-    rest.split_at(count)
 }
 
 /// Checks the text of a frame against its script, or answers the script's first fault.

@@ -7,6 +7,7 @@ use Rattle.std.specs.declared.result.Result.{Result}
 use Rattle.dcd_base.specs.declared.failures.NoMemory.{NoMemory}
 use Rattle.edge_io.specs.Ends.{IsDecided}
 use Rattle.edge_io.specs.Meanings.{Decides}
+use Rattle.report.specs.script_codec.specs.Frames.{script_part, text_part}
 use Rattle.report.specs.script_codec.specs.Reading.{fault_of, first_fault}
 use Rattle.report.specs.script_codec.specs.Scripts.{ReadsScript}
 use Rattle.report.specs.script_codec.specs.declared.faults.ScriptFault.{ScriptFault}
@@ -14,7 +15,7 @@ use Rattle.report.specs.script_codec.specs.declared.scripts.Script.{Script}
 use Rattle.report.specs.script_codec.proofs.ScriptLaws.{script_is}
 use Rattle.plan_rules.specs.Planning.{plan_fault}
 use Rattle.plan_rules.specs.declared.faults.PlanFault.{PlanFault}
-use Rattle.pool_planner.specs.PlanEnds.{IsFrameEnd, IsPlanEnd, IsScriptJournal, IsSoundInput, frame_rest, frame_script, most_of_frame, planner}
+use Rattle.pool_planner.specs.PlanEnds.{IsFrameEnd, IsPlanEnd, IsScriptJournal, IsSoundInput, most_of_frame, planner}
 use Rattle.pool_planner.specs.PlanStatuses.{plan_end}
 use Rattle.pool_planner.specs.declared.status.PlanStatus.{PlanStatus}
 use Rattle.pool_planner.proofs.OneReading.{no_fault, one_reading}
@@ -29,21 +30,21 @@ refused : (input : List ℕ) (fault : PlanFault) (printed : List ℕ) → IsFram
 refused input fault printed e sound =
     let q = e.ends.0 in
     let end = e.ends.2 in
-    let script : e.script ≡ sound.script = one_script (frame_script input) e.script sound.script e.reads sound.reads_as in
-    let demands : q ≡ sound.q = one_reading (frame_rest input) q sound.q e.ends.1 sound.states in
+    let script : e.script ≡ sound.script = one_script (script_part input) e.script sound.script e.reads sound.reads_as in
+    let demands : q ≡ sound.q = one_reading (text_part input) q sound.q e.ends.1 sound.states in
     none-some fault (sym (sound.planned end.journal (subst (λ (s : Script). IsScriptJournal s end.journal) script end.runs))
     ∙ sym (λ i. plan_fault (script i).config end.journal (demands i)) ∙ end.ends.0)
 
 decided_so : (input : List ℕ) (status : PlanStatus) (printed : List ℕ) → IsPlanEnd input status printed → IsDecided (plan_end status) (IsSoundInput input)
 decided_so input PlanStatus.Done printed e = tt
 decided_so input PlanStatus.Usage printed e = e
-decided_so input (PlanStatus.ScriptRefused fault) printed e = λ sound. not_refused (frame_script input) fault sound.script sound.reads_as e.faulty
+decided_so input (PlanStatus.ScriptRefused fault) printed e = λ sound. not_refused (script_part input) fault sound.script sound.reads_as e.faulty
 decided_so input PlanStatus.NoMemory printed e = e
 decided_so input PlanStatus.ReadFault printed e = e
 decided_so input PlanStatus.WriteFault printed e = e
 decided_so input (PlanStatus.InputShort need have) printed e = λ sound. omega (arith, e.fewer, e.need_is, e.have_is, sound.frame.whole)
 decided_so input PlanStatus.InputLong printed e = λ sound. omega (arith, e.0, sound.frame.few)
-decided_so input (PlanStatus.Demands fault) printed e = λ sound. no_fault (frame_rest input) sound.q fault e.ends.known sound.states e.ends.states
+decided_so input (PlanStatus.Demands fault) printed e = λ sound. no_fault (text_part input) sound.q fault e.ends.known sound.states e.ends.states
 decided_so input (PlanStatus.Plan fault) printed e = refused input fault printed e
 
 -- What an input comes to is decided upon it.

@@ -1,13 +1,12 @@
 -- How a run of the planner ends: what is to be written, by its status.
-use Rattle.std.specs.Prelude.{◌≡◌, ◌≢◌, ℕ, ◌+◌, ◌<◌, ◌≤◌, List, [], length, take, drop, Some, None, Ok, Err, nat_lt, if◌then◌else◌}
-use Rattle.std.specs.Int.{w32}
-use Rattle.dcd_base.specs.Layouts.{number_at}
+use Rattle.std.specs.Prelude.{◌≡◌, ◌≢◌, ℕ, ◌<◌, ◌≤◌, List, [], length, Some, None, Ok, Err}
 use Rattle.edge_io.specs.Meanings.{Meaning, asks_nothing}
 use Rattle.region_config.specs.Configurations.{Configuration}
 use Rattle.journal_core.specs.Entries.{effects}
 use Rattle.journal_core.specs.declared.entries.Entry.{Entry}
 use Rattle.device_plain.specs.device_rules.specs.Legal.{Legal}
 use Rattle.report.specs.script_codec.specs.Covering.{Runs}
+use Rattle.report.specs.script_codec.specs.Frames.{needed, script_part, text_part}
 use Rattle.report.specs.script_codec.specs.Reading.{first_fault}
 use Rattle.report.specs.script_codec.specs.Scripts.{ReadsScript}
 use Rattle.report.specs.script_codec.specs.declared.faults.ScriptFault.{ScriptFault}
@@ -24,24 +23,14 @@ use Rattle.pool_planner.specs.PlanPrinting.{demands_refused, plan_fault_line, pl
 use Rattle.pool_planner.specs.PlanStatuses.{plan_end}
 use Rattle.pool_planner.specs.declared.status.PlanStatus.{PlanStatus}
 
--- ---- the frame: a number of 32 bits, so many bytes of a script, and demands
+-- ---- the frame: a script, and demands behind it
 
 abbrev pub most_of_frame : ℕ
 most_of_frame = 33554432
 
--- how many bytes an input has to have
-abbrev pub frame_need : List ℕ → ℕ
-frame_need input = if nat_lt (length input) 4 then 4 else 4 + number_at w32 input 0
-
-abbrev pub frame_script : List ℕ → List ℕ
-frame_script input = take (number_at w32 input 0) (drop 4 input)
-
-abbrev pub frame_rest : List ℕ → List ℕ
-frame_rest input = drop (number_at w32 input 0) (drop 4 input)
-
 pub record IsPlanFrame (input : List ℕ) : Type 0 where
   pub few : length input ≤ most_of_frame
-  pub whole : frame_need input ≤ length input
+  pub whole : needed input ≤ length input
 
 -- ---- what an input comes to
 
@@ -90,19 +79,19 @@ IsScriptEnd s rest status printed = ⊥
 pub record IsFrameEnd (input : List ℕ) (status : PlanStatus) (printed : List ℕ) : Type 0 where
   pub frame : IsPlanFrame input
   pub script : Script
-  pub reads : ReadsScript (frame_script input) script
-  pub ends : IsScriptEnd script (frame_rest input) status printed
+  pub reads : ReadsScript (script_part input) script
+  pub ends : IsScriptEnd script (text_part input) status printed
 
 -- The input is a frame whose script has this fault first.
 pub record HasNoScript (input : List ℕ) (fault : ScriptFault) (printed : List ℕ) : Type 0 where
   pub frame : IsPlanFrame input
-  pub faulty : first_fault (frame_script input) ≡ Some fault
+  pub faulty : first_fault (script_part input) ≡ Some fault
   pub is : printed ≡ refusal_line fault
 
 -- It has fewer bytes than it needs.
 pub record IsShortPlanFrame (input : List ℕ) (need have : ℕ) (printed : List ℕ) : Type 0 where
   pub few : length input ≤ most_of_frame
-  pub need_is : need ≡ frame_need input
+  pub need_is : need ≡ needed input
   pub have_is : have ≡ length input
   pub fewer : have < need
   pub is : printed ≡ []
@@ -121,9 +110,9 @@ IsPlanEnd input status printed = ⊥
 pub record IsSoundInput (input : List ℕ) : Type 0 where
   pub frame : IsPlanFrame input
   pub script : Script
-  pub reads_as : ReadsScript (frame_script input) script
+  pub reads_as : ReadsScript (script_part input) script
   pub q : Demands
-  pub states : IsReadAsDemands (frame_rest input) (Ok q)
+  pub states : IsReadAsDemands (text_part input) (Ok q)
   pub planned : (journal : List Entry) → IsScriptJournal script journal → plan_fault script.config journal q ≡ None
 
 -- The program. It takes no words.

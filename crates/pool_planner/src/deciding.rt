@@ -1,6 +1,6 @@
 //! What a run over an input comes to.
 
-ghost use Rattle.pool_planner.specs.PlanEnds.{IsDemandsEnd, IsPlanEnd, IsPlanFrame, IsPlannedEnd, IsScriptEnd, frame_need, frame_rest, frame_script};
+ghost use Rattle.pool_planner.specs.PlanEnds.{IsDemandsEnd, IsPlanEnd, IsPlanFrame, IsPlannedEnd, IsScriptEnd};
 ghost use Rattle.pool_planner.specs.PlanPrinting.{plan_text};
 ghost use Rattle.pool_planner.specs.declared.status.PlanStatus.{PlanStatus};
 ghost use Rattle.report.specs.script_codec.specs.Scripts.{IsScript};
@@ -11,37 +11,16 @@ use crate::printing::act_lines;
 use crate::refusals::{demands_refusal, plan_refusal, script_refusal};
 use crate::running::{are_sound, put_state, run_lines, take_steps};
 use crate::status::PlanStatus;
-use dcd_base::{Actor, Bytes, NoMemory, u32_at};
+use dcd_base::{Actor, Bytes, NoMemory};
 use device_plain::Device;
 use journal_core::Act;
 use plan_rules::{DemandFault, Demands, PlanFault, read_demands};
+use report::script_codec::frames::{need_of, parts_of};
 use report::script_codec::{Script, ScriptFault, read};
 use std::alloc::Global;
 
 /// How a run ends, and what it writes.
 type Ending = (PlanStatus, Bytes);
-
-/// How many bytes an input has to have.
-fn need_of(input: &[u8]) -> u64
-    ensures { result ≡ frame_need input.now }
-{
-    if input.len() < 4 {
-        4
-    } else {
-        4 + u64::from(u32_at(input, 0))
-    }
-}
-
-/// The script of a frame, and what is behind it.
-fn parts_of(input: &[u8]) -> (&[u8], &[u8])
-    requires { frame_need input.now ≤ length input.now }
-    ensures script { result.0.now ≡ frame_script input.now }
-    ensures rest { result.1.now ≡ frame_rest input.now }
-{
-    let count = u32_at(input, 0) as usize;
-    let (_, rest) = input.split_at(4);
-    rest.split_at(count)
-}
 
 /// How a run over an input ends, and what it writes.
 pub(crate) fn decide(alloc: Global, input: &[u8]) -> Result<Ending, NoMemory>

@@ -1,6 +1,7 @@
 pub mod Covering
 pub mod FaultNumbers
 pub mod Fields
+pub mod Frames
 pub mod Heads
 pub mod LineByLine
 pub mod Lines

@@ -14,7 +14,7 @@ use std::alloc::Global;
 use std::marker::Model;
 
 /// The most bytes of a script.
-const MOST_BYTES: usize = 16_777_216;
+pub const MOST_BYTES: usize = 16_777_216;
 
 /// The most lines of a script.
 pub(crate) const MOST_LINES: u32 = 65_536;

@@ -19,13 +19,10 @@ use crate::words::{Choice, chosen};
 use dcd_base::{Bytes, Failed, Gate, NoMemory, Sink, Source};
 use edge_io::{Program, Stop};
 use report::refusal;
-use script_gen::script_codec::ScriptFault;
+use script_gen::script_codec::{MOST_BYTES, ScriptFault};
 use std::alloc::{AllocGlobal, Global};
 use std::sync::Wait;
 use std::thread::Threads;
-
-/// The most bytes that a script has.
-const MOST_BYTES: usize = 16_777_216;
 
 /// The program, with what decides how a choice over an input ends: a closure, since what goes to a thread cannot rest on the
 /// bounds of an impl.

@@ -10,6 +10,7 @@ ghost use Rattle.tunnel_fabric.specs.declared.texts.FabricText.{FabricText};
 ghost use Rattle.tunnel_fabric.specs.declared.status.FabricStatus.{FabricStatus};
 
 use crate::printing::{print_fabric, reply_lines};
+use crate::reading::MOST_BYTES;
 use crate::refusals::refusal;
 use crate::running::run_lines;
 use crate::status::FabricStatus;
@@ -18,9 +19,6 @@ use crate::{FabricFault, FabricScript, read_fabric};
 use dcd_base::{Bytes, Failed, NoMemory, Sink, Source, write_all};
 use edge_io::{Program, Stop, no_words, run};
 use std::alloc::Global;
-
-/// The most bytes that a fabric has.
-const MOST_BYTES: usize = 16_777_216;
 
 /// The program.
 #[derive(Clone, Copy, Debug, PartialEq, Eq)]

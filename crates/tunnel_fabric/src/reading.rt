@@ -22,7 +22,7 @@ use std::alloc::Global;
 const MAGIC: [u8; 4] = *b"DCDF";
 
 /// The most bytes of a fabric.
-const MOST_BYTES: usize = 16_777_216;
+pub(crate) const MOST_BYTES: usize = 16_777_216;
 
 /// The most lines of a fabric.
 const MOST_LINES: u32 = 65_536;
