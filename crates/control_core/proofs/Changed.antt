@@ -1,5 +1,5 @@
 -- The changes of a step are those of its effects.
-use Rattle.std.proofs.Common.{◌≡◌, ◌⊎◌, ℕ, ◌+◌, ◌-◌, ◌<◌, ◌≤◌, Bool, true, false, ◌&&◌, ◌||◌, leb, List, [], ◌∷◌, ◌++◌, get_or, max, min, Option, Some, None, refl, sym, ap, subst, ◌∙◌, inl, inr, arith}
+use Rattle.std.proofs.Common.{◌≡◌, ◌⊎◌, ℕ, ◌+◌, ◌-◌, ◌<◌, ◌≤◌, Bool, true, false, ◌&&◌, ◌||◌, leb, List, [], ◌∷◌, ◌++◌, get_or, Option, Some, None, refl, sym, ap, subst, ◌∙◌, inl, inr, arith}
 use Rattle.std.specs.Prelude.{All, fold, if◌then◌else◌}
 use Rattle.std.specs.List.{list_any}
 use Rattle.std.proofs.lemmas.Bool.{and_right, cases_lt, le-leb, le-ltb, lt-leb, lt-ltb}
@@ -56,25 +56,6 @@ more_other true z b = refl
 more_other false true true = refl
 more_other false true false = refl
 more_other false false b = refl
-
--- nothing yet
-pub added_none : (n : ℕ) (holders : List ℕ) (e : Effect) (first : ℕ) (old : List Change) → AreAdded n holders e first first old old
-added_none n holders e first old = record {
-  bits = λ g below bits. sym (ap (λ b. if b then bits_by e (get_or holders g 0) else fold (holders_after g) bits old) (none g));
-  zeroed = λ g below. sym (ap (λ b. is_zeroed g old || (is_zero e && b)) (none g) ∙ over (is_zeroed g old) (is_zero e));
-  named = λ g below. sym (ap (λ b. is_named g old || b) (none g) ∙ over (is_named g old) true);
-}
-  where
-    none : (g : ℕ) → lies_between first first g ≡ false
-    none g = elim (cases_lt g first) [
-      | inl low ↦ before first first g low
-      | inr high ↦ behind first first g high
-    ]
-
-    over : (a z : Bool) → (a || (z && false)) ≡ a
-    over true z = refl
-    over false true = refl
-    over false false = refl
 
 pub added_more : (n : ℕ) (holders : List ℕ) (e : Effect) (first at next : ℕ) (old mid new : List Change) (change : Change) → first ≤ at → at < next →
     AreAdded n holders e first at old mid → new ≡ mid ++ change ∷ [] →
@@ -136,24 +117,6 @@ inside_more n at next holders e mid new change later within all pushed change_is
     let end : at + (next - at) ≤ n = omega (arith, later, within) in
     subst (All (LiesIn n)) (sym pushed) (All-push (LiesIn n) mid change all (subst (LiesIn n) (sym change_is) end))
 
--- all granules of the run that there are
-pub added_all : (n : ℕ) (holders : List ℕ) (e : Effect) (first end at : ℕ) (old new : List Change) → first ≤ at → at ≤ max first (min end n) → min end n ≤ at →
-    AreAdded n holders e first at old new → AreAdded n holders e first end old new
-added_all n holders e first end at old new from most least so_far = record {
-  bits = λ g below bits. so_far.bits g below bits ∙ ap (λ b. if b then bits_by e (get_or holders g 0) else fold (holders_after g) bits old) (same g below);
-  zeroed = λ g below. so_far.zeroed g below ∙ ap (λ b. is_zeroed g old || (is_zero e && b)) (same g below);
-  named = λ g below. so_far.named g below ∙ ap (λ b. is_named g old || b) (same g below);
-}
-  where
-    same : (g : ℕ) → g < n → lies_between first at g ≡ lies_between first end g
-    same g below = elim (cases_lt g first) [
-      | inl low ↦ before first at g low ∙ sym (before first end g low)
-      | inr high ↦ elim (cases_lt g at) [
-        | inl early ↦ inside first at g high early ∙ sym (inside first end g high (omega (arith, early, most, high)))
-        | inr past ↦ behind first at g past ∙ sym (behind first end g (omega (arith, past, least, below)))
-      ]
-    ]
-
 -- ---- one more effect
 
 -- whether a run that is there has the granule
@@ -178,9 +141,6 @@ touches_in g (Effect.Ref t on) = refl
 touches_in g (Effect.TagEnd t) = refl
 touches_in g (Effect.Block r size) = refl
 
-touches_is : (g : ℕ) (e : Effect) (run : Run) → touched_by e ≡ Some run → touches g e ≡ has_granule run g
-touches_is g e run is = touches_in g e ∙ ap (in_some g) is
-
 zeroing_is : (g : ℕ) (e : Effect) → is_zeroing g e ≡ (is_zero e && touches g e)
 zeroing_is g (Effect.Take h r) = refl
 zeroing_is g (Effect.Leave h r) = refl
@@ -200,32 +160,6 @@ zeroing_is g (Effect.Block r size) = refl
 
 touches_none : (g : ℕ) (e : Effect) → touched_by e ≡ None → touches g e ≡ false
 touches_none g e is = touches_in g e ∙ ap (in_some g) is
-
-last : (a b : Bool) → (a || (b || false)) ≡ (a || b)
-last true b = refl
-last false true = refl
-last false false = refl
-
-pub put_some : (n : ℕ) (holders : List ℕ) (e : Effect) (run : Run) (old new : List Change) → touched_by e ≡ Some run →
-    AreAdded n holders e run.first (run.first + run.count) old new → PutOne n holders e old new
-put_some n holders e run old new is added = λ effects put. record {
-  bits = λ g below bits.
-      added.bits g below bits
-      ∙ (λ i. if same g i then bits_by e (get_or holders g 0) else put.bits g below bits i)
-      ∙ sym (fold_push (bits_after holders g) bits effects e);
-  zeroed = λ g below.
-      added.zeroed g below
-      ∙ (λ i. put.zeroed g below i || (is_zero e && same g i))
-      ∙ ap (λ b. list_any (is_zeroing g) effects || b) (sym (zeroing_is g e))
-      ∙ sym (list_any-append (is_zeroing g) effects (e ∷ []) ∙ last (list_any (is_zeroing g) effects) (is_zeroing g e));
-  named = λ g below.
-      added.named g below
-      ∙ (λ i. put.named g below i || same g i)
-      ∙ sym (list_any-append (touches g) effects (e ∷ []) ∙ last (list_any (touches g) effects) (touches g e));
-}
-  where
-    same : (g : ℕ) → has_granule run g ≡ touches g e
-    same g = sym (touches_is g e run is)
 
 pub put_none : (n : ℕ) (holders : List ℕ) (e : Effect) (old : List Change) → touched_by e ≡ None → PutOne n holders e old old
 put_none n holders e old is = λ effects put. record {

@@ -20,7 +20,6 @@ use Rattle.journal_core.specs.declared.acts.Act.{Act}
 use Rattle.journal_core.specs.declared.acts.Reply.{Reply}
 use Rattle.journal_core.specs.declared.entries.Entry.{Entry}
 use Rattle.journal_core.specs.declared.outcome.Effect.{Effect}
-use Rattle.device_commands.specs.Drafts.{as_records}
 use Rattle.device_commands.specs.declared.log_records.LogRecords.{LogRecords}
 use Rattle.device_commands.specs.device_rules.specs.Answers.{dropped, effects_with, host_outcome, host_result, host_result_in, host_rule, reply_with, response, unless}
 use Rattle.device_commands.specs.device_rules.specs.Outcomes.{Outcome}
@@ -33,14 +32,14 @@ use Rattle.control_core.specs.declared.decided.Decided.{Decided}
 
 -- ---- the logs that are told are of the device
 
-known_map : (hosts : ℕ) (log_records : List LogRecords) → AllByRecursion (λ (n : LogId × List Event). IsOfLog hosts n.0) (map as_records log_records) → AllByRecursion (λ (n : LogRecords). IsOfLog hosts n.log) log_records
-known_map hosts [] each = tt
-known_map hosts (n ∷ log_records) each = (each.0, known_map hosts log_records each.1)
+known_map : (hosts : ℕ) (events : LogRecords → List Event) (log_records : List LogRecords) → AllByRecursion (λ (n : LogId × List Event). IsOfLog hosts n.0) (map (λ (n : LogRecords). (n.log, events n)) log_records) → AllByRecursion (λ (n : LogRecords). IsOfLog hosts n.log) log_records
+known_map hosts events [] each = tt
+known_map hosts events (n ∷ log_records) each = (each.0, known_map hosts events log_records each.1)
 
-pub records_known : (hosts : ℕ) (log_records : List LogRecords) (told : List (LogId × List Event)) → map as_records log_records ≡ told → AllByRecursion (λ (n : LogId × List Event). IsOfLog hosts n.0) told → All (λ (n : LogRecords). IsOfLog hosts n.log) log_records
-records_known hosts log_records told is each =
+pub records_known : (hosts : ℕ) (events : LogRecords → List Event) (log_records : List LogRecords) (told : List (LogId × List Event)) → map (λ (n : LogRecords). (n.log, events n)) log_records ≡ told → AllByRecursion (λ (n : LogId × List Event). IsOfLog hosts n.0) told → All (λ (n : LogRecords). IsOfLog hosts n.log) log_records
+records_known hosts events log_records told is each =
     All-from_recursion (λ (n : LogRecords). IsOfLog hosts n.log) log_records
-    (known_map hosts log_records (subst (AllByRecursion (λ (n : LogId × List Event). IsOfLog hosts n.0)) (sym is) each))
+    (known_map hosts events log_records (subst (AllByRecursion (λ (n : LogId × List Event). IsOfLog hosts n.0)) (sym is) each))
 
 -- a host's commands tell the manager
 response_known : (hosts : ℕ) (c : Configuration) (h : HostId) (v : View) (offers : List (List Extent)) (all : List Extent) → AllByRecursion (λ (n : LogId × List Event). IsOfLog hosts n.0) (response_records c h v offers all)

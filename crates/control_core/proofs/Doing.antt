@@ -1,5 +1,6 @@
 -- A draft that is entered is its outcome.
-use Rattle.std.proofs.Common.{◌≡◌, ℕ, List, [], ◌++◌, map, flat_map, None, sym, ap, ◌∙◌}
+use Rattle.std.proofs.Common.{◌≡◌, ◌<◌, List, [], ◌++◌, map, flat_map, sym, ap, ◌∙◌}
+use Rattle.std.specs.Prelude.{fold}
 use Rattle.std.specs.List.{list_any}
 use Rattle.std.proofs.lemmas.List.Sums.{fold-append}
 use Rattle.cci_codec.specs.declared.messages.Request.{Request}
@@ -11,10 +12,10 @@ use Rattle.extent_list.specs.HostLists.{Lists}
 use Rattle.journal_core.specs.Entries.{effects}
 use Rattle.journal_core.specs.declared.entries.Entry.{Entry}
 use Rattle.journal_core.specs.declared.outcome.Effect.{Effect}
-use Rattle.device_commands.specs.Drafts.{Drafts}
+use Rattle.device_commands.specs.Drafts.{Drafts, HasExtentsOf}
 use Rattle.manager_commands.specs.device_state.specs.StateAfter.{IsStateAfter}
-use Rattle.device_commands.specs.device_rules.specs.Views.{lists_in, view_after, view_of}
-use Rattle.device_commands.specs.declared.draft.DraftParts.{DraftParts}
+use Rattle.device_commands.specs.device_rules.specs.Views.{View, lists_in, view_after, view_of}
+use Rattle.device_commands.specs.declared.draft.Draft.{Draft}
 use Rattle.device_commands.specs.device_rules.specs.Answers.{response}
 use Rattle.device_commands.specs.device_rules.specs.Hosts.{accepted_after, accepted_of, offers_after, offers_of}
 use Rattle.device_commands.specs.device_rules.specs.Logs.{log_of}
@@ -22,9 +23,12 @@ use Rattle.device_commands.specs.device_rules.specs.Outcomes.{Outcome, effects_o
 use Rattle.device_commands.specs.device_rules.specs.TagTable.{IsTable, among, among_offers, ending}
 use Rattle.tag_refs.specs.declared.entries.TagEntry.{TagEntry}
 use Rattle.control_core.specs.Doing.{IsDone, IsOfHost}
-use Rattle.control_core.specs.Recording.{records_entered}
+use Rattle.control_core.specs.Recording.{AreRecorded, after_changes, ending_with, events_by, records_told}
 use Rattle.manager_commands.specs.device_state.specs.declared.state.State.{State}
 use Rattle.control_core.proofs.Recorded.{told_is}
+use Rattle.journal_core.specs.declared.acts.Reply.{Reply}
+use Rattle.manager_commands.specs.device_state.specs.EnteredLists.{lists_by}
+use Rattle.manager_commands.specs.device_state.proofs.Keeping.{lists_fields}
 
 module _ (c : Configuration) (before : List Entry) (h : HostId) (o : Outcome) (of : IsOfHost c before h o) where
   -- the host's own lists, as the changes leave them
@@ -38,27 +42,39 @@ module _ (c : Configuration) (before : List Entry) (h : HostId) (o : Outcome) (o
   its_offers = sym (fold-append (offers_after h) [] (effects before) o.changes)
 
   -- the tags that end
-  its_ended : (entries : List TagEntry) → IsTable c (effects before) entries → (lists : Lists) → lists ≡ its →
+  its_ended : (entries : List TagEntry) → IsTable c (effects before) entries → (lists : Lists) → HasExtentsOf (view_after c h (view_of c h before) o.changes) lists →
       ending h (λ t. has_extent_of t lists.accepted) (λ t. list_any (has_extent_of t) lists.offers) entries o.tags ≡ ended c (effects before) o.changes o.tags
-  its_ended entries table lists is =
-      ap (λ (l : Lists). ending h (among l.accepted) (among_offers l.offers) entries o.tags) is
+  its_ended entries table lists has =
+      (λ i. ending h (among (has.accepted i)) (among_offers (has.offers i)) entries o.tags)
       ∙ (λ i. ending h (among (its_accepted i)) (among_offers (its_offers i)) entries o.tags)
       ∙ sym (of.ended_are entries table)
 
--- its effects: its changes, the ends of tags, and its records
-pub all_effects : (c : Configuration) (before : List Entry) (s : State) → IsStateAfter c before s → (h : HostId) (o : Outcome) → IsOfHost c before h o →
-    (draft : DraftParts) → Drafts c h (view_of c h before) o draft → (lists : Lists) → lists ≡ lists_in (view_after c h (view_of c h before) o.changes) →
-    (draft.changes ++ map Effect.TagEnd (ending h (λ t. has_extent_of t lists.accepted) (λ t. list_any (has_extent_of t) lists.offers) s.tags.entries draft.tags)) ++ records_entered (effects before) draft.log_records
-    ≡ effects_of c (effects before) o
-all_effects c before s kept h o of draft drafts lists is =
-    (λ i. (drafts.changes i ++ map Effect.TagEnd (ending h (λ t. has_extent_of t lists.accepted) (λ t. list_any (has_extent_of t) lists.offers) s.tags.entries (drafts.tags i))) ++ told_is (effects before) draft.log_records i)
-    ∙ (λ i. (o.changes ++ map Effect.TagEnd (its_ended c before h o of s.tags.entries kept.tags_are lists is i)) ++ flat_map (λ n. entered_all n.0 (log_of n.0 (effects before)) n.1) (drafts.log_records i))
+-- the lists that the host has once the changes are made show what its view shows then
+pub after_extents : (c : Configuration) (h : HostId) (before : List Entry) (s : State) → IsStateAfter c before s → h < c.hosts → (changes : List Effect) →
+    HasExtentsOf (view_after c h (view_of c h before) changes) (after_changes c s h changes)
+after_extents c h before s kept host changes =
+    let all = ap (λ (l : Lists). fold (lists_by c h) l changes) (kept.parts h host).lists_are ∙ lists_fields c h (lists_in (view_of c h before)) changes in
+    record { accepted = ap (λ (l : Lists). l.accepted) all; offers = ap (λ (l : Lists). l.offers) all }
 
--- a reply alone is done
-pub replied_done : (c : Configuration) (before : List Entry) (s : State) → IsStateAfter c before s → (q : Request) (h : HostId) (o : Outcome) → IsOfHost c before h o → (payload : List ℕ)
-    → Drafts c h (view_of c h before) o (record { payload = payload; changes = []; tags = []; log_records = []; lists = None })
-    → IsDone c before q o (record { reply = response q Code.Success payload; effects = [] })
-replied_done c before s kept q h o of payload drafts = record {
-  reply = ap (response q Code.Success) drafts.payload;
-  effects = all_effects c before s kept h o of (record { payload = payload; changes = []; tags = []; log_records = []; lists = None }) drafts (lists_in (view_of c h before)) drafts.lists;
-}
+-- its effects: its changes, the ends of tags, and its records
+all_effects : (c : Configuration) (before : List Entry) (s : State) → IsStateAfter c before s → (h : HostId) (o : Outcome) → IsOfHost c before h o →
+    (draft : Draft) → Drafts c h (view_of c h before) o draft →
+    (draft.changes ++ map Effect.TagEnd (ending_with h (after_changes c s h o.changes) s.tags.entries draft.tags)) ++ records_told (effects before) (events_by (view_after c h (view_of c h before) o.changes)) draft.log_records
+    ≡ effects_of c (effects before) o
+all_effects c before s kept h o of draft drafts =
+    let lists : Lists = after_changes c s h o.changes in
+    let w : View = view_after c h (view_of c h before) o.changes in
+    (λ i. (drafts.changes i ++ map Effect.TagEnd (ending_with h lists s.tags.entries (drafts.tags i))) ++ told_is (effects before) (events_by w) draft.log_records i)
+    ∙ (λ i. (o.changes ++ map Effect.TagEnd (its_ended c before h o of s.tags.entries kept.tags_are lists (after_extents c h before s kept of.host o.changes) i)) ++ flat_map (λ n. entered_all n.0 (log_of n.0 (effects before)) n.1) (drafts.log_records i))
+
+-- a draft with the ends of tags and the records behind its changes is done
+pub recorded_done : (c : Configuration) (before : List Entry) (s : State) → IsStateAfter c before s → (q : Request) (h : HostId) (o : Outcome) → IsOfHost c before h o →
+    (draft : Draft) → Drafts c h (view_of c h before) o draft → (reply : Reply) (all : List Effect) → reply ≡ response q Code.Success draft.payload → AreRecorded c s h draft all →
+    IsDone c before q o (record { reply = reply; effects = all })
+recorded_done c before s kept q h o of draft drafts reply all answers recorded =
+    let with_changes = λ (es : List Effect). (draft.changes ++ map Effect.TagEnd (ending_with h (after_changes c s h es) s.tags.entries draft.tags))
+    ++ records_told (effects before) (events_by (view_after c h (view_of c h before) es)) draft.log_records in
+    record {
+      reply = answers ∙ ap (response q Code.Success) drafts.payload;
+      effects = recorded before kept ∙ ap with_changes drafts.changes ∙ all_effects c before s kept h o of draft drafts;
+    }

@@ -32,10 +32,6 @@ pub of_every : {T E : Type 0} (r : Result T E) (Q : List Entry → T → Type 0)
 of_every (Ok x) Q c s past leads each = each past leads
 of_every (Err e) Q c s past leads each = tt
 
--- the journal of what is reached leads to it, and so do the entries of a control
-pub past_reached : (c : Configuration) (s : State) → (r : IsReached c s) → IsPast c r.journal s
-past_reached c s r = record { sound = r.sound; legal = r.legal; kept = r.kept }
-
 pub reached_past : (c : Configuration) (past : List Entry) (s : State) → IsPast c past s → IsReached c s
 reached_past c past s leads = record { journal = past; sound = leads.sound; legal = leads.legal; kept = leads.kept }
 

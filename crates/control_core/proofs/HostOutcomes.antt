@@ -18,11 +18,11 @@ use Rattle.tag_refs.specs.declared.entries.TagEntry.{TagEntry}
 use Rattle.control_core.specs.Doing.{IsOfHost}
 
 -- The tags that end are those that the host's lists after the changes no longer keep.
-abbrev AreEnded : Configuration → List Effect → HostId → Outcome → List TagEntry → Type 0
+abbrev pub AreEnded : Configuration → List Effect → HostId → Outcome → List TagEntry → Type 0
 AreEnded c past h o entries = ended c past o.changes o.tags ≡ ending h (among (accepted_of c h (past ++ o.changes))) (among_offers (offers_of h (past ++ o.changes))) entries o.tags
 
 -- a command by which no tag may end
-none_ended : (c : Configuration) (past : List Effect) (h : HostId) (o : Outcome) → o.tags ≡ [] → (entries : List TagEntry) → AreEnded c past h o entries
+pub none_ended : (c : Configuration) (past : List Effect) (h : HostId) (o : Outcome) → o.tags ≡ [] → (entries : List TagEntry) → AreEnded c past h o entries
 none_ended c past h o none entries =
     ap (ended c past o.changes) none ∙ sym (ap (ending h (among (accepted_of c h (past ++ o.changes))) (among_offers (offers_of h (past ++ o.changes))) entries) none)
 

@@ -4,6 +4,7 @@ pub mod Changed
 pub mod ChangedHolders
 pub mod Decisions
 pub mod Doing
+pub mod FitChanges
 pub mod HostOutcomes
 pub mod Managed
 pub mod ManagerOutcomes

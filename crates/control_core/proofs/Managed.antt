@@ -1,11 +1,12 @@
 -- A command of the Fabric Manager is entered as its outcome.
-use Rattle.std.proofs.Common.{◌≡◌, ℕ, ◌+◌, true, false, not, ◌≤◌, Some, List, [], ◌∷◌, ◌++◌, length, map, flat_map, None, refl, sym, ap, ◌∙◌, subst, arith, zero, suc}
+use Rattle.std.proofs.Common.{◌≡◌, ℕ, ◌+◌, ◌<◌, true, false, not, ◌≤◌, Some, List, [], ◌∷◌, ◌++◌, length, map, flat_map, None, refl, sym, ap, ◌∙◌, subst, arith, zero, suc}
 use Rattle.std.specs.Prelude.{All, if◌then◌else◌}
 use Rattle.std.specs.List.{AllByRecursion, range_with_len}
 use Rattle.std.specs.declared.result.Result.TheVariants.{Ok, Err}
 use Rattle.std.proofs.lemmas.Bool.{false≢true}
 use Rattle.cci_codec.specs.declared.messages.Request.{Request}
 use Rattle.cci_codec.specs.dcd_base.specs.declared.capacity.Tag.{Tag}
+use Rattle.cci_codec.specs.dcd_base.specs.declared.ids.HostId.{HostId}
 use Rattle.cci_codec.specs.dcd_base.specs.declared.steps.Actor.{Actor}
 use Rattle.cci_codec.specs.dcd_base.specs.declared.steps.LogId.{LogId}
 use Rattle.extent_list.specs.dcd_codes.specs.Rules.{ByRow, code_of}
@@ -22,23 +23,23 @@ use Rattle.journal_core.specs.declared.acts.Act.{Act}
 use Rattle.journal_core.specs.declared.acts.Reply.{Reply}
 use Rattle.journal_core.specs.declared.entries.Entry.{Entry}
 use Rattle.journal_core.specs.declared.outcome.Effect.{Effect}
-use Rattle.device_commands.specs.Drafts.{IsOutcome, as_records}
+use Rattle.device_commands.specs.Drafts.{Informs, IsOutcome, as_records}
 use Rattle.manager_commands.specs.device_state.specs.StateAfter.{IsStateAfter}
-use Rattle.device_commands.specs.declared.draft.DraftParts.{DraftParts}
+use Rattle.device_commands.specs.declared.draft.Draft.{Draft}
 use Rattle.device_commands.specs.declared.log_records.LogRecords.{LogRecords}
 use Rattle.device_commands.specs.device_rules.specs.Answers.{effects_with, manager_outcome, manager_result, manager_rule, reply_with, response, unless}
 use Rattle.device_commands.specs.device_rules.specs.Legal.{Legal}
 use Rattle.device_commands.specs.device_rules.specs.Logs.{log_of}
 use Rattle.device_commands.specs.device_rules.specs.Outcomes.{Outcome, ended, entered_all}
-use Rattle.device_commands.specs.device_rules.specs.Views.{view_of}
+use Rattle.device_commands.specs.device_rules.specs.Views.{View, view_of}
 use Rattle.device_commands.specs.device_rules.specs.QuietRequests.{is_quiet_manager}
 use Rattle.device_commands.specs.device_rules.proofs.ReferenceSteps.{ended-reference}
 use Rattle.device_commands.specs.device_rules.proofs.LegalSound.{legal_is_sound}
 use Rattle.tag_refs.specs.Tables.{is_used, passes, with_reference}
 use Rattle.control_core.specs.Deciding.{IsDecidedBy, IsShort}
 use Rattle.control_core.specs.Doing.{IsDone}
-use Rattle.control_core.specs.Managing.{Manages, less_lists}
-use Rattle.control_core.specs.Recording.{records_entered}
+use Rattle.control_core.specs.Managing.{Manages}
+use Rattle.control_core.specs.Recording.{events_of, records_told}
 use Rattle.manager_commands.specs.device_state.specs.Updates.{IsOfLog}
 use Rattle.control_core.specs.declared.decided.Decided.{Decided}
 use Rattle.manager_commands.specs.device_state.specs.declared.state.State.{State}
@@ -49,26 +50,25 @@ use Rattle.manager_commands.specs.ManagerMessages.{DraftsFor}
 -- ---- the draft
 
 pub entered_done : (c : Configuration) (before : List Entry) (q : Request) (o : Outcome) (over : List Tag) → ended c (effects before) o.changes o.tags ≡ over →
-    (draft : DraftParts) → IsOutcome o (less_lists draft) → (reply : Reply) (new : List Effect) → reply ≡ response q Code.Success draft.payload →
-    new ≡ (draft.changes ++ map Effect.TagEnd over) ++ records_entered (effects before) draft.log_records →
+    (draft : Draft) → Informs c.hosts (λ h. view_of c h before) o draft → (reply : Reply) (new : List Effect) → reply ≡ response q Code.Success draft.payload →
+    new ≡ (draft.changes ++ map Effect.TagEnd over) ++ records_told (effects before) (events_of (λ h. view_of c h before)) draft.log_records →
     IsDone c before q o (record { reply = reply; effects = new })
 entered_done c before q o over over_are draft is reply new answers new_is = record {
   reply = answers ∙ ap (response q Code.Success) is.payload;
   effects = new_is
-      ∙ (λ i. (is.changes i ++ map Effect.TagEnd (sym over_are i)) ++ told_is (effects before) draft.log_records i)
+      ∙ (λ i. (is.changes i ++ map Effect.TagEnd (sym over_are i)) ++ told_is (effects before) (events_of (λ h. view_of c h before)) draft.log_records i)
       ∙ ap (λ log_records. (o.changes ++ map Effect.TagEnd (ended c (effects before) o.changes o.tags)) ++ flat_map (λ n. entered_all n.0 (log_of n.0 (effects before)) n.1) log_records) is.log_records;
 }
 
--- what a draft that changes no lists is it is without them
-pub less_is : (o : Outcome) (draft : DraftParts) → IsOutcome o draft → IsOutcome o (less_lists draft)
-less_is o draft is = record { payload = is.payload; changes = is.changes; tags = is.tags; log_records = is.log_records; lists = refl }
-
--- a reply alone is entered
-pub replied_entered : (c : Configuration) (before : List Entry) (q : Request) (o : Outcome) → ended c (effects before) o.changes o.tags ≡ [] → (payload : List ℕ)
-    → IsOutcome o (record { payload = payload; changes = []; tags = []; log_records = []; lists = None })
-    → IsDone c before q o (record { reply = response q Code.Success payload; effects = [] })
-replied_entered c before q o none payload is =
-    entered_done c before q o [] none (record { payload = payload; changes = []; tags = []; log_records = []; lists = None }) is (response q Code.Success payload) [] refl refl
+-- a draft that tells nothing tells what each host has
+pub informs_nothing : (hosts : ℕ) (view_for : HostId → View) (o : Outcome) (draft : Draft) → IsOutcome o draft → Informs hosts view_for o draft
+informs_nothing hosts view_for o draft is = record {
+  payload = is.payload;
+  changes = is.changes;
+  tags = is.tags;
+  log_records = ap (map (λ (n : LogRecords). as_records (view_for n.host) n)) is.log_records ∙ sym is.untold;
+  known = subst (λ (ns : List LogRecords). All (λ (n : LogRecords). n.host < hosts) ns) (sym is.log_records) (λ i d less. absurd (omega (arith, less)));
+}
 
 -- ---- the requests
 
@@ -134,7 +134,7 @@ module _ (c : Configuration) (before : List Entry) where
     refused_rule rule row = ap (manager_result c before) asked ∙ ap (λ broke. unless broke (manager_outcome c (effects before) (λ h. view_of c h before) r)) row
 
 -- a command that is refused
-pub manages_err : (c : Configuration) (s : State) (q : Request) (r : FmRequest) → manager_request q.opcode q.payload ≡ Ok r → (P : List Entry → DraftParts → Type 0) (e : Refusal) →
+pub manages_err : (c : Configuration) (s : State) (q : Request) (r : FmRequest) → manager_request q.opcode q.payload ≡ Ok r → (P : List Entry → Draft → Type 0) (e : Refusal) →
     ((before : List Entry) → Legal c before → IsStateAfter c before s → ByRow (manager_rule c (effects before) (λ h. view_of c h before) r) (P before) (Err e)) → Manages c s q (Err e)
 manages_err c s q r asked P (Refusal.Broken rule) is = λ before legal kept. refused_rule c before q r asked rule (is before legal kept)
 manages_err c s q r asked P Refusal.NoMemory is = tt
@@ -151,16 +151,25 @@ refused_manager c before q rule is reply new answers none = record {
 -- ---- the logs that a draft tells are kept
 
 -- the draft of a request that changes no extents and no tags changes no lists
-pub quiet_drafts : (c : Configuration) (journal : List Entry) (q : FmRequest) → is_quiet_manager q ≡ true → (o : Outcome) (d : DraftParts) → DraftsFor c journal q o d → IsOutcome o d
+pub quiet_drafts : (c : Configuration) (journal : List Entry) (q : FmRequest) → is_quiet_manager q ≡ true → (o : Outcome) (d : Draft) → DraftsFor c journal q o d → Informs c.hosts (λ h. view_of c h journal) o d
 quiet_drafts c journal (FmRequest.Add h policy r bytes tag list) quiet o d is = absurd (false≢true quiet)
 quiet_drafts c journal (FmRequest.Remove h flags r bytes tag list) quiet o d is = absurd (false≢true quiet)
-quiet_drafts c journal q quiet o d is = is
+quiet_drafts c journal (FmRequest.SetRegion r sanitize size) quiet o d is = is
+quiet_drafts c journal q quiet o d is = informs_nothing c.hosts (λ h. view_of c h journal) o d is
 
 pub quiet_log_records : (c : Configuration) (before : List Entry) (s : State) → IsStateAfter c before s → (q : FmRequest) → is_quiet_manager q ≡ true →
-    (draft : DraftParts) → IsOutcome (manager_outcome c (effects before) (λ h. view_of c h before) q) draft → All (λ (n : LogRecords). IsOfLog (length s.hosts.items) n.log) draft.log_records
+    (draft : Draft) → Informs c.hosts (λ h. view_of c h before) (manager_outcome c (effects before) (λ h. view_of c h before) q) draft → All (λ (n : LogRecords). IsOfLog (length s.hosts.items) n.log) draft.log_records
 quiet_log_records c before s kept q quiet draft is =
-    records_known (length s.hosts.items) draft.log_records (manager_outcome c (effects before) (λ h. view_of c h before) q).log_records is.log_records
+    records_known (length s.hosts.items) (events_of (λ h. view_of c h before)) draft.log_records (manager_outcome c (effects before) (λ h. view_of c h before) q).log_records is.log_records
     (subst (λ hosts. AllByRecursion (λ (n : LogId × List Event). IsOfLog hosts n.0) (manager_outcome c (effects before) (λ h. view_of c h before) q).log_records) (sym kept.host_count) (quiet_known c before q quiet))
 
-pub no_log_records : (hosts : ℕ) (draft : DraftParts) → map as_records draft.log_records ≡ [] → All (λ (n : LogRecords). IsOfLog hosts n.log) draft.log_records
-no_log_records hosts draft none = records_known hosts draft.log_records [] none tt
+pub quiet_hosts : (c : Configuration) (before : List Entry) (s : State) → IsStateAfter c before s → (view_for : HostId → View) (o : Outcome) (draft : Draft) → Informs c.hosts view_for o draft →
+    All (λ (n : LogRecords). n.host < length s.hosts.items) draft.log_records
+quiet_hosts c before s kept view_for o draft is = subst (λ hosts. All (λ (n : LogRecords). n.host < hosts) draft.log_records) (sym kept.host_count) is.known
+
+-- what tells nothing
+pub no_log_records : (hosts : ℕ) (draft : Draft) → draft.log_records ≡ [] → All (λ (n : LogRecords). IsOfLog hosts n.log) draft.log_records
+no_log_records hosts draft none = subst (λ (ns : List LogRecords). All (λ (n : LogRecords). IsOfLog hosts n.log) ns) (sym none) (λ i d less. absurd (omega (arith, less)))
+
+pub no_hosts : (hosts : ℕ) (draft : Draft) → draft.log_records ≡ [] → All (λ (n : LogRecords). n.host < hosts) draft.log_records
+no_hosts hosts draft none = subst (λ (ns : List LogRecords). All (λ (n : LogRecords). n.host < hosts) ns) (sym none) (λ i d less. absurd (omega (arith, less)))

@@ -1,29 +1,29 @@
 -- What a 5604h and a 5605h that break no rule come to.
-use Rattle.std.proofs.Common.{◌≡◌, ℕ, ◌<◌, List, None, length, map, refl, subst, sym}
+use Rattle.std.proofs.Common.{◌≡◌, ℕ, ◌<◌, List, None, length, refl, subst, sym}
 use Rattle.std.specs.Prelude.{All}
 use Rattle.cci_codec.specs.dcd_base.specs.declared.capacity.Extent.{Extent}
 use Rattle.cci_codec.specs.dcd_base.specs.declared.capacity.Tag.{Tag}
 use Rattle.fm_payloads.specs.declared.requests.FmRequest.{FmRequest}
 use Rattle.extent_list.specs.media_map.specs.region_config.specs.Configurations.{Configuration}
 use Rattle.extent_list.specs.media_map.specs.region_config.specs.Soundness.{IsSound}
-use Rattle.device_commands.specs.Drafts.{Drafts, IsOutcome, as_records}
-use Rattle.device_commands.specs.declared.draft.DraftParts.{DraftParts}
+use Rattle.device_commands.specs.Drafts.{Drafts}
+use Rattle.device_commands.specs.declared.draft.Draft.{Draft}
 use Rattle.device_commands.specs.declared.log_records.LogRecords.{LogRecords}
 use Rattle.journal_core.specs.Entries.{effects}
 use Rattle.journal_core.specs.declared.entries.Entry.{Entry}
 use Rattle.device_commands.specs.device_rules.specs.Answers.{manager_outcome, manager_rule}
 use Rattle.device_commands.specs.device_rules.specs.Legal.{Legal}
-use Rattle.device_commands.specs.device_rules.specs.Outcomes.{Outcome}
-use Rattle.device_commands.specs.device_rules.specs.Views.{View, view_of}
+use Rattle.device_commands.specs.device_rules.specs.Views.{view_after, view_of}
 use Rattle.device_commands.specs.device_rules.proofs.GivingSteps.{table-removal}
 use Rattle.device_commands.specs.device_rules.proofs.LeavingSteps.{removal_row}
 use Rattle.device_commands.specs.device_rules.proofs.Adding.{row_of}
 use Rattle.control_core.specs.Doing.{IsOfHost}
-use Rattle.control_core.specs.Managing.{less_lists}
+use Rattle.control_core.specs.Recording.{events_by}
 use Rattle.manager_commands.specs.device_state.specs.StateAfter.{IsStateAfter}
 use Rattle.manager_commands.specs.device_state.specs.Updates.{IsOfLog}
 use Rattle.manager_commands.specs.device_state.specs.declared.state.State.{State}
 use Rattle.control_core.proofs.Decisions.{records_known}
+use Rattle.control_core.proofs.HostOutcomes.{none_ended}
 
 pub remove_host : (c : Configuration) (before : List Entry) (h flags r bytes : ℕ) (tag : Tag) (list : List Extent) → manager_rule c (effects before) (λ k. view_of c k before) (FmRequest.Remove h flags r bytes tag list) ≡ None → h < c.hosts
 remove_host c before h flags r bytes tag list row = (removal_row c (λ k. view_of c k before) h flags r tag list row).host
@@ -36,19 +36,25 @@ remove_of c sound before legal h flags r bytes tag list row = record {
 }
 
 pub remove_known : (c : Configuration) (before : List Entry) (s : State) → IsStateAfter c before s → (h flags r bytes : ℕ) (tag : Tag) (list : List Extent) → manager_rule c (effects before) (λ k. view_of c k before) (FmRequest.Remove h flags r bytes tag list) ≡ None →
-    (draft : DraftParts) → map as_records draft.log_records ≡ (manager_outcome c (effects before) (λ k. view_of c k before) (FmRequest.Remove h flags r bytes tag list)).log_records → All (λ (n : LogRecords). IsOfLog (length s.hosts.items) n.log) draft.log_records
+    (draft : Draft) → Drafts c h (view_of c h before) (manager_outcome c (effects before) (λ k. view_of c k before) (FmRequest.Remove h flags r bytes tag list)) draft → All (λ (n : LogRecords). IsOfLog (length s.hosts.items) n.log) draft.log_records
 remove_known c before s kept h flags r bytes tag list row draft is =
-    records_known (length s.hosts.items) draft.log_records (manager_outcome c (effects before) (λ k. view_of c k before) (FmRequest.Remove h flags r bytes tag list)).log_records is
+    records_known (length s.hosts.items) (events_by (view_after c h (view_of c h before) (manager_outcome c (effects before) (λ k. view_of c k before) (FmRequest.Remove h flags r bytes tag list)).changes)) draft.log_records
+    (manager_outcome c (effects before) (λ k. view_of c k before) (FmRequest.Remove h flags r bytes tag list)).log_records is.log_records
     (subst (λ n. h < n) (sym kept.host_count) (remove_host c before h flags r bytes tag list row), tt)
 
 -- ---- an offer
 
 pub add_known : (c : Configuration) (before : List Entry) (s : State) → IsStateAfter c before s → (h policy r bytes : ℕ) (tag : Tag) (list : List Extent) → manager_rule c (effects before) (λ k. view_of c k before) (FmRequest.Add h policy r bytes tag list) ≡ None →
-    (draft : DraftParts) → map as_records draft.log_records ≡ (manager_outcome c (effects before) (λ k. view_of c k before) (FmRequest.Add h policy r bytes tag list)).log_records → All (λ (n : LogRecords). IsOfLog (length s.hosts.items) n.log) draft.log_records
+    (draft : Draft) → Drafts c h (view_of c h before) (manager_outcome c (effects before) (λ k. view_of c k before) (FmRequest.Add h policy r bytes tag list)) draft → All (λ (n : LogRecords). IsOfLog (length s.hosts.items) n.log) draft.log_records
 add_known c before s kept h policy r bytes tag list row draft is =
-    records_known (length s.hosts.items) draft.log_records (manager_outcome c (effects before) (λ k. view_of c k before) (FmRequest.Add h policy r bytes tag list)).log_records is
+    records_known (length s.hosts.items) (events_by (view_after c h (view_of c h before) (manager_outcome c (effects before) (λ k. view_of c k before) (FmRequest.Add h policy r bytes tag list)).changes)) draft.log_records
+    (manager_outcome c (effects before) (λ k. view_of c k before) (FmRequest.Add h policy r bytes tag list)).log_records is.log_records
     (subst (λ n. h < n) (sym kept.host_count) (row_of c before h policy r bytes tag list row).host, tt)
 
--- what it drafts is its outcome, whatever it changes of lists
-pub add_outcome : (c : Configuration) (h : ℕ) (v : View) (o : Outcome) (draft : DraftParts) → Drafts c h v o draft → IsOutcome o (less_lists draft)
-add_outcome c h v o draft drafts = record { payload = drafts.payload; changes = drafts.changes; tags = drafts.tags; log_records = drafts.log_records; lists = refl }
+-- no tag may end by it
+pub add_of : (c : Configuration) (before : List Entry) (h policy r bytes : ℕ) (tag : Tag) (list : List Extent) → manager_rule c (effects before) (λ k. view_of c k before) (FmRequest.Add h policy r bytes tag list) ≡ None →
+    IsOfHost c before h (manager_outcome c (effects before) (λ k. view_of c k before) (FmRequest.Add h policy r bytes tag list))
+add_of c before h policy r bytes tag list row = record {
+  host = (row_of c before h policy r bytes tag list row).host;
+  ended_are = λ entries table. none_ended c (effects before) h (manager_outcome c (effects before) (λ k. view_of c k before) (FmRequest.Add h policy r bytes tag list)) refl entries;
+}

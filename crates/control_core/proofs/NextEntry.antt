@@ -1,8 +1,7 @@
 -- The entry that comes next meets what the entries before it ask.
-use Rattle.std.proofs.Common.{◌≡◌, ℕ, ◌<◌, false, List, [], ◌∷◌, ◌++◌, length, ◌+◌, refl, sym, subst, arith}
+use Rattle.std.proofs.Common.{◌≡◌, ◌==◌, ℕ, suc, true, false, List, [], ◌∷◌, ◌++◌, length, ◌+◌, refl, sym, subst, arith}
 use Rattle.std.specs.Prelude.{IsTrue}
-use Rattle.std.proofs.lemmas.Bool.{ltb-true}
-use Rattle.cci_codec.specs.dcd_base.specs.declared.ids.HostId.{HostId}
+use Rattle.std.proofs.lemmas.Bool.{eqb-true}
 use Rattle.cci_codec.specs.dcd_base.specs.declared.steps.Actor.{Actor}
 use Rattle.journal_core.specs.declared.acts.Act.{Act}
 use Rattle.journal_core.specs.declared.entries.Entry.{Entry}
@@ -31,13 +30,6 @@ next_meets c before pass line Actor.Sanitizer act may = record { allowed = may.f
 
 pub is_next_meets : (d : Controlled) (e : Entry) → IsNextEntry d e → Meets d.config d.entries e
 is_next_meets d e next = subst (Meets d.config d.entries) (sym next.is) (next_meets d.config d.entries e.pass e.line e.actor e.act next.may)
-
--- a host of the device is one that may command
-pub is_known : (c : Configuration) (h : HostId) (act : Act) → MayStep c (Actor.Host h) act → h < c.hosts
-is_known c h (Act.Command q) may = ltb-true h c.hosts may.fits
-is_known c h (Act.Load d) may = absurd (never may.control)
-is_known c h (Act.Store d value) may = absurd (never may.control)
-is_known c h (Act.Scrub n) may = absurd (never may.fits)
 
 -- A fresh control has what every control keeps.
 pub holds_first : (c : Configuration) (entries : List Entry) (d : LiveControlled) → entries ≡ [] → d.config ≡ c → IsPast c [] d.state → Holds d.config entries d.state
@@ -97,3 +89,8 @@ enters_nothing d = λ past leads e meets are.
       lists = λ h below. refl;
       tags_are = refl;
     })
+
+-- a list without items is none
+pub none_in : (es : List Effect) → (length es == 0) ≡ true → es ≡ []
+none_in [] none = refl
+none_in (e ∷ es) none = absurd (omega (arith, eqb-true (suc (length es)) 0 none))

@@ -10,7 +10,7 @@ use Rattle.cci_codec.specs.dcd_base.specs.declared.steps.LogId.{LogId}
 use Rattle.event_log.specs.LogStates.{LogState}
 use Rattle.event_log.specs.Logs.{places_in, state_of, IsLogOf}
 use Rattle.device_commands.specs.device_rules.specs.GranuleCells.{status_of}
-use Rattle.selection.specs.granule_map.specs.StateLists.{count_of, same_state}
+use Rattle.selection.specs.granule_map.specs.StateLists.{count_of, same_state, is_free_at}
 use Rattle.selection.specs.granule_map.specs.declared.states.GranuleState.{GranuleState}
 use Rattle.selection.specs.granule_map.specs.Tables.{cell_at}
 use Rattle.manager_commands.specs.device_state.specs.StateAfter.{IsReached, IsStateAfter, part_of}
@@ -34,7 +34,6 @@ use Rattle.manager_commands.proofs.FreeGranules.{free_at}
 use Rattle.manager_commands.proofs.Reached.{total_kept}
 use Rattle.device_commands.specs.device_rules.specs.Adding.{area_of, is_free_now, per_block, present, region_free_blocks}
 use Rattle.selection.specs.granule_map.specs.Blocks.{free_block_count}
-use Rattle.selection.specs.granule_map.specs.StateLists.{is_free_at}
 use Rattle.extent_list.specs.media_map.specs.region_config.proofs.Faultless.{granules_within}
 use Rattle.selection.proofs.Agreeing.{free_blocks_agree}
 use Rattle.device_commands.specs.device_rules.specs.Counts.{dirty_count, extent_count, free_count, granules_held, missed_of, records_of}

@@ -5,7 +5,11 @@ use Rattle.std.proofs.lemmas.Bool.{cases_eq, ne_eqb}
 use Rattle.std.proofs.lemmas.Grind.{flat_map-append}
 use Rattle.std.proofs.lemmas.List.{drop_more, length_push, take_more}
 use Rattle.std.proofs.Math.Nat.{mod-add-mod}
+use Rattle.cci_codec.specs.dcd_base.specs.declared.capacity.Tag.{Tag}
+use Rattle.cci_codec.specs.dcd_base.specs.declared.ids.HostId.{HostId}
 use Rattle.cci_codec.specs.dcd_base.specs.declared.steps.LogId.{LogId}
+use Rattle.extent_list.specs.HostLists.{Lists}
+use Rattle.tag_refs.specs.declared.entries.TagEntry.{TagEntry}
 use Rattle.event_log.specs.LogStates.{LogState, handle_after}
 use Rattle.event_log.specs.Logs.{Log, missed_by, next_handle, recorded, room_in, IsLogOf}
 use Rattle.event_records.specs.declared.events.Event.{Event}
@@ -15,12 +19,11 @@ use Rattle.journal_core.specs.declared.entries.Entry.{Entry}
 use Rattle.journal_core.specs.declared.outcome.Effect.{Effect}
 use Rattle.extent_list.specs.media_map.specs.region_config.specs.Configurations.{Configuration}
 use Rattle.manager_commands.specs.device_state.specs.StateAfter.{IsStateAfter}
-use Rattle.device_commands.specs.Drafts.{as_records}
 use Rattle.device_commands.specs.declared.log_records.LogRecords.{LogRecords}
 use Rattle.device_commands.specs.device_rules.specs.Logs.{log_after, log_of}
 use Rattle.device_commands.specs.device_rules.specs.Outcomes.{entered, entered_all, no_extent}
 use Rattle.device_commands.specs.device_rules.proofs.LogSteps.{IsSound, IsSound-recorded, room-recorded, same_log-self}
-use Rattle.control_core.specs.Recording.{records_by, records_entered}
+use Rattle.control_core.specs.Recording.{ending_with, records_by, records_told}
 use Rattle.manager_commands.specs.device_state.specs.Updates.{IsOfLog, log_in}
 use Rattle.manager_commands.specs.device_state.specs.declared.state.State.{State}
 
@@ -63,18 +66,19 @@ entered_by l history log of events =
     ap (λ (s : LogState). records_by l s.next (s.capacity - length s.records) events) of.is ∙ records_are l history of.told.sound events
 
 -- the same of records as outcomes have them
-pub told_is : (past : List Effect) (log_records : List LogRecords) → records_entered past log_records ≡ flat_map (λ n. entered_all n.0 (log_of n.0 past) n.1) (map as_records log_records)
-told_is past [] = refl
-told_is past (n ∷ log_records) = ap (λ es. entered_all n.log (log_of n.log past) n.events ++ es) (told_is past log_records)
+pub told_is : (past : List Effect) (events : LogRecords → List Event) (log_records : List LogRecords) →
+    records_told past events log_records ≡ flat_map (λ (n : LogId × List Event). entered_all n.0 (log_of n.0 past) n.1) (map (λ (n : LogRecords). (n.log, events n)) log_records)
+told_is past events [] = refl
+told_is past events (n ∷ log_records) = ap (λ es. entered_all n.log (log_of n.log past) (events n) ++ es) (told_is past events log_records)
 
 -- one record more
-pub told_more : (past : List Effect) (log_records : List LogRecords) (i : ℕ) (n : LogRecords) → i < length log_records → n ≡ get_or log_records i n →
-    records_entered past (take (i + 1) log_records) ≡ records_entered past (take i log_records) ++ entered_all n.log (log_of n.log past) n.events
-told_more past log_records i n below is =
-    let f : LogRecords → List Effect = λ (m : LogRecords). entered_all m.log (log_of m.log past) m.events in
-    ap (records_entered past) (take_more log_records i n below)
+pub told_more : (past : List Effect) (events : LogRecords → List Event) (log_records : List LogRecords) (i : ℕ) (n : LogRecords) → i < length log_records → n ≡ get_or log_records i n →
+    records_told past events (take (i + 1) log_records) ≡ records_told past events (take i log_records) ++ entered_all n.log (log_of n.log past) (events n)
+told_more past events log_records i n below is =
+    let f : LogRecords → List Effect = λ (m : LogRecords). entered_all m.log (log_of m.log past) (events m) in
+    ap (records_told past events) (take_more log_records i n below)
     ∙ flat_map-append f (take i log_records) (get_or log_records i n ∷ [])
-    ∙ ap (λ es. records_entered past (take i log_records) ++ es) (append-nil (f (get_or log_records i n)) ∙ ap f (sym is))
+    ∙ ap (λ es. records_told past events (take i log_records) ++ es) (append-nil (f (get_or log_records i n)) ∙ ap f (sym is))
 
 -- records of a full log are counted, whatever the next handle would be
 missed_any : (l : LogId) (events : List Event) (next other : ℕ) → records_by l next 0 events ≡ records_by l other 0 events
@@ -115,3 +119,10 @@ pub missed_more : (l : LogId) (items : List Effect) (events : List Event) (k nex
 missed_more l items events k next d known =
     append_assoc items (Effect.Missed l ∷ []) (records_by l next 0 (drop (k + 1) events))
     ∙ ap (λ es. items ++ records_by l next 0 es) (sym (drop_more events k d known))
+
+-- where no tag may end and nothing is told the changes are all effects
+pub none_recorded : (h : HostId) (l : Lists) (entries : List TagEntry) (past : List Effect) (events : LogRecords → List Event) (changes : List Effect) (tags : List Tag) (ns : List LogRecords) →
+    length tags ≡ 0 → length ns ≡ 0 → changes ≡ (changes ++ map Effect.TagEnd (ending_with h l entries tags)) ++ records_told past events ns
+none_recorded h l entries past events changes [] [] none_ends none_told = sym (append-nil (changes ++ []) ∙ append-nil changes)
+none_recorded h l entries past events changes (t ∷ tags) ns none_ends none_told = absurd (omega (arith, none_ends))
+none_recorded h l entries past events changes [] (n ∷ ns) none_ends none_told = absurd (omega (arith, none_told))

@@ -4,10 +4,10 @@ use Rattle.std.specs.declared.result.Result.{Result}
 use Rattle.std.specs.declared.result.Result.TheVariants.{Ok, Err}
 use Rattle.extent_list.specs.dcd_codes.specs.declared.refusals.Refusal.{Refusal}
 use Rattle.extent_list.specs.dcd_codes.specs.declared.rules.Rule.{Rule}
-use Rattle.device_commands.specs.declared.draft.DraftParts.{DraftParts}
+use Rattle.device_commands.specs.declared.draft.Draft.{Draft}
 
 -- The first broken rule of the row is the one that it was refused for, and it was drafted where there is none.
-abbrev pub HasRow : Option Rule → Result DraftParts Refusal → Type 0
+abbrev pub HasRow : Option Rule → Result Draft Refusal → Type 0
 HasRow row (Ok draft) = row ≡ None
 HasRow row (Err (Refusal.Broken rule)) = row ≡ Some rule
 HasRow row (Err Refusal.NoMemory) = Unit {0}

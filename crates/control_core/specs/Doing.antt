@@ -16,7 +16,7 @@ use Rattle.journal_core.specs.declared.entries.Entry.{Entry}
 use Rattle.host_commands.specs.HostMessages.{IsDrafted}
 use Rattle.device_commands.specs.Drafts.{Drafts}
 use Rattle.manager_commands.specs.device_state.specs.StateAfter.{IsStateAfter}
-use Rattle.device_commands.specs.declared.draft.DraftParts.{DraftParts}
+use Rattle.device_commands.specs.declared.draft.Draft.{Draft}
 use Rattle.device_commands.specs.device_rules.specs.Answers.{host_result_in, response}
 use Rattle.device_commands.specs.device_rules.specs.Hosts.{accepted_of, offers_of}
 use Rattle.device_commands.specs.device_rules.specs.Legal.{Legal}
@@ -39,14 +39,14 @@ pub record IsOfHost (c : Configuration) (before : List Entry) (h : HostId) (o : 
       ≡ ending h (among (accepted_of c h (effects before ++ o.changes))) (among_offers (offers_of h (effects before ++ o.changes))) entries o.tags
 
 -- The draft is done: for each outcome of the host that it is, by every journal that leads to what is kept.
-abbrev pub Does : State → HostId → Request → DraftParts → Decided → Type 0
-Does s h q draft d = (c : Configuration) (before : List Entry) (o : Outcome) → IsStateAfter c before s → IsOfHost c before h o →
+abbrev pub Does : Configuration → State → HostId → Request → Draft → Decided → Type 0
+Does c s h q draft d = (before : List Entry) (o : Outcome) → IsStateAfter c before s → IsOfHost c before h o →
     Drafts c h (view_of c h before) o draft → IsDone c before q o d
 
 -- ---- a host's message
 
 -- By every legal journal that leads to what is kept, the message is drafted so, or refused by this rule.
-abbrev pub Drafted : Configuration → State → HostId → Request → Result DraftParts Refusal → Type 0
+abbrev pub Drafted : Configuration → State → HostId → Request → Result Draft Refusal → Type 0
 Drafted c s h q result = (before : List Entry) → Legal c before → IsStateAfter c before s → IsDrafted c h (view_of c h before) q result
 
 -- ---- a host's message that is refused

@@ -1,5 +1,5 @@
 -- What a message of the Fabric Manager comes to.
-use Rattle.std.specs.Prelude.{◌≡◌, List, None}
+use Rattle.std.specs.Prelude.{◌≡◌, List}
 use Rattle.std.specs.declared.result.Result.{Result}
 use Rattle.std.specs.declared.result.Result.TheVariants.{Ok, Err}
 use Rattle.cci_codec.specs.declared.messages.Request.{Request}
@@ -11,11 +11,12 @@ use Rattle.extent_list.specs.media_map.specs.region_config.specs.Configurations.
 use Rattle.journal_core.specs.Entries.{effects}
 use Rattle.journal_core.specs.declared.acts.Act.{Act}
 use Rattle.journal_core.specs.declared.entries.Entry.{Entry}
-use Rattle.device_commands.specs.Drafts.{IsOutcome}
-use Rattle.device_commands.specs.declared.draft.DraftParts.{DraftParts}
+use Rattle.device_commands.specs.Drafts.{Informs}
+use Rattle.device_commands.specs.declared.draft.Draft.{Draft}
 use Rattle.device_commands.specs.device_rules.specs.Answers.{manager_result}
 use Rattle.device_commands.specs.device_rules.specs.Legal.{Legal}
 use Rattle.device_commands.specs.device_rules.specs.Outcomes.{Outcome, ended}
+use Rattle.device_commands.specs.device_rules.specs.Views.{view_of}
 use Rattle.control_core.specs.Deciding.{IsDecided}
 use Rattle.control_core.specs.Doing.{IsDone}
 use Rattle.manager_commands.specs.device_state.specs.StateAfter.{IsStateAfter}
@@ -30,11 +31,7 @@ Manages c s q (Err Refusal.NoMemory) = Unit {0}
 
 -- ---- the manager's drafts
 
--- the draft without what it changes of lists
-abbrev pub less_lists : DraftParts → DraftParts
-less_lists draft = record draft { lists = None }
-
 -- The draft is done: for each outcome that it is and by which just these tags end, by every journal that leads to what is kept.
-abbrev pub EntersDraft : State → Request → DraftParts → List Tag → Decided → Type 0
+abbrev pub EntersDraft : State → Request → Draft → List Tag → Decided → Type 0
 EntersDraft s q draft over d = (c : Configuration) (before : List Entry) (o : Outcome) → IsStateAfter c before s → ended c (effects before) o.changes o.tags ≡ over →
-    IsOutcome o (less_lists draft) → IsDone c before q o d
+    Informs c.hosts (λ h. view_of c h before) o draft → IsDone c before q o d

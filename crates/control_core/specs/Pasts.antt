@@ -1,5 +1,5 @@
 -- A control that keeps no entries, as contracts see it, and the journals that lead to what it keeps.
-use Rattle.std.specs.Prelude.{◌≡◌, ℕ, List, [], ◌∷◌, ◌++◌}
+use Rattle.std.specs.Prelude.{◌≡◌, List, [], ◌∷◌, ◌++◌}
 use Rattle.extent_list.specs.media_map.specs.region_config.specs.Configurations.{Configuration}
 use Rattle.extent_list.specs.media_map.specs.region_config.specs.Soundness.{IsSound}
 use Rattle.journal_core.specs.declared.entries.Entry.{Entry}
@@ -22,10 +22,6 @@ pub record IsPast (c : Configuration) (journal : List Entry) (s : State) : Type 
 -- So it is by every journal that leads to what the control keeps.
 abbrev pub ByEveryPast : LiveControlled → (List Entry → Type 0) → Type 0
 ByEveryPast d P = (past : List Entry) → IsPast d.config past d.state → P past
-
--- what is kept, with room for so many more tags
-abbrev pub with_spare : ℕ → State → State
-with_spare spare s = record s { tags = record s.tags { spare = spare } }
 
 -- The effects are those of a step that some journal that leads here asks for.
 pub record IsOfStep (d : LiveControlled) (new : List Effect) : Type 0 where

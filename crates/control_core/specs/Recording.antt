@@ -1,5 +1,5 @@
 -- The records of a step, by the logs that are kept.
-use Rattle.std.specs.Prelude.{ℕ, ◌-◌, ◌==◌, List, [], ◌∷◌, flat_map, if◌then◌else◌, ◌≡◌, ◌++◌, Bool, map, not}
+use Rattle.std.specs.Prelude.{ℕ, ◌-◌, ◌==◌, List, [], ◌∷◌, flat_map, fold, if◌then◌else◌, ◌≡◌, ◌++◌, Bool, map, not}
 use Rattle.cci_codec.specs.dcd_base.specs.declared.steps.LogId.{LogId}
 use Rattle.event_log.specs.LogStates.{handle_after}
 use Rattle.event_records.specs.declared.events.Event.{Event}
@@ -19,6 +19,10 @@ use Rattle.device_commands.specs.device_rules.specs.TagTable.{ending}
 use Rattle.tag_refs.specs.Tables.{is_used, passes, set_by}
 use Rattle.tag_refs.specs.declared.entries.TagEntry.{TagEntry}
 use Rattle.manager_commands.specs.device_state.specs.StateAfter.{IsStateAfter}
+use Rattle.manager_commands.specs.device_state.specs.EnteredLists.{lists_by, lists_of}
+use Rattle.device_commands.specs.Drafts.{HasExtentsOf, told_by}
+use Rattle.device_commands.specs.declared.draft.Draft.{Draft}
+use Rattle.device_commands.specs.device_rules.specs.Views.{View, view_after, view_of}
 use Rattle.manager_commands.specs.device_state.specs.declared.state.State.{State}
 
 -- one record, by the next handle and the room of its log, and the next handle after it
@@ -33,9 +37,20 @@ abbrev pub records_by : LogId → ℕ → ℕ → List Event → List Effect
 records_by l next room [] = []
 records_by l next room (event ∷ events) = record_by l next room event ∷ records_by l (next_by next room) (room - 1) events
 
--- the records of all records
-abbrev pub records_entered : List Effect → List LogRecords → List Effect
-records_entered past log_records = flat_map (λ (n : LogRecords). entered_all n.log (log_of n.log past) n.events) log_records
+-- what is told to all logs, with these events for each
+abbrev pub records_told : List Effect → (LogRecords → List Event) → List LogRecords → List Effect
+records_told past events log_records = flat_map (λ (n : LogRecords). entered_all n.log (log_of n.log past) (events n)) log_records
+
+-- the events of a host that has this view, and those of each host by its view
+abbrev pub events_by : View → LogRecords → List Event
+events_by w n = told_by n.host w n.told
+
+abbrev pub events_of : (HostId → View) → LogRecords → List Event
+events_of view_for n = told_by n.host (view_for n.host) n.told
+
+-- the lists of a host once these effects have changed them, but for the count of changes
+abbrev pub after_changes : Configuration → State → HostId → List Effect → Lists
+after_changes c s h changes = fold (lists_by c h) (lists_of s h) changes
 
 -- whether a tag ends once a host has these lists, and those of some tags that do
 abbrev pub ends_by_lists : HostId → Lists → List TagEntry → Tag → Bool
@@ -46,15 +61,27 @@ ending_with h l entries tags = ending h (λ t. has_extent_of t l.accepted) (λ t
 
 -- ---- by each journal that leads to what is kept
 
--- The records of a record come behind the effects, and so do those of all records.
-abbrev pub IsToldBehind : State → LogRecords → List Effect → List Effect → Type 0
-IsToldBehind s n old new = (c : Configuration) (journal : List Entry) → IsStateAfter c journal s →
-    new ≡ old ++ entered_all n.log (log_of n.log (effects journal)) n.events
+-- What is told to one log, or to all, of a host that has these lists comes behind the effects.
+abbrev pub IsToldBehind : State → Lists → LogRecords → List Effect → List Effect → Type 0
+IsToldBehind s l n old new = (c : Configuration) (journal : List Entry) (w : View) → IsStateAfter c journal s → HasExtentsOf w l →
+    new ≡ old ++ entered_all n.log (log_of n.log (effects journal)) (events_by w n)
 
-abbrev pub AreToldBehind : State → List LogRecords → List Effect → List Effect → Type 0
-AreToldBehind s ns old new = (c : Configuration) (journal : List Entry) → IsStateAfter c journal s → new ≡ old ++ records_entered (effects journal) ns
+abbrev pub AreToldBehind : State → Lists → List LogRecords → List Effect → List Effect → Type 0
+AreToldBehind s l ns old new = (c : Configuration) (journal : List Entry) (w : View) → IsStateAfter c journal s → HasExtentsOf w l →
+    new ≡ old ++ records_told (effects journal) (events_by w) ns
 
--- The effects are the changes, the ends of those of the tags that end once a host has these lists, and the records.
-abbrev pub AreRecorded : State → HostId → Lists → List Effect → List Tag → List LogRecords → List Effect → Type 0
-AreRecorded s h l changes tags ns all = (c : Configuration) (journal : List Entry) → IsStateAfter c journal s →
-    all ≡ (changes ++ map Effect.TagEnd (ending_with h l s.tags.entries tags)) ++ records_entered (effects journal) ns
+-- So does what is told of hosts by what is kept of them.
+abbrev pub IsTold : State → LogRecords → List Effect → List Effect → Type 0
+IsTold s n old new = (c : Configuration) (journal : List Entry) → IsStateAfter c journal s →
+    new ≡ old ++ entered_all n.log (log_of n.log (effects journal)) (events_of (λ h. view_of c h journal) n)
+
+abbrev pub AreTold : State → List LogRecords → List Effect → List Effect → Type 0
+AreTold s ns old new = (c : Configuration) (journal : List Entry) → IsStateAfter c journal s →
+    new ≡ old ++ records_told (effects journal) (events_of (λ h. view_of c h journal)) ns
+
+-- The effects are the changes of the draft, the ends of those of its tags that end by the lists of the host after them, and the
+-- records, which tell what the host has then.
+abbrev pub AreRecorded : Configuration → State → HostId → Draft → List Effect → Type 0
+AreRecorded c s h d all = (journal : List Entry) → IsStateAfter c journal s →
+    all ≡ (d.changes ++ map Effect.TagEnd (ending_with h (after_changes c s h d.changes) s.tags.entries d.tags))
+    ++ records_told (effects journal) (events_by (view_after c h (view_of c h journal) d.changes)) d.log_records

@@ -15,7 +15,7 @@ use crate::control::Control;
 use crate::live::LiveControl;
 use cci_codec::Request;
 use cci_codec::dcd_base::{Actor, HostId, NoMemory};
-use device_commands::{Draft, Room};
+use device_commands::Draft;
 use extent_list::dcd_codes::{Refusal, Rule};
 use extent_list::media_map::region_config::Config;
 use fm_payloads::{FmRequest, PayloadFault, decode};
@@ -67,15 +67,14 @@ impl LiveControl {
     {
         let (config, state) = (&self.config, &self.state);
         let part = state.part(host);
-        let mut room = Room::new(self.alloc);
         rule_of(host_draft(
+            self.alloc,
             config,
             &state.present,
             host,
             &part.lists,
             &part.log,
             request,
-            &mut room,
         ))
     }
 
@@ -84,10 +83,7 @@ impl LiveControl {
         ensures { IfOk result (λ rule. ByEveryPast self.now (λ past. rule ≡ broken_by self.now.config past Actor.Manager (Act.Command request.now))) }
     {
         match decode(self.alloc, request.opcode, request.payload.as_slice()) {
-            Ok(asked) => {
-                let mut room = Room::new(self.alloc);
-                rule_of(manager_draft(self.alloc, &self.config, &self.state, &asked, &mut room))
-            }
+            Ok(asked) => rule_of(manager_draft(self.alloc, &self.config, &self.state, &asked)),
             Err(PayloadFault::UnknownOpcode(opcode)) => Ok(Some(Rule::UnknownOpcode(opcode))),
             Err(PayloadFault::WrongLength { need, have }) => {
                 Ok(Some(Rule::WrongLength { need, have }))
@@ -103,7 +99,6 @@ fn manager_draft(
     config: &Config,
     state: &State,
     asked: &FmRequest,
-    room: &mut Room,
 ) -> Result<Draft, Refusal>
     requires reached { IsReached config.now state.now }
     requires few { FewCleared asked.now }
@@ -125,7 +120,7 @@ fn manager_draft(
                 length: *length,
                 tag: *tag,
             };
-            add(alloc, config, state, &request, extents, room)
+            add(alloc, config, state, &request, extents)
         }
         FmRequest::Remove {
             host,
@@ -142,11 +137,11 @@ fn manager_draft(
                 length: *length,
                 tag: *tag,
             };
-            remove(alloc, config, state, &request, extents, room)
+            remove(alloc, config, state, &request, extents)
         }
-        FmRequest::AddReference { tag } => add_reference(config, state, tag, room),
-        FmRequest::RemoveReference { tag } => remove_reference(alloc, config, state, tag, room),
-        _ => quiet_draft(alloc, config, state, asked, room),
+        FmRequest::AddReference { tag } => add_reference(alloc, config, state, tag),
+        FmRequest::RemoveReference { tag } => remove_reference(alloc, config, state, tag),
+        _ => quiet_draft(alloc, config, state, asked),
     }
 }
 

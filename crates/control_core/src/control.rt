@@ -3,7 +3,7 @@
 ghost use Rattle.control_core.specs.Steps.{IsNextEntry, MayStep, journal_entry};
 ghost use Rattle.device_commands.specs.device_rules.specs.ChangedRuns.{AreChanges, LiesIn};
 ghost use Rattle.control_core.specs.Deciding.{AreShort, IsDecidedBy, IsShort};
-ghost use Rattle.control_core.specs.Decisions.{decided_by, only_replied};
+ghost use Rattle.control_core.specs.Decisions.{only_replied};
 ghost use Rattle.device_commands.specs.device_rules.specs.Answers.{answer as answer_to};
 ghost use Rattle.device_commands.specs.device_rules.specs.Legal.{Legal};
 ghost use Rattle.journal_core.specs.Entries.{effects};
@@ -11,12 +11,11 @@ ghost use Rattle.journal_core.specs.Merging.{Rising};
 ghost use Rattle.extent_list.specs.media_map.specs.region_config.specs.Granules.{granule_total};
 ghost use Rattle.std.specs.Prelude.{◌≡◌, ◌+◌, ◌++◌, ◌∷◌, ◌<◌, ◌≤◌, [], All, IfOk, OnErr, OnOk};
 
-use crate::decided::{Decided, Decision};
+use crate::decided::Decided;
 use crate::live::LiveControl;
 use crate::plan::Plan;
-use crate::step_effects::{StepEffects, TakenStep};
 use cci_codec::dcd_base::{Actor, Boxed, Changes, NoMemory, Stamp};
-use device_commands::{DraftedStep, Room};
+use device_commands::host_lists::HostLists;
 use extent_list::media_map::region_config::Config;
 use journal_core::{Act, Effects, Entry, Reply};
 use kept_journal::KeptEntries;
@@ -30,8 +29,8 @@ use std::marker::Model;
 pub struct Control {
     pub(crate) live: LiveControl,
     entries: KeptEntries,
-    /// The memory that the next step uses.
-    room: Room,
+    /// The memory for the lists of a host as a step leaves them.
+    after: HostLists,
 }
 
 impl Model for Control {
@@ -59,7 +58,7 @@ impl Control {
         Ok(Control {
             live: LiveControl::new(alloc, config)?,
             entries: KeptEntries::new(alloc),
-            room: Room::new(alloc),
+            after: HostLists::new(alloc)?,
         })
     }
 
@@ -132,7 +131,7 @@ impl Control {
         line: u32,
         actor: Actor,
         act: &Act,
-    ) -> Result<StepEffects, NoMemory>
+    ) -> Result<Effects, NoMemory>
         requires { MayStep self.old.config actor act.now }
         ensures config { self.new.config ≡ self.old.config }
         ensures entered { OnOk result (self.new.entries ≡ self.old.entries ++ journal_entry self.old.config self.old.entries pass line actor act.now ∷ []) }
@@ -141,37 +140,24 @@ impl Control {
         ensures short { OnOk result (IsShort (journal_entry self.old.config self.old.entries pass line actor act.now).reply) }
         ensures effects { IfOk result (λ effects. effects ≡ (answer_to self.old.config self.old.entries actor act.now).1) }
     {
-        let (only_replies, step) = self.decide_in_room(&actor, act)?.into_step();
-        if only_replies {
-            let mut step = step;
-            self.take_reply(pass, line, actor, act, &step.as_mut().reply)?;
-            self.room.keep_replied(step);
-            Ok(StepEffects::none())
-        } else {
-            self.take_step(pass, line, actor, act, step)
+        let decided = self.decide(&actor, act)?;
+        if decided.effects.is_empty() {
+            self.take_reply(pass, line, actor, act, &decided.reply)?;
+            return Ok(decided.effects);
         }
+        self.take_step(pass, line, actor, act, &decided)?;
+        Ok(decided.effects)
     }
 
-    /// Takes back the effects that `step` answered, so that a later step has their memory. The control is seen as before.
-    #[inline(always)]
-    pub fn give_back(&mut self, effects: StepEffects)
-        ensures { self.new ≡ self.old }
-    {
-        if let TakenStep::Parts(step) = effects.into_taken() {
-            self.room.keep_step(step);
-        }
-    }
-
-    /// What a step comes to, with the memory of the room.
-    #[inline(always)]
-    fn decide_in_room(&mut self, actor: &Actor, act: &Act) -> Result<Decision, NoMemory>
+    /// What a step comes to.
+    fn decide(&mut self, actor: &Actor, act: &Act) -> Result<Decided, NoMemory>
         requires { MayStep self.old.config actor.now act.now }
         ensures config { self.new.config ≡ self.old.config }
         ensures entries { self.new.entries ≡ self.old.entries }
         ensures spare { self.new.spare ≡ self.old.spare }
         ensures decided { IfOk result (λ d. IsDecidedBy self.new.config self.new.entries actor.now act.now d) }
     {
-        self.live.decide(actor, act, &mut self.room)
+        self.live.decide(actor, act, &mut self.after)
     }
 
     /// Takes a step that only replies, which is decided.
@@ -183,17 +169,16 @@ impl Control {
         actor: Actor,
         act: &Act,
         reply: &Reply,
-    ) -> Result<StepEffects, NoMemory>
+    ) -> Result<(), NoMemory>
         requires may { MayStep self.old.config actor act.now }
         requires decided { IsDecidedBy self.old.config self.old.entries actor act.now (only_replied reply.now) }
         ensures config { self.new.config ≡ self.old.config }
         ensures entered { OnOk result (self.new.entries ≡ self.old.entries ++ journal_entry self.old.config self.old.entries pass line actor act.now ∷ []) }
         ensures kept { OnErr result (self.new.entries ≡ self.old.entries) }
         ensures spare { OnErr result (self.old.spare ≤ self.new.spare) }
-        ensures effects { IfOk result (λ effects. effects ≡ (answer_to self.old.config self.old.entries actor act.now).1) }
     {
         self.entries.append_quiet(pass, line, actor, act, reply)?;
-        Ok(StepEffects::none())
+        Ok(())
     }
 
     /// Takes a step that may change something, which is decided.
@@ -204,19 +189,17 @@ impl Control {
         line: u32,
         actor: Actor,
         act: &Act,
-        step: Box<DraftedStep>,
-    ) -> Result<StepEffects, NoMemory>
+        decided: &Decided,
+    ) -> Result<(), NoMemory>
         requires may { MayStep self.old.config actor act.now }
-        requires decided { IsDecidedBy self.old.config self.old.entries actor act.now (decided_by step.value) }
+        requires decided { IsDecidedBy self.old.config self.old.entries actor act.now decided.now }
         ensures config { self.new.config ≡ self.old.config }
         ensures entered { OnOk result (self.new.entries ≡ self.old.entries ++ journal_entry self.old.config self.old.entries pass line actor act.now ∷ []) }
         ensures kept { OnErr result (self.new.entries ≡ self.old.entries) }
         ensures spare { OnErr result (self.old.spare ≤ self.new.spare) }
-        ensures effects { IfOk result (λ effects. effects ≡ (answer_to self.old.config self.old.entries actor act.now).1) }
     {
         self.make_room()?;
-        self.append(pass, line, actor, act, step.as_ref())?;
-        Ok(StepEffects::of(step))
+        self.append(pass, line, actor, act, decided)
     }
 
     /// Enters a step that is decided so, with its next entry.
@@ -227,19 +210,19 @@ impl Control {
         line: u32,
         actor: Actor,
         act: &Act,
-        step: &DraftedStep,
+        decided: &Decided,
     ) -> Result<(), NoMemory>
         requires room { 0 < self.old.spare }
         requires may { MayStep self.old.config actor act.now }
-        requires decided { IsDecidedBy self.old.config self.old.entries actor act.now (decided_by step.now) }
+        requires decided { IsDecidedBy self.old.config self.old.entries actor act.now decided.now }
         ensures config { self.new.config ≡ self.old.config }
         ensures entered { OnOk result (self.new.entries ≡ self.old.entries ++ journal_entry self.old.config self.old.entries pass line actor act.now ∷ []) }
         ensures kept { OnErr result (self.new.entries ≡ self.old.entries) }
         ensures spare { OnErr result (self.old.spare ≤ self.new.spare) }
     {
         self.entries
-            .append(pass, line, actor, act, &step.reply, &step.effects)?;
-        self.live.enter(step.effects.as_slice());
+            .append(pass, line, actor, act, &decided.reply, &decided.effects)?;
+        self.live.enter(decided.effects.as_slice());
         Ok(())
     }
 
@@ -309,26 +292,18 @@ impl Control {
     }
 
     /// The step, decided.
-    fn planned(&self, pass: u32, line: u32, actor: Actor, act: Act) -> Result<Plan, NoMemory>
-        requires { MayStep self.now.config actor act }
-        ensures entry { IfOk result (λ plan. plan.entry ≡ journal_entry self.now.config self.now.entries pass line actor act) }
+    fn planned(&mut self, pass: u32, line: u32, actor: Actor, act: Act) -> Result<Plan, NoMemory>
+        requires { MayStep self.old.config actor act }
+        ensures config { self.new.config ≡ self.old.config }
+        ensures entries { self.new.entries ≡ self.old.entries }
+        ensures spare { self.new.spare ≡ self.old.spare }
+        ensures entry { IfOk result (λ plan. plan.entry ≡ journal_entry self.old.config self.old.entries pass line actor act) }
         ensures short { IfOk result (λ plan. IsShort plan.entry.reply) }
-        ensures changes { IfOk result (λ plan. AreChanges self.now.config (effects self.now.entries) plan.entry.effects plan.changes) }
-        ensures inside { IfOk result (λ plan. All (LiesIn (granule_total self.now.config)) plan.changes) }
+        ensures changes { IfOk result (λ plan. AreChanges self.old.config (effects self.old.entries) plan.entry.effects plan.changes) }
+        ensures inside { IfOk result (λ plan. All (LiesIn (granule_total self.old.config)) plan.changes) }
     {
-        let alloc = self.live.alloc;
-        let mut room = Room::new(alloc);
-        let decided = self.decide(&actor, &act, &mut room)?.into_parts(&mut room);
+        let decided = self.decide(&actor, &act)?;
         self.plan(pass, line, actor, act, decided)
-    }
-
-    /// What a step comes to, with the memory of this room.
-    #[inline(always)]
-    fn decide(&self, actor: &Actor, act: &Act, room: &mut Room) -> Result<Decision, NoMemory>
-        requires { MayStep self.now.config actor.now act.now }
-        ensures { IfOk result (λ d. IsDecidedBy self.now.config self.now.entries actor.now act.now d) }
-    {
-        self.live.decide(actor, act, room)
     }
 
     /// The runs whose holders these effects change or whose words they zero, which are the effects of the step.

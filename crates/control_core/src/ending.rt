@@ -4,7 +4,7 @@ ghost use Rattle.control_core.specs.Recording.{ending_with, ends_by_lists};
 ghost use Rattle.std.specs.Prelude.{◌≡◌, ◌<◌, ◌++◌, ◌∷◌, [], IfOk, OnOk};
 
 use cci_codec::dcd_base::{HostId, NoMemory, Seq, Tag};
-use device_commands::host_lists::Changed;
+use device_commands::host_lists::HostLists;
 use manager_commands::device_state::State;
 use std::alloc::Global;
 
@@ -13,7 +13,7 @@ pub(crate) fn ending(
     alloc: Global,
     state: &State,
     host: HostId,
-    lists: &Changed,
+    lists: &HostLists,
     tags: &[Tag],
 ) -> Result<Seq<Tag>, NoMemory>
     requires few { host < 16 }
@@ -30,7 +30,7 @@ pub(crate) fn ending(
 fn put_ending(
     state: &State,
     host: HostId,
-    lists: &Changed,
+    lists: &HostLists,
     tag: &Tag,
     ended: &mut Seq<Tag>,
 ) -> Result<(), NoMemory>
@@ -44,7 +44,7 @@ fn put_ending(
 }
 
 /// Whether the tag is open and ends once the host has these lists.
-fn ends(state: &State, host: HostId, lists: &Changed, tag: &Tag) -> bool
+fn ends(state: &State, host: HostId, lists: &HostLists, tag: &Tag) -> bool
     requires few { host < 16 }
     ensures { result ≡ ends_by_lists host lists.now state.now.tags.entries tag.now }
 {

@@ -1,39 +1,33 @@
-//! What a message of a host comes to: its draft, recorded, or the refusal.
+//! What a message of a host comes to: its draft with the ends of tags and the records behind it, or the refusal.
 
-ghost use Rattle.control_core.specs.Recording.{AreRecorded, ending_with};
+ghost use Rattle.cci_codec.specs.dcd_base.specs.declared.steps.Actor.{Actor};
 ghost use Rattle.control_core.specs.Deciding.{IsDecided};
 ghost use Rattle.control_core.specs.Doing.{Does, Drafted, Refuses};
-ghost use Rattle.control_core.specs.Decisions.{decided_by};
-ghost use Rattle.device_commands.specs.DraftContents.{draft_in};
-ghost use Rattle.device_commands.specs.ListsUpdates.{left_by};
-ghost use Rattle.extent_list.specs.dcd_codes.specs.declared.codes.Code.{Code};
-ghost use Rattle.device_commands.specs.device_rules.specs.Answers.{response};
-ghost use Rattle.manager_commands.specs.device_state.specs.StateAfter.{IsReached, part_of};
-ghost use Rattle.manager_commands.specs.device_state.specs.Updates.{IsOfLog};
-ghost use Rattle.device_commands.specs.host_lists.specs.Changes.{changed_by};
-ghost use Rattle.cci_codec.specs.dcd_base.specs.declared.steps.Actor.{Actor};
+ghost use Rattle.control_core.specs.Recording.{AreRecorded, ending_with};
 ghost use Rattle.device_commands.specs.declared.log_records.LogRecords.{LogRecords};
 ghost use Rattle.journal_core.specs.declared.acts.Act.{Act};
 ghost use Rattle.journal_core.specs.declared.outcome.Effect.{Effect};
-ghost use Rattle.std.specs.Prelude.{◌≡◌, ◌++◌, ◌<◌, All, IfOk, OnOk, length, map};
+ghost use Rattle.manager_commands.specs.device_state.specs.EnteredLists.{Fits, lists_of};
+ghost use Rattle.manager_commands.specs.device_state.specs.StateAfter.{IsReached};
+ghost use Rattle.manager_commands.specs.device_state.specs.Updates.{IsOfLog};
+ghost use Rattle.std.specs.Prelude.{◌≡◌, ◌++◌, ◌<◌, All, IfOk, OnOk, length, map, true};
 
-use crate::decided::{Decision, replied};
+use crate::decided::Decided;
 use crate::ending::ending;
 use crate::fitting::part_fits;
 use crate::recording::{put_ends, put_records_of_logs};
 use cci_codec::Request;
-use cci_codec::dcd_base::{Bytes, HostId, NoMemory, Seq, Tag};
-use device_commands::host_lists::{Changed, HostLists, ListsChange};
-use device_commands::{Content, Draft, DraftedStep, ListsUpdate, Room, answer, refused};
-use extent_list::dcd_codes::{Code, Refusal, Rule, number_of};
+use cci_codec::dcd_base::{HostId, NoMemory, Tag};
+use device_commands::host_lists::HostLists;
+use device_commands::{Draft, answer, refused};
+use extent_list::dcd_codes::{Code, Refusal, Rule};
 use extent_list::media_map::region_config::Config;
 use host_commands::{dropped, host_draft};
-use journal_core::{Effects, Reply};
+use journal_core::Effects;
 use manager_commands::device_state::State;
 use std::alloc::Global;
-use std::mem::{replace, swap};
 
-/// What a message of a host comes to.
+/// What a message of a host comes to. `after` is lent for the lists of the host as the step leaves them.
 ///
 /// It stands apart, as the steps of the others do, so that none makes room for what another needs.
 #[inline(never)]
@@ -43,36 +37,35 @@ pub(crate) fn host_step(
     state: &State,
     host: HostId,
     request: &Request,
-    room: &mut Room,
-) -> Result<Decision, NoMemory>
+    after: &mut HostLists,
+) -> Result<Decided, NoMemory>
     requires host { host < config.now.hosts }
     requires reached { IsReached config.now state.now }
     ensures { IfOk result (IsDecided config.now state.now (Actor.Host host) (Act.Command request.now)) }
 {
     let part = state.part(host);
     let drafted = host_draft(
+        alloc,
         config,
         &state.present,
         host,
         &part.lists,
         &part.log,
         request,
-        room,
     );
-    host_recorded(alloc, config, state, host, request, drafted, room)
+    host_decided(alloc, config, state, host, request, drafted, after)
 }
 
 /// What a message of a host comes to, where it is drafted so or breaks this rule first.
-#[inline(always)]
-fn host_recorded(
+fn host_decided(
     alloc: Global,
     config: &Config,
     state: &State,
     host: HostId,
     request: &Request,
     drafted: Result<Draft, Refusal>,
-    room: &mut Room,
-) -> Result<Decision, NoMemory>
+    after: &mut HostLists,
+) -> Result<Decided, NoMemory>
     requires host { host < config.now.hosts }
     requires reached { IsReached config.now state.now }
     requires drafted { Drafted config.now state.now host request.now drafted }
@@ -80,166 +73,100 @@ fn host_recorded(
 {
     part_fits(state.part(host));
     match drafted {
-        Ok(draft) => recorded(alloc, state, host, request, draft, room),
-        Err(Refusal::Broken(rule)) => refused_by(alloc, config, state, host, request, &rule, room),
+        Ok(draft) => enacted(alloc, config, state, host, request, draft, after),
+        Err(Refusal::Broken(rule)) => refused_by(alloc, config, state, host, request, &rule),
         Err(Refusal::NoMemory) => Err(NoMemory),
     }
 }
 
-/// A command that breaks no rule, by whose draft the host's lists change, or stay as they are.
-#[inline(always)]
-pub(crate) fn recorded(
+/// What a command comes to that breaks no rule, by which the lists of this host alone may change.
+pub(crate) fn enacted(
     alloc: Global,
+    config: &Config,
     state: &State,
     host: HostId,
     request: &Request,
     draft: Draft,
-    room: &mut Room,
-) -> Result<Decision, NoMemory>
-    requires host { host < length state.now.hosts.items }
+    after: &mut HostLists,
+) -> Result<Decided, NoMemory>
+    requires host { host < config.now.hosts }
+    requires part { host < length state.now.hosts.items }
     requires few { host < 16 }
     requires known { All (λ (n : LogRecords). IsOfLog (length state.now.hosts.items) n.log) draft.log_records }
-    ensures { IfOk result (Does state.now host request.now draft) }
+    requires fits { Fits config.now (lists_of state.now) 1 draft.changes }
+    ensures { IfOk result (Does config.now state.now host request.now draft) }
 {
-    match draft.into_content() {
-        Content::Reply(payload) => replied(room, request, payload),
-        Content::Parts(parts) => recorded_boxed(alloc, state, host, request, parts),
-    }
+    let mut draft = draft;
+    put_ends_and_records(alloc, config, state, host, &mut draft, after)?;
+    let Draft {
+        payload,
+        changes,
+        tags: _,
+        log_records: _,
+    } = draft;
+    Ok(Decided {
+        reply: answer(request, Code::Success, payload),
+        effects: changes,
+    })
 }
 
-/// A command that breaks no rule and may change something, whose parts lie on the heap.
-#[inline(always)]
-fn recorded_boxed(
+/// Puts behind the changes the ends of those of the tags that end, and the records, both by the lists of the host once the
+/// changes are made.
+fn put_ends_and_records(
     alloc: Global,
+    config: &Config,
     state: &State,
     host: HostId,
-    request: &Request,
-    parts: Box<DraftedStep>,
-) -> Result<Decision, NoMemory>
-    requires host { host < length state.now.hosts.items }
-    requires few { host < 16 }
-    requires known { All (λ (n : LogRecords). IsOfLog (length state.now.hosts.items) n.log) parts.value.log_records }
-    ensures { IfOk result (Does state.now host request.now (draft_in parts.value)) }
-{
-    let mut parts = parts;
-    put_recorded(alloc, state, host, request, parts.as_mut())?;
-    Ok(Decision::step(parts))
-}
-
-/// A command that breaks no rule and may change something: beside its draft stands what the step adds, and the draft's
-/// changes are all effects of the step.
-fn put_recorded(
-    alloc: Global,
-    state: &State,
-    host: HostId,
-    request: &Request,
-    step: &mut DraftedStep,
+    draft: &mut Draft,
+    after: &mut HostLists,
 ) -> Result<(), NoMemory>
-    requires host { host < length state.now.hosts.items }
+    requires host { host < config.now.hosts }
+    requires part { host < length state.now.hosts.items }
     requires few { host < 16 }
-    requires known { All (λ (n : LogRecords). IsOfLog (length state.now.hosts.items) n.log) step.old.log_records }
-    ensures { OnOk result (Does state.now host request.now (draft_in step.old) (decided_by step.new)) }
+    requires known { All (λ (n : LogRecords). IsOfLog (length state.now.hosts.items) n.log) draft.old.log_records }
+    requires fits { Fits config.now (lists_of state.now) 1 draft.old.changes }
+    ensures effects { OnOk result (AreRecorded config.now state.now host draft.old draft.new.changes) }
+    ensures payload { OnOk result (draft.new.payload ≡ draft.old.payload) }
 {
-    put_effects(alloc, state, host, step)?;
-    put_success(alloc, request, step);
-    Ok(())
-}
-
-/// Puts the reply to a command that succeeds in place of another one, with the payload that the step has for it.
-#[inline(always)]
-pub(crate) fn put_success(alloc: Global, request: &Request, step: &mut DraftedStep)
-    ensures { decided_by step.new ≡ record (decided_by step.old) { reply = response request.now Code.Success step.old.payload } }
-{
-    match &mut step.reply {
-        Reply::Answer(response) => {
-            response.tag = request.tag;
-            response.opcode = request.opcode;
-            response.code = number_of(Code::Success);
-            swap(&mut response.payload, &mut step.payload);
-        }
-        other => *other = answer(
-            request,
-            Code::Success,
-            replace(&mut step.payload, Bytes::new(alloc)),
-        ),
+    if tells_nothing(draft) {
+        return Ok(());
     }
+    state.lists_after(config, host, draft.changes.as_slice(), after)?;
+    put_ended(
+        alloc,
+        state,
+        host,
+        after,
+        draft.tags.as_slice(),
+        &mut draft.changes,
+    )?;
+    put_records_of_logs(alloc, state, after, &draft.log_records, &mut draft.changes)
 }
 
-/// Puts behind the changes the ends of those of the tags that end once the host has the lists after it,
-/// and the records.
-fn put_effects(
-    alloc: Global,
-    state: &State,
-    host: HostId,
-    step: &mut DraftedStep,
-) -> Result<(), NoMemory>
-    requires host { host < length state.now.hosts.items }
-    requires few { host < 16 }
-    requires known { All (λ (n : LogRecords). IsOfLog (length state.now.hosts.items) n.log) step.old.log_records }
-    ensures effects { OnOk result (AreRecorded state.now host (left_by step.old.lists (part_of state.now host).lists)
-        step.old.effects step.old.tags step.old.log_records step.new.effects) }
-    ensures kept { OnOk result (step.new ≡ record step.old { effects = step.new.effects }) }
+/// Whether no tag may end by a draft, and nothing is told.
+fn tells_nothing(draft: &Draft) -> bool
+    ensures { result ≡ true → (length draft.now.tags ≡ 0) × (length draft.now.log_records ≡ 0) }
 {
-    let (lists, tags) = (&step.lists, step.tags.as_slice());
-    put_ended(alloc, state, host, lists, tags, &mut step.effects)?;
-    put_records_of_logs(state, &step.log_records, &mut step.effects)
+    draft.tags.is_empty() && draft.log_records.is_empty()
 }
 
-/// Puts the ends of those of these tags that end once the host's lists are changed so, or stay as they are.
-#[inline(always)]
+/// Puts the ends of those of these tags that end once the host has these lists.
 fn put_ended(
     alloc: Global,
     state: &State,
     host: HostId,
-    lists: &ListsUpdate,
+    lists: &HostLists,
     tags: &[Tag],
     effects: &mut Effects,
 ) -> Result<(), NoMemory>
-    requires host { host < length state.now.hosts.items }
     requires few { host < 16 }
-    ensures { OnOk result (effects.new ≡ effects.old ++
-        map Effect.TagEnd (ending_with host (left_by lists.now (part_of state.now host).lists) state.now.tags.entries tags.now)) }
+    ensures { OnOk result (effects.new ≡ effects.old ++ map Effect.TagEnd (ending_with host lists.now state.now.tags.entries tags.now)) }
 {
     if state.tags.is_empty() {
         return Ok(());
     }
-    let ended = ended_by(alloc, state, host, lists, tags)?;
+    let ended = ending(alloc, state, host, lists, tags)?;
     put_ends(ended.as_slice(), effects)
-}
-
-/// Of these tags those that end once the host's lists are changed so, or stay as they are.
-#[inline(never)]
-fn ended_by(
-    alloc: Global,
-    state: &State,
-    host: HostId,
-    lists: &ListsUpdate,
-    tags: &[Tag],
-) -> Result<Seq<Tag>, NoMemory>
-    requires host { host < length state.now.hosts.items }
-    requires few { host < 16 }
-    ensures { IfOk result (λ ended. ended ≡ ending_with host (left_by lists.now (part_of state.now host).lists) state.now.tags.entries tags.now) }
-{
-    let had = &state.part(host).lists;
-    let same = had.unchanged();
-    let lists = changed_or_same(had, &same, lists);
-    let ended = ending(alloc, state, host, &lists, tags)?;
-    Ok(ended)
-}
-
-/// The lists as they are once they are changed so, or as the host had them, which `same` leaves.
-fn changed_or_same<'a>(
-    had: &'a HostLists,
-    same: &'a ListsChange,
-    lists: &'a ListsUpdate,
-) -> Changed<'a>
-    requires { changed_by same.now had.now ≡ had.now }
-    ensures { result ≡ left_by lists.now had.now }
-{
-    match lists.change() {
-        Some(change) => Changed::of(had, change),
-        None => Changed::of(had, same),
-    }
 }
 
 /// A command that breaks a rule: where it is a response or a release, its held list ends.
@@ -250,15 +177,13 @@ fn refused_by(
     host: HostId,
     request: &Request,
     rule: &Rule,
-    room: &mut Room,
-) -> Result<Decision, NoMemory>
+) -> Result<Decided, NoMemory>
     requires host { host < config.now.hosts }
     requires reached { IsReached config.now state.now }
     ensures { IfOk result (Refuses config.now state.now host request.now rule.now) }
 {
     let lists = &state.part(host).lists;
     let reply = refused(alloc, request, rule);
-    let effects = dropped(host, lists, request.opcode, room)?;
-    let decision = Decision::changing(room, reply, effects)?;
-    Ok(decision)
+    let effects = dropped(alloc, host, lists, request.opcode)?;
+    Ok(Decided { reply, effects })
 }

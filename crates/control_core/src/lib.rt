@@ -20,10 +20,9 @@ mod plan;
 mod readers;
 mod recording;
 mod scrub_steps;
-mod step_effects;
 
 pub use control::Control;
-pub use decided::{Decided, Decision};
+pub use decided::Decided;
 pub use device_commands;
 pub use device_commands::device_rules;
 pub use host_commands;
@@ -32,4 +31,3 @@ pub use live::LiveControl;
 pub use manager_commands;
 pub use manager_commands::device_state;
 pub use plan::Plan;
-pub use step_effects::StepEffects;

@@ -9,12 +9,12 @@ ghost use Rattle.extent_list.specs.media_map.specs.region_config.specs.Granules.
 ghost use Rattle.std.specs.Prelude.{◌≡◌, ◌+◌, ◌<◌, ◌≤◌, [], All, IfOk, OnOk};
 
 use crate::changing::changes_of;
-use crate::decided::Decision;
+use crate::decided::Decided;
 use crate::host_steps::host_step;
 use crate::manager_steps::manager_step;
 use crate::scrub_steps::scrub_step;
 use cci_codec::dcd_base::{Actor, Changes, NoMemory};
-use device_commands::Room;
+use device_commands::host_lists::HostLists;
 use extent_list::media_map::region_config::Config;
 use journal_core::{Act, Effect, Effects};
 use manager_commands::device_state::State;
@@ -71,28 +71,31 @@ impl LiveControl {
         self.alloc
     }
 
-    /// What a command or a scrub that fits its actor comes to. A payload, effects and parts on the heap have the memory of the
-    /// room, as far as it goes.
-    #[inline(always)]
-    pub fn decide(&self, actor: &Actor, act: &Act, room: &mut Room) -> Result<Decision, NoMemory>
+    /// What a command or a scrub that fits its actor comes to. `after` is lent for the lists of a host as the step leaves them.
+    pub fn decide(
+        &self,
+        actor: &Actor,
+        act: &Act,
+        after: &mut HostLists,
+    ) -> Result<Decided, NoMemory>
         requires { MayStep self.now.config actor.now act.now }
         ensures { IfOk result (λ d. ByEveryPast self.now (λ past. IsDecidedBy self.now.config past actor.now act.now d)) }
     {
         match actor {
             Actor::Host(host) => match act {
                 Act::Command(request) => {
-                    host_step(self.alloc, &self.config, &self.state, *host, request, room)
+                    host_step(self.alloc, &self.config, &self.state, *host, request, after)
                 }
                 _ => unreachable!(),
             },
             Actor::Manager => match act {
                 Act::Command(request) => {
-                    manager_step(self.alloc, &self.config, &self.state, request, room)
+                    manager_step(self.alloc, &self.config, &self.state, request, after)
                 }
                 _ => unreachable!(),
             },
             Actor::Sanitizer => match act {
-                Act::Scrub(most) => scrub_step(self.alloc, &self.config, &self.state, *most, room),
+                Act::Scrub(most) => scrub_step(self.alloc, &self.config, &self.state, *most),
                 _ => unreachable!(),
             },
         }

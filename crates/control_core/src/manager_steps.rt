@@ -2,8 +2,6 @@
 
 ghost use Rattle.control_core.specs.Deciding.{IsDecided};
 ghost use Rattle.manager_commands.specs.device_state.specs.StateAfter.{IsReached};
-ghost use Rattle.control_core.specs.Decisions.{decided_by};
-ghost use Rattle.device_commands.specs.DraftContents.{draft_in};
 ghost use Rattle.control_core.specs.Managing.{EntersDraft, Manages};
 ghost use Rattle.manager_commands.specs.ManagerMessages.{FewCleared};
 ghost use Rattle.manager_commands.specs.device_state.specs.Updates.{IsOfLog};
@@ -12,19 +10,20 @@ ghost use Rattle.fm_payloads.specs.ManagerPayloads.{manager_request};
 ghost use Rattle.fm_payloads.specs.declared.requests.FmRequest.{FmRequest};
 ghost use Rattle.device_commands.specs.declared.log_records.LogRecords.{LogRecords};
 ghost use Rattle.journal_core.specs.declared.acts.Act.{Act};
-ghost use Rattle.std.specs.Prelude.{◌≡◌, ◌<◌, ◌∷◌, [], All, IfOk, OnOk, false, if◌then◌else◌, length, not, true};
+ghost use Rattle.std.specs.Prelude.{◌≡◌, ◌<◌, ◌∷◌, [], All, IfOk, false, if◌then◌else◌, length, not, true};
 ghost use Rattle.std.specs.declared.result.Result.TheVariants.{Ok};
 ghost use Rattle.device_commands.specs.device_rules.specs.QuietRequests.{is_quiet_manager};
 ghost use Rattle.tag_refs.specs.Tables.{is_used, passes, with_reference};
 
-use crate::decided::{Decision, replied};
+use crate::decided::Decided;
 use crate::fitting::request_fits;
-use crate::host_steps::{put_success, recorded};
-use crate::recording::{put_ends, put_records_of_logs};
+use crate::host_steps::enacted;
+use crate::recording::{put_ends, put_records_of_hosts};
 use cci_codec::Request;
 use cci_codec::dcd_base::{Extents, HostId, NoMemory, Seq, Tag};
-use device_commands::{Content, Draft, DraftedStep, Room, refused};
-use extent_list::dcd_codes::{Refusal, Rule};
+use device_commands::host_lists::HostLists;
+use device_commands::{Draft, answer, refused};
+use extent_list::dcd_codes::{Code, Refusal, Rule};
 use extent_list::media_map::region_config::Config;
 use fm_payloads::{FmRequest, PayloadFault, decode};
 use manager_commands::device_state::State;
@@ -40,27 +39,27 @@ pub(crate) fn manager_step(
     config: &Config,
     state: &State,
     request: &Request,
-    room: &mut Room,
-) -> Result<Decision, NoMemory>
+    after: &mut HostLists,
+) -> Result<Decided, NoMemory>
     requires reached { IsReached config.now state.now }
     ensures { IfOk result (IsDecided config.now state.now Actor.Manager (Act.Command request.now)) }
 {
     match decode(alloc, request.opcode, request.payload.as_slice()) {
         Ok(asked) => {
             if is_quiet(&asked) {
-                let managed = decide_quiet(alloc, config, state, request, &asked, room);
-                manager_recorded(alloc, config, state, request, managed, room)
+                let managed = decide_quiet(alloc, config, state, request, &asked);
+                manager_decided(alloc, config, state, request, managed)
             } else {
-                changing_step(alloc, config, state, request, &asked, room)
+                changing_step(alloc, config, state, request, &asked, after)
             }
         }
         Err(PayloadFault::UnknownOpcode(opcode)) => {
             let broken = Err(Refusal::Broken(Rule::UnknownOpcode(opcode)));
-            manager_recorded(alloc, config, state, request, broken, room)
+            manager_decided(alloc, config, state, request, broken)
         }
         Err(PayloadFault::WrongLength { need, have }) => {
             let broken = Err(Refusal::Broken(Rule::WrongLength { need, have }));
-            manager_recorded(alloc, config, state, request, broken, room)
+            manager_decided(alloc, config, state, request, broken)
         }
         Err(PayloadFault::NoMemory) => Err(NoMemory),
     }
@@ -81,21 +80,20 @@ fn is_quiet(asked: &FmRequest) -> bool
 
 /// What a message of the manager comes to, where it comes to this or breaks this rule first.
 #[inline(always)]
-fn manager_recorded(
+fn manager_decided(
     alloc: Global,
     config: &Config,
     state: &State,
     request: &Request,
-    managed: Result<Decision, Refusal>,
-    room: &mut Room,
-) -> Result<Decision, NoMemory>
+    managed: Result<Decided, Refusal>,
+) -> Result<Decided, NoMemory>
     requires reached { IsReached config.now state.now }
     requires managed { Manages config.now state.now request.now managed }
     ensures { IfOk result (IsDecided config.now state.now Actor.Manager (Act.Command request.now)) }
 {
     match managed {
         Ok(decision) => Ok(decision),
-        Err(Refusal::Broken(rule)) => Decision::only(room, refused(alloc, request, &rule)),
+        Err(Refusal::Broken(rule)) => Ok(Decided::only(alloc, refused(alloc, request, &rule))),
         Err(Refusal::NoMemory) => Err(NoMemory),
     }
 }
@@ -108,15 +106,15 @@ fn changing_step(
     state: &State,
     request: &Request,
     asked: &FmRequest,
-    room: &mut Room,
-) -> Result<Decision, NoMemory>
+    after: &mut HostLists,
+) -> Result<Decided, NoMemory>
     requires reached { IsReached config.now state.now }
     requires asked { manager_request request.now.opcode request.now.payload ≡ Ok asked.now }
     requires changing { is_quiet_manager asked.now ≡ false }
     ensures { IfOk result (IsDecided config.now state.now Actor.Manager (Act.Command request.now)) }
 {
-    let managed = changing_command(alloc, config, state, request, asked, room);
-    manager_recorded(alloc, config, state, request, managed, room)
+    let managed = changing_command(alloc, config, state, request, asked, after);
+    manager_decided(alloc, config, state, request, managed)
 }
 
 /// What a request comes to that changes extents or tags, or the first rule that it breaks.
@@ -127,8 +125,8 @@ fn changing_command(
     state: &State,
     request: &Request,
     asked: &FmRequest,
-    room: &mut Room,
-) -> Result<Decision, Refusal>
+    after: &mut HostLists,
+) -> Result<Decided, Refusal>
     requires reached { IsReached config.now state.now }
     requires asked { manager_request request.now.opcode request.now.payload ≡ Ok asked.now }
     requires changing { is_quiet_manager asked.now ≡ false }
@@ -150,7 +148,7 @@ fn changing_command(
                 length: *length,
                 tag: *tag,
             };
-            decide_add(alloc, config, state, request, &offer, extents, room)
+            decide_add(alloc, config, state, request, &offer, extents, after)
         }
         FmRequest::Remove {
             host,
@@ -167,13 +165,13 @@ fn changing_command(
                 length: *length,
                 tag: *tag,
             };
-            decide_remove(alloc, config, state, request, &removal, extents, room)
+            decide_remove(alloc, config, state, request, &removal, extents, after)
         }
         FmRequest::AddReference { tag } => {
-            decide_add_reference(alloc, config, state, request, tag, room)
+            decide_add_reference(alloc, config, state, request, tag)
         }
         FmRequest::RemoveReference { tag } => {
-            decide_remove_reference(alloc, config, state, request, tag, room)
+            decide_remove_reference(alloc, config, state, request, tag)
         }
         _ => unreachable!(),
     }
@@ -188,17 +186,17 @@ fn decide_add(
     request: &Request,
     offer: &AddRequest,
     extents: &Extents,
-    room: &mut Room,
-) -> Result<Decision, Refusal>
+    after: &mut HostLists,
+) -> Result<Decided, Refusal>
     requires reached { IsReached config.now state.now }
     requires asked { manager_request request.now.opcode request.now.payload ≡
         Ok (FmRequest.Add offer.now.host offer.now.policy offer.now.region offer.now.length offer.now.tag extents.now) }
     ensures { Manages config.now state.now request.now result }
 {
-    match add(alloc, config, state, offer, extents, room) {
+    match add(alloc, config, state, offer, extents) {
         Ok(draft) => {
-            let step = draft.into_step(room)?;
-            Ok(entered(alloc, state, request, step, &[])?)
+            let host = HostId(offer.host as u8);
+            Ok(enacted(alloc, config, state, host, request, draft, after)?)
         }
         Err(refusal) => Err(refusal),
     }
@@ -213,17 +211,17 @@ fn decide_remove(
     request: &Request,
     removal: &RemoveRequest,
     extents: &Extents,
-    room: &mut Room,
-) -> Result<Decision, Refusal>
+    after: &mut HostLists,
+) -> Result<Decided, Refusal>
     requires reached { IsReached config.now state.now }
     requires asked { manager_request request.now.opcode request.now.payload ≡
         Ok (FmRequest.Remove removal.now.host removal.now.flags removal.now.region removal.now.length removal.now.tag extents.now) }
     ensures { Manages config.now state.now request.now result }
 {
-    match remove(alloc, config, state, removal, extents, room) {
+    match remove(alloc, config, state, removal, extents) {
         Ok(draft) => {
             let host = HostId(removal.host as u8);
-            Ok(recorded(alloc, state, host, request, draft, room)?)
+            Ok(enacted(alloc, config, state, host, request, draft, after)?)
         }
         Err(refusal) => Err(refusal),
     }
@@ -236,8 +234,7 @@ fn decide_quiet(
     state: &State,
     request: &Request,
     asked: &FmRequest,
-    room: &mut Room,
-) -> Result<Decision, Refusal>
+) -> Result<Decided, Refusal>
     requires reached { IsReached config.now state.now }
     requires asked { manager_request request.now.opcode request.now.payload ≡ Ok asked.now }
     requires few { FewCleared asked.now }
@@ -245,43 +242,10 @@ fn decide_quiet(
     ensures { Manages config.now state.now request.now result }
 {
     request_fits(state, asked);
-    match quiet_draft(alloc, config, state, asked, room) {
-        Ok(draft) => Ok(read(alloc, state, request, draft, room)?),
+    match quiet_draft(alloc, config, state, asked) {
+        Ok(draft) => Ok(enacted_quietly(alloc, state, request, draft, &[])?),
         Err(refusal) => Err(refusal),
     }
-}
-
-/// A command that changes no lists and no tags is entered.
-#[inline(always)]
-fn read(
-    alloc: Global,
-    state: &State,
-    request: &Request,
-    draft: Draft,
-    room: &mut Room,
-) -> Result<Decision, NoMemory>
-    requires known { All (λ (n : LogRecords). IsOfLog (length state.now.hosts.items) n.log) draft.log_records }
-    ensures { IfOk result (EntersDraft state.now request.now draft []) }
-{
-    match draft.into_content() {
-        Content::Reply(payload) => replied(room, request, payload),
-        Content::Parts(parts) => entered_boxed(alloc, state, request, parts),
-    }
-}
-
-/// A command that changes no lists and no tags is entered, whose parts lie on the heap. It stands apart, so that one that
-/// only replies makes no room for them.
-#[inline(never)]
-fn entered_boxed(
-    alloc: Global,
-    state: &State,
-    request: &Request,
-    parts: Box<DraftedStep>,
-) -> Result<Decision, NoMemory>
-    requires known { All (λ (n : LogRecords). IsOfLog (length state.now.hosts.items) n.log) parts.value.log_records }
-    ensures { IfOk result (EntersDraft state.now request.now (draft_in parts.value) []) }
-{
-    entered(alloc, state, request, parts, &[])
 }
 
 /// What a 5606h comes to.
@@ -292,17 +256,13 @@ fn decide_add_reference(
     state: &State,
     request: &Request,
     tag: &Tag,
-    room: &mut Room,
-) -> Result<Decision, Refusal>
+) -> Result<Decided, Refusal>
     requires reached { IsReached config.now state.now }
     requires asked { manager_request request.now.opcode request.now.payload ≡ Ok (FmRequest.AddReference tag.now) }
     ensures { Manages config.now state.now request.now result }
 {
-    match add_reference(config, state, tag, room) {
-        Ok(draft) => {
-            let step = draft.into_step(room)?;
-            Ok(entered(alloc, state, request, step, &[])?)
-        }
+    match add_reference(alloc, config, state, tag) {
+        Ok(draft) => Ok(enacted_quietly(alloc, state, request, draft, &[])?),
         Err(refusal) => Err(refusal),
     }
 }
@@ -315,18 +275,16 @@ fn decide_remove_reference(
     state: &State,
     request: &Request,
     tag: &Tag,
-    room: &mut Room,
-) -> Result<Decision, Refusal>
+) -> Result<Decided, Refusal>
     requires reached { IsReached config.now state.now }
     requires asked { manager_request request.now.opcode request.now.payload ≡ Ok (FmRequest.RemoveReference tag.now) }
     ensures { Manages config.now state.now request.now result }
 {
     let ended = ended_unreferenced(alloc, state, tag)?;
-    match remove_reference(alloc, config, state, tag, room) {
+    match remove_reference(alloc, config, state, tag) {
         Ok(draft) => {
-            let step = draft.into_step(room)?;
             let ended = ended.as_slice();
-            Ok(entered(alloc, state, request, step, ended)?)
+            Ok(enacted_quietly(alloc, state, request, draft, ended)?)
         }
         Err(refusal) => Err(refusal),
     }
@@ -343,36 +301,29 @@ fn ended_unreferenced(alloc: Global, state: &State, tag: &Tag) -> Result<Seq<Tag
     Ok(tags)
 }
 
-/// An offer, or a command that changes no lists, is entered, by which these tags end.
-fn entered(
+/// What a command comes to that breaks no rule and changes no lists, by which these tags end.
+fn enacted_quietly(
     alloc: Global,
     state: &State,
     request: &Request,
-    step: Box<DraftedStep>,
+    draft: Draft,
     ended: &[Tag],
-) -> Result<Decision, NoMemory>
-    requires known { All (λ (n : LogRecords). IsOfLog (length state.now.hosts.items) n.log) step.value.log_records }
-    ensures { IfOk result (EntersDraft state.now request.now (draft_in step.value) ended.now) }
+) -> Result<Decided, NoMemory>
+    requires known { All (λ (n : LogRecords). IsOfLog (length state.now.hosts.items) n.log) draft.log_records }
+    requires hosts { All (λ (n : LogRecords). n.host < length state.now.hosts.items) draft.log_records }
+    ensures { IfOk result (EntersDraft state.now request.now draft ended.now) }
 {
-    let mut step = step;
-    put_entered(alloc, state, request, step.as_mut(), ended)?;
-    Ok(Decision::step(step))
-}
-
-/// Beside the draft of such a command stands what the step adds, by which these tags end, and its changes are all effects of the
-/// step.
-fn put_entered(
-    alloc: Global,
-    state: &State,
-    request: &Request,
-    step: &mut DraftedStep,
-    ended: &[Tag],
-) -> Result<(), NoMemory>
-    requires known { All (λ (n : LogRecords). IsOfLog (length state.now.hosts.items) n.log) step.old.log_records }
-    ensures { OnOk result (EntersDraft state.now request.now (draft_in step.old) ended.now (decided_by step.new)) }
-{
-    put_ends(ended, &mut step.effects)?;
-    put_records_of_logs(state, &step.log_records, &mut step.effects)?;
-    put_success(alloc, request, step);
-    Ok(())
+    let Draft {
+        payload,
+        changes,
+        tags: _,
+        log_records,
+    } = draft;
+    let mut effects = changes;
+    put_ends(ended, &mut effects)?;
+    put_records_of_hosts(alloc, state, &log_records, &mut effects)?;
+    Ok(Decided {
+        reply: answer(request, Code::Success, payload),
+        effects,
+    })
 }

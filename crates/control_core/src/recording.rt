@@ -1,17 +1,19 @@
 //! The effects of a step: its changes, the ends of tags, and its records.
 
-ghost use Rattle.control_core.specs.Recording.{AreToldBehind, IsToldBehind, records_by};
+ghost use Rattle.control_core.specs.Recording.{AreTold, AreToldBehind, IsTold, IsToldBehind, records_by};
 ghost use Rattle.manager_commands.specs.device_state.specs.Updates.{IsOfLog};
 ghost use Rattle.device_commands.specs.declared.log_records.LogRecords.{LogRecords};
 ghost use Rattle.journal_core.specs.declared.outcome.Effect.{Effect};
-ghost use Rattle.std.specs.Prelude.{◌≡◌, ◌++◌, ◌+◌, ◌-◌, ◌≤◌, ℕ, All, OnOk, length, map, vec_capacity, vec_len};
+ghost use Rattle.std.specs.Prelude.{◌≡◌, ◌++◌, ◌+◌, ◌-◌, ◌<◌, ◌≤◌, ℕ, All, OnOk, length, map, vec_capacity, vec_len};
 
 use cci_codec::dcd_base::{Extent, LogId, NoMemory, Tag};
+use device_commands::host_lists::HostLists;
 use device_commands::{LogRecords, ShortList};
 use event_log::{EventLog, handle_after};
 use event_records::Event;
 use journal_core::{Effect, Effects};
 use manager_commands::device_state::State;
+use std::alloc::Global;
 use std::mem::{ManuallyDrop, replace};
 
 /// Puts the ends of tags behind the changes.
@@ -24,35 +26,73 @@ pub(crate) fn put_ends(tags: &[Tag], effects: &mut Effects) -> Result<(), NoMemo
     Ok(())
 }
 
-/// Puts the records of all records behind the changes.
+/// Puts behind the effects what is told to all logs of a host that has these lists.
 pub(crate) fn put_records_of_logs(
+    alloc: Global,
+    state: &State,
+    lists: &HostLists,
+    log_records: &ShortList<LogRecords>,
+    effects: &mut Effects,
+) -> Result<(), NoMemory>
+    requires known { All (λ (n : LogRecords). IsOfLog (length state.now.hosts.items) n.log) log_records.now }
+    ensures { OnOk result (AreToldBehind state.now lists.now log_records.now effects.old effects.new) }
+{
+    let told = log_records.as_slice();
+    for i in 0..told.len() {
+        put_records_of_log(alloc, state, lists, &told[i], effects)?;
+    }
+    Ok(())
+}
+
+/// Puts behind the effects what is told to all logs, of each host by the lists that are kept of it.
+pub(crate) fn put_records_of_hosts(
+    alloc: Global,
     state: &State,
     log_records: &ShortList<LogRecords>,
     effects: &mut Effects,
 ) -> Result<(), NoMemory>
     requires known { All (λ (n : LogRecords). IsOfLog (length state.now.hosts.items) n.log) log_records.now }
-    ensures { OnOk result (AreToldBehind state.now log_records.now effects.old effects.new) }
+    requires hosts { All (λ (n : LogRecords). n.host < length state.now.hosts.items) log_records.now }
+    ensures { OnOk result (AreTold state.now log_records.now effects.old effects.new) }
 {
     let told = log_records.as_slice();
     for i in 0..told.len() {
-        put_records_of_log(state, &told[i], effects)?;
+        put_records_of_host(alloc, state, &told[i], effects)?;
     }
     Ok(())
 }
 
-/// Puts the records of a record behind the changes.
-fn put_records_of_log(
+/// Puts behind the effects what is told to one log of a host by the lists that are kept of it.
+fn put_records_of_host(
+    alloc: Global,
     state: &State,
-    record_for: &LogRecords,
+    records: &LogRecords,
     effects: &mut Effects,
 ) -> Result<(), NoMemory>
-    requires known { IsOfLog (length state.now.hosts.items) record_for.now.log }
-    ensures { OnOk result (IsToldBehind state.now record_for.now effects.old effects.new) }
+    requires known { IsOfLog (length state.now.hosts.items) records.now.log }
+    requires host { records.now.host < length state.now.hosts.items }
+    ensures { OnOk result (IsTold state.now records.now effects.old effects.new) }
 {
+    let lists = &state.part(records.host).lists;
+    put_records_of_log(alloc, state, lists, records, effects)
+}
+
+/// Puts behind the effects what is told to one log of a host that has these lists.
+fn put_records_of_log(
+    alloc: Global,
+    state: &State,
+    lists: &HostLists,
+    records: &LogRecords,
+    effects: &mut Effects,
+) -> Result<(), NoMemory>
+    requires known { IsOfLog (length state.now.hosts.items) records.now.log }
+    ensures { OnOk result (IsToldBehind state.now lists.now records.now effects.old effects.new) }
+{
+    let events = records.events(alloc, lists)?;
     put_records(
-        state.log(record_for.log),
-        &record_for.log,
-        record_for.events.as_slice(),
+        state.log(records.log),
+        &records.log,
+        events.as_slice(),
         effects,
     )
 }

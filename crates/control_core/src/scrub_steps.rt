@@ -6,9 +6,8 @@ ghost use Rattle.manager_commands.specs.device_state.specs.StateAfter.{IsReached
 ghost use Rattle.journal_core.specs.declared.acts.Act.{Act};
 ghost use Rattle.std.specs.Prelude.{IfOk};
 
-use crate::decided::Decision;
+use crate::decided::Decided;
 use cci_codec::dcd_base::NoMemory;
-use device_commands::Room;
 use extent_list::media_map::region_config::Config;
 use journal_core::Reply;
 use manager_commands::device_state::State;
@@ -22,13 +21,13 @@ pub(crate) fn scrub_step(
     config: &Config,
     state: &State,
     most: u16,
-    room: &mut Room,
-) -> Result<Decision, NoMemory>
+) -> Result<Decided, NoMemory>
     requires reached { IsReached config.now state.now }
     ensures { IfOk result (IsDecided config.now state.now Actor.Sanitizer (Act.Scrub most)) }
 {
-    let zeroed = zero_dirty(alloc, config, state, most, room)?;
-    let reply = Reply::Scrubbed(zeroed.granules);
-    let decision = Decision::changing(room, reply, zeroed.changes)?;
-    Ok(decision)
+    let zeroed = zero_dirty(alloc, config, state, most)?;
+    Ok(Decided {
+        reply: Reply::Scrubbed(zeroed.granules),
+        effects: zeroed.changes,
+    })
 }

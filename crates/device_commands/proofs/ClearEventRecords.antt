@@ -9,10 +9,10 @@ use Rattle.event_log.specs.LogStates.{LogState}
 use Rattle.device_rules.specs.EventCommands.{clear_outcome, clear_rule}
 use Rattle.device_commands.specs.ClearEventRecords.{clearing_outcome, clearing_rule}
 use Rattle.device_commands.specs.Drafts.{IsOutcome}
-use Rattle.device_commands.specs.declared.draft.DraftParts.{DraftParts}
+use Rattle.device_commands.specs.declared.draft.Draft.{Draft}
 
 -- what clears the log of dynamic capacity, whose number is 4, clears its history
-pub clears : (l : LogId) (number : ℕ) (own : Log) (log : LogState) (all : Bool) (handles : List ℕ) (r : Result DraftParts Refusal) → number ≡ 4 → IsLogOf l own log
+pub clears : (l : LogId) (number : ℕ) (own : Log) (log : LogState) (all : Bool) (handles : List ℕ) (r : Result Draft Refusal) → number ≡ 4 → IsLogOf l own log
     → ByRow (clearing_rule log all handles) (IsOutcome (clearing_outcome l log all handles)) r
     → ByRow (clear_rule number own all handles) (IsOutcome (clear_outcome l number own all handles)) r
 clears l number own log all handles r four of holds =

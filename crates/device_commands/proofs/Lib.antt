@@ -1,3 +1,4 @@
 pub mod ClearEventRecords
+pub mod OneRecord
 pub mod RegionPages
 pub mod ShownRegions

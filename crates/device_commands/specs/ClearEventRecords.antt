@@ -11,7 +11,7 @@ use Rattle.std.specs.declared.result.Result.{Result}
 use Rattle.extent_list.specs.dcd_codes.specs.declared.refusals.Refusal.{Refusal}
 use Rattle.event_log.specs.Logs.{Log, IsLogOf}
 use Rattle.device_commands.specs.Drafts.{IsOutcome}
-use Rattle.device_commands.specs.declared.draft.DraftParts.{DraftParts}
+use Rattle.device_commands.specs.declared.draft.Draft.{Draft}
 
 -- a log is cleared whole only where it missed a record
 abbrev pub whole_rule : LogState → Option Rule
@@ -44,6 +44,6 @@ empty_rule false [] = None
 empty_rule false (h ∷ handles) = Some (Rule.UnknownHandle h)
 
 -- By its row, for each history that the log shows.
-abbrev pub AnswersClear : LogId → ℕ → LogState → Bool → List ℕ → Result DraftParts Refusal → Type 0
+abbrev pub AnswersClear : LogId → ℕ → LogState → Bool → List ℕ → Result Draft Refusal → Type 0
 AnswersClear l number log all handles result = (own : Log) → IsLogOf l own log →
     ByRow (clear_rule number own all handles) (IsOutcome (clear_outcome l number own all handles)) result

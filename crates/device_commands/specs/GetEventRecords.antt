@@ -9,8 +9,8 @@ use Rattle.event_log.specs.Logs.{Log, IsLogOf}
 use Rattle.device_rules.specs.EventCommands.{events_reply, log_named, no_such_log}
 use Rattle.device_rules.specs.Outcomes.{only}
 use Rattle.device_commands.specs.Drafts.{IsOutcome}
-use Rattle.device_commands.specs.declared.draft.DraftParts.{DraftParts}
+use Rattle.device_commands.specs.declared.draft.Draft.{Draft}
 
 -- By its row, for each history that the log shows.
-abbrev pub AnswersEvents : ℕ → LogState → Result DraftParts Refusal → Type 0
+abbrev pub AnswersEvents : ℕ → LogState → Result Draft Refusal → Type 0
 AnswersEvents number log result = (l : LogId) (own : Log) → IsLogOf l own log → ByRow (no_such_log number) (IsOutcome (only (events_reply (log_named number own)))) result

@@ -1,9 +1,7 @@
 pub mod ClearEventRecords
-pub mod DraftContents
 pub mod Drafts
 pub mod GetEventRecords
 pub mod ListDrafts
-pub mod ListsUpdates
 pub mod ShownFlags
 pub use Rattle.device_rules
 pub use Rattle.host_lists

@@ -5,21 +5,20 @@
 
 ghost use Rattle.device_commands.specs.ClearEventRecords.{AnswersClear, changing, clearing_outcome, clearing_rule, empty_rule, listed_outcome};
 ghost use Rattle.device_commands.specs.ClearEventRecords.{log_handles_rule, whole_outcome, whole_rule};
-ghost use Rattle.device_commands.specs.DraftContents.{IsBlank, draft_in, no_draft};
 ghost use Rattle.extent_list.specs.dcd_codes.specs.Rules.{ByRow};
 ghost use Rattle.device_rules.specs.EventCommands.{cleared, rule_of};
 ghost use Rattle.device_commands.specs.Drafts.{IsOutcome};
 ghost use Rattle.journal_core.specs.declared.outcome.Effect.{Effect};
-ghost use Rattle.std.specs.Prelude.{◌≡◌, ◌++◌, ◌≤◌, [], IfOk, None, OnOk, length};
+ghost use Rattle.std.specs.Prelude.{◌≡◌, ◌++◌, ◌≤◌, [], None, OnOk, length};
 
-use crate::draft::{Draft, DraftedStep};
+use crate::draft::Draft;
 use crate::get_event_records::{DYNAMIC_CAPACITY, LOGS};
 use crate::putting::put_effect;
-use crate::rooms::Room;
 use cci_codec::dcd_base::{LogId, NoMemory, ShortList};
 use event_log::{ClearFault, EventLog};
 use extent_list::dcd_codes::{Refusal, Rule};
 use journal_core::{Effect, Effects};
+use std::alloc::Global;
 
 /// Takes the records of these handles out of the log, or all of them.
 ///
@@ -27,29 +26,28 @@ use journal_core::{Effect, Effects};
 /// none was missed; else `UnknownHandle` or `OlderLeft` for the first handle that is not the record's in its place.
 #[inline(never)]
 pub fn clear_events(
+    alloc: Global,
     id: LogId,
     number: u8,
     log: &EventLog,
     all: bool,
     handles: &ShortList<u16>,
-    room: &mut Room,
 ) -> Result<Draft, Refusal>
     requires { length handles.now ≤ 255 }
-    ensures drafts { AnswersClear id number log.now all handles.now result }
-    ensures no_lists { IfOk result (λ draft. draft.lists ≡ None) }
+    ensures { AnswersClear id number log.now all handles.now result }
 {
     if number >= LOGS {
         return Err(Refusal::Broken(Rule::NoSuchLog(number)));
     }
     if number == DYNAMIC_CAPACITY {
-        clear_own(&id, log, all, handles.as_slice(), room)
+        clear_own(alloc, &id, log, all, handles.as_slice())
     } else {
-        clear_empty(all, handles.as_slice(), room)
+        clear_empty(alloc, all, handles.as_slice())
     }
 }
 
 /// An empty log has nothing to clear, and missed nothing.
-fn clear_empty(all: bool, handles: &[u16], room: &mut Room) -> Result<Draft, Refusal>
+fn clear_empty(alloc: Global, all: bool, handles: &[u16]) -> Result<Draft, Refusal>
     ensures { ByRow (empty_rule all handles.now) (IsOutcome (changing [])) result }
 {
     if all {
@@ -57,50 +55,47 @@ fn clear_empty(all: bool, handles: &[u16], room: &mut Room) -> Result<Draft, Ref
     }
     match handles.first() {
         Some(handle) => Err(Refusal::Broken(Rule::UnknownHandle(*handle))),
-        None => {
-            let changes = Effects::new(room.allocator());
-            Ok(Draft::changing(room, changes)?)
-        }
+        None => Ok(Draft::changing(alloc, Effects::new(alloc))),
     }
 }
 
 /// Clears the log of dynamic capacity.
 fn clear_own(
+    alloc: Global,
     id: &LogId,
     log: &EventLog,
     all: bool,
     handles: &[u16],
-    room: &mut Room,
 ) -> Result<Draft, Refusal>
     requires { length handles.now ≤ 255 }
     ensures { ByRow (clearing_rule log.now all handles.now) (IsOutcome (clearing_outcome id.now log.now all handles.now)) result }
 {
     if all {
-        clear_whole(id, log, room)
+        clear_whole(alloc, id, log)
     } else {
-        clear_listed(id, log, handles, room)
+        clear_listed(alloc, id, log, handles)
     }
 }
 
 /// Takes all records out, and counts missed ones anew.
-fn clear_whole(id: &LogId, log: &EventLog, room: &mut Room) -> Result<Draft, Refusal>
+fn clear_whole(alloc: Global, id: &LogId, log: &EventLog) -> Result<Draft, Refusal>
     ensures { ByRow (whole_rule log.now) (IsOutcome (whole_outcome id.now log.now)) result }
 {
     if log.missed() == 0 {
         return Err(Refusal::Broken(Rule::NotOverflowed));
     }
-    let mut changes = room.effects(2)?;
+    let mut changes = Effects::with_capacity(alloc, 2)?;
     put_cleared(id, log.len() as usize, &mut changes)?;
     changes.push(reset_of(id))?;
-    Ok(Draft::changing(room, changes)?)
+    Ok(Draft::changing(alloc, changes))
 }
 
 /// Takes the records of the handles out.
 fn clear_listed(
+    alloc: Global,
     id: &LogId,
     log: &EventLog,
     handles: &[u16],
-    room: &mut Room,
 ) -> Result<Draft, Refusal>
     requires { length handles.now ≤ 255 }
     ensures { ByRow (log_handles_rule log.now handles.now) (IsOutcome (listed_outcome id.now handles.now)) result }
@@ -108,20 +103,9 @@ fn clear_listed(
     if let Some(fault) = log.clear_fault(handles) {
         return Err(Refusal::Broken(rule_of(fault)));
     }
-    let mut step = room.blank()?;
-    put_listed(id, handles.len(), step.as_mut())?;
-    Ok(Draft::of_step(step))
-}
-
-/// Puts that so many of the oldest records go into a draft that has nothing yet.
-fn put_listed(id: &LogId, count: usize, step: &mut DraftedStep) -> Result<(), NoMemory>
-    requires few { count ≤ 255 }
-    requires blank { IsBlank step.old }
-    ensures { OnOk result (draft_in step.new ≡ record no_draft { changes = cleared id.now count }) }
-{
-    step.log_records = ShortList::new();
-    step.lists.clear();
-    put_cleared(id, count, &mut step.effects)
+    let mut changes = Effects::new(alloc);
+    put_cleared(id, handles.len(), &mut changes)?;
+    Ok(Draft::changing(alloc, changes))
 }
 
 /// The rule that is broken where records cannot be cleared.

@@ -6,10 +6,9 @@
 ghost use Rattle.device_commands.specs.GetEventRecords.{AnswersEvents};
 ghost use Rattle.device_rules.specs.Outcomes.{only};
 ghost use Rattle.host_payloads.specs.HostPayloads.{events_payload};
-ghost use Rattle.std.specs.Prelude.{◌≡◌, ◌≤◌, IfOk, None, [], length, nat_lt, take, false};
+ghost use Rattle.std.specs.Prelude.{◌≡◌, ◌≤◌, IfOk, [], length, nat_lt, take, false};
 
 use crate::draft::Draft;
-use crate::rooms::Room;
 use cci_codec::dcd_base::limits::REPLY_RECORDS;
 use cci_codec::dcd_base::{Bytes, NoMemory, Seq};
 use event_log::EventLog;
@@ -25,42 +24,36 @@ pub(crate) const LOGS: u8 = 5;
 pub(crate) const DYNAMIC_CAPACITY: u8 = 4;
 
 /// The oldest records of the log, 15 at most; nothing of a log whose number is below that of dynamic capacity.
-/// `NoSuchLog` comes exactly where the number is 5 or more. The reply is written in the room.
-pub fn get_events(
-    alloc: Global,
-    number: u8,
-    log: &EventLog,
-    room: &mut Room,
-) -> Result<Draft, Refusal>
-    ensures drafts { AnswersEvents number log.now result }
-    ensures no_lists { IfOk result (λ draft. draft.lists ≡ None) }
+/// `NoSuchLog` comes exactly where the number is 5 or more.
+pub fn get_events(alloc: Global, number: u8, log: &EventLog) -> Result<Draft, Refusal>
+    ensures { AnswersEvents number log.now result }
 {
     if number >= LOGS {
         return Err(Refusal::Broken(Rule::NoSuchLog(number)));
     }
     let payload = if number == DYNAMIC_CAPACITY {
-        oldest_events(alloc, log, room)?
+        oldest_events(alloc, log)?
     } else {
-        no_events(room)?
+        no_events(alloc)?
     };
-    Ok(Draft::only(payload))
+    Ok(Draft::only(alloc, payload))
 }
 
 /// The payload of an empty log.
-fn no_events(room: &mut Room) -> Result<Bytes, NoMemory>
+fn no_events(alloc: Global) -> Result<Bytes, NoMemory>
     ensures { IfOk result (λ payload. payload ≡ events_payload 0 false []) }
 {
-    let mut payload = room.payload();
+    let mut payload = Bytes::new(alloc);
     write_events(0, false, &[], &mut payload)?;
     Ok(payload)
 }
 
 /// The payload of the oldest records.
-fn oldest_events(alloc: Global, log: &EventLog, room: &mut Room) -> Result<Bytes, NoMemory>
+fn oldest_events(alloc: Global, log: &EventLog) -> Result<Bytes, NoMemory>
     ensures { IfOk result (λ payload. payload ≡ events_payload log.now.missed (nat_lt 15 (length log.now.records)) (take 15 log.now.records)) }
 {
     let events = oldest(alloc, log)?;
-    let mut payload = room.payload();
+    let mut payload = Bytes::new(alloc);
     let more = log.len() as usize > REPLY_RECORDS;
     write_events(log.missed(), more, events.as_slice(), &mut payload)?;
     Ok(payload)

@@ -4,7 +4,7 @@
 //! manager in `manager_commands`, and here the two of event logs, which both have. It answers a draft, or the first rule
 //! of its row that the command breaks; nothing that the device keeps is changed. In each such file come, in this order,
 //! what is read, the first broken rule, the reply and the changes. Beside them stands what several share:
-//! `draft`, `few`, `leaves`, `lists_update`, `log_records`, `pages`, `putting`, `responses`, `rooms`, `runs` and `tags`.
+//! `draft`, `few`, `leaves`, `log_records`, `pages`, `putting`, `responses`, `runs` and `tags`.
 //! None of it reads more of the device than its configuration, a host's lists and a log.
 #![tactic(auto)]
 
@@ -13,31 +13,24 @@ mod draft;
 mod few;
 mod get_event_records;
 mod leaves;
-mod lists_update;
 mod log_records;
 mod pages;
 mod putting;
 mod responses;
-mod rooms;
 mod runs;
 mod tags;
 
 pub use cci_codec::dcd_base::ShortList;
 pub use clear_event_records::clear_events;
 pub use device_rules;
-pub use draft::{Content, Draft, DraftParts, DraftedStep};
+pub use draft::Draft;
 pub use few::Few;
 pub use get_event_records::get_events;
 pub use host_lists;
 pub use leaves::put_leaves;
-pub use lists_update::ListsUpdate;
-pub use log_records::{
-    LogRecords, each_record, event_by_tags, event_for, no_extent, one_record, records_of_extents,
-    records_to,
-};
+pub use log_records::{LogRecords, Told, event_for, no_extent, records_of_extents, records_to};
 pub use pages::{Flags, extents_page, host_counts, regions_seen};
 pub use putting::put_effect;
 pub use responses::{answer, refused};
-pub use rooms::Room;
 pub use runs::run_of;
-pub use tags::{put_tags_of, tags_of};
+pub use tags::tags_of;

@@ -1,6 +1,6 @@
 -- A command of the host of a device that has it alone: what is kept is what the host sees after it.
-use Rattle.std.proofs.Common.{◌≡◌, ℕ, ◌≤◌, Bool, true, false, List, [], ◌∷◌, Option, Some, None, Result, Ok, Err, refl, sym, ap, subst, ◌∙◌}
-use Rattle.std.specs.Prelude.{◌==◌, IfSome, if◌then◌else◌}
+use Rattle.std.proofs.Common.{◌≡◌, ℕ, Bool, true, false, List, [], ◌∷◌, Result, Ok, Err, refl, sym, ap, subst, ◌∙◌}
+use Rattle.std.specs.Prelude.{◌==◌, IfOk, OnOk, fold, if◌then◌else◌}
 use Rattle.std.specs.List.{list_any}
 use Rattle.cci_codec.specs.declared.messages.Request.{Request}
 use Rattle.dcd_base.specs.declared.capacity.Extent.{Extent}
@@ -10,12 +10,11 @@ use Rattle.extent_list.specs.dcd_codes.specs.Rules.{code_of}
 use Rattle.extent_list.specs.dcd_codes.specs.declared.codes.Code.{Code}
 use Rattle.extent_list.specs.dcd_codes.specs.declared.rules.Rule.{Rule}
 use Rattle.control_core.specs.host_commands.specs.HostMessages.{IsDraft}
-use Rattle.control_core.specs.device_commands.specs.ListsUpdates.{left_by}
 use Rattle.event_log.specs.Logs.{IsLogOf}
-use Rattle.control_core.specs.device_commands.specs.declared.draft.DraftParts.{DraftParts}
-use Rattle.control_core.specs.device_state.specs.host_lists.specs.Changes.{changed_by}
-use Rattle.extent_list.specs.HostLists.{Lists, extent_total}
-use Rattle.control_core.specs.device_state.specs.host_lists.specs.declared.lists_change.ListsChange.{ListsChange}
+use Rattle.control_core.specs.device_commands.specs.declared.draft.Draft.{Draft}
+use Rattle.control_core.specs.device_state.specs.EnteredLists.{counted, lists_by}
+use Rattle.extent_list.specs.HostLists.{Lists}
+use Rattle.control_core.specs.device_state.proofs.Keeping.{lists_right}
 use Rattle.journal_core.specs.declared.acts.Act.{Act}
 use Rattle.journal_core.specs.declared.acts.Reply.{Reply}
 use Rattle.journal_core.specs.declared.outcome.HeldKind.{HeldKind}
@@ -39,24 +38,20 @@ module _ (c : Configuration) (h : HostId) (q : Request) (old new : Alone) where
       × IsAlone c h (view_after c h v (changes_with h v q result)) (λ d. if list_any (accepts_byte d) (changes_with h v q result) then 0 else word d) new
 
   -- what a command does that breaks no rule
-  module _ (draft : DraftParts) (few : IfSome draft.lists (λ change. extent_total (changed_by change old.lists) ≤ 64)) (is : ChangesAlone h draft.changes draft.lists old new) where
-    few_after : (change : Option ListsChange) → IfSome change (λ ch. extent_total (changed_by ch old.lists) ≤ 64) → extent_total old.lists ≤ 64 → extent_total (left_by change old.lists) ≤ 64
-    few_after None fits was = was
-    few_after (Some change) fits was = fits
-
+  module _ (draft : Draft) (is : ChangesAlone c h draft.changes old new) where
     pub command_done : ((v : View) (word : ℕ → ℕ) → IsAlone c h v word old → IsDraft c h v q draft) → DoesAlone c h (Act.Command q) old new (SoloReply.Said (response q Code.Success draft.payload))
     command_done drafted v word was =
         let d : IsDraft c h v q draft = drafted v word was in
         let o : Outcome = host_outcome c h v d.request in
         let own = own_changes c h v d.request in
-        let by : ChangesAlone h o.changes draft.lists old new = subst (λ es. ChangesAlone h es draft.lists old new) d.drafts.changes is in
+        let by : ChangesAlone c h o.changes old new = subst (λ es. ChangesAlone c h es old new) d.drafts.changes is in
         let fine : host_result_in c h v q ≡ Ok o = ap (host_result c h v) d.asked ∙ ap (λ rule. unless rule o) d.row in
         subst (Did v word (response q Code.Success draft.payload)) (sym fine) (
           ap (λ bytes. SoloReply.Said (response q Code.Success bytes)) d.drafts.payload,
           record {
             present_is = by.present_stays ∙ was.present_is ∙ blocks_stay c h v o.changes own;
-            lists_are = by.lists_by ∙ ap (left_by draft.lists) was.lists_are ∙ d.drafts.lists;
-            few = subst (λ (l : Lists). extent_total l ≤ 64) (sym by.lists_by) (few_after draft.lists few was.few);
+            lists_are = by.lists_are ∙ ap (λ (l : Lists). counted h o.changes (fold (lists_by c h) l o.changes)) was.lists_are ∙ lists_right c h v o.changes;
+            few = by.few;
             log_is = subst (IsLogOf (LogId.Host h) (view_after c h v o.changes).log) (sym by.log_by_all)
                 (log_stays c h v old.log o.changes was.log_is own (history_after c h v d.request d.row was.log_is.told));
             words_are = λ a. by.words_by a ∙ ap (λ n. if list_any (accepts_byte a) o.changes then 0 else n) (was.words_are a);
@@ -98,3 +93,11 @@ module _ (c : Configuration) (h : HostId) (q : Request) (old new : Alone) where
         subst (λ (seen : View). IsAlone c h seen words new) (sym (view_after-dropped c h v q.opcode))
             (subst (λ (a : Alone). IsAlone c h (after_refusal q.opcode v) words a) (sym is) kept),
       )
+
+-- a command that is done replies so
+pub does_enacted : {E : Type 0} (c : Configuration) (h : HostId) (q : Request) (old new : Alone) (draft : Draft) (r : Result Reply E) → IfOk r (λ reply. reply ≡ response q Code.Success draft.payload) →
+    OnOk r (ChangesAlone c h draft.changes old new) → ((v : View) (word : ℕ → ℕ) → IsAlone c h v word old → IsDraft c h v q draft) →
+    IfOk r (λ reply. DoesAlone c h (Act.Command q) old new (SoloReply.Said reply))
+does_enacted c h q old new draft (Ok reply) is changes drafted =
+    subst (λ (x : Reply). DoesAlone c h (Act.Command q) old new (SoloReply.Said x)) (sym is) (command_done c h q old new draft changes drafted)
+does_enacted c h q old new draft (Err e) is changes drafted = tt

@@ -12,7 +12,8 @@ use Rattle.control_core.specs.device_rules.specs.Views.{View, extents_in, lists_
 use Rattle.event_log.specs.LogStates.{LogState, with_record}
 use Rattle.event_log.specs.Logs.{logged, records_in, IsLogOf}
 use Rattle.event_records.specs.declared.events.Event.{Event}
-use Rattle.extent_list.specs.HostLists.{extent_total}
+use Rattle.control_core.specs.device_commands.specs.Drafts.{HasExtentsOf}
+use Rattle.extent_list.specs.HostLists.{Lists, extent_total}
 use Rattle.region_config.specs.Configurations.{Configuration}
 use Rattle.device_plain.specs.Alone.{IsAlone, TakesItem}
 use Rattle.isolation_laws.specs.Solo.{solo_after, solo_word_after, with_log_records}
@@ -21,6 +22,10 @@ use Rattle.device_plain.specs.declared.alone.Alone.{Alone}
 use Rattle.device_plain.specs.declared.alone.Stop.{Stop}
 use Rattle.isolation_laws.specs.declared.items.Item.{Item}
 use Rattle.device_plain.proofs.LogPuts.{put_count, put_logged}
+
+-- lists that are those of a view have its extents
+pub shown : (v : View) (l : Lists) → l ≡ lists_in v → HasExtentsOf v l
+shown v l are = record { accepted = ap (λ (m : Lists). m.accepted) are; offers = ap (λ (m : Lists). m.offers) are }
 
 -- a view shows as many extents as the lists that it shows have
 pub view_total : (v : View) → length (extents_in v) ≡ extent_total (lists_in v)

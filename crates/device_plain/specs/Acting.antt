@@ -1,21 +1,29 @@
 -- What a command changes of a device with one host alone.
-use Rattle.std.specs.Prelude.{◌≡◌, ℕ, List, [], ◌==◌, fold, Option, if◌then◌else◌}
+use Rattle.std.specs.Prelude.{◌≡◌, ◌≤◌, ℕ, List, [], ◌==◌, fold, if◌then◌else◌}
 use Rattle.std.specs.List.{list_any}
 use Rattle.dcd_base.specs.declared.ids.HostId.{HostId}
 use Rattle.dcd_base.specs.declared.steps.LogId.{LogId}
 use Rattle.control_core.specs.device_state.specs.Entered.{log_by}
 use Rattle.granule_mem.specs.Contents.{word_among}
-use Rattle.control_core.specs.device_commands.specs.ListsUpdates.{left_by}
-use Rattle.extent_list.specs.HostLists.{Lists}
-use Rattle.control_core.specs.device_state.specs.host_lists.specs.declared.lists_change.ListsChange.{ListsChange}
+use Rattle.control_core.specs.device_state.specs.EnteredLists.{counted, lists_by}
+use Rattle.extent_list.specs.HostLists.{Lists, extent_total}
+use Rattle.region_config.specs.Configurations.{Configuration}
 use Rattle.journal_core.specs.declared.outcome.Effect.{Effect}
 use Rattle.isolation_laws.specs.Solo.{accepts_byte}
 use Rattle.device_plain.specs.declared.alone.Alone.{Alone}
 
--- The log and the words are changed by these effects, and the lists by this change, where there is one.
-pub record ChangesAlone (h : HostId) (changes : List Effect) (change : Option ListsChange) (old new : Alone) : Type 0 where
+-- The log and the words are changed by these effects, and nothing else is.
+pub record TellsAlone (h : HostId) (changes : List Effect) (old new : Alone) : Type 0 where
   pub present_stays : new.present ≡ old.present
-  pub lists_by : new.lists ≡ left_by change old.lists
+  pub lists_stay : new.lists ≡ old.lists
+  pub log_by_all : new.log ≡ fold (log_by (LogId.Host h)) old.log changes
+  pub words_by : (d : ℕ) → word_among new.words.entries d ≡ (if list_any (accepts_byte d) changes then 0 else word_among old.words.entries d)
+
+-- So are the log and the words, and the lists, which have few extents then.
+pub record ChangesAlone (c : Configuration) (h : HostId) (changes : List Effect) (old new : Alone) : Type 0 where
+  pub present_stays : new.present ≡ old.present
+  pub lists_are : new.lists ≡ counted h changes (fold (lists_by c h) old.lists changes)
+  pub few : extent_total new.lists ≤ 64
   pub log_by_all : new.log ≡ fold (log_by (LogId.Host h)) old.log changes
   pub words_by : (d : ℕ) → word_among new.words.entries d ≡ (if list_any (accepts_byte d) changes then 0 else word_among old.words.entries d)
 

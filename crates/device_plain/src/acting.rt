@@ -1,20 +1,19 @@
 //! What the host of a device with one host alone does, and what it is replied.
 
-ghost use Rattle.control_core.specs.device_commands.specs.ListsUpdates.{left_by};
 ghost use Rattle.control_core.specs.device_rules.specs.Answers.{response};
 ghost use Rattle.extent_list.specs.HostLists.{extent_total};
-ghost use Rattle.device_plain.specs.Acting.{ChangesAlone, without_held};
+ghost use Rattle.device_plain.specs.Acting.{ChangesAlone, TellsAlone, without_held};
 ghost use Rattle.device_plain.specs.Alone.{DoesAlone};
 ghost use Rattle.isolation_laws.specs.Solo.{has_byte as has_byte_in};
 ghost use Rattle.std.specs.List.{list_any};
-ghost use Rattle.std.specs.Prelude.{◌≡◌, ◌<◌, ◌≤◌, IfOk, None};
+ghost use Rattle.std.specs.Prelude.{◌≡◌, ◌<◌, ◌≤◌, IfOk, OnOk};
 
 use crate::alone::Alone;
+use crate::lists_alone::change_lists;
 use crate::words_alone::{clear_words, has_byte, store_word, word_at};
 use cci_codec::Request;
-use control_core::device_commands::{Draft, DraftParts, Room, answer, refused};
+use control_core::device_commands::{Draft, answer, refused};
 use control_core::device_state::change_log_named;
-use control_core::device_state::host_lists::ListsChange;
 use control_core::host_commands::host_draft;
 use dcd_base::{AccessFault, HostId, LogId, NoMemory};
 use extent_list::dcd_codes::{Code, Refusal};
@@ -66,17 +65,16 @@ impl Alone {
         requires few { extent_total self.old.lists ≤ 64 }
         ensures { IfOk result (λ reply. DoesAlone config.now host (Act.Command request.now) self.old self.new (SoloReply.Said reply)) }
     {
-        let mut room = Room::new(alloc);
         match host_draft(
+            alloc,
             config,
             &self.present,
             host,
             &self.lists,
             &self.log,
             request,
-            &mut room,
         ) {
-            Ok(draft) => Ok(self.put_in_place(alloc, host, request, draft)),
+            Ok(draft) => self.enact(alloc, config, host, request, draft),
             Err(Refusal::Broken(rule)) => {
                 self.drop_held(request.opcode);
                 Ok(refused(alloc, request, &rule))
@@ -85,41 +83,33 @@ impl Alone {
         }
     }
 
-    /// Puts in place what a command changes that breaks no rule.
-    fn put_in_place(
+    /// Does what a command changes that breaks no rule.
+    fn enact(
         &mut self,
         alloc: Global,
+        config: &Config,
         host: HostId,
         request: &Request,
         draft: Draft,
-    ) -> Reply
-        ensures reply { result ≡ response request.now Code.Success draft.payload }
-        ensures changed { ChangesAlone host draft.changes draft.lists self.old self.new }
+    ) -> Result<Reply, NoMemory>
+        requires host { host < config.now.hosts }
+        ensures reply { IfOk result (λ reply. reply ≡ response request.now Code.Success draft.payload) }
+        ensures changed { OnOk result (ChangesAlone config.now host draft.changes self.old self.new) }
     {
-        let DraftParts {
+        let Draft {
             payload,
             changes,
             tags: _,
             log_records: _,
-            lists,
-        } = draft.into_parts(alloc);
+        } = draft;
         self.change(host, changes.as_slice());
-        self.change_lists(lists);
-        answer(request, Code::Success, payload)
-    }
-
-    /// Changes the lists, where there is a change of them.
-    fn change_lists(&mut self, change: Option<ListsChange>)
-        ensures { self.new ≡ record self.old { lists = left_by change self.old.lists } }
-    {
-        if let Some(mut change) = change {
-            self.lists.change(&mut change);
-        }
+        change_lists(&mut self.lists, config, host, changes.as_slice())?;
+        Ok(answer(request, Code::Success, payload))
     }
 
     /// Changes the log and the words as the effects say.
     fn change(&mut self, host: HostId, changes: &[Effect])
-        ensures { ChangesAlone host changes.now None self.old self.new }
+        ensures { TellsAlone host changes.now self.old self.new }
     {
         for i in 0..changes.len() {
             change_log_named(&mut self.log, &LogId::Host(host), &changes[i]);

@@ -12,7 +12,6 @@ ghost use Rattle.std.specs.Prelude.{◌≡◌, ◌+◌, ◌^◌, ◌<◌, ◌≤
 
 use crate::alone::{Alone, Stop};
 use control_core::device_commands::{event_for, no_extent, records_of_extents};
-use control_core::device_state::host_lists::Changed;
 use dcd_base::limits::EXTENTS;
 use dcd_base::{Extent, Extents, HostId, RegionId};
 use event_log::EventLog;
@@ -87,10 +86,9 @@ impl Alone {
         requires { extent_total self.old.lists ≤ 64 }
         ensures { (c : Configuration) → Logs c host (resized host region) self.old self.new result }
     {
-        let same = self.lists.unchanged();
         let mut event = event_for(
             host,
-            &Changed::of(&self.lists, &same),
+            &self.lists,
             EventKind::RegionUpdated,
             false,
             &no_extent(),
@@ -110,9 +108,7 @@ impl Alone {
         requires { extent_total self.old.lists ≤ 64 }
         ensures { (c : Configuration) → Logs c host (λ v. records_of_extents host v kind extents.now) self.old self.new result }
     {
-        let same = self.lists.unchanged();
-        let lists = Changed::of(&self.lists, &same);
-        let events = records_of_extents(alloc, host, &lists, kind, extents.as_slice())?;
+        let events = records_of_extents(alloc, host, &self.lists, kind, extents.as_slice())?;
         put_all(&mut self.log, events.as_slice())
     }
 }

@@ -235,7 +235,6 @@ impl Device {
     {
         let effects = self.control.step(pass, line, actor, act)?;
         zero_all(&mut self.words, effects.as_slice());
-        self.control.give_back(effects);
         self.since = 0;
         Ok(())
     }

@@ -11,6 +11,7 @@ mod bringing;
 mod device;
 mod faults;
 mod laws;
+mod lists_alone;
 mod live;
 mod live_accesses;
 mod replying;

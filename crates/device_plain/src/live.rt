@@ -12,7 +12,7 @@ ghost use Rattle.std.specs.Prelude.{◌≡◌, ◌<◌, ◌≤◌, [], IfErr, If
 use crate::faults::StepFault;
 use crate::live_accesses::{granted, loaded, refused_by, store_at, stored, word_at};
 use crate::zeroing::zero_all;
-use control_core::device_commands::Room;
+use control_core::device_state::host_lists::HostLists;
 use control_core::{Decided, LiveControl};
 use dcd_base::{Actor, HostId, NoMemory};
 use granule_mem::GranuleWords;
@@ -32,6 +32,8 @@ const LONGEST: usize = 2048;
 pub struct LiveDevice {
     control: LiveControl,
     words: GranuleWords,
+    /// The memory for the lists of a host as a step leaves them.
+    after: HostLists,
 }
 
 impl Model for LiveDevice {
@@ -53,9 +55,12 @@ impl LiveDevice {
         // A configuration is sound.
         let _hosts = config.hosts();
         let words = GranuleWords::new(alloc, config.granules())?;
+        let control = LiveControl::new(alloc, config)?;
+        let after = HostLists::new(alloc)?;
         Ok(LiveDevice {
-            control: LiveControl::new(alloc, config)?,
+            control,
             words,
+            after,
         })
     }
 
@@ -171,9 +176,8 @@ impl LiveDevice {
         ensures too_long { IfErr result (IsTooLong self.old actor act.now most) }
         ensures kept { OnErr result (self.new ≡ self.old) }
     {
-        let mut room = Room::new(self.control.allocator());
-        let decision = self.control.decide(&actor, act, &mut room)?;
-        let Decided { reply, effects } = decision.into_parts(&mut room);
+        let decided = self.control.decide(&actor, act, &mut self.after)?;
+        let Decided { reply, effects } = decided;
         let length = length_of(&reply);
         if length > most {
             return Err(StepFault::TooLong(length));

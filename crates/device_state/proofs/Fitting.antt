@@ -234,7 +234,7 @@ module _ (c : Configuration) (sound : IsSound c) (before : List Entry) (legal : 
 
   -- ---- a host's request
 
-  host_fits : (h : HostId) → h < c.hosts → (q : HostRequest) → host_rule c h (view_of c h before) q ≡ None → AreFit (effects_of c (effects before) (host_outcome c h (view_of c h before) q))
+  pub host_fits : (h : HostId) → h < c.hosts → (q : HostRequest) → host_rule c h (view_of c h before) q ≡ None → AreFit (effects_of c (effects before) (host_outcome c h (view_of c h before) q))
   host_fits h host (HostRequest.GetEvents log) row lists known = tt
   host_fits h host (HostRequest.ClearEvents number all handles) row lists known =
       outcome_fits c past (host_outcome c h (views h) (HostRequest.ClearEvents number all handles)) lists 1
@@ -333,7 +333,7 @@ module _ (c : Configuration) (sound : IsSound c) (before : List Entry) (legal : 
   quiet : (o : Outcome) → list_all needs_none o.changes ≡ true → AreFit (effects_of c (effects before) o)
   quiet o none lists known = outcome_fits c past o lists 1 (quiet_fits c lists 1 o.changes none)
 
-  manager_fits : (q : FmRequest) → manager_rule c (effects before) (λ k. view_of c k before) q ≡ None → AreFit (effects_of c (effects before) (manager_outcome c (effects before) (λ k. view_of c k before) q))
+  pub manager_fits : (q : FmRequest) → manager_rule c (effects before) (λ k. view_of c k before) q ≡ None → AreFit (effects_of c (effects before) (manager_outcome c (effects before) (λ k. view_of c k before) q))
   manager_fits (FmRequest.GetEvents log) row = quiet (manager_outcome c past views (FmRequest.GetEvents log)) refl
   manager_fits (FmRequest.ClearEvents number all handles) row = quiet (manager_outcome c past views (FmRequest.ClearEvents number all handles))
       (clear_passes needs_none LogId.Manager (record { cleared = λ n. refl; reset = refl }) number (log_of LogId.Manager past) all handles)

@@ -66,6 +66,25 @@ without_other hosts k h lt other = elim (cases_bit hosts k) [
   | inr none ↦ ap (λ b. has_host (if b then hosts - 2 ^ k else hosts) h) (has_none hosts k none)
 ]
 
+-- what is set last counts
+pub with_without : (hosts k : ℕ) → with_host (without_host hosts k) k ≡ with_host hosts k
+with_without hosts k = elim (cases_bit hosts k) [
+  | inl one ↦ ap (λ b. with_host (if b then hosts - 2 ^ k else hosts) k) (has_one hosts k one)
+      ∙ ap (λ b. if b then hosts - 2 ^ k else hosts - 2 ^ k + 2 ^ k) (has_none (hosts - 2 ^ k) k (lost_bit hosts k one))
+      ∙ omega (arith, at_least hosts k one)
+      ∙ sym (ap (λ b. if b then hosts else hosts + 2 ^ k) (has_one hosts k one))
+  | inr none ↦ ap (λ b. with_host (if b then hosts - 2 ^ k else hosts) k) (has_none hosts k none)
+]
+
+pub without_with : (hosts k : ℕ) → k < 16 → without_host (with_host hosts k) k ≡ without_host hosts k
+without_with hosts k lt = elim (cases_bit hosts k) [
+  | inl one ↦ ap (λ b. without_host (if b then hosts else hosts + 2 ^ k) k) (has_one hosts k one)
+  | inr none ↦ ap (λ b. if b then with_host hosts k - 2 ^ k else with_host hosts k) (with_same hosts k lt)
+      ∙ ap (λ b. (if b then hosts else hosts + 2 ^ k) - 2 ^ k) (has_none hosts k none)
+      ∙ omega arith
+      ∙ sym (ap (λ b. if b then hosts - 2 ^ k else hosts) (has_none hosts k none))
+]
+
 -- ---- one effect
 
 taken_bit : (b k h : ℕ) (in_run : Bool) → k < 16 → has_host (if in_run then with_host b k else b) h ≡ (if (k == h) && in_run then true else has_host b h)

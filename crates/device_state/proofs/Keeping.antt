@@ -96,7 +96,7 @@ table_runs c past entries table t open_tag = found_runs c past t entries table.e
 -- ---- lists
 
 -- each list is the fold of its own
-lists_fields : (c : Configuration) (h : HostId) (l : Lists) (new : List Effect) → fold (lists_by c h) l new ≡ record {
+pub lists_fields : (c : Configuration) (h : HostId) (l : Lists) (new : List Effect) → fold (lists_by c h) l new ≡ record {
   accepted = fold (accepted_after c h) l.accepted new;
   offers = fold (offers_after h) l.offers new;
   responses = fold (held_after h HeldKind.Responses) l.responses new;
@@ -106,7 +106,7 @@ lists_fields : (c : Configuration) (h : HostId) (l : Lists) (new : List Effect) 
 lists_fields c h l [] = refl
 lists_fields c h l (e ∷ new) = lists_fields c h (lists_by c h l e) new
 
-lists_right : (c : Configuration) (h : HostId) (v : View) (new : List Effect) → counted h new (fold (lists_by c h) (lists_in v) new) ≡ lists_in (view_after c h v new)
+pub lists_right : (c : Configuration) (h : HostId) (v : View) (new : List Effect) → counted h new (fold (lists_by c h) (lists_in v) new) ≡ lists_in (view_after c h v new)
 lists_right c h v new = ap (counted h new) (lists_fields c h (lists_in v) new) ∙ by (list_any (moves h) new)
   where
     l : Lists

@@ -6,10 +6,12 @@ pub mod Fresh
 pub mod HolderBits
 pub mod HolderSteps
 pub mod Keeping
+pub mod Leaves
 pub mod Listed
 pub mod Moved
 pub mod OfDevice
 pub mod OffersEntered
+pub mod OwnEffects
 pub mod PresentBlocks
 pub mod RecordSteps
 pub mod RegionFound

@@ -1,12 +1,11 @@
 -- What one effect makes of the lists of its host and of no other, and what more of them make of lists and tags.
-use Rattle.std.proofs.Common.{◌≡◌, ◌≢◌, ℕ, zero, suc, ◌+◌, ◌<◌, ◌≤◌, Bool, true, false, ◌&&◌, List, [], ◌∷◌, ◌++◌, Option, Some, None, drop, get_or, length, set, take, ltb, inl, inr, refl, sym, ap, subst, ◌∙◌, arith}
-use Rattle.std.specs.Option.{option_map}
-use Rattle.std.specs.Prelude.{fold, if◌then◌else◌, ◌==◌, option_to_list}
+use Rattle.std.proofs.Common.{◌≡◌, ◌≢◌, ℕ, zero, suc, ◌+◌, ◌<◌, ◌≤◌, Bool, true, false, ◌&&◌, List, [], ◌∷◌, ◌++◌, drop, get_or, length, set, take, ltb, inl, inr, refl, sym, ap, subst, ◌∙◌, arith}
+use Rattle.std.specs.Prelude.{fold, if◌then◌else◌, ◌==◌}
 use Rattle.std.specs.List.{list_any}
 use Rattle.std.proofs.lemmas.Bool.{cases_eq, cases_lt, eq-eqb, le-ltb, lt-ltb, ne_eqb}
 use Rattle.device_rules.specs.Hosts.{moves}
-use Rattle.std.proofs.lemmas.List.{get_or-set_other, get_or-set_same, get_or_past, length-set, set-set, take_more}
-use Rattle.std.proofs.lemmas.List.Sums.{fold_more}
+use Rattle.std.proofs.lemmas.List.{get_or-set_other, get_or-set_same, get_or_past, length-set, set-set}
+use Rattle.std.proofs.lemmas.List.Sums.{fold-append}
 use Rattle.cci_codec.specs.dcd_base.specs.declared.capacity.Extent.{Extent}
 use Rattle.cci_codec.specs.dcd_base.specs.declared.ids.HostId.{HostId}
 use Rattle.cci_codec.specs.dcd_base.specs.declared.media.Run.{Run}
@@ -18,7 +17,7 @@ use Rattle.extent_list.specs.media_map.specs.Places.{bytes_of_run, start_of}
 use Rattle.extent_list.specs.media_map.specs.region_config.specs.Configurations.{Configuration}
 use Rattle.tag_refs.specs.declared.entries.TagEntry.{TagEntry}
 use Rattle.device_state.specs.Entered.{with_lists}
-use Rattle.device_state.specs.EnteredLists.{Fits, HasPlaces, all_lists_by, all_lists_over, counted, each_tag, held_of, lists_by, lists_of, room_by, table_by, tags_over, with_held}
+use Rattle.device_state.specs.EnteredLists.{Fits, HasPlaces, all_lists_by, all_lists_over, counted, held_of, lists_by, lists_of, room_by, table_by, tags_over, with_held}
 use Rattle.device_state.specs.Stages.{AreCounted, AreListed, IsListedAfter, IsListedOver, PartsOver}
 use Rattle.device_state.specs.StateAfter.{no_part, part_of}
 use Rattle.device_state.specs.declared.parts.HostPart.{HostPart}
@@ -126,9 +125,9 @@ of_unhold c k HeldKind.Releases = record {
 
 -- ---- one host's lists are replaced
 
-pub listed : (c : Configuration) (old now : State) (k : HostId) (l : Lists) (e : Effect) → k < length old.hosts.items → IsOf c k e →
-    l ≡ lists_by c k (part_of old k).lists e → now.hosts.items ≡ with_lists old k l → AreListed (all_lists_by c (lists_of old) e) old now
-listed c old now k l e known of is set_one = record {
+pub listed_as : (old now : State) (k : HostId) (l : Lists) (lists : HostId → Lists) → k < length old.hosts.items → ((h : HostId) → k ≢ h → lists h ≡ lists_of old h) →
+    l ≡ lists k → now.hosts.items ≡ with_lists old k l → AreListed lists old now
+listed_as old now k l lists known others is set_one = record {
   hosts = ap length set_one ∙ length-set old.hosts.items k (record (part_of old k) { lists = l });
   lists_are = λ i h. lists_at h i;
   logs = logs_at;
@@ -146,10 +145,10 @@ listed c old now k l e known of is set_one = record {
     other_part : (h : HostId) → k ≢ h → part_of now h ≡ part_of old h
     other_part h other = part_at h ∙ get_or-set_other old.hosts.items k h new no_part (λ e. other (sym e))
 
-    lists_at : (h : HostId) → lists_of now h ≡ all_lists_by c (lists_of old) e h
+    lists_at : (h : HostId) → lists_of now h ≡ lists h
     lists_at h = elim (cases_eq k h) [
-      | inl same ↦ subst (λ m. lists_of now m ≡ all_lists_by c (lists_of old) e m) same (ap (λ (p : HostPart). p.lists) own_part ∙ is)
-      | inr other ↦ ap (λ (p : HostPart). p.lists) (other_part h other) ∙ sym (of.others h (lists_of old h) other)
+      | inl same ↦ subst (λ m. lists_of now m ≡ lists m) same (ap (λ (p : HostPart). p.lists) own_part ∙ is)
+      | inr other ↦ ap (λ (p : HostPart). p.lists) (other_part h other) ∙ sym (others h other)
     ]
 
     logs_at : (h : HostId) → (part_of now h).log ≡ (part_of old h).log
@@ -158,16 +157,15 @@ listed c old now k l e known of is set_one = record {
       | inr other ↦ ap (λ (p : HostPart). p.log) (other_part h other)
     ]
 
+pub listed : (c : Configuration) (old now : State) (k : HostId) (l : Lists) (e : Effect) → k < length old.hosts.items → IsOf c k e →
+    l ≡ lists_by c k (part_of old k).lists e → now.hosts.items ≡ with_lists old k l → AreListed (all_lists_by c (lists_of old) e) old now
+listed c old now k l e known of is set_one = listed_as old now k l (all_lists_by c (lists_of old) e) known (λ h other. of.others h (lists_of old h) other) is set_one
+
 -- the host has them then
 pub own_part : (old now : State) (k : HostId) (l : Lists) → k < length old.hosts.items → now.hosts.items ≡ with_lists old k l → (part_of now k).lists ≡ l
 own_part old now k l known set_one =
     ap (λ (parts : List HostPart). (get_or parts k no_part).lists) set_one
     ∙ ap (λ (p : HostPart). p.lists) (get_or-set_same old.hosts.items k (record (part_of old k) { lists = l }) no_part known)
-
--- the tag of an extent that may be there
-pub one_tag : (found : Option Extent) → option_to_list (option_map (λ (x : Extent). x.tag) found) ≡ each_tag (option_to_list found)
-one_tag None = refl
-one_tag (Some x) = refl
 
 -- the lists of one host are replaced twice
 pub twice : (old mid : State) (k : HostId) (first second : Lists) (parts : List HostPart) → k < length old.hosts.items → mid.hosts.items ≡ with_lists old k first → parts ≡ with_lists mid k second →
@@ -185,10 +183,10 @@ unlisted c s e same = record { hosts = refl; lists_are = λ i h. sym (same h (li
 
 -- ---- more effects
 
-pub tags_over-push : (c : Configuration) (lists : HostId → Lists) (entries : List TagEntry) (es : List Effect) (e : Effect) →
-    tags_over c lists entries (es ++ e ∷ []) ≡ table_by c (all_lists_over c lists es) (tags_over c lists entries es) e
-tags_over-push c lists entries [] e = refl
-tags_over-push c lists entries (x ∷ es) e = tags_over-push c (all_lists_by c lists x) (table_by c lists entries x) es e
+pub tags_over-append : (c : Configuration) (lists : HostId → Lists) (entries : List TagEntry) (xs ys : List Effect) →
+    tags_over c lists entries (xs ++ ys) ≡ tags_over c (all_lists_over c lists xs) (tags_over c lists entries xs) ys
+tags_over-append c lists entries [] ys = refl
+tags_over-append c lists entries (x ∷ xs) ys = tags_over-append c (all_lists_by c lists x) (table_by c lists entries x) xs ys
 
 pub fits_at : (c : Configuration) (lists : HostId → Lists) (room : ℕ) (es : List Effect) (i : ℕ) (d : Effect) → i < length es → Fits c lists room es →
     HasPlaces c (all_lists_over c lists (take i es)) (fold room_by room (take i es)) (get_or es i d)
@@ -196,25 +194,31 @@ fits_at c lists room [] i d below fits = absurd (omega (arith, below))
 fits_at c lists room (x ∷ es) zero d below fits = fits.0
 fits_at c lists room (x ∷ es) (suc i) d below fits = fits_at c (all_lists_by c lists x) (room_by room x) es i d (omega (arith, below)) fits.1
 
-pub listed_more : (c : Configuration) (old mid new : State) (es : List Effect) (i : ℕ) (e : Effect) → i < length es → e ≡ get_or es i e →
-    IsListedOver c (take i es) old mid → IsListedAfter c e mid new → IsListedOver c (take (i + 1) es) old new
-listed_more c old mid new es i e below is so_far one = record {
+-- those behind find theirs too
+pub fits_behind : (c : Configuration) (lists : HostId → Lists) (room : ℕ) (i : ℕ) (es : List Effect) → Fits c lists room es →
+    Fits c (all_lists_over c lists (take i es)) (fold room_by room (take i es)) (drop i es)
+fits_behind c lists room zero es fits = fits
+fits_behind c lists room (suc i) [] fits = tt
+fits_behind c lists room (suc i) (e ∷ es) fits = fits_behind c (all_lists_by c lists e) (room_by room e) i es fits.1
+
+-- some effects, and more behind them
+pub listed_behind : (c : Configuration) (old mid new : State) (xs ys : List Effect) → IsListedOver c xs old mid → IsListedOver c ys mid new → IsListedOver c (xs ++ ys) old new
+listed_behind c old mid new xs ys one two = record {
   listed = record {
-    hosts = one.listed.hosts ∙ so_far.listed.hosts;
-    lists_are = one.listed.lists_are ∙ (λ j h. lists_at h j);
-    logs = λ h. one.listed.logs h ∙ so_far.listed.logs h;
+    hosts = two.listed.hosts ∙ one.listed.hosts;
+    lists_are = two.listed.lists_are ∙ (λ j h. lists_at h j);
+    logs = λ h. two.listed.logs h ∙ one.listed.logs h;
   };
-  tags = one.tags
-      ∙ (λ j. table_by c (so_far.listed.lists_are j) (so_far.tags j) e)
-      ∙ sym (tags_over-push c (lists_of old) old.tags.entries (take i es) e)
-      ∙ ap (tags_over c (lists_of old) old.tags.entries) (ap (λ x. take i es ++ x ∷ []) is ∙ sym (take_more es i e below));
+  tags = two.tags ∙ (λ j. tags_over c (one.listed.lists_are j) (one.tags j) ys) ∙ sym (tags_over-append c (lists_of old) old.tags.entries xs ys);
 }
   where
-    lists_at : (h : HostId) → lists_by c h (lists_of mid h) e ≡ fold (lists_by c h) (lists_of old h) (take (i + 1) es)
-    lists_at h =
-        (λ j. lists_by c h (so_far.listed.lists_are j h) e)
-        ∙ ap (lists_by c h (fold (lists_by c h) (lists_of old h) (take i es))) is
-        ∙ sym (fold_more (lists_by c h) (lists_of old h) es i e below)
+    lists_at : (h : HostId) → fold (lists_by c h) (lists_of mid h) ys ≡ fold (lists_by c h) (lists_of old h) (xs ++ ys)
+    lists_at h = (λ j. fold (lists_by c h) (one.listed.lists_are j h) ys) ∙ sym (fold-append (lists_by c h) (lists_of old h) xs ys)
+
+-- one effect
+pub listed_one : (c : Configuration) (old new : State) (es : List Effect) (e : Effect) → 0 < length es → e ≡ get_or es 0 e → IsListedAfter c e old new → IsListedOver c (take 1 es) old new
+listed_one c old new [] e some is one = absurd (omega (arith, some))
+listed_one c old new (x ∷ es) e some is one = subst (λ y. IsListedOver c (y ∷ []) old new) is (record { listed = one.listed; tags = one.tags })
 
 -- ---- the room for tags
 
@@ -251,6 +255,24 @@ room_less a b (Effect.Reset l) less = less
 room_less a b (Effect.Ref t on) less = less
 room_less a b (Effect.TagEnd t) less = less
 room_less a b (Effect.Block r size) less = less
+
+pub fold_less : (a b : ℕ) (es : List Effect) → a ≤ b → fold room_by a es ≤ fold room_by b es
+fold_less a b [] less = less
+fold_less a b (e ∷ es) less = fold_less (room_by a e) (room_by b e) es (room_less a b e less)
+
+pub fits_more : (c : Configuration) (lists : HostId → Lists) (a b : ℕ) (es : List Effect) → a ≤ b → Fits c lists a es → Fits c lists b es
+fits_more c lists a b [] more fits = tt
+fits_more c lists a b (e ∷ es) more fits =
+    (more_room c lists a b e more fits.0, fits_more c (all_lists_by c lists e) (room_by a e) (room_by b e) es (room_less a b e more) fits.1)
+
+-- the room that some effects leave, and more behind them
+pub room_behind : (start mid left : ℕ) (xs ys : List Effect) → fold room_by start xs ≤ mid → fold room_by mid ys ≤ left → fold room_by start (xs ++ ys) ≤ left
+room_behind start mid left xs ys first second =
+    omega (arith, fold-append room_by start xs ys, fold_less (fold room_by start xs) mid ys first, second)
+
+pub room_one : (room : ℕ) (es : List Effect) (e : Effect) → 0 < length es → e ≡ get_or es 0 e → fold room_by room (take 1 es) ≡ room_by room e
+room_one room [] e some is = absurd (omega (arith, some))
+room_one room (x ∷ es) e some is = ap (room_by room) (sym is)
 
 -- each effect uses as much of a spare as of the room that it is known to find
 used : (c : Configuration) (lists : HostId → Lists) (room spare : ℕ) (e : Effect) → HasPlaces c lists room e → spare + room_by room e ≤ room_by spare e + room

@@ -1,5 +1,5 @@
 -- What entering a step makes of the hosts' lists and of the table of the open tags.
-use Rattle.std.specs.Prelude.{ℕ, ◌+◌, ◌-◌, ◌<◌, ◌≤◌, not, All, IsTrue, List, [], ◌∷◌, ◌++◌, Option, Some, None, find, fold, if◌then◌else◌, length, map, option_to_list}
+use Rattle.std.specs.Prelude.{◌≡◌, ℕ, ◌+◌, ◌-◌, ◌<◌, ◌≤◌, not, All, IsTrue, List, [], ◌∷◌, ◌++◌, Option, Some, None, find, fold, if◌then◌else◌, length, map, option_to_list}
 use Rattle.std.specs.List.{list_any}
 use Rattle.cci_codec.specs.dcd_base.specs.declared.capacity.Extent.{Extent}
 use Rattle.cci_codec.specs.dcd_base.specs.declared.capacity.Tag.{Tag}
@@ -121,3 +121,16 @@ room_by room e = room
 abbrev pub Fits : Configuration → (HostId → Lists) → ℕ → List Effect → Type 0
 Fits c lists room [] = Unit {0}
 Fits c lists room (e ∷ new) = HasPlaces c lists room e × Fits c (all_lists_by c lists e) (room_by room e) new
+
+-- The lists of this host have places for what the effect adds, where it is of this host.
+abbrev pub HasOwnPlaces : Configuration → HostId → Lists → Effect → Type 0
+HasOwnPlaces c h l (Effect.Offer k xs) = k ≡ h → (length l.offers < 64) × (count_in l.offers + length xs ≤ 64)
+HasOwnPlaces c h l (Effect.Answer k xs) = k ≡ h → length l.accepted + length xs ≤ 128
+HasOwnPlaces c h l (Effect.Leave k run) = k ≡ h → (length l.accepted < 128) × IsRun c run
+HasOwnPlaces c h l (Effect.Hold k kind xs) = k ≡ h → length (held_of kind l) + length xs ≤ 64
+HasOwnPlaces c h l e = Unit {0}
+
+-- So they have for each effect when its turn comes.
+abbrev pub OwnFits : Configuration → HostId → Lists → List Effect → Type 0
+OwnFits c h l [] = Unit {0}
+OwnFits c h l (e ∷ new) = HasOwnPlaces c h l e × OwnFits c h (lists_by c h l e) new

@@ -2,6 +2,7 @@ pub mod Changes
 pub mod Entered
 pub mod EnteredLists
 pub mod Granules
+pub mod Leaves
 pub mod Stages
 pub mod StateAfter
 pub mod Updates

@@ -10,16 +10,16 @@ ghost use Rattle.offer_core.specs.Offerings.{oldest_of};
 ghost use Rattle.device_state.specs.Stages.{IsListedAfter, IsListedOver};
 ghost use Rattle.device_state.specs.Updates.{IsOfDevice};
 ghost use Rattle.journal_core.specs.declared.outcome.Effect.{Effect};
-ghost use Rattle.extent_list.specs.ExtentLists.{count_in, cut, has_range};
+ghost use Rattle.extent_list.specs.ExtentLists.{count_in};
 ghost use Rattle.extent_list.specs.media_map.specs.Places.{is_granular, run_of};
-ghost use Rattle.std.specs.Option.{option_map};
-ghost use Rattle.std.specs.Prelude.{◌≡◌, ◌++◌, ◌∷◌, ◌+◌, ◌-◌, ◌^◌, ◌<◌, ◌≤◌, [], All, IfSome, IsTrue, List, drop, false, true, find, length, map, option_to_list, slice_index_or, take};
+ghost use Rattle.std.specs.Prelude.{◌≡◌, ◌++◌, ◌∷◌, ◌+◌, ◌-◌, ◌<◌, ◌≤◌, [], All, IfSome, IsTrue, List, drop, false, fold, true, length, map, option_to_list, slice_index_or, take};
 ghost use Rattle.tag_refs.specs.Tables.{has_entry, opened};
 ghost use Rattle.tag_refs.specs.declared.entries.TagEntry.{TagEntry};
 
+use crate::own_lists::{drop_held_in, hold_in};
 use crate::parts::HostPart;
 use crate::state::State;
-use cci_codec::dcd_base::{Extent, Granule, HostId, RegionId, Run, Tag, no_tag};
+use cci_codec::dcd_base::{Extent, Granule, HostId, RegionId, Run, Tag};
 use extent_list::media_map::region_config::Config;
 use extent_list::same_tag;
 use host_lists::HostLists;
@@ -37,13 +37,37 @@ impl State {
         ensures spare { self.old.tags.spare ≤ self.new.tags.spare + 1 }
         ensures kept { self.new ≡ record self.old { hosts = self.new.hosts; tags = self.new.tags } }
     {
-        for effect in effects {
-            self.list(config, effect);
+        let mut done = 0;
+        while done < effects.len() {
+            let (_, rest) = effects.split_at(done);
+            done += self.list_front(config, rest);
+        }
+    }
+
+    /// Changes lists and tags by the first effect, or by all at the front by which runs leave one host. Answers how many they are.
+    fn list_front(&mut self, config: &Config, effects: &[Effect]) -> usize
+        requires hosts { length self.old.hosts.items ≡ config.now.hosts }
+        requires some { 0 < length effects.now }
+        requires of_device { All (IsOfDevice config.now) effects.now }
+        requires fits { Fits config.now (lists_of self.old) self.old.tags.spare effects.now }
+        ensures some { 0 < result }
+        ensures known { result ≤ length effects.now }
+        ensures listed { IsListedOver config.now (take result effects.now) self.old self.new }
+        ensures spare { fold room_by self.old.tags.spare (take result effects.now) ≤ self.new.tags.spare }
+        ensures kept { self.new ≡ record self.old { hosts = self.new.hosts; tags = self.new.tags } }
+    {
+        // There are 16 hosts at most.
+        let _hosts = config.hosts();
+        if let Effect::Leave(host, _) = &effects[0] {
+            self.list_leaves(config, *host, effects)
+        } else {
+            self.list(config, &effects[0]);
+            1
         }
     }
 
     /// Changes lists and tags by the effect, but for the counts of changes.
-    fn list(&mut self, config: &Config, effect: &Effect)
+    pub(crate) fn list(&mut self, config: &Config, effect: &Effect)
         requires hosts { length self.old.hosts.items ≡ config.now.hosts }
         requires of_device { IsOfDevice config.now effect.now }
         requires places { HasPlaces config.now (lists_of self.old) self.old.tags.spare effect.now }
@@ -107,26 +131,6 @@ impl State {
         self.drop_oldest(host);
     }
 
-    /// The run leaves the host, of which the tag of the extent is told in which it lay.
-    fn list_leave(&mut self, config: &Config, host: HostId, run: &Run)
-        requires hosts { length self.old.hosts.items ≡ config.now.hosts }
-        requires few { config.now.hosts ≤ 16 }
-        requires host { host < config.now.hosts }
-        requires places { HasPlaces config.now (lists_of self.old) self.old.tags.spare (Effect.Leave host run.now) }
-        ensures listed { IsListedAfter config.now (Effect.Leave host run.now) self.old self.new }
-        ensures spare { self.old.tags.spare ≤ self.new.tags.spare }
-        ensures kept { self.new ≡ record self.old { hosts = self.new.hosts; tags = self.new.tags } }
-    {
-        let range = extent_list::media_map::extent_of(config, host, run, no_tag(), 0);
-        let tag = tag_at(
-            lists_in(self.hosts.as_slice(), host),
-            range.start,
-            range.length,
-        );
-        self.put_leave(host, range.start, range.length);
-        self.tell_left(host, &tag);
-    }
-
     /// The host holds these extents behind those that it holds of this kind.
     fn hold(&mut self, config: &Config, host: HostId, kind: HeldKind, extents: &[Extent])
         requires hosts { length self.old.hosts.items ≡ config.now.hosts }
@@ -180,19 +184,6 @@ impl State {
         self.hosts[usize::from(host.0)].lists.drop_oldest();
     }
 
-    /// The range leaves the first accepted extent of the host in which it lies.
-    fn put_leave(&mut self, host: HostId, start: u64, bytes: u64)
-        requires host { host < length self.old.hosts.items }
-        requires few { length (part_of self.old host).lists.accepted < 128 }
-        requires ends { start + bytes < 2 ^ 64 }
-        ensures hosts { self.new.hosts.items ≡ with_lists self.old host (record (part_of self.old host).lists { accepted = cut start bytes (part_of self.old host).lists.accepted }) }
-        ensures kept { self.new ≡ record self.old { hosts = self.new.hosts } }
-    {
-        self.hosts[usize::from(host.0)]
-            .lists
-            .enter_leave(start, bytes);
-    }
-
     /// The host holds these extents behind the others of this kind.
     fn put_held(&mut self, host: HostId, kind: HeldKind, extents: &[Extent])
         requires host { host < length self.old.hosts.items }
@@ -243,7 +234,7 @@ impl State {
     }
 
     /// What the host has of the tag is told, where there is one.
-    fn tell_left(&mut self, host: HostId, tag: &Option<Tag>)
+    pub(crate) fn tell_left(&mut self, host: HostId, tag: &Option<Tag>)
         requires host { host < length self.old.hosts.items }
         requires few { host < 16 }
         ensures tags { self.new.tags.entries ≡ told host (part_of self.old host).lists (option_to_list tag.now) self.old.tags.entries }
@@ -258,43 +249,11 @@ impl State {
 }
 
 /// The lists of a host.
-fn lists_in(hosts: &[HostPart], host: HostId) -> &HostLists
+pub(crate) fn lists_in(hosts: &[HostPart], host: HostId) -> &HostLists
     requires { host < length hosts.now }
     ensures { (d : HostPart) → result.now ≡ (slice_index_or hosts.now host d).lists }
 {
     &hosts[usize::from(host.0)].lists
-}
-
-/// The extents are held behind the others of this kind.
-fn hold_in(lists: &mut HostLists, kind: HeldKind, extents: &[Extent])
-    requires { length (held_of kind lists.old) + length extents.now ≤ 64 }
-    ensures { lists.new ≡ with_held kind (held_of kind lists.old ++ extents.now) lists.old }
-{
-    match kind {
-        HeldKind::Responses => lists.hold_responses(extents),
-        HeldKind::Releases => lists.hold_releases(extents),
-    }
-}
-
-/// Nothing of this kind is held.
-fn drop_held_in(lists: &mut HostLists, kind: HeldKind)
-    ensures { lists.new ≡ with_held kind [] lists.old }
-{
-    match kind {
-        HeldKind::Responses => lists.drop_responses(),
-        HeldKind::Releases => lists.drop_releases(),
-    }
-}
-
-/// The tag of the first accepted extent in which the range lies; None where it lies in none.
-fn tag_at(lists: &HostLists, start: u64, bytes: u64) -> Option<Tag>
-    ensures { result ≡ option_map (λ (x : Extent). x.tag) (find (has_range start bytes) lists.now.accepted) }
-{
-    let accepted = lists.accepted();
-    match accepted.holder_of(start, bytes) {
-        Some(index) => Some(accepted.at(index).tag),
-        None => None,
-    }
 }
 
 /// What the host has of the tag is told by its lists, of the offers those from an index on. Where the tag is not open nothing

@@ -12,7 +12,7 @@ use Rattle.dcd_codes.proofs.RuleSteps.{each_in_more}
 use Rattle.extent_list.specs.Apart.{StandApart}
 use Rattle.extent_list.specs.ExtentLists.{is_whole, lies_in, overlaps, owner_of}
 use Rattle.extent_list.proofs.ApartLists.{within}
-use Rattle.extent_list.specs.Fitting.{Fits, FrontEnds, FrontFits, IsFit, IsOwnedBehind, IsPlaced, area_of, fits_area}
+use Rattle.extent_list.specs.Fitting.{Fits, FrontFits, IsFit, IsOwnedBehind, IsPlaced, area_of, fits_area}
 use Rattle.extent_list.specs.Listing.{is_aligned, is_shareable_at, lies_in_region, misplaced}
 use Rattle.extent_list.proofs.Apart.{apart-by, only_owner}
 use Rattle.extent_list.proofs.FirstOwner.{no_extent, owner_at}
@@ -124,17 +124,6 @@ module _ (c : Configuration) (h : HostId) (owners before : List Extent) (x : Ext
         ∙ ap (λ (b : Bool). b breaks Rule.NotWhole (length before)) owned.whole;
   }
 
-  none_broken : (b : Bool) → b breaks Rule.NotWhole (length before) ≡ None → b ≡ false
-  none_broken true none = absurd (cc)
-  none_broken false none = refl
-
-  pub owned_by : Fits c h owners before x → IsOwnedBehind (region_spec c r).shareable owners before x
-  owned_by fits = record {
-    inside = fits.inside;
-    apart = fits.apart;
-    whole = none_broken _ (ap (λ (b : Bool). (b && not (is_whole owners x)) breaks Rule.NotWhole (length before)) (sym shareable_is) ∙ fits.whole);
-  }
-
 -- one more that fits
 pub fits_more : (c : Configuration) (h : HostId) (owners list : List Extent) (i : ℕ) → i < length list → Fits c h owners (take i list) (get_or list i no_extent) → FrontFits c h owners list i → FrontFits c h owners list (i + 1)
 fits_more c h owners list i listed next before k d below = elim (cases_lt k i) [
@@ -143,10 +132,6 @@ fits_more c h owners list i listed next before k d below = elim (cases_lt k i) [
       let is : i ≡ k = omega (arith, below, from) in
       subst (λ (j : ℕ). Fits c h owners (take j list) (get_or list j d)) is (subst (Fits c h owners (take i list)) (get_or_default list i no_extent d listed) next)
 ]
-
--- one that does not
-pub ends_at : (c : Configuration) (h : HostId) (owners list : List Extent) (i : ℕ) → (Fits c h owners (take i list) (get_or list i no_extent) → ⊥) → FrontEnds c h owners list i
-ends_at c h owners list i not_next d listed fits = not_next (subst (Fits c h owners (take i list)) (get_or_default list i d no_extent listed) fits)
 
 -- what a test that fails says
 pub not_true : (b : Bool) → not b ≡ true → b ≡ false

@@ -7,6 +7,7 @@ pub mod FirstOwner
 pub mod FitFront
 pub mod Front
 pub mod Holding
+pub mod ListRules
 pub mod OneByOne
 pub mod Shares
 pub mod TagHalves

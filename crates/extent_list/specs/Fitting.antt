@@ -48,7 +48,3 @@ pub record Fits (c : Configuration) (h : HostId) (owners before : List Extent) (
 -- So many extents from the front of the list do.
 abbrev pub FrontFits : Configuration → HostId → List Extent → List Extent → ℕ → Type 0
 FrontFits c h owners list n = (i : ℕ) (d : Extent) → i < n → Fits c h owners (take i list) (slice_index_or list i d)
-
--- The one behind so many, if any, does not.
-abbrev pub FrontEnds : Configuration → HostId → List Extent → List Extent → ℕ → Type 0
-FrontEnds c h owners list n = (d : Extent) → n < length list → Fits c h owners (take n list) (slice_index_or list n d) → ⊥

@@ -2,6 +2,7 @@ pub mod Apart
 pub mod ExtentLists
 pub mod Fitting
 pub mod HostLists
+pub mod Listed
 pub mod Listing
 pub mod Orders
 pub mod Rooms

@@ -1,6 +1,6 @@
 //! How many extents at the front of a list fit: they break no rule of an extent.
 
-ghost use Rattle.extent_list.specs.Fitting.{Fits, FrontEnds, FrontFits, IsOwned, IsOwnedBehind, area_of, fits_area};
+ghost use Rattle.extent_list.specs.Fitting.{Fits, FrontFits, IsOwned, IsOwnedBehind, area_of, fits_area};
 ghost use Rattle.extent_list.specs.Listing.{overlapping};
 ghost use Rattle.std.specs.Prelude.{◌≡◌, ◌==◌, ◌&&◌, ◌<◌, ◌≤◌, None, false, length, true};
 
@@ -12,13 +12,12 @@ use crate::placing::{Area, region_at};
 use dcd_base::{Extent, HostId, RegionId};
 use media_map::region_config::Config;
 
-/// How many extents from the front of the list fit: each lies in a region, made of its blocks, and in an owner, whole where
-/// the region is shareable, and shares no address with one before it. The one behind them, if any, does not.
-pub fn fit_front(config: &Config, host: HostId, owners: &Owners, list: &[Extent]) -> usize
+/// How many extents from the front of the list are known to fit: each lies in a region, made of its blocks, and in an owner,
+/// whole where the region is shareable, and shares no address with one before it.
+pub(crate) fn fit_front(config: &Config, host: HostId, owners: &Owners, list: &[Extent]) -> usize
     requires { host < config.now.hosts }
     ensures known { result ≤ length list.now }
     ensures fit { FrontFits config.now host owners.now list.now result }
-    ensures ends { FrontEnds config.now host owners.now list.now result }
 {
     match list.first() {
         Some(first) => fit_from(
@@ -46,7 +45,6 @@ fn fit_from(
     requires region { region < length config.now.regions }
     ensures known { result ≤ length list.now }
     ensures fit { FrontFits config.now host owners.now list.now result }
-    ensures ends { FrontEnds config.now host owners.now list.now result }
 {
     let area = Area::of(config, host, region);
     let falling = match owners.place_of(first) {
@@ -77,7 +75,6 @@ fn fit_behind(
     requires fit { FrontFits config.now host owners.now list.now known }
     ensures known { result ≤ length list.now }
     ensures fit { FrontFits config.now host owners.now list.now result }
-    ensures ends { FrontEnds config.now host owners.now list.now result }
 {
     let apart = are_apart(list);
     let mut near = 0;
@@ -110,8 +107,7 @@ fn fits_behind(
     requires area { area.now ≡ area_of config.now host region }
     requires some { 0 < area.now.block }
     requires apart { before.now.apart ≡ true → overlapping before.now.extents.now extent.now ≡ None }
-    ensures fit { result ≡ true → Fits config.now host owners.now before.now.extents.now extent.now }
-    ensures unfit { result ≡ false → Fits config.now host owners.now before.now.extents.now extent.now → ⊥ }
+    ensures { result ≡ true → Fits config.now host owners.now before.now.extents.now extent.now }
 {
     // That regions lie apart, which a configuration says of itself where it is read.
     let _regions = config.regions();
@@ -150,8 +146,7 @@ fn is_owned_behind(
     extent: &Extent,
 ) -> bool
     requires { apart ≡ true → overlapping before.now extent.now ≡ None }
-    ensures fit { result ≡ true → IsOwnedBehind shareable owners.now before.now extent.now }
-    ensures unfit { result ≡ false → IsOwnedBehind shareable owners.now before.now extent.now → ⊥ }
+    ensures { result ≡ true → IsOwnedBehind shareable owners.now before.now extent.now }
 {
     let index = match owners.index_of(extent, *near) {
         Some(index) => index,

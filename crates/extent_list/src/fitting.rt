@@ -5,13 +5,14 @@ ghost use Rattle.dcd_codes.specs.Rules.{◌breaks◌};
 ghost use Rattle.dcd_codes.specs.declared.rules.Rule.{Rule};
 ghost use Rattle.extent_list.specs.ExtentLists.{is_in, marked};
 ghost use Rattle.extent_list.specs.Listing.{is_shareable_at, not_whole, overlapping};
-ghost use Rattle.std.specs.Prelude.{◌≡◌, ◌==◌, ◌&&◌, ◌++◌, ◌^◌, ◌<◌, None, OnOk, length, map, not, true};
+ghost use Rattle.std.specs.Prelude.{◌≡◌, ◌==◌, ◌&&◌, ◌++◌, ◌^◌, ◌<◌, IfOk, None, OnOk, length, map, not, true};
 
 use crate::lookup::Owners;
 use crate::owners::{is_shareable_at, shares_address};
 use dcd_base::{Extent, Extents, HostId, NoMemory};
 use dcd_codes::Rule;
 use media_map::region_config::Config;
+use std::alloc::Global;
 
 /// What stands before an extent in its list.
 #[derive(Clone, Copy, Debug)]
@@ -27,7 +28,7 @@ pub struct Before<'a> {
 /// `NotWhole`, where its region is shareable and it is a part.
 ///
 /// The owner is looked for at `near` first, which then becomes its index.
-pub fn unfit(
+pub(crate) fn unfit(
     config: &Config,
     host: HostId,
     owners: &Owners,
@@ -100,6 +101,22 @@ pub fn put_marked(owners: &Owners, list: &[Extent], out: &mut Extents) -> Result
         near = place;
     }
     Ok(())
+}
+
+/// The extents of both lists, each with the tag and the sequence of the first owner in which it lies.
+pub fn marked_lists(
+    alloc: Global,
+    owners: &[Extent],
+    held: &[Extent],
+    list: &[Extent],
+) -> Result<Extents, NoMemory>
+    ensures { IfOk result (λ both. both ≡ map (marked owners.now) (held.now ++ list.now)) }
+{
+    let mut both = Extents::with_capacity(alloc, held.len() + list.len())?;
+    let sought = Owners::of(owners);
+    put_marked(&sought, held, &mut both)?;
+    put_marked(&sought, list, &mut both)?;
+    Ok(both)
 }
 
 /// The extent with the tag and the sequence of this owner.

@@ -101,6 +101,16 @@ impl ExtentList {
         Ok(())
     }
 
+    /// Makes the extents equal to these. Takes memory only where they are more than there are places for; the places stay.
+    pub fn stand_as(&mut self, others: &[Extent]) -> Result<(), NoMemory>
+        ensures extents { OnOk result (self.new.extents ≡ others.now) }
+        ensures places { length self.old.extents + self.old.spare ≤ length self.new.extents + self.new.spare }
+    {
+        self.kept.clear();
+        self.kept.extend_from_slice(others)?;
+        Ok(())
+    }
+
     pub fn len(&self) -> usize
         ensures { result ≡ length self.now.extents }
     {
@@ -182,24 +192,7 @@ impl ExtentList {
         }
     }
 
-    /// Puts in place of the first extent in which the range lies what remains of it, as `cut` does, however many extents
-    /// there are then. Where the range lies in none nothing changes.
-    pub fn leave(&mut self, start: u64, bytes: u64)
-        requires spare { 0 < self.old.spare }
-        requires in_addresses { IsCutInAddresses start bytes self.old.extents }
-        ensures cut { self.new.extents ≡ cut start bytes self.old.extents }
-        ensures room { length self.old.extents + self.old.spare ≤ length self.new.extents + self.new.spare }
-    {
-        match self.holder_of(start, bytes) {
-            None => (),
-            Some(index) => match replace_at(&mut self.kept, index, start, bytes, usize::MAX) {
-                Ok(()) => (),
-                Err(_) => unreachable!(),
-            },
-        }
-    }
-
-    /// The same, where the first extent in which the range lies is known to be the one at the index.
+    /// How many extents there are once the range is cut out, which lies first in the extent at the index.
     pub fn len_without_at(&self, index: usize, start: u64, bytes: u64) -> usize
         requires index { holder_of start bytes self.now.extents ≡ Some index }
         requires in_addresses { IsCutInAddresses start bytes self.now.extents }
@@ -210,11 +203,12 @@ impl ExtentList {
     }
 
     /// Cuts these extents out one after another, each where it lies in one of the list when its turn comes. Takes no
-    /// memory, and uses one of the spare for each.
+    /// memory, and uses one of the spare for each extent more.
     pub fn cut_all(&mut self, leaving: &[Extent])
         requires spare { length leaving.now ≤ self.old.spare }
         requires ends { All (λ x. x.start + x.length < 2 ^ 64) leaving.now }
-        ensures { self.new.extents ≡ cut_all leaving.now self.old.extents }
+        ensures cut { self.new.extents ≡ cut_all leaving.now self.old.extents }
+        ensures room { length self.old.extents + self.old.spare ≤ length self.new.extents + self.new.spare }
     {
         let whole = whole_in_front(self.kept.as_slice(), leaving);
         drop_front(&mut self.kept, whole);
@@ -226,7 +220,8 @@ impl ExtentList {
     fn cut_each(&mut self, leaving: &[Extent])
         requires spare { length leaving.now ≤ self.old.spare }
         requires ends { All (λ x. x.start + x.length < 2 ^ 64) leaving.now }
-        ensures { self.new.extents ≡ cut_all leaving.now self.old.extents }
+        ensures cut { self.new.extents ≡ cut_all leaving.now self.old.extents }
+        ensures room { length self.old.extents + self.old.spare ≤ length self.new.extents + self.new.spare }
     {
         let apart = leaving.len() > 1 && stand_apart(self.kept.as_slice());
         let whole = whole_at_back(self.kept.as_slice(), leaving, apart);
@@ -241,7 +236,8 @@ impl ExtentList {
         requires spare { length leaving.now ≤ self.old.spare }
         requires ends { All (λ x. x.start + x.length < 2 ^ 64) leaving.now }
         requires apart { apart ≡ true → StandApart self.old.extents }
-        ensures { self.new.extents ≡ cut_all leaving.now self.old.extents }
+        ensures cut { self.new.extents ≡ cut_all leaving.now self.old.extents }
+        ensures room { length self.old.extents + self.old.spare ≤ length self.new.extents + self.new.spare }
     {
         let mut near = 0;
         for extent in leaving {
@@ -258,6 +254,7 @@ impl ExtentList {
         requires apart { apart ≡ true → StandApart self.old.extents }
         ensures cut { self.new.extents ≡ cut extent.now.start extent.now.length self.old.extents }
         ensures spare { self.old.spare ≤ self.new.spare + 1 }
+        ensures room { length self.old.extents + self.old.spare ≤ length self.new.extents + self.new.spare }
         ensures apart { apart ≡ true → StandApart self.new.extents }
     {
         match self.holder_from(extent, apart, *near) {

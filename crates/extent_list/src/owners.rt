@@ -1,10 +1,8 @@
 //! An extent beside those among which it has to lie, and beside those before it.
 
-ghost use Rattle.extent_list.specs.ExtentLists.{is_in, is_whole, lies_in, marked, overlaps, owner_of};
-ghost use Rattle.extent_list.specs.Listing.{is_shareable_at, not_whole, overlapping};
-ghost use Rattle.dcd_codes.specs.Rules.{◌breaks◌};
-ghost use Rattle.dcd_codes.specs.declared.rules.Rule.{Rule};
-ghost use Rattle.std.specs.Prelude.{◌≡◌, ◌^◌, ◌<◌, IfSome, None, false, length, not, position, true};
+ghost use Rattle.extent_list.specs.ExtentLists.{lies_in, overlaps};
+ghost use Rattle.extent_list.specs.Listing.{is_shareable_at, overlapping};
+ghost use Rattle.std.specs.Prelude.{◌≡◌, ◌^◌, ◌<◌, IfSome, None, false, length, position, true};
 
 use crate::pieces::{has_range_in, shares_range_with};
 use crate::placing::region_at;
@@ -26,23 +24,6 @@ fn overlaps(extent: &Extent, other: &Extent) -> bool
     shares_range_with(other, extent.start, extent.length)
 }
 
-/// Whether the extent lies in one of the owners.
-pub fn is_in(owners: &[Extent], extent: &Extent) -> bool
-    ensures { result ≡ is_in owners.now extent.now }
-{
-    owners.iter().any(|owner| lies_in(extent, owner))
-}
-
-/// The first owner in which the extent lies, and the extent itself where it lies in none.
-fn owner_of(owners: &[Extent], extent: &Extent) -> Extent
-    ensures { result ≡ owner_of owners.now extent.now }
-{
-    match first_owner(owners, extent) {
-        Some(index) => owners[index],
-        None => *extent,
-    }
-}
-
 /// The index of the first owner in which the extent lies.
 pub(crate) fn first_owner(owners: &[Extent], extent: &Extent) -> Option<usize>
     ensures value { result ≡ position (lies_in extent.now) owners.now }
@@ -51,21 +32,9 @@ pub(crate) fn first_owner(owners: &[Extent], extent: &Extent) -> Option<usize>
     owners.iter().position(|owner| lies_in(extent, owner))
 }
 
-/// The extent with the tag and the sequence of the first owner in which it lies.
-pub fn marked(owners: &[Extent], extent: &Extent) -> Extent
-    ensures { result ≡ marked owners.now extent.now }
-{
-    let owner = owner_of(owners, extent);
-    Extent {
-        tag: owner.tag,
-        sequence: owner.sequence,
-        ..*extent
-    }
-}
-
 /// The rule that an extent breaks which shares an address with one before it: its index, which is their number,
 /// and the index of the first of them with which it does.
-pub fn shares_address(before: &[Extent], extent: &Extent) -> Option<Rule>
+pub(crate) fn shares_address(before: &[Extent], extent: &Extent) -> Option<Rule>
     requires { length before.now < 2 ^ 32 }
     ensures { result ≡ overlapping before.now extent.now }
 {
@@ -101,39 +70,4 @@ pub(crate) fn is_shareable_at(config: &Config, host: HostId, extent: &Extent) ->
     config
         .region(region_at(config, host, extent.start))
         .shareable
-}
-
-/// Whether the extent has all addresses of the one in which it lies.
-fn is_whole(owners: &[Extent], extent: &Extent) -> bool
-    ensures { result ≡ is_whole owners.now extent.now }
-{
-    let owner = owner_of(owners, extent);
-    extent.start == owner.start && extent.length == owner.length
-}
-
-/// The rule that a part of an extent of a shareable region breaks, with its index.
-pub fn not_whole(
-    config: &Config,
-    host: HostId,
-    owners: &[Extent],
-    index: u32,
-    extent: &Extent,
-) -> Option<Rule>
-    requires { host < config.now.hosts }
-    ensures { result ≡ not_whole config.now host owners.now index extent.now }
-{
-    if is_shareable_at(config, host, extent) {
-        return part_of(owners, index, extent);
-    }
-    None
-}
-
-/// The rule, where the region is shareable.
-fn part_of(owners: &[Extent], index: u32, extent: &Extent) -> Option<Rule>
-    ensures { result ≡ not (is_whole owners.now extent.now) breaks Rule.NotWhole index }
-{
-    if is_whole(owners, extent) {
-        return None;
-    }
-    Some(Rule::NotWhole(index))
 }

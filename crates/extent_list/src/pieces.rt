@@ -14,7 +14,7 @@ fn end_of(start: u64, bytes: u64) -> u128
 }
 
 /// Whether the range lies in the extent.
-pub fn has_range_in(extent: &Extent, start: u64, bytes: u64) -> bool
+pub(crate) fn has_range_in(extent: &Extent, start: u64, bytes: u64) -> bool
     ensures { result ≡ has_range start bytes extent.now }
 {
     if start < extent.start || extent.length < start - extent.start {
@@ -24,7 +24,7 @@ pub fn has_range_in(extent: &Extent, start: u64, bytes: u64) -> bool
 }
 
 /// Whether the range and the extent overlap.
-pub fn shares_range_with(extent: &Extent, start: u64, bytes: u64) -> bool
+pub(crate) fn shares_range_with(extent: &Extent, start: u64, bytes: u64) -> bool
     ensures { result ≡ shares_range start bytes extent.now }
 {
     if extent.start < start {

@@ -10,7 +10,7 @@ use dcd_base::Extent;
 ///
 /// Lists in another order may stand apart too, and one in which an extent ends behind the last address of 64 bits is
 /// not known to.
-pub fn stand_apart(list: &[Extent]) -> bool
+pub(crate) fn stand_apart(list: &[Extent]) -> bool
     ensures apart { result ≡ true → StandApart list.now }
     ensures known { AreRising list.now ⊎ AreFalling list.now → All (λ x. x.start + x.length < 2 ^ 64) list.now → result ≡ true }
 {

@@ -23,22 +23,6 @@ use std::alloc::Global;
 /// listed and how many the owners have, for the first such tag.
 ///
 /// A listed extent has the tag of the first owner in which it lies. The number of owners is below 2^32.
-pub fn incomplete(
-    alloc: Global,
-    config: &Config,
-    host: HostId,
-    owners: &[Extent],
-    list: &[Extent],
-) -> Result<Option<Rule>, NoMemory>
-    requires host { host < config.now.hosts }
-    requires owners { length owners.now < 2 ^ 32 }
-    requires listed { length list.now < 2 ^ 32 }
-    ensures { IfOk result (λ found. found ≡ incomplete config.now host owners.now list.now) }
-{
-    incomplete_among(alloc, config, host, &Owners::of(owners), list)
-}
-
-/// The rule that `incomplete` answers, among these owners.
 pub fn incomplete_among(
     alloc: Global,
     config: &Config,

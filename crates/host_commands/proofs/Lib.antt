@@ -1,5 +1,4 @@
 pub mod AddDynamicCapacityResponse
 pub mod HostDrafts
 pub mod ListedExtents
-pub mod ListsAfter
 pub mod ReleaseDynamicCapacity

@@ -1,18 +1,15 @@
 -- What the rows of responses and releases say of the extents that they list.
-use Rattle.std.proofs.Common.{◌≡◌, ℕ, zero, suc, ◌+◌, ◌<◌, ◌≤◌, true, false, not, List, [], ◌∷◌, ◌++◌, length, map, None, arith, ltb, length-append}
+use Rattle.std.proofs.Common.{◌≡◌, ℕ, zero, suc, ◌+◌, ◌<◌, true, false, not, List, [], ◌∷◌, ◌++◌, length, map, None, arith}
 use Rattle.std.specs.Prelude.{All}
 use Rattle.std.specs.List.{AllByRecursion}
-use Rattle.std.proofs.lemmas.Bool.{ltb-false}
-use Rattle.std.proofs.lemmas.List.{length-map}
 use Rattle.cci_codec.specs.dcd_base.specs.declared.capacity.Extent.{Extent}
 use Rattle.cci_codec.specs.dcd_base.specs.declared.ids.HostId.{HostId}
-use Rattle.cci_codec.specs.dcd_base.specs.Limits.{extents_supported}
 use Rattle.extent_list.specs.dcd_codes.specs.declared.rules.Rule.{Rule}
 use Rattle.extent_list.specs.dcd_codes.specs.Rules.{◌breaks◌, each_in}
 use Rattle.extent_list.specs.media_map.specs.region_config.specs.Configurations.{Configuration}
 use Rattle.extent_list.specs.media_map.specs.region_config.specs.Soundness.{IsSound}
 use Rattle.extent_list.specs.media_map.specs.Places.{is_granular, region_at}
-use Rattle.extent_list.specs.ExtentLists.{count_in, is_in, marked}
+use Rattle.extent_list.specs.ExtentLists.{is_in, marked}
 use Rattle.extent_list.specs.Listing.{incomplete, misplaced, not_whole, overlapping, too_many_extents, too_many_listed}
 use Rattle.offer_core.specs.Offerings.{oldest_of}
 use Rattle.offer_core.specs.Responses.{extent_rule, respond_rule}
@@ -20,8 +17,8 @@ use Rattle.release_core.specs.Leaving.{count_after}
 use Rattle.release_core.specs.Releases.{give_back_rule}
 use Rattle.selection.proofs.Placed.{is_made_of_granules, placed}
 use Rattle.device_commands.specs.device_rules.proofs.LeftStanding.{going_rule}
-use Rattle.device_commands.specs.device_rules.proofs.Overlaps.{not_broken, row_each}
-use Rattle.selection.proofs.Prescribed.{neither}
+use Rattle.device_commands.specs.device_rules.proofs.Overlaps.{row_each}
+use Rattle.release_core.proofs.Members.{neither}
 
 -- the extent is made of granules of one region
 abbrev pub Granular : Configuration → HostId → Extent → Type 0
@@ -32,10 +29,6 @@ pub marked_granular : (p : Configuration) (h : HostId) (owners xs : List Extent)
 marked_granular p h owners [] each k d less = absurd (omega (arith, less))
 marked_granular p h owners (x ∷ xs) each zero d less = each.0
 marked_granular p h owners (x ∷ xs) each (suc k) d less = marked_granular p h owners xs each.1 k d (omega (arith, less))
-
--- no more than so many
-few_extents : (n : ℕ) → too_many_extents n ≡ None → n ≤ 64
-few_extents n none = ltb-false _ _ (not_broken (ltb extents_supported n) (Rule.TooManyExtents n) none)
 
 module _ (p : Configuration) (h : HostId) (sound : IsSound p) (host : h < p.hosts) where
   placed_granular : (i : ℕ) (x : Extent) → misplaced p h (region_at p h x.start) i x ≡ None → Granular p h x
@@ -74,12 +67,3 @@ module _ (p : Configuration) (h : HostId) (sound : IsSound p) (host : h < p.host
       let p2 = neither _ (too_many_extents (count_after accepted offered whole)) p3.1 in
       let p1 = neither (each_in whole (going_rule p h accepted (λ y. region_at p h y.start))) (incomplete p h accepted whole) p2.0 in
       row_each (going_rule p h accepted (λ y. region_at p h y.start)) (Granular p h) (leaving_granular accepted) [] whole p1.0
-
--- after a response that breaks no rule the host has few extents
-pub response_few : (p : Configuration) (h : HostId) (accepted offer : List Extent) (later : List (List Extent)) (held list : List Extent)
-    → respond_rule p h (length accepted) (offer ∷ later) held false list ≡ None → length (accepted ++ map (marked offer) (held ++ list)) + count_in later ≤ 64
-response_few p h accepted offer later held list row =
-    let all : List Extent = held ++ list in
-    let p3 = neither (too_many_listed all) _ row in
-    let p2 = neither _ (too_many_extents (length accepted + length all + count_in later)) p3.1 in
-    omega (arith, few_extents (length accepted + length all + count_in later) p2.1, length-append accepted (map (marked offer) all), length-map all (marked offer))

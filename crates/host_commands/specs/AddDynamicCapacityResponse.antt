@@ -2,6 +2,7 @@
 use Rattle.std.specs.Prelude.{◌≡◌, Bool, false, List, [], ◌∷◌, map, ◌++◌}
 use Rattle.cci_codec.specs.dcd_base.specs.declared.ids.HostId.{HostId}
 use Rattle.cci_codec.specs.dcd_base.specs.declared.capacity.Extent.{Extent}
+use Rattle.cci_codec.specs.dcd_base.specs.declared.steps.LogId.{LogId}
 use Rattle.event_records.specs.declared.events.Event.{Event}
 use Rattle.event_records.specs.declared.events.EventKind.{EventKind}
 use Rattle.extent_list.specs.media_map.specs.region_config.specs.Configurations.{Configuration}
@@ -16,12 +17,17 @@ use Rattle.journal_core.specs.declared.outcome.HeldKind.{HeldKind}
 use Rattle.device_commands.specs.device_rules.specs.ResponseOutcomes.{respond_outcome, unhold}
 use Rattle.device_commands.specs.Drafts.{Drafts}
 use Rattle.device_commands.specs.ListDrafts.{Tells}
-use Rattle.device_commands.specs.declared.draft.DraftParts.{DraftParts}
+use Rattle.device_commands.specs.declared.draft.Draft.{Draft}
 use Rattle.extent_list.specs.HostLists.{Lists}
 
 -- the host takes each of the extents
 abbrev pub takes : Configuration → HostId → List Extent → List Effect
 takes c h xs = map (λ x. Effect.Take h (run_of c h x)) xs
+
+-- what is told of: each accepted extent, or one zero extent where none is accepted
+abbrev pub told_extents : List Extent → List Extent
+told_extents [] = no_extent ∷ []
+told_extents (x ∷ xs) = x ∷ xs
 
 -- the manager is told of each accepted extent, or of one zero extent where none is accepted
 abbrev pub told_of : HostId → View → List Extent → List Event
@@ -32,12 +38,12 @@ told_of h w (x ∷ xs) = records_of_extents h w EventKind.AddResponse (x ∷ xs)
 abbrev pub answer_changes : Configuration → HostId → Lists → List Extent → List Effect
 answer_changes p h l accepted = unhold h HeldKind.Responses l.responses ++ Effect.Answer h accepted ∷ takes p h accepted
 
--- The oldest offer of the lists is answered with these extents, and these are the lists after it.
-abbrev pub IsAnswered : Configuration → HostId → Lists → List Extent → Lists → DraftParts → Type 0
-IsAnswered p h before accepted after d =
-    Tells (answer_changes p h before accepted) (tags_of (oldest_of before.offers)) (λ w. told_of h w accepted) before after d
+-- The oldest offer of the lists is answered with these extents.
+abbrev pub IsAnswered : Configuration → HostId → Lists → List Extent → Draft → Type 0
+IsAnswered p h before accepted d =
+    Tells (answer_changes p h before accepted) (tags_of (oldest_of before.offers)) LogId.Manager (λ w. told_of h w accepted) d
 
 -- By each view that shows these present blocks and lists, the draft is what the response does, where it breaks no rule.
-abbrev pub Responds : Configuration → HostId → Lists → Bool → List Extent → DraftParts → Type 0
+abbrev pub Responds : Configuration → HostId → Lists → Bool → List Extent → Draft → Type 0
 Responds p h lists more list d = (c : Configuration) (v : View) → p ≡ with_blocks c v.block → lists ≡ lists_in v →
     Drafts c h v (respond_outcome c h v more list) d

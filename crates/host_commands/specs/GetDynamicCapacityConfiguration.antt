@@ -11,9 +11,9 @@ use Rattle.device_commands.specs.device_rules.specs.Outcomes.{only}
 use Rattle.device_commands.specs.device_rules.specs.Settings.{configuration_reply, no_such_region}
 use Rattle.device_commands.specs.device_rules.specs.Views.{View, lists_in}
 use Rattle.device_commands.specs.Drafts.{IsOutcome}
-use Rattle.device_commands.specs.declared.draft.DraftParts.{DraftParts}
+use Rattle.device_commands.specs.declared.draft.Draft.{Draft}
 
 -- By its row, for each configuration and view that the present blocks and the lists show.
-abbrev pub AnswersConfiguration : Configuration → HostId → Lists → ℕ → ℕ → Result DraftParts Refusal → Type 0
+abbrev pub AnswersConfiguration : Configuration → HostId → Lists → ℕ → ℕ → Result Draft Refusal → Type 0
 AnswersConfiguration present h lists count first result = (c : Configuration) (v : View) → present ≡ with_blocks c v.block → lists ≡ lists_in v →
     ByRow (no_such_region c first) (IsOutcome (only (configuration_reply c h v count first))) result

@@ -8,9 +8,9 @@ use Rattle.device_commands.specs.device_rules.specs.Outcomes.{only}
 use Rattle.device_commands.specs.device_rules.specs.Settings.{extents_reply, past_end}
 use Rattle.device_commands.specs.device_rules.specs.Views.{View, lists_in}
 use Rattle.device_commands.specs.Drafts.{IsOutcome}
-use Rattle.device_commands.specs.declared.draft.DraftParts.{DraftParts}
+use Rattle.device_commands.specs.declared.draft.Draft.{Draft}
 
 -- By its row, for each view that the lists show.
-abbrev pub AnswersExtents : Lists → ℕ → ℕ → Result DraftParts Refusal → Type 0
+abbrev pub AnswersExtents : Lists → ℕ → ℕ → Result Draft Refusal → Type 0
 AnswersExtents lists count first result = (v : View) → lists ≡ lists_in v →
     ByRow (past_end first (length v.accepted)) (IsOutcome (only (extents_reply v count first))) result

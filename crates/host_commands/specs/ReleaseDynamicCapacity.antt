@@ -2,6 +2,7 @@
 use Rattle.std.specs.Prelude.{◌≡◌, ◌++◌, Bool, false, List}
 use Rattle.cci_codec.specs.dcd_base.specs.declared.capacity.Extent.{Extent}
 use Rattle.cci_codec.specs.dcd_base.specs.declared.ids.HostId.{HostId}
+use Rattle.cci_codec.specs.dcd_base.specs.declared.steps.LogId.{LogId}
 use Rattle.event_records.specs.declared.events.EventKind.{EventKind}
 use Rattle.extent_list.specs.ExtentLists.{tags_of}
 use Rattle.extent_list.specs.HostLists.{Lists}
@@ -15,18 +16,18 @@ use Rattle.device_commands.specs.device_rules.specs.ResponseOutcomes.{unhold}
 use Rattle.device_commands.specs.device_rules.specs.Views.{View, lists_in}
 use Rattle.device_commands.specs.Drafts.{Drafts}
 use Rattle.device_commands.specs.ListDrafts.{Tells}
-use Rattle.device_commands.specs.declared.draft.DraftParts.{DraftParts}
+use Rattle.device_commands.specs.declared.draft.Draft.{Draft}
 
 -- what a release changes: what is held goes, and the extents leave
 abbrev pub release_changes : Configuration → HostId → Lists → List Extent → List Effect
 release_changes p h l leaving = unhold h HeldKind.Releases l.releases ++ removals p h false leaving
 
--- The extents leave the host, which had these lists, and these are its lists after it.
-abbrev pub IsReleased : Configuration → HostId → Lists → List Extent → Lists → DraftParts → Type 0
-IsReleased p h before leaving after d =
-    Tells (release_changes p h before leaving) (tags_of leaving) (λ w. records_of_extents h w EventKind.Released leaving) before after d
+-- The extents leave the host, which had these lists.
+abbrev pub IsReleased : Configuration → HostId → Lists → List Extent → Draft → Type 0
+IsReleased p h before leaving d =
+    Tells (release_changes p h before leaving) (tags_of leaving) LogId.Manager (λ w. records_of_extents h w EventKind.Released leaving) d
 
 -- By each view that shows these present blocks and lists, the draft is what the release does, where it breaks no rule.
-abbrev pub GivesBack : Configuration → HostId → Lists → Bool → List Extent → DraftParts → Type 0
+abbrev pub GivesBack : Configuration → HostId → Lists → Bool → List Extent → Draft → Type 0
 GivesBack p h lists more list d = (c : Configuration) (v : View) → p ≡ with_blocks c v.block → lists ≡ lists_in v →
     Drafts c h v (give_back_outcome c h v more list) d

@@ -1,21 +1,36 @@
 //! The extents that a host has sent of a list in several messages.
 
 ghost use Rattle.device_commands.specs.device_rules.specs.ResponseOutcomes.{hold, unhold};
-ghost use Rattle.std.specs.Prelude.{◌≡◌, ◌++◌, ◌<◌, IfOk, OnOk};
+ghost use Rattle.std.specs.Prelude.{◌≡◌, ◌++◌, [], IfOk, OnOk};
 ghost use Rattle.host_commands.specs.HeldLists.{unheld_by};
 
 use cci_codec::dcd_base::{Extent, Extents, HostId, NoMemory};
-use device_commands::Room;
+use device_commands::Draft;
 use device_commands::host_lists::HostLists;
 use journal_core::{Effect, Effects, HeldKind};
+use std::alloc::Global;
 
 /// The opcodes whose refusal ends a held list: Add Dynamic Capacity Response and Release Dynamic Capacity.
 const ADD_RESPONSE: u16 = 0x4802;
 
 const GIVE_BACK: u16 = 0x4803;
 
-/// Puts behind the effects that the extents of a message that is not the last of its list are held, where there are any.
-pub(crate) fn put_hold(
+/// The extents of a message that is not the last of its list are held, where there are any.
+pub(crate) fn held(
+    alloc: Global,
+    host: HostId,
+    kind: HeldKind,
+    list: &Extents,
+) -> Result<Draft, NoMemory>
+    ensures { IfOk result (λ draft. draft ≡ record { payload = []; changes = hold host kind list.now; tags = []; log_records = [] }) }
+{
+    let mut changes = Effects::new(alloc);
+    put_hold(host, kind, list, &mut changes)?;
+    Ok(Draft::changing(alloc, changes))
+}
+
+/// Puts behind the effects that these extents are held, where there are any.
+fn put_hold(
     host: HostId,
     kind: HeldKind,
     list: &Extents,
@@ -30,20 +45,17 @@ pub(crate) fn put_hold(
 }
 
 /// What was held is held no longer, where anything was.
-pub fn unhold(
+pub(crate) fn unheld(
+    alloc: Global,
     host: HostId,
     kind: HeldKind,
     held: &[Extent],
-    room: &mut Room,
-) -> Result<Effects, NoMemory>
-    ensures { IfOk result (λ changes. changes ≡ unhold host kind held.now) }
+) -> Result<Draft, NoMemory>
+    ensures { IfOk result (λ draft. draft ≡ record { payload = []; changes = unhold host kind held.now; tags = []; log_records = [] }) }
 {
-    if held.is_empty() {
-        return Ok(Effects::new(room.allocator()));
-    }
-    let mut changes = room.effects(1)?;
+    let mut changes = Effects::new(alloc);
     put_unhold(host, kind, held, &mut changes)?;
-    Ok(changes)
+    Ok(Draft::changing(alloc, changes))
 }
 
 /// Puts behind the effects that what was held is held no longer, where anything was.
@@ -63,18 +75,18 @@ pub(crate) fn put_unhold(
 
 /// The held list of the command ends, where there is one (of Add Dynamic Capacity Response and Release Dynamic Capacity).
 pub fn dropped(
+    alloc: Global,
     host: HostId,
     lists: &HostLists,
     opcode: u16,
-    room: &mut Room,
 ) -> Result<Effects, NoMemory>
     ensures { IfOk result (λ effects. effects ≡ unheld_by host lists.now opcode) }
 {
+    let mut effects = Effects::new(alloc);
     if opcode == ADD_RESPONSE {
-        return unhold(host, HeldKind::Responses, lists.responses(), room);
+        put_unhold(host, HeldKind::Responses, lists.responses(), &mut effects)?;
+    } else if opcode == GIVE_BACK {
+        put_unhold(host, HeldKind::Releases, lists.releases(), &mut effects)?;
     }
-    if opcode == GIVE_BACK {
-        return unhold(host, HeldKind::Releases, lists.releases(), room);
-    }
-    Ok(Effects::new(room.allocator()))
+    Ok(effects)
 }

@@ -1,8 +1,7 @@
 //! The extents that a host has accepted, with their memory.
 
-ghost use Rattle.extent_list.specs.ExtentLists.{cut};
-ghost use Rattle.extent_list.specs.Rooms.{IsCutInAddresses};
-ghost use Rattle.std.specs.Prelude.{◌≡◌, ◌++◌, ◌+◌, ◌<◌, ◌≤◌, [], IfOk, length};
+ghost use Rattle.extent_list.specs.ExtentLists.{cut_all};
+ghost use Rattle.std.specs.Prelude.{◌≡◌, ◌++◌, ◌+◌, ◌^◌, ◌<◌, ◌≤◌, [], All, IfOk, OnOk, length};
 
 use crate::changes::add_all;
 use extent_list::ExtentList;
@@ -49,6 +48,13 @@ impl AcceptedList {
         Ok(AcceptedList { list })
     }
 
+    /// Makes this list equal to another.
+    pub(crate) fn stand_as(&mut self, other: &AcceptedList) -> Result<(), NoMemory>
+        ensures { OnOk result (self.new ≡ other.now) }
+    {
+        self.list.stand_as(other.list.as_slice())
+    }
+
     /// The list.
     pub(crate) fn list(&self) -> &ExtentList
         ensures { result.now.extents ≡ self.now }
@@ -64,15 +70,13 @@ impl AcceptedList {
         add_all(&mut self.list, extents);
     }
 
-    /// The range of `bytes` bytes from `start` on leaves the first extent in which it lies; where it lies in none nothing
-    /// changes. There are fewer than 128 extents. It takes no memory.
-    ///
-    /// The range ends below 2^64, or that extent ends at 2^64 or below.
-    pub(crate) fn leave(&mut self, start: u64, bytes: u64)
-        requires few { length self.old < 128 }
-        requires in_addresses { IsCutInAddresses start bytes self.old }
-        ensures { self.new ≡ cut start bytes self.old }
+    /// Cuts these extents out one after another, each where it lies in one of the list when its turn comes. Together they are 128
+    /// at most, and each ends below 2^64. It takes no memory.
+    pub(crate) fn leave_all(&mut self, leaving: &[Extent])
+        requires few { length self.old + length leaving.now ≤ 128 }
+        requires ends { All (λ x. x.start + x.length < 2 ^ 64) leaving.now }
+        ensures { self.new ≡ cut_all leaving.now self.old }
     {
-        self.list.leave(start, bytes);
+        self.list.cut_all(leaving);
     }
 }

@@ -1,6 +1,5 @@
 //! Changes of an accepted list, and how they are counted.
 
-ghost use Rattle.host_lists.specs.Answers.{generation_after};
 ghost use Rattle.extent_list.specs.HostLists.{next_generation};
 ghost use Rattle.std.specs.Prelude.{◌≡◌, ◌++◌, ◌+◌, ◌≤◌, length};
 
@@ -12,16 +11,6 @@ pub(crate) fn next_generation(generation: u32) -> u32
     ensures { result ≡ next_generation generation }
 {
     generation.wrapping_add(1)
-}
-
-/// The count after a change of these extents.
-pub(crate) fn generation_after(changed: &[Extent], generation: u32) -> u32
-    ensures { result ≡ generation_after changed.now generation }
-{
-    if changed.is_empty() {
-        return generation;
-    }
-    next_generation(generation)
 }
 
 /// Puts the extents behind the accepted ones. It takes no memory.

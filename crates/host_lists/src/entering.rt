@@ -1,9 +1,8 @@
 //! What each effect makes of a host's lists. None of these calls takes memory.
 
-ghost use Rattle.extent_list.specs.ExtentLists.{count_in, cut};
-ghost use Rattle.extent_list.specs.Rooms.{IsCutInAddresses};
+ghost use Rattle.extent_list.specs.ExtentLists.{count_in, cut_all};
 ghost use Rattle.extent_list.specs.HostLists.{next_generation};
-ghost use Rattle.std.specs.Prelude.{◌≡◌, ◌++◌, ◌∷◌, ◌+◌, ◌<◌, ◌≤◌, [], drop, length};
+ghost use Rattle.std.specs.Prelude.{◌≡◌, ◌++◌, ◌∷◌, ◌+◌, ◌^◌, ◌<◌, ◌≤◌, [], All, drop, length};
 
 use crate::changes::next_generation;
 use crate::lists::HostLists;
@@ -34,16 +33,14 @@ impl HostLists {
         self.offers.drop_oldest();
     }
 
-    /// The range of `bytes` bytes from `start` on leaves the first accepted extent in which it lies; where it lies in none
-    /// nothing changes. There are fewer than 128 accepted extents.
-    ///
-    /// The range ends below 2^64, or that extent ends at 2^64 or below.
-    pub fn enter_leave(&mut self, start: u64, bytes: u64)
-        requires few { length self.old.accepted < 128 }
-        requires in_addresses { IsCutInAddresses start bytes self.old.accepted }
-        ensures { self.new ≡ record self.old { accepted = cut start bytes self.old.accepted } }
+    /// These extents leave the accepted ones one after another, each where it lies in one when its turn comes. With the accepted
+    /// ones they are 128 at most, and each ends below 2^64.
+    pub fn enter_leaves(&mut self, leaving: &[Extent])
+        requires few { length self.old.accepted + length leaving.now ≤ 128 }
+        requires ends { All (λ x. x.start + x.length < 2 ^ 64) leaving.now }
+        ensures { self.new ≡ record self.old { accepted = cut_all leaving.now self.old.accepted } }
     {
-        self.accepted.leave(start, bytes);
+        self.accepted.leave_all(leaving);
     }
 
     /// Responses with More hold these extents behind those that they hold, 64 at most together.

@@ -1,18 +1,18 @@
 //! The lists, and what is read of them.
 
 ghost use Rattle.extent_list.specs.dcd_codes.specs.dcd_base.specs.Limits.{extents_supported, tags_supported};
-ghost use Rattle.extent_list.specs.ExtentLists.{count_in, has_extent_of, real_tags};
+ghost use Rattle.extent_list.specs.ExtentLists.{count_in, has_extent_of, marked, real_tags};
 ghost use Rattle.extent_list.specs.HostLists.{extent_total, extents_of_lists, no_lists};
 ghost use Rattle.host_lists.specs.Tags.{capped, tag_count};
 ghost use Rattle.offer_core.specs.Offerings.{lists_of, oldest_of};
 ghost use Rattle.std.specs.List.{list_any};
-ghost use Rattle.std.specs.Prelude.{◌≡◌, ◌++◌, ◌+◌, ◌-◌, ◌^◌, ◌<◌, ◌≤◌, [], IfOk, Some, drop, length, slice_get};
+ghost use Rattle.std.specs.Prelude.{◌≡◌, ◌++◌, ◌+◌, ◌-◌, ◌^◌, ◌<◌, ◌≤◌, [], IfOk, Some, drop, length, map, slice_get};
 
 use crate::accepted::AcceptedList;
 use crate::offer_lists::OfferLists;
 use crate::tag_counts::{all_tags, has_in_offers, more_tags};
 use extent_list::dcd_codes::dcd_base::limits::{EXTENTS, TAGS};
-use extent_list::dcd_codes::dcd_base::{Extent, NoMemory, Tag};
+use extent_list::dcd_codes::dcd_base::{Extent, Extents, NoMemory, Tag};
 use extent_list::{ExtentList, has_extent_of};
 use offer_core::Offers;
 use release_core::Releases;
@@ -147,12 +147,12 @@ impl HostLists {
         has_in_offers(tag, &offers, offers.len())
     }
 
-    /// How many more extents the host may get.
+    /// How many more extents the host may get; none where it has more than it may.
     pub fn extents_available(&self) -> u32
-        requires few { extent_total self.now ≤ 64 }
         ensures { result ≡ extents_supported - length (extents_of_lists self.now) }
     {
-        (EXTENTS - (self.accepted.list().len() + self.offers.extents())) as u32
+        let left = EXTENTS.saturating_sub(self.accepted.list().len());
+        left.saturating_sub(self.offers.extents()) as u32
     }
 
     /// How many tags the extents have that the host has accepted or is offered, up to the end of 32 bits.
@@ -180,6 +180,14 @@ impl HostLists {
         let accepted = self.accepted.list().as_slice();
         let offers = OfferLists::all(&self.offers);
         more_tags(self.tags(), accepted, &offers, self.offers.len(), more)
+    }
+
+    /// What a release gives back with this list of a message behind what is held: each extent with the tag and the sequence of
+    /// the accepted extent in which it lies.
+    pub fn leaving_of(&self, list: &Extents) -> Result<Extents, NoMemory>
+        ensures { IfOk result (λ leaving. leaving ≡ map (marked self.now.accepted) (self.now.releases ++ list.now)) }
+    {
+        self.releases.leaving_of(self.accepted().as_slice(), list)
     }
 
     /// Lets go what responses with More hold.

@@ -1,11 +1,9 @@
-//! The extents of each offer, of all offers or of those behind the oldest.
+//! The extents of each offer, of all offers or of those from an index on.
 
-ghost use Rattle.host_lists.specs.Changes.{fits_behind};
 ghost use Rattle.offer_core.specs.Offerings.{lists_of};
 ghost use Rattle.std.specs.Prelude.{◌≡◌, ◌<◌, Some, drop, length, slice_get};
 
 use extent_list::dcd_codes::dcd_base::Extent;
-use extent_list::dcd_codes::dcd_base::limits::EXTENTS;
 use offer_core::Offers;
 use std::marker::Model;
 
@@ -34,13 +32,6 @@ impl<'a> OfferLists<'a> {
         OfferLists { offers, first: 0 }
     }
 
-    /// Those of the offers behind the oldest.
-    pub(crate) fn behind_oldest(offers: &'a Offers) -> OfferLists<'a>
-        ensures { result ≡ drop 1 (lists_of offers.now.offers) }
-    {
-        OfferLists { offers, first: 1 }
-    }
-
     /// Those of the offers from an index on.
     pub(crate) fn from(offers: &'a Offers, first: usize) -> OfferLists<'a>
         ensures { result ≡ drop first (lists_of offers.now.offers) }
@@ -64,12 +55,4 @@ impl<'a> OfferLists<'a> {
         let _count = self.offers.len();
         self.offers.at(self.first + index)
     }
-}
-
-/// Whether an offer of these extents fits behind the offers: fewer than 64 wait, and have 64 extents at most together with it.
-pub(crate) fn fits_behind(offers: &Offers, extents: &[Extent]) -> bool
-    ensures { result ≡ fits_behind extents.now (lists_of offers.now.offers) }
-{
-    let had = offers.extents();
-    offers.len() < EXTENTS && had <= EXTENTS && extents.len() <= EXTENTS - had
 }

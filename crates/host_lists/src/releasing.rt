@@ -1,11 +1,13 @@
 //! Extents that are taken from a host, which changes its lists at once.
 
+ghost use Rattle.extent_list.specs.ExtentLists.{cut_all};
 ghost use Rattle.host_lists.specs.Answers.{lists_less};
-ghost use Rattle.std.specs.Prelude.{◌≡◌, ◌+◌, ◌^◌, ◌<◌, All, OnErr, OnOk};
+ghost use Rattle.std.specs.Prelude.{◌≡◌, ◌+◌, ◌^◌, ◌<◌, All, IfOk, OnErr, OnOk};
 
+use crate::accepted::AcceptedList;
 use crate::changes::next_generation;
 use crate::lists::HostLists;
-use extent_list::dcd_codes::dcd_base::{Extents, NoMemory};
+use extent_list::dcd_codes::dcd_base::{Extent, Extents, NoMemory};
 
 impl HostLists {
     /// Takes those of these extents out of the accepted ones that lie in one when their turn comes, which counts as
@@ -18,5 +20,16 @@ impl HostLists {
         self.accepted = self.accepted_less(extents.as_slice())?;
         self.generation = next_generation(self.generation);
         Ok(())
+    }
+
+    /// The accepted extents without these, each of which ends below 2^64.
+    fn accepted_less(&self, leaving: &[Extent]) -> Result<AcceptedList, NoMemory>
+        requires ends { All (λ x. x.start + x.length < 2 ^ 64) leaving.now }
+        ensures { IfOk result (λ accepted. accepted ≡ cut_all leaving.now self.now.accepted) }
+    {
+        let mut accepted = self.accepted().copy_with_room(leaving.len())?;
+        accepted.reserve(leaving.len())?;
+        accepted.cut_all(leaving);
+        AcceptedList::of(accepted)
     }
 }

@@ -1,5 +1,5 @@
 -- Free blocks as they are chosen: by what is kept, and as runs of the device.
-use Rattle.std.proofs.Common.{◌≡◌, ℕ, zero, suc, ◌+◌, ◌%◌, ◌/◌, ◌<◌, ◌≤◌, Bool, true, false, not, ◌==◌, ◌||◌, List, [], ◌∷◌, length, Result, Ok, IfOk, sym, ap, subst, ◌∙◌, arith}
+use Rattle.std.proofs.Common.{◌≡◌, ℕ, zero, suc, ◌+◌, ◌%◌, ◌/◌, ◌<◌, ◌≤◌, true, false, not, ◌==◌, ◌||◌, List, [], ◌∷◌, length, Result, Ok, IfOk, sym, ap, subst, ◌∙◌, arith}
 use Rattle.std.specs.Prelude.{All, if◌then◌else◌}
 use Rattle.event_records.specs.dcd_base.specs.Words.{◌or◌}
 use Rattle.event_records.specs.dcd_base.specs.declared.media.Run.{Run}
@@ -21,9 +21,6 @@ use Rattle.device_state.specs.declared.state.State.{State}
 
 module _ (s : State) (r need per : ℕ) (states : List GranuleState) (area : Run) (result : Result (List Run) Refusal)
     (states_are : states ≡ s.granules.states) (area_is : area ≡ area_of s.present r) (per_is : per ≡ per_block s.present r) where
-  abbrev free_now : ℕ → Bool
-  free_now = is_free_at s.granules.states
-
   pub found_free : (policy : ℕ) → (policy == 0) ≡ true → ByRow (too_few_free need (free_block_count states area per)) (λ runs. runs ≡ free_runs (is_free_at states) area per need) result →
       ByRow (too_few_free need (if policy == 0 then region_free_blocks s.present (is_free_at s.granules.states) r else region_longest_free s.present (is_free_at s.granules.states) r)) (λ runs. runs ≡ block_runs s policy r need) result
   found_free policy is row =

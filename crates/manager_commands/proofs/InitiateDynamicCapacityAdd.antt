@@ -20,10 +20,9 @@ use Rattle.extent_list.specs.dcd_codes.specs.declared.rules.Rule.{Rule}
 use Rattle.extent_list.specs.ExtentLists.{has_extent_of, real_tags}
 use Rattle.selection.specs.granule_map.specs.StateLists.{is_free_at}
 use Rattle.device_commands.specs.Drafts.{Drafts}
-use Rattle.device_commands.specs.ListsUpdates.{left_by}
+use Rattle.device_state.specs.device_rules.specs.Views.{lists_in, extents_in, view_after, view_of}
 use Rattle.device_state.specs.StateAfter.{IsStateAfter, part_of}
-use Rattle.device_state.specs.device_rules.specs.Views.{lists_in, View, extents_in, view_after, view_of}
-use Rattle.device_commands.specs.declared.draft.DraftParts.{DraftParts}
+use Rattle.device_commands.specs.declared.draft.Draft.{Draft}
 use Rattle.extent_list.specs.HostLists.{Lists, extent_total}
 use Rattle.journal_core.specs.Entries.{effects}
 use Rattle.journal_core.specs.declared.entries.Entry.{Entry}
@@ -50,13 +49,13 @@ use Rattle.device_state.specs.device_rules.specs.Standing.{IsMade, Stands}
 use Rattle.device_state.specs.device_rules.proofs.Homes.{first_same, made_is_run, region_of_same, supported_whole}
 use Rattle.device_state.specs.device_rules.proofs.ListSteps.{each-change, each-map}
 use Rattle.device_state.specs.device_rules.proofs.Overlaps.{not_broken}
-use Rattle.selection.proofs.Prescribed.{neither}
+use Rattle.release_core.proofs.Members.{neither}
 use Rattle.device_state.specs.device_rules.proofs.TagSteps.{same_tag-is}
 use Rattle.manager_commands.proofs.CountedTags.{HasOne, no_more, own_first}
 use Rattle.manager_commands.proofs.FreeGranules.{free_at}
 use Rattle.manager_commands.proofs.TagReadings.{tags_live, tags_open, tags_open_in}
 use Rattle.manager_commands.proofs.Reached.{hosts_kept, region_kept, regions_kept, stands_by, total_kept}
-use Rattle.manager_commands.specs.InitiateDynamicCapacityAdd.{DraftOffers, chosen_rule, is_used_tag, is_with_hosts, lists_have, target_rule, offered_lists, offered_now, room_rule, tag_rule}
+use Rattle.manager_commands.specs.InitiateDynamicCapacityAdd.{DraftOffers, chosen_rule, is_used_tag, is_with_hosts, lists_have, target_rule, offered_now, room_rule, tag_rule}
 use Rattle.device_state.specs.Entered.{runs_found, runs_in}
 use Rattle.device_state.specs.declared.state.State.{State}
 
@@ -166,9 +165,6 @@ module _ (c : Configuration) (sound : IsSound c) (journal : List Entry) (legal :
       ∙ sym (list_any-append (λ x. same_tag x.tag t) (accepted_of c h (effects journal)) (flat_map (λ xs. xs) (offers_of h (effects journal))))
 
   module _ (h : HostId) (policy r bytes : ℕ) (tag : Tag) (list : List Extent) where
-    abbrev pub views : HostId → View
-    views k = view_of c k journal
-
     abbrev new : List Extent
     new = offered c past h policy r bytes tag list
 
@@ -321,20 +317,13 @@ module _ (c : Configuration) (sound : IsSound c) (journal : List Entry) (legal :
             ∙ ap (λ ys. room_rule h (lists_in (view_of c h journal)) (view_of c h journal).log ys) (sym (are_xs ∙ offered_same))
             ∙ ap (λ (l : Lists). room_rule h l (view_of c h journal).log xs) (sym (kept.parts h are.host).lists_are)
 
-        offered_view : (xs : List Extent) → offered_lists (lists_in (view_of c h journal)) xs ≡ lists_in (view_after c h (view_of c h journal) (Effect.Offer h xs ∷ []))
-        offered_view xs =
-            let more : (view_after c h (view_of c h journal) (Effect.Offer h xs ∷ [])).offers ≡ offers_of h (effects journal) ++ xs ∷ [] = ap (λ b. if b then offers_of h (effects journal) ++ xs ∷ [] else offers_of h (effects journal)) (eq-eqb h h refl) in
-            λ i. record (lists_in (view_of c h journal)) { offers = sym more i }
-
-        pub drafts_offered : (xs : List Extent) → xs ≡ offered_now s h policy r bytes tag list → (d : DraftParts) → DraftOffers h (part_of s h).lists xs d →
+        pub drafts_offered : (xs : List Extent) → xs ≡ offered_now s h policy r bytes tag list → (d : Draft) → DraftOffers h xs d →
             Drafts c h (view_of c h journal) (add_outcome c (effects journal) (λ k. view_of c k journal) h policy r bytes tag list) d
         drafts_offered xs are_xs d is =
             subst (λ ys. Drafts c h (view_of c h journal) (record { payload = []; changes = Effect.Offer h ys ∷ []; tags = []; log_records = (LogId.Host h, records_of_extents h (view_after c h (view_of c h journal) (Effect.Offer h ys ∷ [])) EventKind.Add ys) ∷ [] }) d) (are_xs ∙ offered_same)
-            (let after : offered_lists (part_of s h).lists xs ≡ lists_in (view_after c h (view_of c h journal) (Effect.Offer h xs ∷ [])) = ap (λ (l : Lists). offered_lists l xs) (kept.parts h are.host).lists_are ∙ offered_view xs in
-            record {
+            (record {
               payload = is.payload;
               changes = is.changes_are;
-              tags = is.tags;
-              log_records = is.log_records (view_after c h (view_of c h journal) (Effect.Offer h xs ∷ [])) after;
-              lists = ap (left_by d.lists) (sym (kept.parts h are.host).lists_are) ∙ is.lists_are ∙ after;
+              tags = is.tags_are;
+              log_records = is.log_records (view_after c h (view_of c h journal) (Effect.Offer h xs ∷ []));
             })

@@ -1,14 +1,10 @@
 -- Pages of lists.
-use Rattle.std.proofs.Common.{◌≡◌, ℕ, zero, suc, ◌+◌, ◌-◌, ◌≤◌, min, List, [], ◌∷◌, ◌++◌, take, drop, map, length, Some, slice_get, refl, sym, ap, ◌∙◌, arith}
+use Rattle.std.proofs.Common.{◌≡◌, ℕ, zero, suc, ◌+◌, ◌≤◌, List, [], ◌∷◌, ◌++◌, take, drop, map, length, Some, slice_get, refl, sym, ap, ◌∙◌, arith}
 use Rattle.std.specs.Prelude.{flat_map, option_map}
 use Rattle.std.specs.List.{enumerate_from, range_with_len}
-use Rattle.std.proofs.lemmas.List.{drop-map, length-drop, take-map, take_min}
+use Rattle.std.proofs.lemmas.List.{drop-map, take-map}
 use Rattle.std.proofs.lemmas.Option.{none-some, same_Some}
 use Rattle.device_state.specs.device_rules.specs.Settings.{page}
-
--- as many as there are, where more are asked for
-pub page_capped : {X : Type 0} (first count : ℕ) (xs : List X) → take (min count (length xs - first)) (drop first xs) ≡ page first count xs
-page_capped first count xs = ap (λ n. take (min count n) (drop first xs)) (sym (length-drop first xs)) ∙ take_min count (drop first xs)
 
 slice_get-drop : {X : Type 0} (first i : ℕ) (xs : List X) → slice_get xs (first + i) ≡ slice_get (drop first xs) i
 slice_get-drop zero i xs = ap (slice_get xs) (let e : 0 + i ≡ i = omega arith in e)

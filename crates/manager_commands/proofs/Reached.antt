@@ -25,7 +25,7 @@ use Rattle.device_state.specs.device_rules.specs.Standing.{Stands}
 use Rattle.device_state.specs.device_rules.proofs.LegalSound.{legal_is_sound}
 use Rattle.manager_commands.proofs.CountedTags.{few_tags}
 use Rattle.device_state.specs.StateAfter.{IsStateAfter, IsReached, part_of}
-use Rattle.manager_commands.specs.SetDcRegionConfiguration.{ListsAreOf, LogsAreOf}
+use Rattle.manager_commands.specs.SetDcRegionConfiguration.{LogsAreOf}
 use Rattle.device_state.specs.declared.state.State.{State}
 
 -- there are as many regions with other blocks
@@ -48,10 +48,7 @@ module _ (c : Configuration) (journal : List Entry) (s : State) (kept : IsStateA
   pub total_kept : granule_total s.present ≡ granule_total c
   total_kept = ap (first_granule s.present) regions_kept ∙ first_kept (length c.regions)
 
-  -- the lists and the logs are those of the hosts' views
-  pub lists_kept : ListsAreOf s (λ h. view_of c h journal)
-  lists_kept h known = (kept.parts h (omega (arith, known, hosts_kept))).lists_are
-
+  -- the logs are those of the hosts' views
   pub logs_kept : LogsAreOf s (λ h. view_of c h journal)
   logs_kept h known = (kept.parts h (omega (arith, known, hosts_kept))).log_is
 

@@ -27,10 +27,6 @@ kept_rule b rule kept = ap (λ t. t breaks rule) kept
 pub broken_rule : (b : Bool) (rule : Rule) → b ≡ true → (b breaks rule) ≡ Some rule
 broken_rule b rule broken = ap (λ t. t breaks rule) broken
 
--- the first of a row, where it is broken, and the rest where it is kept
-pub first_broken : (first rest : Option Rule) (rule : Rule) → first ≡ Some rule → (first or rest) ≡ Some rule
-first_broken first rest rule broken = ap (λ (r : Option Rule). r or rest) broken
-
 pub first_kept : (first rest found : Option Rule) → first ≡ None → rest ≡ found → (first or rest) ≡ found
 first_kept first rest found kept is = rw kept is
 

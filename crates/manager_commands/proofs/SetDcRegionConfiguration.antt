@@ -1,8 +1,8 @@
 -- The row of a new block size, by what is kept of the region.
-use Rattle.std.proofs.Common.{◌≡◌, ℕ, zero, suc, ◌<◌, ◌≤◌, Bool, true, false, not, ◌==◌, List, [], ◌∷◌, map, length, Option, Some, None, refl, sym, ap, subst, ◌∙◌, arith, ltb}
-use Rattle.std.specs.Prelude.{count_by, if◌then◌else◌, option_map}
+use Rattle.std.proofs.Common.{◌≡◌, ℕ, zero, suc, ◌+◌, ◌<◌, ◌≤◌, Bool, not, ◌==◌, List, [], ◌∷◌, map, length, Option, Some, None, refl, sym, ap, subst, ◌∙◌, arith, ltb}
+use Rattle.std.specs.Prelude.{All, count_by}
 use Rattle.std.specs.List.{range_with_len}
-use Rattle.std.proofs.lemmas.Bool.{le-leb, lt-ltb, ne_eqb}
+use Rattle.std.proofs.lemmas.Bool.{le-leb}
 use Rattle.std.proofs.lemmas.List.Sums.{length-filter}
 use Rattle.event_records.specs.dcd_base.specs.Words.{flag_of, ◌or◌}
 use Rattle.event_records.specs.dcd_base.specs.declared.ids.HostId.{HostId}
@@ -11,11 +11,9 @@ use Rattle.extent_list.specs.dcd_codes.specs.declared.rules.Rule.{Rule}
 use Rattle.selection.specs.granule_map.specs.StateLists.{is_free_at}
 use Rattle.journal_core.specs.Entries.{effects}
 use Rattle.journal_core.specs.declared.entries.Entry.{Entry}
-use Rattle.extent_list.specs.media_map.specs.region_config.specs.Blocks.{block_fault}
 use Rattle.extent_list.specs.media_map.specs.region_config.specs.Configurations.{Configuration}
 use Rattle.extent_list.specs.media_map.specs.region_config.specs.Granules.{first_granule, granule_total, region_granules, hosts_of, is_supported, region_spec, sizes_in}
 use Rattle.extent_list.specs.media_map.specs.region_config.specs.Soundness.{IsSound}
-use Rattle.extent_list.specs.media_map.specs.region_config.specs.declared.faults.BlockFault.{BlockFault}
 use Rattle.extent_list.specs.media_map.specs.region_config.specs.declared.region_spec.RegionSpec.{RegionSpec}
 use Rattle.extent_list.specs.media_map.specs.region_config.proofs.Faultless.{granules_within}
 use Rattle.extent_list.specs.media_map.specs.region_config.proofs.PresentBlocks.{granules_in-with_blocks}
@@ -29,33 +27,13 @@ use Rattle.device_state.specs.device_rules.specs.Views.{View}
 use Rattle.manager_commands.proofs.FreeGranules.{filter_agree, free_at}
 use Rattle.manager_commands.proofs.Reached.{first_kept, hosts_kept, region_kept}
 use Rattle.manager_commands.proofs.Rows.{kept_rule, not_up_to}
-use Rattle.manager_commands.specs.SetDcRegionConfiguration.{region_record, size_rule, used_in}
-use Rattle.device_commands.specs.Drafts.{IsOutcome}
-use Rattle.device_commands.specs.declared.draft.DraftParts.{DraftParts}
+use Rattle.manager_commands.specs.SetDcRegionConfiguration.{region_record, size_rule, told_to_all, used_in}
+use Rattle.device_commands.specs.Drafts.{Informs, as_records}
+use Rattle.device_commands.specs.declared.draft.Draft.{Draft}
+use Rattle.device_commands.specs.declared.log_records.LogRecords.{LogRecords}
 use Rattle.journal_core.specs.declared.outcome.Effect.{Effect}
 use Rattle.device_state.specs.StateAfter.{IsStateAfter}
 use Rattle.device_state.specs.declared.state.State.{State}
-
--- the rule that a fault is
-abbrev pub rule_of : BlockFault → Rule
-rule_of (BlockFault.NotSupportedSize size) = Rule.NotSupportedSize size
-rule_of BlockFault.SanitizeDiffers = Rule.SanitizeDiffers
-rule_of (BlockFault.InUse granules) = Rule.RegionInUse granules
-
-some_used : (n : ℕ) → ltb 0 n ≡ not (n == 0)
-some_used zero = refl
-some_used (suc n) = lt-ltb 0 (suc n) (omega arith) ∙ sym (ap not (ne_eqb (suc n) 0 (λ e. omega (arith, e))))
-
-pub size_rule-is : (spec : RegionSpec) (size : ℕ) (sanitize : Bool) (used : ℕ) → size_rule spec size sanitize used ≡ option_map rule_of (block_fault spec size sanitize used)
-size_rule-is spec size sanitize used = ap (λ b. (not (is_supported spec size) breaks Rule.NotSupportedSize size) or (not (flag_of sanitize == flag_of spec.sanitize) breaks Rule.SanitizeDiffers) or (b breaks Rule.RegionInUse used)) (some_used used)
-    ∙ by (not (is_supported spec size)) (not (flag_of sanitize == flag_of spec.sanitize)) (not (used == 0))
-  where
-    by : (a b c : Bool) → ((a breaks Rule.NotSupportedSize size) or (b breaks Rule.SanitizeDiffers) or (c breaks Rule.RegionInUse used))
-        ≡ option_map rule_of ((if a then Some (BlockFault.NotSupportedSize size) else None) or (if b then Some BlockFault.SanitizeDiffers else None) or (if c then Some (BlockFault.InUse used) else None))
-    by true b c = refl
-    by false true c = refl
-    by false false true = refl
-    by false false false = refl
 
 -- another block leaves the sizes that are supported
 other_block : (spec : RegionSpec) (b size : ℕ) (sanitize : Bool) (used : ℕ) → size_rule (record spec { block = b }) size sanitize used ≡ size_rule spec size sanitize used
@@ -117,9 +95,19 @@ module _ (c : Configuration) (sound : IsSound c) (journal : List Entry) (s : Sta
         ∙ ap (λ n. each_in (range_with_len 0 n) (λ (before : List HostId) h. log_full h (view_for h).log 1)) (sym (hosts_kept c journal s kept)) ∙ logs
 
     -- each host of the device is told
-    pub told_all : (d : DraftParts) → IsOutcome (set_outcome s.present view_for r size) d → IsOutcome (set_outcome c view_for r size) d
+    pub told_all : (d : Draft) → Informs s.present.hosts view_for (set_outcome s.present view_for r size) d → Informs c.hosts view_for (set_outcome c view_for r size) d
     told_all d is =
-        subst (λ n. IsOutcome (record { payload = []; changes = Effect.Block r size ∷ []; tags = []; log_records = map (region_record view_for r) (range_with_len 0 n) }) d) (hosts_kept c journal s kept) is
+        subst (λ n. Informs n view_for (record { payload = []; changes = Effect.Block r size ∷ []; tags = []; log_records = map (region_record view_for r) (range_with_len 0 n) }) d) (hosts_kept c journal s kept) is
+
+-- what is told to all is what the outcome tells, and names hosts of the device
+pub told_records : (view_for : HostId → View) (r : ℕ) (hosts : List HostId) → map (λ (n : LogRecords). as_records (view_for n.host) n) (told_to_all r hosts) ≡ map (region_record view_for r) hosts
+told_records view_for r [] = refl
+told_records view_for r (h ∷ hosts) = ap (λ rest. region_record view_for r h ∷ rest) (told_records view_for r hosts)
+
+pub told_known : (r n first count : ℕ) → first + count ≤ n → All (λ (t : LogRecords). t.host < n) (told_to_all r (range_with_len first count))
+told_known r n first zero within i d less = absurd (omega (arith, less))
+told_known r n first (suc count) within zero d less = omega (arith, within)
+told_known r n first (suc count) within (suc i) d less = told_known r n (first + 1) count (omega (arith, within)) i d (omega (arith, less))
 
 -- a region past the last
 pub unknown_region : (c : Configuration) (journal : List Entry) (view_for : HostId → View) (r : ℕ) (sanitize : Bool) (size : ℕ) → length c.regions ≤ r →

@@ -1,5 +1,5 @@
 -- What an offer breaks, what it has, and what it comes to, by what is kept, 5604h.
-use Rattle.std.specs.Prelude.{◌≡◌, ℕ, ◌+◌, ◌/◌, Bool, ◌&&◌, not, ◌==◌, ◌||◌, nat_le, nat_lt, List, [], ◌∷◌, ◌++◌, Option, if◌then◌else◌, length, map}
+use Rattle.std.specs.Prelude.{◌≡◌, ℕ, ◌+◌, ◌/◌, Bool, ◌&&◌, not, ◌==◌, ◌||◌, nat_le, nat_lt, List, [], ◌∷◌, ◌++◌, Option, if◌then◌else◌, length}
 use Rattle.std.specs.List.{list_any}
 use Rattle.event_records.specs.dcd_base.specs.Words.{◌or◌, is_zero_tag, where_true}
 use Rattle.event_records.specs.dcd_base.specs.declared.capacity.Extent.{Extent}
@@ -14,10 +14,8 @@ use Rattle.event_records.specs.declared.events.EventKind.{EventKind}
 use Rattle.extent_list.specs.ExtentLists.{has_extent_of, real_tags}
 use Rattle.selection.specs.granule_map.specs.StateLists.{is_free_at}
 use Rattle.device_state.specs.StateAfter.{part_of}
-use Rattle.device_state.specs.device_rules.specs.Views.{lists_in, View}
-use Rattle.device_commands.specs.Drafts.{as_records}
-use Rattle.device_commands.specs.ListsUpdates.{left_by}
-use Rattle.device_commands.specs.declared.draft.DraftParts.{DraftParts}
+use Rattle.device_commands.specs.ListDrafts.{Tells}
+use Rattle.device_commands.specs.declared.draft.Draft.{Draft}
 use Rattle.extent_list.specs.HostLists.{Lists, extent_total, extents_of_lists}
 use Rattle.journal_core.specs.declared.outcome.Effect.{Effect}
 use Rattle.extent_list.specs.Listing.{too_many_extents}
@@ -95,17 +93,9 @@ room_rule h l log new =
     or too_many_tags (length (real_tags (extents_of_lists l ++ new)))
     or log_full h log (length new)
 
--- the lists with one more offer
-abbrev pub offered_lists : Lists → List Extent → Lists
-offered_lists l new = record l { offers = l.offers ++ new ∷ [] }
-
 -- The draft offers these to the host, and tells it of each.
-pub record DraftOffers (h : HostId) (old : Lists) (new : List Extent) (d : DraftParts) : Type 0 where
-  pub payload : d.payload ≡ []
-  pub changes_are : d.changes ≡ Effect.Offer h new ∷ []
-  pub tags : d.tags ≡ []
-  pub lists_are : left_by d.lists old ≡ offered_lists old new
-  pub log_records : (v : View) → offered_lists old new ≡ lists_in v → map as_records d.log_records ≡ (LogId.Host h, records_of_extents h v EventKind.Add new) ∷ []
+abbrev pub DraftOffers : HostId → List Extent → Draft → Type 0
+DraftOffers h new d = Tells (Effect.Offer h new ∷ []) [] (LogId.Host h) (λ w. records_of_extents h w EventKind.Add new) d
 
 -- ---- by the fields of a request
 
@@ -144,6 +134,6 @@ abbrev pub IsRoomRule : State → HostId → List Extent → Option Rule → Typ
 IsRoomRule s h new found = (log : Log) → IsLogOf (LogId.Host h) log (part_of s h).log → found ≡ room_rule h (part_of s h).lists log new
 
 -- The extents are offered, or this rule is broken.
-abbrev pub AnswersOffer : State → HostId → List Extent → Result DraftParts Refusal → Type 0
+abbrev pub AnswersOffer : State → HostId → List Extent → Result Draft Refusal → Type 0
 AnswersOffer s h new result = (log : Log) → IsLogOf (LogId.Host h) log (part_of s h).log →
-    ByRow (room_rule h (part_of s h).lists log new) (DraftOffers h (part_of s h).lists new) result
+    ByRow (room_rule h (part_of s h).lists log new) (DraftOffers h new) result

@@ -1,5 +1,5 @@
 -- What the manager takes from a host or asks it for, and what is told of it, 5605h.
-use Rattle.std.specs.Prelude.{◌≡◌, ℕ, ◌+◌, ◌≤◌, Bool, All, ◌&&◌, not, ◌==◌, nat_le, nat_lt, IsTrue, List, [], ◌∷◌, fold, Option, if◌then◌else◌, length, map}
+use Rattle.std.specs.Prelude.{ℕ, Bool, All, ◌&&◌, not, ◌==◌, nat_lt, nat_le, IsTrue, List, [], ◌∷◌, Option, if◌then◌else◌, length}
 use Rattle.event_records.specs.dcd_base.specs.Words.{◌or◌}
 use Rattle.event_records.specs.dcd_base.specs.declared.capacity.Extent.{Extent}
 use Rattle.event_records.specs.dcd_base.specs.declared.capacity.Tag.{Tag}
@@ -8,22 +8,19 @@ use Rattle.event_records.specs.dcd_base.specs.declared.steps.LogId.{LogId}
 use Rattle.extent_list.specs.dcd_codes.specs.Rules.{◌breaks◌, ByRow}
 use Rattle.extent_list.specs.dcd_codes.specs.declared.rules.Rule.{Rule}
 use Rattle.event_records.specs.declared.events.EventKind.{EventKind}
-use Rattle.extent_list.specs.ExtentLists.{count_in, cut_all, tags_of}
+use Rattle.extent_list.specs.ExtentLists.{count_in, tags_of}
 use Rattle.device_state.specs.StateAfter.{IsStateAfter, part_of}
-use Rattle.device_state.specs.device_rules.specs.Views.{lists_in, View, view_after, view_of}
-use Rattle.device_commands.specs.Drafts.{Drafts, as_records}
-use Rattle.device_commands.specs.ListsUpdates.{left_by}
-use Rattle.device_commands.specs.declared.draft.DraftParts.{DraftParts}
-use Rattle.device_state.specs.host_lists.specs.Answers.{generation_after}
+use Rattle.device_commands.specs.Drafts.{Drafts}
+use Rattle.device_commands.specs.ListDrafts.{Tells}
+use Rattle.device_commands.specs.declared.draft.Draft.{Draft}
 use Rattle.extent_list.specs.HostLists.{Lists}
 use Rattle.journal_core.specs.declared.outcome.Effect.{Effect}
 use Rattle.extent_list.specs.media_map.specs.Places.{is_granular}
 use Rattle.extent_list.specs.media_map.specs.region_config.specs.Configurations.{Configuration}
-use Rattle.release_core.specs.Leaving.{AllCanLeave}
 use Rattle.release_core.specs.Removals.{by_tag_rule, prescribed_removal_rule}
-use Rattle.device_state.specs.device_rules.specs.Hosts.{accepted_after, offers_after}
 use Rattle.device_state.specs.device_rules.specs.Outcomes.{Outcome, records_of_extents, log_full}
 use Rattle.device_state.specs.device_rules.specs.ReleaseOutcomes.{is_cleaning, is_forced, policy_in, removals, removed}
+use Rattle.device_state.specs.device_rules.specs.Views.{View, view_after, view_of}
 use Rattle.std.specs.declared.result.Result.{Result}
 use Rattle.extent_list.specs.dcd_codes.specs.declared.refusals.Refusal.{Refusal}
 use Rattle.fm_payloads.specs.declared.requests.FmRequest.{FmRequest}
@@ -44,26 +41,13 @@ abbrev pub meant_rule : Configuration → HostId → Lists → ℕ → ℕ → T
 meant_rule present h l flags r tag list =
     if policy_in flags == 0 then by_tag_rule l.accepted tag else prescribed_removal_rule present h l.accepted (count_in l.offers) r list (is_forced flags)
 
--- the lists once these have left
-abbrev pub removed_lists : Lists → List Extent → Lists
-removed_lists l leaving = record l { accepted = cut_all leaving l.accepted; generation = generation_after leaving l.generation }
+-- These extents are made of granules as the host sees them.
+abbrev pub AreGranular : Configuration → HostId → List Extent → Type 0
+AreGranular c h leaving = All (λ x. IsTrue (is_granular c h x.start x.length)) leaving
 
--- These extents can be taken from the host.
-pub record Departs (c : Configuration) (h : HostId) (l : Lists) (clean : Bool) (leaving : List Extent) : Type 0 where
-  pub can : AllCanLeave l.accepted leaving
-  pub granular : All (λ x. IsTrue (is_granular c h x.start x.length)) leaving
-  pub accepted : fold (accepted_after c h) l.accepted (removals c h clean leaving) ≡ cut_all leaving l.accepted
-  pub offers : fold (offers_after h) l.offers (removals c h clean leaving) ≡ l.offers
-  pub few : length (cut_all leaving l.accepted) + count_in l.offers ≤ 64
-
--- The draft changes so much, what it changes of the host's lists leads to these, and it tells the host of each of the
--- extents, by the lists that it has then.
-pub record IsDrafted (h : HostId) (kind : EventKind) (changes : List Effect) (had new : Lists) (leaving : List Extent) (d : DraftParts) : Type 0 where
-  pub payload : d.payload ≡ []
-  pub changes_are : d.changes ≡ changes
-  pub tags : d.tags ≡ tags_of leaving
-  pub lists_are : left_by d.lists had ≡ new
-  pub log_records : (v : View) → new ≡ lists_in v → map as_records d.log_records ≡ (LogId.Host h, records_of_extents h v kind leaving) ∷ []
+-- The draft changes so much, and tells the host of each of the extents.
+abbrev pub IsDrafted : HostId → EventKind → List Effect → List Extent → Draft → Type 0
+IsDrafted h kind changes leaving d = Tells changes (tags_of leaving) (LogId.Host h) (λ w. records_of_extents h w kind leaving) d
 
 -- what a removal of these does
 abbrev pub removal_outcome : Configuration → HostId → View → ℕ → List Extent → Outcome
@@ -75,13 +59,13 @@ removal_outcome c h v flags all =
       log_records = (LogId.Host h, records_of_extents h (view_after c h v changes) (if is_forced flags then EventKind.Forced else EventKind.Release) all) ∷ [];
     }
 
--- The extents are taken from the host, which has these lists, by force.
-abbrev pub IsTakenByForce : Configuration → HostId → Bool → Lists → List Extent → DraftParts → Type 0
-IsTakenByForce c h clean l leaving d = IsDrafted h EventKind.Forced (removals c h clean leaving) l (removed_lists l leaving) leaving d
+-- The extents are taken from the host by force.
+abbrev pub IsTakenByForce : Configuration → HostId → Bool → List Extent → Draft → Type 0
+IsTakenByForce c h clean leaving d = IsDrafted h EventKind.Forced (removals c h clean leaving) leaving d
 
--- The host, which has these lists, is asked for the extents.
-abbrev pub IsAskedFor : HostId → Lists → List Extent → DraftParts → Type 0
-IsAskedFor h l leaving d = IsDrafted h EventKind.Release [] l l leaving d
+-- The host is asked for the extents.
+abbrev pub IsAskedFor : HostId → List Extent → Draft → Type 0
+IsAskedFor h leaving d = IsDrafted h EventKind.Release [] leaving d
 
 -- ---- by the fields of a request
 
@@ -97,7 +81,7 @@ abbrev pub meant_of : State → HostId → RemoveRequest → List Extent → Lis
 meant_of s h q list = removed (part_of s h).lists.accepted q.flags q.tag list
 
 -- The extents are taken or asked for, or the host's log has no room, by every legal journal that leads to what is kept.
-abbrev pub AnswersRemoval : Configuration → State → HostId → ℕ → List Extent → Result DraftParts Refusal → Type 0
+abbrev pub AnswersRemoval : Configuration → State → HostId → ℕ → List Extent → Result Draft Refusal → Type 0
 AnswersRemoval c s h flags leaving result = (journal : List Entry) → Legal c journal → IsStateAfter c journal s →
     ByRow (log_full h (view_of c h journal).log (length leaving))
     (Drafts c h (view_of c h journal) (removal_outcome c h (view_of c h journal) flags leaving)) result

@@ -14,8 +14,8 @@ use Rattle.device_state.specs.device_rules.specs.Outcomes.{Outcome}
 use Rattle.device_state.specs.device_rules.specs.Views.{view_of}
 use Rattle.device_state.specs.StateAfter.{IsStateAfter}
 use Rattle.device_state.specs.declared.state.State.{State}
-use Rattle.device_commands.specs.Drafts.{Drafts, IsOutcome}
-use Rattle.device_commands.specs.declared.draft.DraftParts.{DraftParts}
+use Rattle.device_commands.specs.Drafts.{Drafts, Informs, IsOutcome}
+use Rattle.device_commands.specs.declared.draft.Draft.{Draft}
 
 -- the first rule that a request breaks after these entries, and what it does where it breaks none
 abbrev pub rule_after : Configuration → List Entry → FmRequest → Option Rule
@@ -24,15 +24,16 @@ rule_after c journal q = manager_rule c (effects journal) (λ h. view_of c h jou
 abbrev pub outcome_after : Configuration → List Entry → FmRequest → Outcome
 outcome_after c journal q = manager_outcome c (effects journal) (λ h. view_of c h journal) q
 
--- The draft is this outcome of the request: an offer and a removal have the lists of their host after it, and no other
--- request changes lists.
-abbrev pub DraftsFor : Configuration → List Entry → FmRequest → Outcome → DraftParts → Type 0
+-- The draft is this outcome of the request: an offer and a removal change the lists of their host, and no other request
+-- changes lists.
+abbrev pub DraftsFor : Configuration → List Entry → FmRequest → Outcome → Draft → Type 0
 DraftsFor c journal (FmRequest.Add h policy r bytes tag list) o = Drafts c h (view_of c h journal) o
 DraftsFor c journal (FmRequest.Remove h flags r bytes tag list) o = Drafts c h (view_of c h journal) o
+DraftsFor c journal (FmRequest.SetRegion r sanitize size) o = Informs c.hosts (λ h. view_of c h journal) o
 DraftsFor c journal q o = IsOutcome o
 
 -- By every legal journal that leads to what is kept, the request is refused by its row, or drafted as its outcome.
-abbrev pub ManagerAnswers : Configuration → State → FmRequest → Result DraftParts Refusal → Type 0
+abbrev pub ManagerAnswers : Configuration → State → FmRequest → Result Draft Refusal → Type 0
 ManagerAnswers c s q result = (journal : List Entry) → Legal c journal → IsStateAfter c journal s →
     ByRow (rule_after c journal q) (DraftsFor c journal q (outcome_after c journal q)) result
 

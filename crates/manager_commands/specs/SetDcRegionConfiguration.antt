@@ -5,9 +5,9 @@ use Rattle.event_records.specs.dcd_base.specs.declared.steps.LogId.{LogId}
 use Rattle.extent_list.specs.dcd_codes.specs.Rules.{◌breaks◌, each_in}
 use Rattle.extent_list.specs.dcd_codes.specs.declared.rules.Rule.{Rule}
 use Rattle.device_state.specs.device_rules.specs.Outcomes.{no_extent, record_for, log_full}
-use Rattle.device_state.specs.device_rules.specs.Views.{View, lists_in}
-use Rattle.device_state.specs.StateAfter.{part_of}
+use Rattle.device_state.specs.device_rules.specs.Views.{View}
 use Rattle.event_log.specs.Logs.{IsLogOf}
+use Rattle.device_state.specs.StateAfter.{part_of}
 use Rattle.device_state.specs.declared.state.State.{State}
 use Rattle.event_records.specs.declared.events.Event.{Event}
 use Rattle.event_records.specs.declared.events.EventKind.{EventKind}
@@ -17,9 +17,10 @@ use Rattle.extent_list.specs.media_map.specs.region_config.specs.declared.region
 use Rattle.std.specs.List.{range_with_len}
 use Rattle.std.specs.Prelude.{◌≡◌, ℕ, ◌<◌, Bool, List, [], Option, count_by, false, not, ◌==◌, nat_lt, ◌∷◌, map}
 use Rattle.device_state.specs.device_rules.specs.Settings.{set_outcome}
-use Rattle.device_commands.specs.Drafts.{IsOutcome, as_records}
-use Rattle.device_commands.specs.declared.draft.DraftParts.{DraftParts}
+use Rattle.device_commands.specs.Drafts.{Informs}
+use Rattle.device_commands.specs.declared.draft.Draft.{Draft}
 use Rattle.device_commands.specs.declared.log_records.LogRecords.{LogRecords}
+use Rattle.device_commands.specs.declared.log_records.Told.{Told}
 
 -- how many of the region's granules are not free
 abbrev pub used_in : State → ℕ → ℕ
@@ -36,10 +37,7 @@ size_rule spec size sanitize used =
 abbrev pub region_record : (HostId → View) → ℕ → HostId → LogId × List Event
 region_record view_for r h = (LogId.Host h, record (record_for h (view_for h) EventKind.RegionUpdated false no_extent) { region = r } ∷ [])
 
--- The lists that are kept are those of these views, and so are the logs.
-abbrev pub ListsAreOf : State → (HostId → View) → Type 0
-ListsAreOf s view_for = (h : HostId) → h < s.present.hosts → (part_of s h).lists ≡ lists_in (view_for h)
-
+-- The logs that are kept are those of these views.
 abbrev pub LogsAreOf : State → (HostId → View) → Type 0
 LogsAreOf s view_for = (h : HostId) → h < s.present.hosts → IsLogOf (LogId.Host h) (view_for h).log (part_of s h).log
 
@@ -47,13 +45,13 @@ LogsAreOf s view_for = (h : HostId) → h < s.present.hosts → IsLogOf (LogId.H
 abbrev pub IsFirstFull : State → Option Rule → Type 0
 IsFirstFull s found = (view_for : HostId → View) → LogsAreOf s view_for → found ≡ each_in (hosts_of s.present) (λ before h. log_full h (view_for h).log 1)
 
--- A host is told, and so are all hosts.
-abbrev pub TellsHost : State → ℕ → HostId → LogRecords → Type 0
-TellsHost s r h n = (view_for : HostId → View) → (part_of s h).lists ≡ lists_in (view_for h) → as_records n ≡ region_record view_for r h
+-- a host is told, and so are all hosts
+abbrev pub told_to : ℕ → HostId → LogRecords
+told_to r h = record { log = LogId.Host h; host = h; told = Told.Region r }
 
-abbrev pub TellAll : State → ℕ → List LogRecords → Type 0
-TellAll s r ns = (view_for : HostId → View) → ListsAreOf s view_for → map as_records ns ≡ map (region_record view_for r) (hosts_of s.present)
+abbrev pub told_to_all : ℕ → List HostId → List LogRecords
+told_to_all r hosts = map (told_to r) hosts
 
 -- The draft gives the region other blocks, and tells all hosts.
-abbrev pub IsSet : State → ℕ → ℕ → DraftParts → Type 0
-IsSet s r size d = (view_for : HostId → View) → ListsAreOf s view_for → IsOutcome (set_outcome s.present view_for r size) d
+abbrev pub IsSet : State → ℕ → ℕ → Draft → Type 0
+IsSet s r size d = (view_for : HostId → View) → Informs s.present.hosts view_for (set_outcome s.present view_for r size) d

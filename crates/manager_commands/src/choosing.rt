@@ -9,13 +9,11 @@ ghost use Rattle.extent_list.specs.media_map.specs.region_config.specs.Granules.
 ghost use Rattle.std.specs.Prelude.{◌≡◌, ◌^◌, ◌<◌, ◌≤◌, All, IfOk, if◌then◌else◌, length};
 
 use crate::initiate_dynamic_capacity_add::{CONTIGUOUS, PRESCRIPTIVE};
-use device_commands::Room;
 use device_state::State;
 use event_records::dcd_base::{Extent, Extents, HostId, NoMemory, RegionId, Run, Runs, Tag};
 use extent_list::dcd_codes::{Refusal, Rule};
 use extent_list::media_map::extent_of;
 use std::alloc::Global;
-use std::mem::replace;
 
 /// What is asked for, where host, policy and region are there.
 #[derive(Clone, Copy, Debug)]
@@ -27,14 +25,12 @@ pub(crate) struct Asked {
     pub(crate) tag: Tag,
 }
 
-/// The extents of the offer, with its tag and numbered where the region is shareable. They have the memory of the room, as
-/// far as it goes.
+/// The extents of the offer, with its tag and numbered where the region is shareable.
 pub(crate) fn new_extents(
     alloc: Global,
     state: &State,
     asked: &Asked,
     list: &Extents,
-    room: &mut Room,
 ) -> Result<Extents, Refusal>
     requires host { asked.now.host < state.now.present.hosts }
     requires region { asked.now.region < length state.now.present.regions }
@@ -48,41 +44,35 @@ pub(crate) fn new_extents(
     if asked.policy == PRESCRIPTIVE {
         let (map, present) = (state.granules.states(), &state.present);
         match selection::prescriptive_rule(map, present, asked.host, asked.region, list) {
-            None => Ok(with_tag(shareable, &asked.tag, list.as_slice(), room)?),
+            None => Ok(with_tag(alloc, shareable, &asked.tag, list.as_slice())?),
             Some(rule) => Err(Refusal::Broken(rule)),
         }
     } else if asked.policy > CONTIGUOUS {
-        Ok(shared(state, asked, shareable, room)?)
+        Ok(shared(alloc, state, asked, shareable)?)
     } else {
-        free_extents(alloc, state, asked, shareable, room)
+        free_extents(alloc, state, asked, shareable)
     }
 }
 
 /// The granules of the tag, as extents of the host with the tag.
-fn shared(
-    state: &State,
-    asked: &Asked,
-    shareable: bool,
-    room: &mut Room,
-) -> Result<Extents, NoMemory>
+fn shared(alloc: Global, state: &State, asked: &Asked, shareable: bool) -> Result<Extents, NoMemory>
     requires host { asked.now.host < state.now.present.hosts }
     requires runs { All (IsRun state.now.present) (runs_in state.now asked.now.tag) }
     requires few { length (runs_in state.now asked.now.tag) ≤ 4096 }
     ensures { IfOk result (λ xs. xs ≡ tagged_runs state.now asked.now shareable (runs_in state.now asked.now.tag)) }
 {
     match state.tags.find(&asked.tag) {
-        Some(entry) => tagged_runs(state, asked, shareable, entry.runs.as_slice(), room),
-        None => Ok(Extents::new(room.allocator())),
+        Some(entry) => tagged_runs(alloc, state, asked, shareable, entry.runs.as_slice()),
+        None => Ok(Extents::new(alloc)),
     }
 }
 
-/// So many bytes of free blocks, as extents of the host with the tag. The runs of these have the memory of the room, too.
+/// So many bytes of free blocks, as extents of the host with the tag.
 fn free_extents(
     alloc: Global,
     state: &State,
     asked: &Asked,
     shareable: bool,
-    room: &mut Room,
 ) -> Result<Extents, Refusal>
     requires host { asked.now.host < state.now.present.hosts }
     requires region { asked.now.region < length state.now.present.regions }
@@ -100,7 +90,7 @@ fn free_extents(
     let area = state.present.granules_of(asked.region);
     let per_block = state.present.per_block(asked.region);
     let map = state.granules.states();
-    let memory = replace(&mut room.runs, Runs::new(alloc));
+    let memory = Runs::new(alloc);
     let found = if asked.policy == 0 {
         selection::free(map, area, per_block, blocks, memory)
     } else {
@@ -108,8 +98,7 @@ fn free_extents(
     };
     match found {
         Ok(runs) => {
-            let extents = tagged_runs(state, asked, shareable, runs.as_slice(), room)?;
-            room.runs = runs;
+            let extents = tagged_runs(alloc, state, asked, shareable, runs.as_slice())?;
             Ok(extents)
         }
         Err(refusal) => Err(refusal),
@@ -118,22 +107,22 @@ fn free_extents(
 
 /// Runs of granules as extents of the host with the tag, numbered from 1 where hosts can share it.
 fn tagged_runs(
+    alloc: Global,
     state: &State,
     asked: &Asked,
     shareable: bool,
     runs: &[Run],
-    room: &mut Room,
 ) -> Result<Extents, NoMemory>
     requires host { asked.now.host < state.now.present.hosts }
     requires runs { All (IsRun state.now.present) runs.now }
     requires few { length runs.now ≤ 4096 }
     ensures { IfOk result (λ xs. xs ≡ tagged_runs state.now asked.now shareable runs.now) }
 {
-    let mut extents = room.extents(runs.len())?;
+    let mut extents = Vec::with_capacity(alloc, runs.len())?;
     for i in 0..runs.len() {
         extents.push_reserved(tagged_run(state, asked, shareable, i as u16 + 1, &runs[i]));
     }
-    Ok(Extents::from_vec(room.allocator(), extents))
+    Ok(Extents::from_vec(alloc, extents))
 }
 
 /// A run of granules as an extent of the host with the tag, and with its number where hosts can share it.
@@ -149,19 +138,19 @@ fn tagged_run(state: &State, asked: &Asked, shareable: bool, number: u16, run: &
 
 /// Each extent with the tag, and numbered from 1 where hosts can share it.
 fn with_tag(
+    alloc: Global,
     shareable: bool,
     tag: &Tag,
     extents: &[Extent],
-    room: &mut Room,
 ) -> Result<Extents, NoMemory>
     requires { length extents.now ≤ 4096 }
     ensures { IfOk result (λ xs. xs ≡ with_tag shareable tag.now extents.now) }
 {
-    let mut tagged = room.extents(extents.len())?;
+    let mut tagged = Vec::with_capacity(alloc, extents.len())?;
     for i in 0..extents.len() {
         tagged.push_reserved(tagged_one(shareable, tag, i as u16 + 1, &extents[i]));
     }
-    Ok(Extents::from_vec(room.allocator(), tagged))
+    Ok(Extents::from_vec(alloc, tagged))
 }
 
 /// The extent with the tag, and with its number where hosts can share it.

@@ -10,20 +10,21 @@ ghost use Rattle.journal_core.specs.declared.outcome.Effect.{Effect};
 ghost use Rattle.std.specs.Prelude.{◌≡◌, ◌∷◌, [], IfOk, if◌then◌else◌, true};
 ghost use Rattle.tag_refs.specs.Tables.{entry_referenced, passes};
 
-use device_commands::{Draft, Room};
+use device_commands::Draft;
 use device_state::State;
 use event_records::dcd_base::{NoMemory, Tag};
 use extent_list::dcd_codes::{Refusal, Rule};
 use extent_list::media_map::region_config::Config;
 use journal_core::{Effect, Effects};
+use std::alloc::Global;
 use tag_refs::Tags;
 
 /// The manager refers to an open tag (profile). `NoSuchTag` comes exactly where the tag is not open.
 pub fn add_reference(
+    alloc: Global,
     config: &Config,
     state: &State,
     tag: &Tag,
-    room: &mut Room,
 ) -> Result<Draft, Refusal>
     requires reached { IsReached config.now state.now }
     ensures { ManagerAnswers config.now state.now (FmRequest.AddReference tag.now) result }
@@ -31,15 +32,15 @@ pub fn add_reference(
     if !state.tags.is_live(tag) {
         return Err(Refusal::Broken(Rule::NoSuchTag));
     }
-    let changes = reference_to(&state.tags, tag, room)?;
-    Ok(Draft::changing(room, changes)?)
+    let changes = reference_to(alloc, &state.tags, tag)?;
+    Ok(Draft::changing(alloc, changes))
 }
 
 /// A reference to the tag, unless there is one.
-fn reference_to(tags: &Tags, tag: &Tag, room: &mut Room) -> Result<Effects, NoMemory>
+fn reference_to(alloc: Global, tags: &Tags, tag: &Tag) -> Result<Effects, NoMemory>
     ensures { IfOk result (λ changes. changes ≡ (if passes tag.now entry_referenced tags.now.entries then [] else Effect.Ref tag.now true ∷ [])) }
 {
-    let mut changes = room.effects(1)?;
+    let mut changes = Effects::new(alloc);
     if !tags.is_referenced(tag) {
         changes.push(Effect::Ref(*tag, true))?;
     }

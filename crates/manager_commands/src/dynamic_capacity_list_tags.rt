@@ -10,10 +10,10 @@ ghost use Rattle.device_state.specs.device_rules.specs.Settings.{page};
 ghost use Rattle.std.specs.Prelude.{◌≡◌, ◌≤◌, IfOk, length, map};
 ghost use Rattle.tag_refs.specs.Tables.{tag_view};
 
-use device_commands::{Draft, Room};
+use device_commands::Draft;
 use device_state::State;
 use event_records::dcd_base::limits::PAGE_TAGS;
-use event_records::dcd_base::{NoMemory, Seq, TagView};
+use event_records::dcd_base::{Bytes, NoMemory, Seq, TagView};
 use extent_list::dcd_codes::{Refusal, Rule};
 use extent_list::media_map::region_config::Config;
 use fm_payloads::write_tags;
@@ -28,7 +28,6 @@ pub(crate) fn list_tags(
     state: &State,
     first: u32,
     count: u32,
-    room: &mut Room,
 ) -> Result<Draft, Refusal>
     requires reached { IsReached config.now state.now }
     ensures { ManagerAnswers config.now state.now (FmRequest.ListTags first count) result }
@@ -43,9 +42,9 @@ pub(crate) fn list_tags(
         first as usize,
         count.min(PAGE_TAGS) as usize,
     )?;
-    let mut payload = room.payload();
+    let mut payload = Bytes::new(alloc);
     write_tags(first, total, views.as_slice(), &mut payload)?;
-    Ok(Draft::only(payload))
+    Ok(Draft::only(alloc, payload))
 }
 
 /// So many open tags from an index on, as they are shown.

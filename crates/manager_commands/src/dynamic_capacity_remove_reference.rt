@@ -8,12 +8,12 @@ ghost use Rattle.device_state.specs.StateAfter.{IsReached};
 ghost use Rattle.fm_payloads.specs.declared.requests.FmRequest.{FmRequest};
 ghost use Rattle.journal_core.specs.declared.outcome.Effect.{Effect};
 
-use device_commands::{Draft, DraftParts, Room};
+use device_commands::Draft;
 use device_state::State;
 use event_records::dcd_base::{Bytes, Seq, ShortList, Tag};
 use extent_list::dcd_codes::{Refusal, Rule};
 use extent_list::media_map::region_config::Config;
-use journal_core::Effect;
+use journal_core::{Effect, Effects};
 use std::alloc::Global;
 
 /// The manager refers to the tag no longer, which ends where nothing else keeps it (profile). `NoReference` comes
@@ -23,7 +23,6 @@ pub fn remove_reference(
     config: &Config,
     state: &State,
     tag: &Tag,
-    room: &mut Room,
 ) -> Result<Draft, Refusal>
     requires reached { IsReached config.now state.now }
     ensures { ManagerAnswers config.now state.now (FmRequest.RemoveReference tag.now) result }
@@ -31,16 +30,14 @@ pub fn remove_reference(
     if !state.tags.is_referenced(tag) {
         return Err(Refusal::Broken(Rule::NoReference));
     }
-    let mut changes = room.effects(2)?;
+    let mut changes = Effects::new(alloc);
     changes.push(Effect::Ref(*tag, false))?;
-    let mut tags = Seq::with_capacity(alloc, 1)?;
+    let mut tags = Seq::new(alloc);
     tags.push(*tag)?;
-    let parts = DraftParts {
+    Ok(Draft {
         payload: Bytes::new(alloc),
         changes,
         tags,
         log_records: ShortList::new(),
-        lists: None,
-    };
-    Ok(Draft::of(room, parts)?)
+    })
 }

@@ -10,24 +10,25 @@ ghost use Rattle.fm_payloads.specs.declared.requests.FmRequest.{FmRequest};
 ghost use Rattle.extent_list.specs.HostLists.{extent_total};
 ghost use Rattle.std.specs.Prelude.{◌<◌, ◌≤◌, IfOk, length};
 
-use device_commands::{Draft, Room, extents_page};
+use device_commands::{Draft, extents_page};
 use device_state::State;
 use event_records::dcd_base::{Bytes, HostId, NoMemory};
 use extent_list::dcd_codes::{Refusal, Rule};
 use extent_list::media_map::region_config::Config;
 use fm_payloads::lists_head;
 use host_payloads::with_extents;
+use std::alloc::Global;
 
 /// At most `count` accepted extents of the host from `first` on, 50 at most (profile).
 ///
 /// The first broken rule comes: `NoSuchHost`; `PastEnd` where the first index is above the number of its extents.
 pub(crate) fn get_extent_lists(
+    alloc: Global,
     config: &Config,
     state: &State,
     host: u16,
     count: u32,
     first: u32,
-    room: &mut Room,
 ) -> Result<Draft, Refusal>
     requires reached { IsReached config.now state.now }
     ensures { ManagerAnswers config.now state.now (FmRequest.GetExtentLists host count first) result }
@@ -39,16 +40,16 @@ pub(crate) fn get_extent_lists(
     if first > total {
         return Err(Refusal::Broken(Rule::PastEnd { first, total }));
     }
-    Ok(Draft::only(payload_of(state, host, count, first, room)?))
+    Ok(Draft::only(alloc, payload_of(alloc, state, host, count, first)?))
 }
 
 /// The payload of the reply.
 fn payload_of(
+    alloc: Global,
     state: &State,
     host: u16,
     count: u32,
     first: u32,
-    room: &mut Room,
 ) -> Result<Bytes, NoMemory>
     requires host { host < 256 }
     requires part { host < length state.now.hosts.items }
@@ -58,7 +59,7 @@ fn payload_of(
     let lists = &state.part(HostId(host as u8)).lists;
     let extents = extents_page(lists, count, first);
     let total = lists.accepted().len() as u32;
-    let mut payload = room.payload_for(24 + 40 * extents.len())?;
+    let mut payload = Bytes::with_capacity(alloc, 24 + 40 * extents.len())?;
     let head = lists_head(host, first, extents.len() as u32, total, lists.generation());
     payload.extend_from_slice(&head)?;
     with_extents(payload, extents)

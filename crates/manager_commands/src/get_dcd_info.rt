@@ -8,21 +8,22 @@ ghost use Rattle.device_state.specs.StateAfter.{IsReached};
 ghost use Rattle.fm_payloads.specs.declared.requests.FmRequest.{FmRequest};
 ghost use Rattle.std.specs.Prelude.{◌≡◌, ◌≤◌, length, map};
 
-use device_commands::{Draft, Few, Room};
+use device_commands::{Draft, Few};
 use device_state::State;
-use event_records::dcd_base::RegionId;
+use event_records::dcd_base::{Bytes, RegionId};
 use extent_list::dcd_codes::Refusal;
 use extent_list::media_map::region_config::Config;
 use fm_payloads::write_info;
+use std::alloc::Global;
 
 /// How many hosts and granules there are, how many granules are free and dirty, and the block sizes that each region
-/// supports (profile). It breaks no rule. The reply is written in the room.
-pub(crate) fn get_info(config: &Config, state: &State, room: &mut Room) -> Result<Draft, Refusal>
+/// supports (profile). It breaks no rule.
+pub(crate) fn get_info(alloc: Global, config: &Config, state: &State) -> Result<Draft, Refusal>
     requires reached { IsReached config.now state.now }
     ensures { ManagerAnswers config.now state.now FmRequest.GetInfo result }
 {
     let sizes = sizes_of(config);
-    let mut payload = room.payload();
+    let mut payload = Bytes::new(alloc);
     let (free, dirty) = (state.granules.free(), state.granules.dirty());
     write_info(
         config.hosts(),
@@ -32,7 +33,7 @@ pub(crate) fn get_info(config: &Config, state: &State, room: &mut Room) -> Resul
         sizes.as_slice(),
         &mut payload,
     )?;
-    Ok(Draft::only(payload))
+    Ok(Draft::only(alloc, payload))
 }
 
 /// The mask of the block sizes of each region.

@@ -11,25 +11,26 @@ ghost use Rattle.extent_list.specs.HostLists.{extent_total};
 ghost use Rattle.host_payloads.specs.HostPayloads.{region_bytes};
 ghost use Rattle.std.specs.Prelude.{◌≡◌, ◌++◌, ◌<◌, ◌≤◌, IfOk, OnOk, flat_map, length};
 
-use device_commands::{Draft, Flags, Room, host_counts, regions_seen};
+use device_commands::{Draft, Flags, host_counts, regions_seen};
 use device_state::State;
 use event_records::dcd_base::{Bytes, HostId, NoMemory};
 use extent_list::dcd_codes::{Refusal, Rule};
 use extent_list::media_map::region_config::Config;
 use fm_payloads::regions_head;
 use host_payloads::{RegionView, counts_bytes, region_bytes};
+use std::alloc::Global;
 
 /// At most `count` regions of the host from `first` on, and what the host may have (profile).
 ///
 /// The first broken rule comes: `NoSuchHost`; `NoSuchRegion` where the first number is at or past the number of
 /// regions.
 pub(crate) fn get_regions(
+    alloc: Global,
     config: &Config,
     state: &State,
     host: u16,
     count: u8,
     first: u8,
-    room: &mut Room,
 ) -> Result<Draft, Refusal>
     requires reached { IsReached config.now state.now }
     ensures { ManagerAnswers config.now state.now (FmRequest.GetRegions host count first) result }
@@ -40,16 +41,16 @@ pub(crate) fn get_regions(
     if first >= state.present.regions() {
         return Err(Refusal::Broken(Rule::NoSuchRegion(first)));
     }
-    Ok(Draft::only(payload_of(state, host, count, first, room)?))
+    Ok(Draft::only(alloc, payload_of(alloc, state, host, count, first)?))
 }
 
 /// The payload of the reply.
 fn payload_of(
+    alloc: Global,
     state: &State,
     host: u16,
     count: u8,
     first: u8,
-    room: &mut Room,
 ) -> Result<Bytes, NoMemory>
     requires byte { host < 256 }
     requires host { host < state.now.present.hosts }
@@ -61,7 +62,7 @@ fn payload_of(
     let seen = regions_seen(&state.present, id, Flags::OfManager, count, first);
     let views = seen.as_slice();
     let counts = host_counts(&state.part(id).lists);
-    let mut payload = room.payload_for(24 + 40 * views.len())?;
+    let mut payload = Bytes::with_capacity(alloc, 24 + 40 * views.len())?;
     let head = regions_head(host, state.present.regions(), views.len() as u8);
     payload.extend_from_slice(&head)?;
     put_regions(views, &mut payload)?;

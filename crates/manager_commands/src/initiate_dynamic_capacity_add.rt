@@ -7,36 +7,30 @@ ghost use Rattle.manager_commands.specs.ManagerMessages.{ManagerAnswers};
 ghost use Rattle.manager_commands.specs.InitiateDynamicCapacityAdd.{AnswersOffer, IsRoomRule, add_request, request_rule, DraftOffers};
 ghost use Rattle.manager_commands.specs.InitiateDynamicCapacityAdd.{is_used_tag, is_with_hosts, lists_have, target_rule, room_rule, shared_rule};
 ghost use Rattle.manager_commands.specs.InitiateDynamicCapacityAdd.{tag_rule};
-ghost use Rattle.device_commands.specs.DraftContents.{IsBlank, draft_in};
-ghost use Rattle.device_commands.specs.ListDrafts.{TellOf};
-ghost use Rattle.event_records.specs.declared.events.EventKind.{EventKind};
-ghost use Rattle.event_records.specs.dcd_base.specs.Limits.{tags_supported};
 ghost use Rattle.extent_list.specs.ExtentLists.{has_extent_of, real_tags};
 ghost use Rattle.journal_core.specs.declared.outcome.Effect.{Effect};
 ghost use Rattle.device_state.specs.StateAfter.{IsReached, part_of};
 ghost use Rattle.event_records.specs.dcd_base.specs.declared.steps.LogId.{LogId};
 ghost use Rattle.extent_list.specs.HostLists.{extent_total, extents_of_lists};
 ghost use Rattle.std.specs.List.{list_any};
-ghost use Rattle.std.specs.Prelude.{◌≡◌, ◌++◌, ◌+◌, ◌-◌, ◌==◌, ◌^◌, ◌<◌, ◌≤◌, IfNone, IfOk, OnOk, length};
+ghost use Rattle.std.specs.Prelude.{◌≡◌, ◌++◌, ◌+◌, ◌-◌, ◌==◌, ◌^◌, ◌<◌, ◌≤◌, IfOk, length};
 ghost use Rattle.tag_refs.specs.Tables.{passes};
 ghost use Rattle.tag_refs.specs.declared.entries.TagEntry.{TagEntry};
 
 use crate::choosing::{Asked, new_extents};
 use crate::full_logs::log_full;
-use device_commands::{
-    Draft, DraftedStep, LogRecords, Room, each_record, event_by_tags, one_record, put_effect,
-};
+use device_commands::{Draft, records_to};
 use device_state::State;
-use device_state::host_lists::{Changed, HostLists};
+use device_state::host_lists::HostLists;
 use event_records::EventKind;
 use event_records::dcd_base::limits::TAGS;
 use event_records::dcd_base::{
-    Extent, Extents, HostId, LogId, NoMemory, RegionId, ShortList, Tag, is_no_tag,
+    Bytes, Extent, Extents, HostId, LogId, NoMemory, RegionId, Seq, Tag, is_no_tag,
 };
 use extent_list::dcd_codes::{Refusal, Rule};
 use extent_list::media_map::region_config::Config;
 use extent_list::{same_tag, too_many_extents};
-use journal_core::Effect;
+use journal_core::{Effect, Effects};
 use std::alloc::Global;
 
 /// The policies above 0 Free.
@@ -68,7 +62,6 @@ pub fn add(
     state: &State,
     request: &AddRequest,
     list: &Extents,
-    room: &mut Room,
 ) -> Result<Draft, Refusal>
     requires reached { IsReached config.now state.now }
     ensures { ManagerAnswers config.now state.now (add_request request.now list.now) result }
@@ -88,30 +81,23 @@ pub fn add(
     if let Some(rule) = tag_rule(state, &asked) {
         return Err(Refusal::Broken(rule));
     }
-    match new_extents(alloc, state, &asked, list, room) {
+    match new_extents(alloc, state, &asked, list) {
         Err(refusal) => Err(refusal),
-        Ok(extents) => offer_of(alloc, state, &asked, extents, room),
+        Ok(extents) => offer_of(alloc, state, asked.host, extents),
     }
 }
 
 /// The extents are offered, where the host and its log have room for them.
-fn offer_of(
-    alloc: Global,
-    state: &State,
-    asked: &Asked,
-    extents: Extents,
-    room: &mut Room,
-) -> Result<Draft, Refusal>
-    requires part { asked.now.host < length state.now.hosts.items }
-    requires few { extent_total (part_of state.now asked.now.host).lists ≤ 64 }
+fn offer_of(alloc: Global, state: &State, host: HostId, extents: Extents) -> Result<Draft, Refusal>
+    requires part { host < length state.now.hosts.items }
+    requires few { extent_total (part_of state.now host).lists ≤ 64 }
     requires listed { length extents < 2 ^ 16 }
-    ensures { AnswersOffer state.now asked.now.host extents result }
+    ensures { AnswersOffer state.now host extents result }
 {
-    let tags = tags_with(state, asked.host, &extents);
-    if let Some(rule) = room_rule(state, asked.host, &extents, tags) {
+    if let Some(rule) = room_rule(state, host, &extents) {
         return Err(Refusal::Broken(rule));
     }
-    Ok(offer_draft(alloc, state, asked, extents, tags, room)?)
+    Ok(offer_draft(alloc, host, extents)?)
 }
 
 /// The rule that is broken where there is no such host, policy or region.
@@ -242,97 +228,37 @@ fn tags_with(state: &State, host: HostId, extents: &Extents) -> u32
     state.part(host).lists.tags_with(extents.as_slice())
 }
 
-/// The rule that is broken where the host would have too many extents, or so many tags too many, or its log has no room.
-fn room_rule(state: &State, host: HostId, extents: &Extents, tags: u32) -> Option<Rule>
+/// The rule that is broken where the host would have too many extents or tags, or its log has no room.
+fn room_rule(state: &State, host: HostId, extents: &Extents) -> Option<Rule>
     requires part { host < length state.now.hosts.items }
     requires few { extent_total (part_of state.now host).lists ≤ 64 }
     requires listed { length extents.now < 2 ^ 16 }
-    requires tags { tags ≡ length (real_tags (extents_of_lists (part_of state.now host).lists ++ extents.now)) }
-    ensures row { IsRoomRule state.now host extents.now result }
-    ensures within { IfNone result (extent_total (part_of state.now host).lists + length extents.now ≤ 64) }
+    ensures { IsRoomRule state.now host extents.now result }
 {
     let lists = &state.part(host).lists;
     let total = lists.accepted().len() + lists.offered() + extents.as_slice().len();
     if let Some(rule) = too_many_extents(total) {
         return Some(rule);
     }
+    let tags = tags_with(state, host, extents);
     if tags > TAGS {
         return Some(Rule::TooManyTags(tags));
     }
     log_full(state, host, extents.len() as u32)
 }
 
-/// The offer, and a record for each extent. With it the host has so many tags.
-fn offer_draft(
-    alloc: Global,
-    state: &State,
-    asked: &Asked,
-    extents: Extents,
-    tags: u32,
-    room: &mut Room,
-) -> Result<Draft, NoMemory>
-    requires part { asked.now.host < length state.now.hosts.items }
-    requires few { extent_total (part_of state.now asked.now.host).lists + length extents ≤ 64 }
-    requires tags { tags ≡ length (real_tags (extents_of_lists (part_of state.now asked.now.host).lists ++ extents)) }
-    ensures { IfOk result (DraftOffers asked.now.host (part_of state.now asked.now.host).lists extents) }
+/// The offer, and a record for each extent.
+fn offer_draft(alloc: Global, host: HostId, extents: Extents) -> Result<Draft, NoMemory>
+    ensures { IfOk result (DraftOffers host extents) }
 {
-    let mut step = room.blank()?;
-    put_offer(alloc, state, asked, extents, tags, step.as_mut())?;
-    Ok(Draft::of_step(step))
-}
-
-/// Puts the offer into a draft that has nothing yet.
-fn put_offer(
-    alloc: Global,
-    state: &State,
-    asked: &Asked,
-    extents: Extents,
-    tags: u32,
-    step: &mut DraftedStep,
-) -> Result<(), NoMemory>
-    requires part { asked.now.host < length state.now.hosts.items }
-    requires few { extent_total (part_of state.now asked.now.host).lists + length extents ≤ 64 }
-    requires tags { tags ≡ length (real_tags (extents_of_lists (part_of state.now asked.now.host).lists ++ extents)) }
-    requires blank { IsBlank step.old }
-    ensures { OnOk result (DraftOffers asked.now.host (part_of state.now asked.now.host).lists extents (draft_in step.new)) }
-{
-    let lists = &state.part(asked.host).lists;
-    step.lists.offer(lists, extents.as_slice())?;
-    let after = step.lists.over(lists);
-    let tags_available = TAGS.saturating_sub(tags);
-    let records = &mut step.log_records;
-    put_offer_records(
-        alloc,
-        asked.host,
-        &after,
-        tags_available,
-        extents.as_slice(),
-        records,
-    )?;
-    put_effect(&mut step.effects, Effect::Offer(asked.host, extents))
-}
-
-/// Puts the records for the host, which has so many tags available by these lists, in place of others.
-#[inline(always)]
-fn put_offer_records(
-    alloc: Global,
-    host: HostId,
-    lists: &Changed,
-    tags_available: u32,
-    extents: &[Extent],
-    records: &mut ShortList<LogRecords>,
-) -> Result<(), NoMemory>
-    requires few { extent_total lists.now ≤ 64 }
-    requires tags { tags_available ≡ tags_supported - length (real_tags (extents_of_lists lists.now)) }
-    ensures { OnOk result (TellOf host EventKind.Add lists.now extents.now records.new) }
-{
-    let (log, kind) = (LogId::Host(host), EventKind::Add);
-    if extents.len() == 1 {
-        let event = event_by_tags(host, lists, tags_available, kind, false, &extents[0]);
-        *records = one_record(log, ShortList::of(event));
-        return Ok(());
-    }
-    let events = each_record(alloc, host, lists, tags_available, kind, extents)?;
-    *records = one_record(log, events);
-    Ok(())
+    let (to, kind) = (LogId::Host(host), EventKind::Add);
+    let log_records = records_to(alloc, to, host, kind, extents.as_slice())?;
+    let mut changes = Effects::new(alloc);
+    changes.push(Effect::Offer(host, extents))?;
+    Ok(Draft {
+        payload: Bytes::new(alloc),
+        changes,
+        tags: Seq::new(alloc),
+        log_records,
+    })
 }

@@ -4,28 +4,23 @@
 //! Bytes: docs/formats.md, 'Commands of the Fabric Manager'.
 
 ghost use Rattle.manager_commands.specs.ManagerMessages.{ManagerAnswers};
-ghost use Rattle.manager_commands.specs.InitiateDynamicCapacityRelease.{AnswersRemoval, IsAskedFor, IsTakenByForce, meant_of};
-ghost use Rattle.manager_commands.specs.InitiateDynamicCapacityRelease.{flags_rule, meant_rule_of, remove_request, Departs};
-ghost use Rattle.device_commands.specs.DraftContents.{IsBlank, draft_in};
-ghost use Rattle.device_commands.specs.ListDrafts.{TellOf};
+ghost use Rattle.manager_commands.specs.InitiateDynamicCapacityRelease.{AnswersRemoval, IsAskedFor, IsDrafted, IsTakenByForce, meant_of};
+ghost use Rattle.manager_commands.specs.InitiateDynamicCapacityRelease.{AreGranular, flags_rule, meant_rule_of, remove_request};
 ghost use Rattle.device_state.specs.StateAfter.{IsReached, part_of};
 ghost use Rattle.extent_list.specs.dcd_codes.specs.Rules.{ByRow};
 ghost use Rattle.device_state.specs.device_rules.specs.Outcomes.{log_full};
-ghost use Rattle.device_state.specs.device_rules.specs.ReleaseOutcomes.{is_cleaning, is_forced};
-ghost use Rattle.event_records.specs.declared.events.EventKind.{EventKind};
+ghost use Rattle.device_state.specs.device_rules.specs.ReleaseOutcomes.{is_forced};
 ghost use Rattle.extent_list.specs.HostLists.{extent_total};
-ghost use Rattle.std.specs.Prelude.{◌≡◌, ◌<◌, ◌≤◌, IfOk, OnOk, Option, length, true};
+ghost use Rattle.std.specs.Prelude.{◌≡◌, ◌<◌, ◌≤◌, IfOk, length, true};
 
 use crate::full_logs::log_full;
-use device_commands::{
-    Draft, DraftParts, DraftedStep, LogRecords, Room, put_leaves, put_tags_of, records_to, tags_of,
-};
+use device_commands::{Draft, put_leaves, records_to, tags_of};
 use device_state::State;
-use device_state::host_lists::Changed;
 use event_records::EventKind;
-use event_records::dcd_base::{Bytes, Extents, HostId, LogId, NoMemory, RegionId, ShortList, Tag};
+use event_records::dcd_base::{Bytes, Extents, HostId, LogId, NoMemory, RegionId, Tag};
 use extent_list::dcd_codes::{Refusal, Rule};
 use extent_list::media_map::region_config::Config;
+use journal_core::Effects;
 use release_core::{by_tag, removal};
 use std::alloc::Global;
 
@@ -59,7 +54,6 @@ pub fn remove(
     state: &State,
     request: &RemoveRequest,
     list: &Extents,
-    room: &mut Room,
 ) -> Result<Draft, Refusal>
     requires reached { IsReached config.now state.now }
     ensures { ManagerAnswers config.now state.now (remove_request request.now list.now) result }
@@ -72,7 +66,7 @@ pub fn remove(
     let host = HostId(request.host as u8);
     match extents_meant(alloc, state, host, request, list) {
         Err(refusal) => Err(refusal),
-        Ok(leaving) => removal_of(alloc, config, state, host, request.flags, leaving, room),
+        Ok(leaving) => removal_of(alloc, config, state, host, request.flags, &leaving),
     }
 }
 
@@ -133,30 +127,22 @@ fn removal_of(
     state: &State,
     host: HostId,
     flags: u8,
-    leaving: Extents,
-    room: &mut Room,
+    leaving: &Extents,
 ) -> Result<Draft, Refusal>
     requires reached { IsReached config.now state.now }
     requires host { host < state.now.present.hosts }
-    requires few { length leaving ≤ 64 }
-    requires departs { is_forced flags ≡ true → Departs config.now host (part_of state.now host).lists (is_cleaning flags) leaving }
-    ensures { AnswersRemoval config.now state.now host flags leaving result }
+    requires few { length leaving.now ≤ 64 }
+    requires granular { is_forced flags ≡ true → AreGranular config.now host leaving.now }
+    ensures { AnswersRemoval config.now state.now host flags leaving.now result }
 {
     if let Some(rule) = log_full(state, host, leaving.len() as u32) {
         return Err(Refusal::Broken(rule));
     }
     if flags & FORCED == 0 {
-        Ok(by_request(alloc, state, host, leaving, room)?)
+        Ok(by_request(alloc, host, leaving)?)
     } else {
-        Ok(by_force(
-            alloc,
-            config,
-            state,
-            host,
-            flags & CLEANING != 0,
-            leaving,
-            room,
-        )?)
+        let cleaning = flags & CLEANING != 0;
+        Ok(by_force(alloc, config, host, cleaning, leaving)?)
     }
 }
 
@@ -164,104 +150,49 @@ fn removal_of(
 fn by_force(
     alloc: Global,
     config: &Config,
-    state: &State,
     host: HostId,
     cleaning: bool,
-    leaving: Extents,
-    room: &mut Room,
+    leaving: &Extents,
 ) -> Result<Draft, NoMemory>
     requires host { host < config.now.hosts }
-    requires part { host < length state.now.hosts.items }
-    requires departs { Departs config.now host (part_of state.now host).lists cleaning leaving }
-    ensures { IfOk result (IsTakenByForce config.now host cleaning (part_of state.now host).lists leaving) }
+    requires granular { AreGranular config.now host leaving.now }
+    ensures { IfOk result (IsTakenByForce config.now host cleaning leaving.now) }
 {
-    let mut step = room.blank()?;
-    put_removal(
-        alloc,
-        config,
-        state,
-        host,
-        cleaning,
-        &leaving,
-        step.as_mut(),
-    )?;
-    Ok(Draft::of_step(step))
-}
-
-/// Puts the removal by force into a draft that has nothing yet.
-fn put_removal(
-    alloc: Global,
-    config: &Config,
-    state: &State,
-    host: HostId,
-    cleaning: bool,
-    leaving: &Extents,
-    step: &mut DraftedStep,
-) -> Result<(), NoMemory>
-    requires host { host < config.now.hosts }
-    requires part { host < length state.now.hosts.items }
-    requires departs { Departs config.now host (part_of state.now host).lists cleaning leaving.now }
-    requires blank { IsBlank step.old }
-    ensures { OnOk result (IsTakenByForce config.now host cleaning (part_of state.now host).lists leaving.now (draft_in step.new)) }
-{
-    let lists = &state.part(host).lists;
-    step.lists.remove(lists, leaving)?;
-    put_leaves(
-        config,
-        host,
-        cleaning,
-        leaving.as_slice(),
-        &mut step.effects,
-    )?;
-    put_tags_of(leaving.as_slice(), &mut step.tags)?;
-    let after = step.lists.over(lists);
-    step.log_records = removal_records(alloc, host, &after, EventKind::Forced, leaving)?;
-    Ok(())
-}
-
-/// The records for the host.
-fn removal_records(
-    alloc: Global,
-    host: HostId,
-    lists: &Changed,
-    kind: EventKind,
-    leaving: &Extents,
-) -> Result<ShortList<LogRecords>, NoMemory>
-    requires { extent_total lists.now ≤ 64 }
-    ensures { IfOk result (TellOf host kind lists.now leaving.now) }
-{
-    records_to(
-        alloc,
-        LogId::Host(host),
-        host,
-        lists,
-        kind,
-        leaving.as_slice(),
-    )
+    let mut changes = Effects::new(alloc);
+    put_leaves(config, host, cleaning, leaving.as_slice(), &mut changes)?;
+    removal_draft(alloc, host, EventKind::Forced, changes, leaving)
 }
 
 /// The host is asked to give the extents back.
-fn by_request(
-    alloc: Global,
-    state: &State,
-    host: HostId,
-    leaving: Extents,
-    room: &mut Room,
-) -> Result<Draft, NoMemory>
-    requires part { host < length state.now.hosts.items }
-    requires few { extent_total (part_of state.now host).lists ≤ 64 }
-    ensures { IfOk result (IsAskedFor host (part_of state.now host).lists leaving) }
+fn by_request(alloc: Global, host: HostId, leaving: &Extents) -> Result<Draft, NoMemory>
+    ensures { IfOk result (IsAskedFor host leaving.now) }
 {
-    let lists = &state.part(host).lists;
-    let same = lists.unchanged();
-    let lists = Changed::of(lists, &same);
-    let log_records = removal_records(alloc, host, &lists, EventKind::Release, &leaving)?;
-    let parts = DraftParts {
+    removal_draft(
+        alloc,
+        host,
+        EventKind::Release,
+        Effects::new(alloc),
+        leaving,
+    )
+}
+
+/// These changes, by which the tags of the extents may end, and a record of each extent for the host.
+fn removal_draft(
+    alloc: Global,
+    host: HostId,
+    kind: EventKind,
+    changes: Effects,
+    leaving: &Extents,
+) -> Result<Draft, NoMemory>
+    ensures { IfOk result (IsDrafted host kind changes leaving.now) }
+{
+    let extents = leaving.as_slice();
+    let tags = tags_of(alloc, extents)?;
+    let log_records = records_to(alloc, LogId::Host(host), host, kind, extents)?;
+    Ok(Draft {
         payload: Bytes::new(alloc),
-        changes: room.effects(leaving.len())?,
-        tags: tags_of(alloc, leaving.as_slice())?,
+        changes,
+        tags,
         log_records,
-        lists: None,
-    };
-    Draft::of(room, parts)
+    })
 }

@@ -7,7 +7,6 @@ ghost use Rattle.journal_core.specs.declared.outcome.Effect.{Effect};
 ghost use Rattle.sanitizer.specs.Turns.{granules_of_runs};
 ghost use Rattle.std.specs.Prelude.{◌≡◌, ◌<◌, ◌^◌, IfOk, map};
 
-use device_commands::Room;
 use device_state::State;
 use event_records::dcd_base::{NoMemory, Run};
 use extent_list::media_map::region_config::Config;
@@ -30,7 +29,6 @@ pub fn zero_dirty(
     config: &Config,
     state: &State,
     most: u16,
-    room: &mut Room,
 ) -> Result<Zeroed, NoMemory>
     requires reached { IsReached config.now state.now }
     ensures { IfOk result (IsZeroed config.now state.now most) }
@@ -40,7 +38,7 @@ pub fn zero_dirty(
     let runs = dirty_runs(alloc, state.granules.states(), config, wanted)?;
     Ok(Zeroed {
         granules: granules_of_runs(runs.as_slice()),
-        changes: zeroes(runs.as_slice(), room)?,
+        changes: zeroes(alloc, runs.as_slice())?,
     })
 }
 
@@ -57,15 +55,10 @@ fn granules_of_runs(runs: &[Run]) -> u32
 }
 
 /// Each run is zeroed.
-fn zeroes(runs: &[Run], room: &mut Room) -> Result<Effects, NoMemory>
+fn zeroes(alloc: Global, runs: &[Run]) -> Result<Effects, NoMemory>
     ensures { IfOk result (λ effects. effects ≡ map Effect.Zero runs.now) }
 {
-    let alloc = room.allocator();
-    if runs.is_empty() {
-        return Ok(Effects::new(alloc));
-    }
-    let mut effects = room.effects(runs.len())?.into_vec();
-    effects.reserve(runs.len())?;
+    let mut effects = Vec::with_capacity(alloc, runs.len())?;
     for i in 0..runs.len() {
         effects.push_reserved(Effect::Zero(runs[i]));
     }

@@ -3,27 +3,24 @@
 //! Outcome: `set_outcome`, device_rules/specs/Settings.antt; the reply is empty.
 //! Bytes: docs/formats.md, 'Commands of the Fabric Manager'.
 
-ghost use Rattle.manager_commands.specs.SetDcRegionConfiguration.{IsFirstFull, IsSet, TellAll, TellsHost, size_rule, used_in};
+ghost use Rattle.manager_commands.specs.SetDcRegionConfiguration.{IsFirstFull, IsSet, size_rule, told_to_all, used_in};
 ghost use Rattle.manager_commands.specs.ManagerMessages.{ManagerAnswers};
-ghost use Rattle.device_state.specs.StateAfter.{IsReached, part_of};
+ghost use Rattle.device_state.specs.StateAfter.{IsReached};
 ghost use Rattle.fm_payloads.specs.declared.requests.FmRequest.{FmRequest};
 ghost use Rattle.device_state.specs.device_rules.specs.Outcomes.{log_full};
 ghost use Rattle.selection.specs.granule_map.specs.StateLists.{is_free_at};
-ghost use Rattle.extent_list.specs.HostLists.{extent_total};
 ghost use Rattle.extent_list.specs.media_map.specs.region_config.specs.Granules.{granule_total, region_spec};
 ghost use Rattle.event_records.specs.dcd_base.specs.declared.ids.HostId.{HostId};
 ghost use Rattle.std.specs.Prelude.{◌≡◌, ◌+◌, ◌<◌, ◌≤◌, IfOk, count_by, if◌then◌else◌, length, not};
 ghost use Rattle.std.specs.List.{range_with_len};
 
 use crate::full_logs::log_full;
-use device_commands::{Draft, DraftParts, LogRecords, Room, event_for, no_extent};
+use device_commands::{Draft, LogRecords, Told};
 use device_state::State;
-use device_state::host_lists::Changed;
 use event_records::dcd_base::{Bytes, Granule, HostId, LogId, NoMemory, RegionId, Seq, ShortList};
-use event_records::{Event, EventKind};
 use extent_list::dcd_codes::{Refusal, Rule};
 use extent_list::media_map::region_config::{BlockFault, Config};
-use journal_core::Effect;
+use journal_core::{Effect, Effects};
 use std::alloc::Global;
 
 /// Gives a region blocks of another size, in bytes (profile). Each host is told, also where the size is the old one.
@@ -38,7 +35,6 @@ pub(crate) fn set_region(
     region: u8,
     sanitize: bool,
     block: u64,
-    room: &mut Room,
 ) -> Result<Draft, Refusal>
     requires reached { IsReached config.now state.now }
     ensures { ManagerAnswers config.now state.now (FmRequest.SetRegion region sanitize block) result }
@@ -52,7 +48,7 @@ pub(crate) fn set_region(
     if let Some(rule) = first_full(state) {
         return Err(Refusal::Broken(rule));
     }
-    Ok(region_draft(alloc, state, RegionId(region), block, room)?)
+    Ok(region_draft(alloc, state, RegionId(region), block)?)
 }
 
 /// The rule that a size breaks which the region cannot have now: it is tried on a copy of the configuration.
@@ -127,56 +123,35 @@ fn region_draft(
     state: &State,
     region: RegionId,
     block: u64,
-    room: &mut Room,
 ) -> Result<Draft, NoMemory>
-    requires parts { length state.now.hosts.items ≡ state.now.present.hosts }
-    requires few { (h : HostId) → h < state.now.present.hosts → extent_total (part_of state.now h).lists ≤ 64 }
     ensures { IfOk result (IsSet state.now region block) }
 {
-    let mut changes = room.effects(usize::from(state.present.hosts()) + 1)?;
+    let log_records = records_for_all(alloc, state.present.hosts(), region)?;
+    let mut changes = Effects::new(alloc);
     changes.push(Effect::Block(region, block))?;
-    let parts = DraftParts {
+    Ok(Draft {
         payload: Bytes::new(alloc),
         changes,
         tags: Seq::new(alloc),
-        log_records: records_for_all(alloc, state, region)?,
-        lists: None,
-    };
-    Draft::of(room, parts)
+        log_records,
+    })
 }
 
 /// A record for each host.
 fn records_for_all(
     alloc: Global,
-    state: &State,
+    hosts: u8,
     region: RegionId,
 ) -> Result<ShortList<LogRecords>, NoMemory>
-    requires parts { length state.now.hosts.items ≡ state.now.present.hosts }
-    requires few { (h : HostId) → h < state.now.present.hosts → extent_total (part_of state.now h).lists ≤ 64 }
-    ensures { IfOk result (TellAll state.now region) }
+    ensures { IfOk result (λ records. records ≡ told_to_all region (range_with_len 0 hosts)) }
 {
     let mut log_records = Seq::new(alloc);
-    for host in 0..state.present.hosts() {
-        log_records.push(region_record_for(state, HostId(host), region))?;
+    for host in 0..hosts {
+        log_records.push(LogRecords {
+            log: LogId::Host(HostId(host)),
+            host: HostId(host),
+            told: Told::Region(region),
+        })?;
     }
     Ok(ShortList::of_list(log_records))
-}
-
-/// The record for a host.
-fn region_record_for(state: &State, host: HostId, region: RegionId) -> LogRecords
-    requires part { host < length state.now.hosts.items }
-    requires few { extent_total (part_of state.now host).lists ≤ 64 }
-    ensures { TellsHost state.now region host result }
-{
-    let lists = &state.part(host).lists;
-    let same = lists.unchanged();
-    let lists = Changed::of(lists, &same);
-    let event = Event {
-        region: region.0,
-        ..event_for(host, &lists, EventKind::RegionUpdated, false, &no_extent())
-    };
-    LogRecords {
-        log: LogId::Host(host),
-        events: ShortList::of(event),
-    }
 }

@@ -1,7 +1,6 @@
 pub mod Parts
 pub mod Completeness
 pub mod Counting
-pub mod Missing
 pub mod NoOffer
 pub mod Owners
 pub mod Rows

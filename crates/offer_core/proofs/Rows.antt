@@ -1,15 +1,11 @@
 -- The row of a response that is not too long, and to which no more is to come.
-use Rattle.std.proofs.Common.{◌≡◌, ℕ, ◌+◌, ◌≤◌, Bool, false, List, ◌++◌, length, length-append, None, Some, get_or, refl, subst, take, arith}
+use Rattle.std.proofs.Common.{◌≡◌, ℕ, ◌+◌, ◌≤◌, Bool, false, List, ◌++◌, length, length-append, Some, refl, arith}
 use Rattle.std.specs.Prelude.{nat_lt}
 use Rattle.std.proofs.lemmas.Bool.{le-ltb}
-use Rattle.std.proofs.lemmas.List.{take_all}
 use Rattle.extent_list.specs.dcd_codes.specs.dcd_base.specs.declared.capacity.Extent.{Extent}
 use Rattle.extent_list.specs.dcd_codes.specs.dcd_base.specs.declared.ids.HostId.{HostId}
 use Rattle.extent_list.specs.dcd_codes.specs.declared.rules.Rule.{Rule}
 use Rattle.extent_list.specs.dcd_codes.specs.Rules.{each_in}
-use Rattle.extent_list.proofs.FitFront.{each_fits}
-use Rattle.extent_list.specs.Fitting.{Fits, FrontFits}
-use Rattle.offer_core.proofs.Missing.{no_extent}
 use Rattle.extent_list.specs.media_map.specs.region_config.specs.Configurations.{Configuration}
 use Rattle.offer_core.specs.Offerings.{oldest_of}
 use Rattle.offer_core.specs.Responses.{extent_rule, response_list_rule, respond_rule}
@@ -25,13 +21,3 @@ module _ (c : Configuration) (h : HostId) (accepted : ℕ) (offers : List (List 
   -- where an extent breaks a rule, the whole list does
   pub one_broken : (whole : List Extent) (rule : Rule) → each_in whole (extent_rule c h (oldest_of offers)) ≡ Some rule → response_list_rule c h accepted offers whole ≡ Some rule
   one_broken whole rule broken = rw broken refl
-
--- an extent that fits breaks no rule
-pub fit_keeps : (c : Configuration) (h : HostId) (offer before : List Extent) (x : Extent) → Fits c h offer before x → extent_rule c h offer before x ≡ None
-fit_keeps c h offer before x is = rw (is.placed, is.inside, is.apart, is.whole) refl
-
--- so none of a list does that fits whole
-pub all_fit : (c : Configuration) (h : HostId) (offer whole : List Extent) (n : ℕ) → n ≡ length whole → FrontFits c h offer whole n → each_in whole (extent_rule c h offer) ≡ None
-all_fit c h offer whole n all fit =
-    subst (λ (xs : List Extent). each_in xs (extent_rule c h offer) ≡ None) (take_all n whole (omega (arith, all)))
-    (each_fits (extent_rule c h offer) whole n no_extent (omega (arith, all)) (λ i below. fit_keeps c h offer (take i whole) (get_or whole i no_extent) (fit i no_extent below)))

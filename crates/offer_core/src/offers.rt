@@ -153,7 +153,8 @@ impl Offers {
     /// How many extents the offers behind the oldest have together.
     #[tactic(auto, using(crate::proofs::Parts::count_parted, crate::proofs::Counting::count_in_parts))]
     pub fn later_extents(&self) -> usize
-        ensures { result ≡ count_in (drop 1 (lists_of self.now.offers)) }
+        ensures value { result ≡ count_in (drop 1 (lists_of self.now.offers)) }
+        ensures fewer { result ≤ count_in (lists_of self.now.offers) }
     {
         self.extents.len() - self.oldest().len()
     }

@@ -4,17 +4,16 @@ ghost use Rattle.extent_list.specs.ExtentLists.{count_in, marked};
 ghost use Rattle.offer_core.specs.Answers.{AnswersOldest, Leaves, NeverBroken, Responds};
 ghost use Rattle.offer_core.specs.InOrder.{IsInOrder};
 ghost use Rattle.offer_core.specs.Offerings.{lists_of, oldest_of};
-ghost use Rattle.std.specs.Prelude.{◌≡◌, ◌++◌, ◌+◌, ◌<◌, ◌≤◌, [], IfOk, OnErr, OnOk, false, map};
+ghost use Rattle.std.specs.Prelude.{◌≡◌, ◌++◌, ◌+◌, ◌<◌, ◌≤◌, [], IfOk, OnErr, false, map};
 
 use crate::answered::Answered;
 use crate::offer::Offer;
 use crate::offers::Offers;
 use crate::row::broken_rule;
 use extent_list::dcd_codes::Refusal;
-use extent_list::dcd_codes::dcd_base::{Extent, Extents, HostId, NoMemory};
+use extent_list::dcd_codes::dcd_base::{Extents, HostId, NoMemory};
+use extent_list::marked_lists;
 use extent_list::media_map::region_config::Config;
-use extent_list::{Owners, put_marked};
-use std::alloc::Global;
 
 impl Offers {
     /// The host's response to its oldest offer (CXL 3.1, 8.2.9.9.9.3): this list of a message behind the held one,
@@ -87,28 +86,11 @@ impl Offers {
     pub fn accepted_of(&self, list: &Extents) -> Result<Extents, NoMemory>
         ensures { IfOk result (λ accepted. accepted ≡ map (marked (oldest_of (lists_of self.now.offers))) (self.now.held ++ list.now)) }
     {
-        marked_all(
+        marked_lists(
             self.allocator(),
             self.oldest(),
             self.held(),
             list.as_slice(),
         )
     }
-}
-
-/// The held list and then the other one, each extent with the tag and the sequence of the offered extent in which it
-/// lies.
-fn marked_all(
-    alloc: Global,
-    offered: &[Extent],
-    held: &[Extent],
-    list: &[Extent],
-) -> Result<Extents, NoMemory>
-    ensures { IfOk result (λ accepted. accepted ≡ map (marked offered.now) (held.now ++ list.now)) }
-{
-    let mut accepted = Extents::with_capacity(alloc, held.len() + list.len())?;
-    let owners = Owners::of(offered);
-    put_marked(&owners, held, &mut accepted)?;
-    put_marked(&owners, list, &mut accepted)?;
-    Ok(accepted)
 }

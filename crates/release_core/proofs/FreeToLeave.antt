@@ -13,8 +13,9 @@ use Rattle.extent_list.specs.media_map.specs.region_config.proofs.Faultless.{reg
 use Rattle.extent_list.specs.media_map.specs.region_config.specs.Configurations.{Configuration}
 use Rattle.extent_list.specs.media_map.specs.region_config.specs.Granules.{base_of, region_spec}
 use Rattle.extent_list.specs.media_map.specs.region_config.specs.Soundness.{IsSound}
-use Rattle.release_core.specs.Leaving.{AllCanLeave, CanLeave, leaving_rule, region_for}
-use Rattle.release_core.specs.declared.leaving.Within.{Within}
+use Rattle.release_core.specs.Leaving.{AllCanLeave, CanLeave, leaving_rule}
+use Rattle.extent_list.specs.Listed.{region_for}
+use Rattle.extent_list.specs.declared.listed.Within.{Within}
 use Rattle.release_core.proofs.Members.{each_in_at, neither, passes}
 
 -- no earlier extent shares an address with x

@@ -1,19 +1,15 @@
 -- Rows of which the first rules are not broken.
-use Rattle.std.proofs.Common.{◌≡◌, ◌≤◌, ℕ, Bool, false, List, length, Some, None, get_or, refl, subst, take, arith}
+use Rattle.std.proofs.Common.{◌≡◌, ◌≤◌, ℕ, Bool, false, List, length, Some, None, refl}
 use Rattle.std.specs.Prelude.{nat_le}
 use Rattle.std.proofs.lemmas.Bool.{le-ltb}
-use Rattle.std.proofs.lemmas.List.{take_all}
 use Rattle.extent_list.specs.dcd_codes.specs.dcd_base.specs.declared.capacity.Extent.{Extent}
 use Rattle.extent_list.specs.dcd_codes.specs.dcd_base.specs.declared.ids.HostId.{HostId}
 use Rattle.extent_list.specs.dcd_codes.specs.dcd_base.specs.Words.{is_empty}
 use Rattle.extent_list.specs.dcd_codes.specs.declared.rules.Rule.{Rule}
 use Rattle.extent_list.specs.dcd_codes.specs.Rules.{each_in}
 use Rattle.extent_list.specs.Listing.{incomplete, too_many_extents, too_many_listed}
-use Rattle.extent_list.proofs.FitFront.{each_fits}
-use Rattle.extent_list.specs.Fitting.{Fits, FrontFits}
-use Rattle.release_core.proofs.Members.{no_extent}
 use Rattle.extent_list.specs.media_map.specs.region_config.specs.Configurations.{Configuration}
-use Rattle.release_core.specs.declared.leaving.Within.{Within}
+use Rattle.extent_list.specs.declared.listed.Within.{Within}
 use Rattle.release_core.specs.Leaving.{count_after, leaving_rule}
 use Rattle.release_core.specs.Releases.{give_back_rule}
 use Rattle.release_core.specs.Removals.{prescribed_removal_rule}
@@ -36,13 +32,3 @@ module _ (c : Configuration) (h : HostId) (accepted : List Extent) (offered : �
   pub removal_broken : (r : ℕ) (forced : Bool) → nat_le (length c.regions) r ≡ false → is_empty list ≡ false → (rule : Rule) → each_in list (leaving_rule c h accepted (Within.Region r)) ≡ Some rule
       → prescribed_removal_rule c h accepted offered r list forced ≡ Some rule
   removal_broken r forced known some rule broken = rw (known, some, few, broken) refl
-
--- an extent that fits breaks no rule
-pub fit_keeps : (c : Configuration) (h : HostId) (accepted before : List Extent) (x : Extent) → Fits c h accepted before x → leaving_rule c h accepted Within.AnyRegion before x ≡ None
-fit_keeps c h accepted before x is = rw (is.placed, is.inside, is.apart, is.whole) refl
-
--- so none of a list does that fits whole
-pub all_fit : (c : Configuration) (h : HostId) (accepted whole : List Extent) (n : ℕ) → n ≡ length whole → FrontFits c h accepted whole n → each_in whole (leaving_rule c h accepted Within.AnyRegion) ≡ None
-all_fit c h accepted whole n all fit =
-    subst (λ (xs : List Extent). each_in xs (leaving_rule c h accepted Within.AnyRegion) ≡ None) (take_all n whole (omega (arith, all)))
-    (each_fits (leaving_rule c h accepted Within.AnyRegion) whole n no_extent (omega (arith, all)) (λ i below. fit_keeps c h accepted (take i whole) (get_or whole i no_extent) (fit i no_extent below)))

@@ -8,14 +8,9 @@ use Rattle.extent_list.specs.dcd_codes.specs.declared.rules.Rule.{Rule}
 use Rattle.extent_list.specs.dcd_codes.specs.Rules.{◌breaks◌, each_in}
 use Rattle.extent_list.specs.ExtentLists.{cut_all, is_in, marked, overlaps}
 use Rattle.extent_list.specs.Listing.{incomplete, misplaced, not_whole, overlapping}
-use Rattle.extent_list.specs.media_map.specs.Places.{region_at}
+use Rattle.extent_list.specs.Listed.{region_for}
 use Rattle.extent_list.specs.media_map.specs.region_config.specs.Configurations.{Configuration}
-use Rattle.release_core.specs.declared.leaving.Within.{Within}
-
--- the region in which an extent has to lie: the one that the command names, or else the one that has its first address
-abbrev pub region_for : Configuration → HostId → Within → Extent → ℕ
-region_for c h Within.AnyRegion x = region_at c h x.start
-region_for c h (Within.Region r) x = r
+use Rattle.extent_list.specs.declared.listed.Within.{Within}
 
 -- an extent that is to leave, beside those before it
 abbrev pub leaving_rule : Configuration → HostId → List Extent → Within → List Extent → Extent → Option Rule

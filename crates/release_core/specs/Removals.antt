@@ -9,7 +9,7 @@ use Rattle.extent_list.specs.dcd_codes.specs.Rules.{◌breaks◌}
 use Rattle.extent_list.specs.ExtentLists.{has_extent_of}
 use Rattle.extent_list.specs.Listing.{too_many_extents, too_many_listed}
 use Rattle.extent_list.specs.media_map.specs.region_config.specs.Configurations.{Configuration}
-use Rattle.release_core.specs.declared.leaving.Within.{Within}
+use Rattle.extent_list.specs.declared.listed.Within.{Within}
 use Rattle.release_core.specs.Leaving.{count_after, leaving_list_rule}
 
 -- by tag

@@ -7,7 +7,6 @@
 #![tactic(auto)]
 
 mod counting;
-mod leaving;
 mod marking;
 mod releases;
 mod removals;

@@ -1,7 +1,7 @@
 //! Extents as they leave: with the tag and the sequence of the accepted extent in which each lies.
 
 ghost use Rattle.extent_list.specs.ExtentLists.{marked};
-ghost use Rattle.std.specs.Prelude.{◌≡◌, ◌++◌, IfOk, map};
+ghost use Rattle.std.specs.Prelude.{◌≡◌, IfOk, map};
 
 use extent_list::dcd_codes::dcd_base::{Extent, Extents, NoMemory};
 use extent_list::{Owners, put_marked};
@@ -17,21 +17,5 @@ pub(crate) fn marked_list(
 {
     let mut leaving = Extents::with_capacity(alloc, list.len())?;
     put_marked(accepted, list, &mut leaving)?;
-    Ok(leaving)
-}
-
-/// The extents of both lists, each with the tag and the sequence of the accepted extent in which it lies.
-pub(crate) fn marked_lists(
-    alloc: Global,
-    accepted: &[Extent],
-    held: &[Extent],
-    list: &[Extent],
-) -> Result<Extents, NoMemory>
-    ensures { IfOk result (λ leaving. leaving ≡ map (marked accepted.now) (held.now ++ list.now)) }
-{
-    let mut leaving = Extents::with_capacity(alloc, held.len() + list.len())?;
-    let owners = Owners::of(accepted);
-    put_marked(&owners, held, &mut leaving)?;
-    put_marked(&owners, list, &mut leaving)?;
     Ok(leaving)
 }

@@ -5,13 +5,11 @@ ghost use Rattle.release_core.specs.Releases.{AnswersRelease, GivesBack, KeepsHe
 ghost use Rattle.std.specs.Prelude.{◌≡◌, ◌++◌, ◌+◌, ◌<◌, ◌≤◌, [], IfOk, OnErr, OnOk, false, length, map};
 
 use crate::counting::count_rule;
-use crate::leaving::broken_leaving;
-use crate::marking::marked_lists;
 use extent_list::dcd_codes::dcd_base::limits::LISTED_EXTENTS;
 use extent_list::dcd_codes::dcd_base::{Extent, Extents, HostId, NoMemory};
 use extent_list::dcd_codes::{Refusal, Rule};
 use extent_list::media_map::region_config::Config;
-use extent_list::{ExtentList, Owners, incomplete_among};
+use extent_list::{ExtentList, Owned, Owners, Within, first_unfit, incomplete_among, marked_lists};
 use std::alloc::Global;
 use std::marker::Model;
 
@@ -235,7 +233,14 @@ fn broken_list_rule(
     // That extents in regions end at an address, which a configuration says of itself where it is read.
     let _regions = config.regions();
     let owners = Owners::of(accepted.as_slice());
-    if let Some(rule) = broken_leaving(config, host, &owners, whole) {
+    if let Some(rule) = first_unfit(
+        config,
+        host,
+        &Within::AnyRegion,
+        &owners,
+        Owned::Accepted,
+        whole,
+    ) {
         return Ok(Some(rule));
     }
     match incomplete_among(alloc, config, host, &owners, whole)? {

@@ -1,12 +1,13 @@
 //! What the Fabric Manager takes from a host, or asks it to give back.
 
 ghost use Rattle.extent_list.specs.dcd_codes.specs.Rules.{ByRow};
-ghost use Rattle.release_core.specs.Leaving.{AreMarked};
+ghost use Rattle.extent_list.specs.Listing.{too_many_extents};
+ghost use Rattle.extent_list.specs.dcd_codes.specs.dcd_base.specs.Words.{where_true};
+ghost use Rattle.release_core.specs.Leaving.{AllCanLeave, AreMarked, count_after};
 ghost use Rattle.release_core.specs.Removals.{by_tag_rule, prescribed_removal_rule, extents_of_tag};
 ghost use Rattle.std.specs.Prelude.{◌≡◌, ◌+◌, ◌<◌, ◌≤◌, [], IfOk, OnOk, length};
 
 use crate::counting::count_rule;
-use crate::leaving::{Within, broken_leaving_extent};
 use crate::marking::marked_list;
 use extent_list::dcd_codes::dcd_base::{
     Extent, Extents, HostId, NoMemory, RegionId, Tag, is_no_tag,
@@ -14,7 +15,8 @@ use extent_list::dcd_codes::dcd_base::{
 use extent_list::dcd_codes::{Refusal, Rule};
 use extent_list::media_map::region_config::Config;
 use extent_list::{
-    Before, ExtentList, Owners, are_apart, has_extent_of, incomplete_among, too_many_listed,
+    ExtentList, Owned, Owners, Within, first_unfit, has_extent_of, incomplete_among,
+    too_many_listed,
 };
 use std::alloc::Global;
 
@@ -55,37 +57,42 @@ pub fn removal(
     if let Some(rule) = too_many_listed(list.as_slice()) {
         return Err(Refusal::Broken(rule));
     }
-    let bounds = Within::Region(region);
-    let (listed, owners) = (list.as_slice(), accepted.as_slice());
-    let (accepted_owners, apart) = (Owners::of(owners), are_apart(listed));
-    let mut near = 0;
-    for i in 0..listed.len() {
-        let before = Before {
-            extents: &listed[..i],
-            apart,
-        };
-        if let Some(rule) = broken_leaving_extent(
-            config,
-            host,
-            &accepted_owners,
-            &mut near,
-            &bounds,
-            &before,
-            &listed[i],
-        ) {
-            return Err(Refusal::Broken(rule));
-        }
+    let (listed, held) = (list.as_slice(), accepted.as_slice());
+    let owners = Owners::of(held);
+    let within = Within::Region(region);
+    if let Some(rule) = first_unfit(config, host, &within, &owners, Owned::Accepted, listed) {
+        return Err(Refusal::Broken(rule));
     }
     let alloc = list.allocator();
-    let rule = match incomplete_among(alloc, config, host, &accepted_owners, listed)? {
-        Some(rule) => Some(rule),
-        None if forced => count_rule(accepted, &accepted_owners, offered, listed)?,
-        None => None,
-    };
-    match rule {
-        Some(rule) => Err(Refusal::Broken(rule)),
-        None => Ok(marked_list(alloc, &accepted_owners, listed)?),
+    let broken_tag = incomplete_among(alloc, config, host, &owners, listed)?;
+    if let Some(rule) = broken_tag {
+        return Err(Refusal::Broken(rule));
     }
+    let broken_count = forced_rule(forced, accepted, &owners, offered, listed)?;
+    if let Some(rule) = broken_count {
+        return Err(Refusal::Broken(rule));
+    }
+    Ok(marked_list(alloc, &owners, listed)?)
+}
+
+/// The rule that the host breaks which has too many extents once those of the list are forced out.
+fn forced_rule(
+    forced: bool,
+    accepted: &ExtentList,
+    owners: &Owners,
+    offered: usize,
+    list: &[Extent],
+) -> Result<Option<Rule>, NoMemory>
+    requires few { length accepted.now.extents + offered ≤ 64 }
+    requires owners { owners.now ≡ accepted.now.extents }
+    requires listed { length list.now ≤ 64 }
+    requires leaving { AllCanLeave accepted.now.extents list.now }
+    ensures { IfOk result (λ found. found ≡ where_true forced (too_many_extents (count_after accepted.now.extents offered list.now))) }
+{
+    if forced {
+        return count_rule(accepted, owners, offered, list);
+    }
+    Ok(None)
 }
 
 /// The extents that an Initiate Dynamic Capacity Release of policy Tag means (5605h, profile): the accepted extents

@@ -264,9 +264,7 @@ impl Tags {
         ensures set { self.new.entries ≡ entries_changed tag.now (set_by host held offered) self.old.entries }
         ensures spare { self.old.spare ≤ self.new.spare }
     {
-        if self.is_live(tag) {
-            self.change(tag, Change::Host(host, held, offered));
-        }
+        self.change(tag, Change::Host(host, held, offered));
     }
 
     /// Gives the Fabric Manager a reference to a live tag, or takes it away. The tag does not end by it, also where no use is
@@ -275,9 +273,7 @@ impl Tags {
         ensures set { self.new.entries ≡ entries_changed tag.now (with_reference on) self.old.entries }
         ensures spare { self.old.spare ≤ self.new.spare }
     {
-        if self.is_live(tag) {
-            self.change(tag, Change::Refer(on));
-        }
+        self.change(tag, Change::Refer(on));
     }
 
     /// Ends the tag: its entry is gone. Where it is not live nothing changes.
@@ -363,14 +359,15 @@ impl Tags {
         put_last(&mut self.entries, entry)
     }
 
-    /// Changes the entry of a live tag.
+    /// Changes the entry of the tag. Where it is not live nothing changes.
     fn change(&mut self, tag: &Tag, change: Change)
-        requires live { IsTrue (has_entry tag.now self.old.entries) }
-        requires host { IsHostsChange change }
+        requires { IsHostsChange change }
         ensures changed { self.new.entries ≡ entries_changed tag.now (entry_changed change) self.old.entries }
         ensures spare { self.old.spare ≤ self.new.spare }
     {
-        self.entries.get_mut(tag).unwrap().apply(change);
+        if let Some(entry) = self.entries.get_mut(tag) {
+            entry.apply(change);
+        }
     }
 
     /// Ends the tag where it is used no more. Answers true exactly where it is not live then.

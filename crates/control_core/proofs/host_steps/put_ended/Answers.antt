@@ -4,12 +4,10 @@ use Rattle.std.proofs.lemmas.Bool.{eqb-true}
 use Rattle.std.proofs.lemmas.Result.{on_ok_weaker}
 use Rattle.cci_codec.specs.dcd_base.specs.declared.capacity.Tag.{Tag}
 use Rattle.cci_codec.specs.dcd_base.specs.declared.ids.HostId.{HostId}
-use Rattle.manager_commands.specs.device_state.specs.StateAfter.{part_of}
 use Rattle.extent_list.specs.ExtentLists.{has_extent_of}
 use Rattle.journal_core.specs.declared.outcome.Effect.{Effect}
 use Rattle.device_commands.specs.device_rules.specs.TagTable.{ending}
 use Rattle.tag_refs.specs.declared.entries.TagEntry.{TagEntry}
-use Rattle.device_commands.specs.ListsUpdates.{left_by}
 use Rattle.control_core.proofs.host_steps.put_ended.Goals as goal
 
 -- where no tag is open none ends
@@ -20,7 +18,7 @@ none_ends h held offered (e ∷ entries) none tags = absurd (omega (arith, none)
 
 pub returns-then-is_empty : goal.returns-then-is_empty
 returns-then-is_empty c =
-    let l = left_by c.args.lists.now (part_of c.args.state.now c.args.host).lists in
+    let l = c.args.lists.now in
     let entries = c.args.state.now.tags.entries in
     let old = c.args.effects.now in
     let none = none_ends c.args.host (λ t. has_extent_of t l.accepted) (λ t. list_any (has_extent_of t) l.offers) entries (eqb-true (length entries) 0 (sym c.is_empty.ensures ∙ c.if-is_empty.true)) c.args.tags.now in

@@ -1,11 +1,7 @@
-use Rattle.std.proofs.Common.{◌∙◌, ap, subst, sym}
-use Rattle.cci_codec.specs.dcd_base.specs.declared.steps.Actor.{Actor}
+use Rattle.std.proofs.Common.{◌∙◌, ap}
 use Rattle.extent_list.specs.HostLists.{Lists}
-use Rattle.journal_core.specs.declared.acts.Act.{Act}
-use Rattle.control_core.specs.Deciding.{IsDecidedBy}
 use Rattle.host_commands.specs.HeldLists.{unheld_by}
 use Rattle.manager_commands.specs.device_state.specs.declared.parts.HostPart.{HostPart}
-use Rattle.control_core.specs.declared.decided.Decided.{Decided}
 use Rattle.control_core.proofs.Decisions.{refused_host}
 use Rattle.control_core.proofs.host_steps.refused_by.Goals as goal
 
@@ -15,6 +11,5 @@ returns c = λ before legal kept is.
     let h = c.args.host in
     let q = c.args.request.now in
     let lists = ap (λ (p : HostPart). p.lists) c.part.ensures ∙ (kept.parts h c.requires.host).lists_are in
-    subst (λ (d : Decided). IsDecidedBy cfg before (Actor.Host h) (Act.Command q) d) (sym c.in_ok-decision.ensures)
-    (refused_host cfg before h q c.args.rule.now is c.refused-reply.result c.in_ok-effects.effects c.refused-reply.ensures
-    (c.in_ok-effects.ensures ∙ ap (λ (l : Lists). unheld_by h l q.opcode) lists))
+    refused_host cfg before h q c.args.rule.now is c.refused-reply.result c.in_ok-effects.effects c.refused-reply.ensures
+    (c.in_ok-effects.ensures ∙ ap (λ (l : Lists). unheld_by h l q.opcode) lists)

@@ -1,22 +1,21 @@
-use Rattle.std.proofs.Common.{◌∙◌, arith, length, subst, sym}
+use Rattle.std.proofs.Common.{◌∙◌, arith, length}
 use Rattle.fm_payloads.specs.declared.requests.FmRequest.{FmRequest}
-use Rattle.device_commands.specs.DraftContents.{draft_in}
 use Rattle.device_commands.specs.Drafts.{IsOutcome}
 use Rattle.journal_core.specs.Entries.{effects}
 use Rattle.device_commands.specs.device_rules.specs.Answers.{manager_outcome}
 use Rattle.device_commands.specs.device_rules.specs.Views.{view_of}
-use Rattle.control_core.proofs.Managed.{decided_manager, less_is, manages_err, no_log_records, unrefer_ended}
+use Rattle.control_core.proofs.Managed.{decided_manager, informs_nothing, manages_err, no_hosts, no_log_records, unrefer_ended}
 use Rattle.control_core.proofs.manager_steps.decide_remove_reference.Goals as goal
 
-pub entered-requires : goal.entered-requires
-entered-requires c = record {
-  known =
-      let cfg = c.args.config.now in
-      let reached = c.requires.reached in
-      let is = subst (IsOutcome (manager_outcome cfg (effects reached.journal) (λ h. view_of cfg h reached.journal) (FmRequest.RemoveReference c.args.tag.now))) (sym c.in_ok-step-in-Ok.ensures)
-      (c.in-Ok.ensures reached.journal reached.legal reached.kept).1 in
-      no_log_records (length c.args.state.now.hosts.items) (draft_in c.in_ok-step-in-Ok.step.value) is.log_records;
-}
+pub enacted_quietly-requires-clause-known : goal.enacted_quietly-requires-clause-known
+enacted_quietly-requires-clause-known c =
+    let reached = c.requires.reached in
+    no_log_records (length c.args.state.now.hosts.items) c.in-Ok.draft (c.in-Ok.ensures reached.journal reached.legal reached.kept).1.log_records
+
+pub enacted_quietly-requires-clause-hosts : goal.enacted_quietly-requires-clause-hosts
+enacted_quietly-requires-clause-hosts c =
+    let reached = c.requires.reached in
+    no_hosts (length c.args.state.now.hosts.items) c.in-Ok.draft (c.in-Ok.ensures reached.journal reached.legal reached.kept).1.log_records
 
 pub returns : goal.returns
 returns c =
@@ -30,9 +29,8 @@ returns-in-Ok c = λ before legal kept.
     let cfg = c.args.config.now in
     let q = FmRequest.RemoveReference c.args.tag.now in
     let it = c.in-Ok.ensures before legal kept in
-    decided_manager cfg before c.args.request.now q c.requires.asked it.0 c.in_ok-entered-in-Ok.field-0
-    (c.in_ok-entered-in-Ok.ensures cfg before (manager_outcome cfg (effects before) (λ h. view_of cfg h before) q) kept
+    decided_manager cfg before c.args.request.now q c.requires.asked it.0 c.in_ok-enacted_quietly-in-Ok.field-0
+    (c.in_ok-enacted_quietly-in-Ok.ensures cfg before (manager_outcome cfg (effects before) (λ h. view_of cfg h before) q) kept
     (unrefer_ended cfg before c.requires.reached.sound legal c.args.state.now kept c.args.tag.now c.as_slice-ended.result.now (c.as_slice-ended.ensures ∙ c.in_ok-ended.ensures))
-    (less_is (manager_outcome cfg (effects before) (λ h. view_of cfg h before) q) (draft_in c.in_ok-step-in-Ok.step.value)
-    (subst (IsOutcome (manager_outcome cfg (effects before) (λ h. view_of cfg h before) q)) (sym c.in_ok-step-in-Ok.ensures) it.1)))
+    (informs_nothing cfg.hosts (λ h. view_of cfg h before) (manager_outcome cfg (effects before) (λ h. view_of cfg h before) q) c.in-Ok.draft it.1))
     (omega arith)

@@ -7,10 +7,10 @@ use Rattle.device_commands.specs.device_rules.specs.EventCommands.{events_reply,
 use Rattle.host_commands.proofs.HostDrafts.{message_drafted, only_drafts}
 use Rattle.host_commands.proofs.host_messages.host_draft.Goals as goal
 
-pub returns-in-Ok-GetEvents-clause-drafted : goal.returns-in-Ok-GetEvents-clause-drafted
-returns-in-Ok-GetEvents-clause-drafted c = λ v present shows own.
+pub returns-in-Ok-GetEvents : goal.returns-in-Ok-GetEvents
+returns-in-Ok-GetEvents c = λ v present shows own.
     let q = c.args.request.now in
     let number = c.in-Ok-GetEvents.number in
     let asked : host_request q.opcode q.payload ≡ Ok (HostRequest.GetEvents number) = search rules in
     message_drafted c.args.config.now c.args.host v q (HostRequest.GetEvents number) asked c.get_events.result
-    (only_drafts c.args.config.now c.args.host v (events_reply (log_named number v.log)) _ c.get_events.result (c.get_events.ensures.drafts (LogId.Host c.args.host) v.log own))
+    (only_drafts c.args.config.now c.args.host v (events_reply (log_named number v.log)) _ c.get_events.result (c.get_events.ensures (LogId.Host c.args.host) v.log own))

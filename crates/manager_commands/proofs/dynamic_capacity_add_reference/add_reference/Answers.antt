@@ -14,7 +14,7 @@ returns-then-not-is_live c journal legal kept =
 pub returns : goal.returns
 returns c journal legal kept = (
   ap (λ b. not b breaks Rule.NoSuchTag) (tags_open c.args.config.now journal c.args.state.now.tags.entries c.requires.reached.sound legal kept.tags_are c.args.tag.now ∙ sym c.is_live.ensures ∙ c.if-not-is_live.false),
-  changes_alone _ _ c.in_ok-changing.field-0 c.in_ok-changing.ensures
+  changes_alone _ _ c.changing.result c.changing.ensures
       (c.in_ok-changes.ensures
       ∙ ap (λ b. if b then [] else Effect.Ref c.args.tag.now true ∷ []) (sym (tags_referenced c.args.config.now journal c.args.state.now.tags.entries c.requires.reached.sound legal kept.tags_are c.args.tag.now))),
 )

@@ -27,7 +27,7 @@ returns c journal legal kept =
     ∙ page_map (tag_seen cfg (effects journal)) c.args.first (min c.args.count 84) (open_tags cfg (effects journal)) in (
       kept_rule _ _ (not_below _ _ (omega (arith, total, c.if-first-total.false))),
       payload_alone _ _ c.only.result c.only.ensures
-          (c.in_ok-write_tags.ensures.appended ∙ ap (λ bytes. bytes ++ tags_payload c.args.first c.len-total.result c.as_slice.result.now) c.payload-payload.ensures
+          (c.in_ok-write_tags.ensures.appended ∙ ap (λ bytes. bytes ++ tags_payload c.args.first c.len-total.result c.as_slice.result.now) c.new-payload.ensures
           ∙ ap (λ n. tags_payload c.args.first n c.as_slice.result.now) (sym total)
           ∙ ap (tags_payload c.args.first (length (open_tags cfg (effects journal)))) (c.as_slice.ensures ∙ c.in_ok-views.ensures.views ∙ ap (λ n. map tag_view (page c.args.first n entries)) c.min.ensures ∙ seen)),
     )

@@ -13,6 +13,6 @@ returns c journal legal kept =
     let dirty = c.dirty-dirty.ensures ∙ dirty_counted cfg (effects journal) table kept.granule_count kept.cells in (
       refl,
       payload_alone _ _ c.only.result c.only.ensures
-          (c.in_ok-write_info.ensures.appended ∙ ap (λ bytes. bytes ++ info_payload c.hosts.result c.granules.result c.free-free.result c.dirty-dirty.result c.as_slice.result.now) c.payload-payload.ensures
+          (c.in_ok-write_info.ensures.appended ∙ ap (λ bytes. bytes ++ info_payload c.hosts.result c.granules.result c.free-free.result c.dirty-dirty.result c.as_slice.result.now) c.new-payload.ensures
           ∙ (λ i. info_payload (c.hosts.ensures.value i) (c.granules.ensures.value i) (free i) (dirty i) ((c.as_slice.ensures.value ∙ c.sizes_of-sizes.ensures.sizes) i))),
     )

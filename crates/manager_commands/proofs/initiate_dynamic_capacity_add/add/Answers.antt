@@ -63,7 +63,7 @@ returns-in-Ok c journal legal kept =
     let known : h < cfg.hosts = (named_parts cfg c.requires.reached.sound journal legal s kept h c.args.request.now.policy c.args.request.now.region c.args.request.now.length c.args.request.now.tag c.args.list.now named).host in
     made_of (room_rule h (part_of s h).lists v.log c.in-Ok.extents)
     (add_rule cfg (effects journal) (λ k. view_of cfg k journal) h c.args.request.now.policy c.args.request.now.region c.args.request.now.length c.args.request.now.tag c.args.list.now)
-    (DraftOffers h (part_of s h).lists c.in-Ok.extents)
+    (DraftOffers h c.in-Ok.extents)
     (λ d. Drafts cfg h v (add_outcome cfg (effects journal) (λ k. view_of cfg k journal) h c.args.request.now.policy c.args.request.now.region c.args.request.now.length c.args.request.now.tag c.args.list.now) d)
     c.offer_of.result
     (row_room cfg c.requires.reached.sound journal legal s kept h c.args.request.now.policy c.args.request.now.region c.args.request.now.length c.args.request.now.tag c.args.list.now named c.regions-regions.ensures.sound tag_kept c.in-Ok.ensures.row.0 c.in-Ok.extents c.in-Ok.ensures.row.1)

@@ -5,7 +5,7 @@ use Rattle.extent_list.specs.dcd_codes.specs.declared.rules.Rule.{Rule}
 use Rattle.device_commands.specs.Drafts.{Drafts}
 use Rattle.device_state.specs.device_rules.specs.ReleaseOutcomes.{remove_rule}
 use Rattle.device_state.specs.device_rules.specs.Views.{view_of}
-use Rattle.manager_commands.proofs.InitiateDynamicCapacityRelease.{chosen_host, meant_departs, removal_row}
+use Rattle.manager_commands.proofs.InitiateDynamicCapacityRelease.{chosen_host, meant_granular, removal_row}
 use Rattle.manager_commands.proofs.Reached.{few_extents, hosts_known}
 use Rattle.manager_commands.specs.InitiateDynamicCapacityRelease.{removal_outcome}
 use Rattle.manager_commands.proofs.initiate_dynamic_capacity_release.remove.Goals as goal
@@ -15,9 +15,9 @@ extents_meant-requires-clause-few c =
     few_extents c.args.config.now c.args.state.now c.requires.reached c.args.request.now.host
     (omega (arith, hosts_known c.args.config.now c.args.state.now c.requires.reached, chosen_host c.args.state.now.present.hosts c.args.request.now.host c.args.request.now.flags (sym c.in_default.ensures)))
 
-pub removal_of-requires-clause-departs : goal.removal_of-requires-clause-departs
-removal_of-requires-clause-departs c forced =
-    meant_departs c.args.config.now c.args.state.now c.requires.reached c.args.request.now.host
+pub removal_of-requires-clause-granular : goal.removal_of-requires-clause-granular
+removal_of-requires-clause-granular c forced =
+    meant_granular c.args.config.now c.args.state.now c.requires.reached c.args.request.now.host
     (omega (arith, hosts_known c.args.config.now c.args.state.now c.requires.reached, chosen_host c.args.state.now.present.hosts c.args.request.now.host c.args.request.now.flags (sym c.in_default.ensures)))
     c.args.request.now.flags c.args.request.now.region c.args.request.now.tag c.args.list.now c.in-Ok.leaving forced c.in-Ok.ensures.row.0 c.in-Ok.ensures.row.1
 

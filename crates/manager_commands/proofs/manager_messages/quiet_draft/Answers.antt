@@ -11,4 +11,4 @@ pub returns-in-GetEvents : goal.returns-in-GetEvents
 returns-in-GetEvents c = λ journal legal kept.
     let cfg = c.args.config.now in
     subst (λ (q : FmRequest). ByRow (rule_after cfg journal q) (DraftsFor cfg journal q (outcome_after cfg journal q)) c.get_events.result) (sym c.in-GetEvents.is)
-    (c.get_events.ensures.drafts LogId.Manager (log_of LogId.Manager (effects journal)) kept.manager_log)
+    (c.get_events.ensures LogId.Manager (log_of LogId.Manager (effects journal)) kept.manager_log)

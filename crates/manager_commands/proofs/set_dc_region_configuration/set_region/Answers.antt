@@ -1,6 +1,6 @@
 use Rattle.std.proofs.Common.{◌<◌, Some, None, length, arith, sym, ◌∙◌}
 use Rattle.device_state.specs.device_rules.specs.Views.{view_of}
-use Rattle.manager_commands.proofs.Reached.{few_extents, hosts_known, lists_kept, logs_kept, regions_kept, states_count}
+use Rattle.manager_commands.proofs.Reached.{logs_kept, regions_kept, states_count}
 use Rattle.manager_commands.proofs.SetDcRegionConfiguration.{set_rule-logs, set_rule-size, told_all, unknown_region}
 use Rattle.manager_commands.proofs.set_dc_region_configuration.set_region.Goals as goal
 
@@ -26,10 +26,6 @@ returns-in-Some-first_full c journal legal kept =
     set_rule-logs cfg c.requires.reached.sound journal s kept c.args.region known (λ h. view_of cfg h journal) c.args.sanitize c.args.block (Some c.in-Some-first_full.rule) (sym c.in_ok-rule.ensures ∙ c.in_default.is)
     (sym (c.first_full.ensures (λ h. view_of cfg h journal) (logs_kept cfg journal s kept)) ∙ c.in-Some-first_full.is)
 
-pub region_draft-requires-clause-few : goal.region_draft-requires-clause-few
-region_draft-requires-clause-few c h known =
-    few_extents c.args.config.now c.args.state.now c.requires.reached h (omega (arith, hosts_known c.args.config.now c.args.state.now c.requires.reached, known))
-
 pub returns : goal.returns
 returns c journal legal kept =
     let cfg = c.args.config.now in
@@ -38,5 +34,5 @@ returns c journal legal kept =
       set_rule-logs cfg c.requires.reached.sound journal s kept c.args.region known (λ h. view_of cfg h journal) c.args.sanitize c.args.block None (sym c.in_ok-rule.ensures ∙ c.in_default.is)
           (sym (c.first_full.ensures (λ h. view_of cfg h journal) (logs_kept cfg journal s kept)) ∙ c.in_default-first_full.is),
       told_all cfg c.requires.reached.sound journal s kept c.args.region known (λ h. view_of cfg h journal) c.args.sanitize c.args.block c.in_ok-region_draft.field-0
-          (c.in_ok-region_draft.ensures (λ h. view_of cfg h journal) (lists_kept cfg journal s kept)),
+          (c.in_ok-region_draft.ensures (λ h. view_of cfg h journal)),
     )

@@ -27,4 +27,4 @@ pub returns-in-Some : goal.returns-in-Some
 returns-in-Some c =
     let whole = c.args.whole.now in
     sym (one_broken c.args.config.now c.args.host c.args.accepted (lists_of c.args.offers.now.offers) whole c.in-Some.rule
-    (ap (λ (offer : List Extent). each_in whole (extent_rule c.args.config.now c.args.host offer)) (sym (c.of-owners.ensures ∙ c.oldest.ensures)) ∙ sym c.broken_answered.ensures ∙ c.in-Some.is))
+    (ap (λ (offer : List Extent). each_in whole (extent_rule c.args.config.now c.args.host offer)) (sym (c.of-owners.ensures ∙ c.oldest.ensures)) ∙ sym c.first_unfit.ensures ∙ c.in-Some.is))

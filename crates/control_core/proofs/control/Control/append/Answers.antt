@@ -4,7 +4,6 @@ use Rattle.journal_core.specs.declared.outcome.Effect.{Effect}
 use Rattle.control_core.specs.Deciding.{Holds, IsDecidedBy}
 use Rattle.control_core.specs.Pasts.{EntersStep, IsOfStep}
 use Rattle.control_core.specs.Steps.{Controlled, MayStep}
-use Rattle.control_core.specs.Decisions.{decided_by}
 use Rattle.control_core.specs.declared.decided.Decided.{Decided}
 use Rattle.control_core.proofs.NextEntry.{holds_decided, is_of_step}
 use Rattle.control_core.proofs.control.Control.append.Goals as goal
@@ -12,7 +11,7 @@ use Rattle.control_core.proofs.control.Control.append.Goals as goal
 pub enter-requires-clause-step : goal.enter-requires-clause-step
 enter-requires-clause-step c =
     let live = c.self.inside.live in
-    let d : Decided = decided_by c.args.step.now in
+    let d : Decided = c.args.decided.now in
     let may = subst (λ (k : Controlled). MayStep k.config c.args.actor c.args.act.now) (sym c.self.view_is) c.requires.may in
     let is = subst (λ (k : Controlled). IsDecidedBy k.config k.entries c.args.actor c.args.act.now d) (sym c.self.view_is) c.requires.decided in
     subst (λ (es : List Effect). IsOfStep live es) (sym c.as_slice.ensures)
@@ -21,7 +20,7 @@ enter-requires-clause-step c =
 pub invariant_of-self-2 : goal.invariant_of-self-2
 invariant_of-self-2 c =
     let live = c.self.inside.live in
-    let d : Decided = decided_by c.args.step.now in
+    let d : Decided = c.args.decided.now in
     let may = subst (λ (k : Controlled). MayStep k.config c.args.actor c.args.act.now) (sym c.self.view_is) c.requires.may in
     let is = subst (λ (k : Controlled). IsDecidedBy k.config k.entries c.args.actor c.args.act.now d) (sym c.self.view_is) c.requires.decided in
     let enters = subst (λ (es : List Effect). EntersStep live c.enter.new.self es) c.as_slice.ensures c.enter.ensures.entered in

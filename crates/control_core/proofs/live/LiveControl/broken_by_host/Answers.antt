@@ -28,6 +28,6 @@ returns c =
     (λ past leads.
     c.rule_of.ensures (result_err (host_result_in cfg h (view_of cfg h past) q))
     (host_row cfg h (view_of cfg h past) q c.host_draft.result
-    (c.host_draft.ensures.drafted (view_of cfg h past) leads.kept.present_is
+    (c.host_draft.ensures (view_of cfg h past) leads.kept.present_is
     (ap (λ (p : HostPart). p.lists) c.part-part.ensures ∙ (leads.kept.parts h host).lists_are)
     (subst (λ (p : HostPart). IsLogOf (LogId.Host h) (view_of cfg h past).log p.log) (sym c.part-part.ensures) (leads.kept.parts h host).log_is)))))

@@ -1,6 +1,5 @@
-use Rattle.std.proofs.Common.{◌≡◌, ◌<◌, sym, subst, ◌∙◌}
+use Rattle.std.proofs.Common.{◌≡◌, ◌<◌, sym, subst, ◌∙◌, ap}
 use Rattle.cci_codec.specs.dcd_base.specs.Hosts.{has_host}
-use Rattle.std.proofs.Common.{ap}
 use Rattle.journal_core.specs.Entries.{effects}
 use Rattle.journal_core.specs.Holders.{holds}
 use Rattle.extent_list.specs.media_map.specs.region_config.specs.Granules.{granule_total}

@@ -8,14 +8,13 @@ use Rattle.isolation_laws.specs.declared.items.SoloReply.{SoloReply}
 use Rattle.journal_core.specs.declared.acts.Act.{Act}
 use Rattle.journal_core.specs.declared.acts.Reply.{Reply}
 use Rattle.control_core.specs.host_commands.specs.HostMessages.{IsDrafted}
-use Rattle.device_plain.proofs.AloneCommands.{command_done, command_refused}
+use Rattle.device_plain.proofs.AloneCommands.{command_refused, does_enacted}
 use Rattle.device_plain.proofs.alone.Alone.command.Goals as goal
 
 pub returns-in-Ok : goal.returns-in-Ok
 returns-in-Ok c =
-    let done = command_done c.args.config.now c.args.host c.args.request.now c.args.self.now c.put_in_place.new.self c.in-Ok.draft c.in-Ok.ensures.few c.put_in_place.ensures.changed
-    (λ v word was. c.in-Ok.ensures.drafted v was.present_is was.lists_are was.log_is) in
-    rw (c.put_in_place.ensures.reply) done
+    does_enacted c.args.config.now c.args.host c.args.request.now c.args.self.now c.enact.new.self c.in-Ok.draft c.enact.result c.enact.ensures.reply c.enact.ensures.changed
+    (λ v word was. c.in-Ok.ensures v was.present_is was.lists_are was.log_is)
 
 pub returns-in-Err-Broken : goal.returns-in-Err-Broken
 returns-in-Err-Broken c =
@@ -23,4 +22,4 @@ returns-in-Err-Broken c =
     subst (λ (reply : Reply). DoesAlone c.args.config.now c.args.host (Act.Command c.args.request.now) c.args.self.now c.drop_held.new.self (SoloReply.Said reply)) (sym reply_is)
     (command_refused c.args.config.now c.args.host c.args.request.now c.args.self.now c.drop_held.new.self c.drop_held.ensures c.in-Err-Broken.rule
     (λ v word was. subst (λ (r : Refusal). IsDrafted c.args.config.now c.args.host v c.args.request.now (Err r)) c.in-Err-Broken.field-0-is
-    (c.in-Err-Broken.ensures.drafted v was.present_is was.lists_are was.log_is)))
+    (c.in-Err-Broken.ensures v was.present_is was.lists_are was.log_is)))

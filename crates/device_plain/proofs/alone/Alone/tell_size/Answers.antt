@@ -3,13 +3,13 @@ use Rattle.control_core.specs.device_rules.specs.Outcomes.{record_for, no_extent
 use Rattle.event_records.specs.declared.events.Event.{Event}
 use Rattle.event_records.specs.declared.events.EventKind.{EventKind}
 use Rattle.device_plain.specs.Telling.{resized}
-use Rattle.device_plain.proofs.ToldAlone.{logs_put}
+use Rattle.device_plain.proofs.ToldAlone.{logs_put, shown}
 use Rattle.device_plain.proofs.alone.Alone.tell_size.Goals as goal
 
 pub returns : goal.returns
 returns c = λ c'.
     logs_put c' c.args.host (resized c.args.host c.args.region) c.args.self.now c.put_all.new.log (record c.event_for-event.result { region = c.region.inside.0 } ∷ [])
     (λ v are.
-    ap (λ (e : Event). record e { region = c.region.inside.0 } ∷ []) (c.event_for-event.ensures v (c.of.ensures ∙ c.unchanged-same.ensures ∙ are) ∙ ap (record_for c.args.host v EventKind.RegionUpdated false) c.no_extent.ensures)
+    ap (λ (e : Event). record e { region = c.region.inside.0 } ∷ []) (c.event_for-event.ensures v (shown v c.args.self.now.lists are) ∙ ap (record_for c.args.host v EventKind.RegionUpdated false) c.no_extent.ensures)
     ∙ ap (λ (n : ℕ). record (record_for c.args.host v EventKind.RegionUpdated false no_extent) { region = n } ∷ []) c.region.view_is)
     c.put_all.result c.put_all.ensures.put c.put_all.ensures.full

@@ -2,7 +2,7 @@ use Rattle.std.proofs.Common.{◌∷◌, ◌++◌, [], List, sym, subst, ap, ref
 use Rattle.journal_core.specs.declared.entries.Entry.{Entry}
 use Rattle.journal_core.specs.Merging.{merged}
 use Rattle.region_config.specs.Configurations.{Configuration}
-use Rattle.control_core.specs.Steps.{Controlled, MayStep, journal_entry}
+use Rattle.control_core.specs.Steps.{MayStep, journal_entry}
 use Rattle.device_plain.specs.Accesses.{AreZeroed}
 use Rattle.device_plain.specs.Devices.{Plain}
 use Rattle.device_plain.specs.Keeping.{KeepsBoth}
@@ -18,9 +18,8 @@ invariant_of-self-2 c =
     let kept = both_command in_it.control.config before in_it.accesses.items in_it.words in_it.since c.self.invariant c.args.pass c.args.line c.args.actor c.args.act.now may
     c.in_ok-effects.ensures.short c.zero_all.new.words
     (subst (AreZeroed in_it.words c.zero_all.new.words) (c.as_slice.ensures ∙ c.in_ok-effects.ensures.effects) c.zero_all.ensures.words) c.zero_all.ensures.granules in
-    subst (λ (k : Controlled). KeepsBoth k.config k.entries in_it.accesses.items c.zero_all.new.words 0) (sym c.give_back.ensures)
-    (subst (λ (cfg : Configuration). KeepsBoth cfg c.step.new.self.entries in_it.accesses.items c.zero_all.new.words 0) (sym c.step.ensures.config)
-    (subst (λ (es : List Entry). KeepsBoth in_it.control.config es in_it.accesses.items c.zero_all.new.words 0) (sym c.in_ok-effects.ensures.entered) kept))
+    subst (λ (cfg : Configuration). KeepsBoth cfg c.step.new.self.entries in_it.accesses.items c.zero_all.new.words 0) (sym c.step.ensures.config)
+    (subst (λ (es : List Entry). KeepsBoth in_it.control.config es in_it.accesses.items c.zero_all.new.words 0) (sym c.in_ok-effects.ensures.entered) kept)
 
 pub returns-clause-entered : goal.returns-clause-entered
 returns-clause-entered c =
@@ -36,9 +35,8 @@ returns-clause-entered c =
         actor = refl;
         act = refl;
         reply = refl;
-        config = ap (λ (k : Controlled). k.config) c.give_back.ensures ∙ c.step.ensures.config ∙ ap (λ (d : Plain). d.config) c.self.view_is;
-        journal = ap (λ (k : Controlled). merged k.entries (in_it.accesses.items ∷ [])) c.give_back.ensures
-            ∙ ap (λ (es : List Entry). merged es (in_it.accesses.items ∷ [])) c.in_ok-effects.ensures.entered
+        config = c.step.ensures.config ∙ ap (λ (d : Plain). d.config) c.self.view_is;
+        journal = ap (λ (es : List Entry). merged es (in_it.accesses.items ∷ [])) c.in_ok-effects.ensures.entered
             ∙ grown_command in_it.control.config before in_it.accesses.items in_it.words in_it.since c.self.invariant c.args.pass c.args.line c.args.actor c.args.act.now may
             ∙ ap (λ (es : List Entry). es ++ next ∷ []) (ap (λ (d : Plain). d.journal) c.self.view_is);
       },

@@ -1,61 +1,66 @@
-use Rattle.std.proofs.Common.{◌≡◌, ◌∙◌, ap, arith, get_or, subst, sym, take}
-use Rattle.std.specs.Prelude.{fold}
+use Rattle.std.proofs.Common.{◌≡◌, ◌+◌, ◌≤◌, ◌++◌, ◌∙◌, List, ap, arith, drop, subst, sym, take}
+use Rattle.std.specs.Prelude.{All, fold}
+use Rattle.std.proofs.Math.Seq.{take-add}
 use Rattle.std.proofs.lemmas.List.{take_all}
-use Rattle.std.proofs.lemmas.List.Sums.{fold_more}
-use Rattle.device_state.specs.EnteredLists.{HasPlaces, all_lists_over, lists_of, room_by}
+use Rattle.std.proofs.lemmas.List.Elements.{All-drop}
+use Rattle.journal_core.specs.declared.outcome.Effect.{Effect}
+use Rattle.device_state.specs.EnteredLists.{Fits, lists_of, room_by}
 use Rattle.device_state.specs.Stages.{IsListedOver}
 use Rattle.device_state.specs.Updates.{IsOfDevice}
 use Rattle.device_state.specs.declared.state.State.{State}
-use Rattle.device_state.proofs.Listed.{fits_at, listed_more, more_room, room_left, room_less}
+use Rattle.device_state.proofs.Listed.{fits_behind, fits_more, listed_behind, room_behind, room_left}
 use Rattle.device_state.proofs.state.State.list_all.Goals as goal
 
-pub list-requires-clause-of_device : goal.list-requires-clause-of_device
-list-requires-clause-of_device c =
-    let e = c.effect-item.result in
-    subst (λ x. IsOfDevice c.args.config.now x) (sym c.effect-item.is) (c.requires.of_device c.loop-effect.effect-index e c.loop-effect-test.true)
-
-pub list-requires-clause-places : goal.list-requires-clause-places
-list-requires-clause-places c =
-    let e = c.effect-item.result in
+pub list_front-done-requires-clause-of_device : goal.list_front-done-requires-clause-of_device
+list_front-done-requires-clause-of_device c =
+    let conf = c.args.config.now in
     let es = c.args.effects.now in
-    let i = c.loop-effect.effect-index in
-    let old = c.args.self.now in
-    let mid = c.loop-effect.self in
-    let at = fits_at c.args.config.now (lists_of old) 1 es i e c.loop-effect-test.true c.requires.fits in
-    more_room c.args.config.now (lists_of mid) (fold room_by 1 (take i es)) mid.tags.spare e c.loop-effect.invariant.room
-    (subst (λ lists. HasPlaces c.args.config.now lists (fold room_by 1 (take i es)) e) (sym c.loop-effect.invariant.listed.listed.lists_are)
-    (subst (HasPlaces c.args.config.now (all_lists_over c.args.config.now (lists_of old) (take i es)) (fold room_by 1 (take i es))) (sym c.effect-item.is) at))
+    subst (λ (rest : List Effect). All (IsOfDevice conf) rest) (sym c.split_at.ensures.back) (All-drop (IsOfDevice conf) c.loop-done.done es c.requires.of_device)
 
-pub loop-effect-preserved : goal.loop-effect-preserved
-loop-effect-preserved c =
-    let e = c.effect-item.result in
+pub list_front-done-requires-clause-fits : goal.list_front-done-requires-clause-fits
+list_front-done-requires-clause-fits c =
+    let conf = c.args.config.now in
     let es = c.args.effects.now in
-    let i = c.loop-effect.effect-index in
+    let done = c.loop-done.done in
     let old = c.args.self.now in
-    let mid = c.loop-effect.self in
-    let so_far = c.loop-effect.invariant in
-    let one = c.list.ensures in
-    let is = c.effect-item.is in
-    let below = c.loop-effect-test.true in
-    let room_is : room_by (fold room_by 1 (take i es)) e ≡ room_by (fold room_by 1 (take i es)) (get_or es i e) = ap (room_by (fold room_by 1 (take i es))) is in
-    let spare_is : room_by (fold room_by old.tags.spare (take i es)) e ≡ room_by (fold room_by old.tags.spare (take i es)) (get_or es i e) = ap (room_by (fold room_by old.tags.spare (take i es))) is in
+    let mid = c.loop-done.self in
+    let so_far = c.loop-done.invariant in
+    subst (λ (rest : List Effect). Fits conf (lists_of mid) mid.tags.spare rest) (sym c.split_at.ensures.back)
+    (fits_more conf (lists_of mid) (fold room_by 1 (take done es)) mid.tags.spare (drop done es) so_far.room
+    (subst (λ lists. Fits conf lists (fold room_by 1 (take done es)) (drop done es)) (sym so_far.listed.listed.lists_are) (fits_behind conf (lists_of old) 1 done es c.requires.fits)))
+
+pub loop-done-preserved : goal.loop-done-preserved
+loop-done-preserved c =
+    let conf = c.args.config.now in
+    let es = c.args.effects.now in
+    let done = c.loop-done.done in
+    let n = c.list_front-done.result in
+    let old = c.args.self.now in
+    let mid = c.loop-done.self in
+    let new = c.list_front-done.new.self in
+    let so_far = c.loop-done.invariant in
+    let one = c.list_front-done.ensures in
+    let back = c.split_at.ensures.back in
+    let whole : take done es ++ take n (drop done es) ≡ take (done + n) es = sym (take-add done n es) in
+    let left = subst (λ (rest : List Effect). fold room_by mid.tags.spare (take n rest) ≤ new.tags.spare) back one.spare in
     record {
-      listed = listed_more c.args.config.now old mid c.list.new.self es i e below is so_far.listed one.listed;
-      room = omega (arith, one.spare, room_less (fold room_by 1 (take i es)) mid.tags.spare e so_far.room, room_is, fold_more room_by 1 es i e below);
-      spare = omega (arith, one.spare, room_less (fold room_by old.tags.spare (take i es)) mid.tags.spare e so_far.spare, spare_is, fold_more room_by old.tags.spare es i e below);
-      kept = one.kept ∙ ap (λ (s : State). record s { hosts = c.list.new.self.hosts; tags = c.list.new.self.tags }) so_far.kept;
+      within = omega (arith, one.known, c.split_at.ensures.back_len, so_far.within);
+      listed = subst (λ (xs : List Effect). IsListedOver conf xs old new) whole
+          (listed_behind conf old mid new (take done es) (take n (drop done es)) so_far.listed (subst (λ (rest : List Effect). IsListedOver conf (take n rest) mid new) back one.listed));
+      room = subst (λ (xs : List Effect). fold room_by 1 xs ≤ new.tags.spare) whole (room_behind 1 mid.tags.spare new.tags.spare (take done es) (take n (drop done es)) so_far.room left);
+      spare = subst (λ (xs : List Effect). fold room_by old.tags.spare xs ≤ new.tags.spare) whole
+          (room_behind old.tags.spare mid.tags.spare new.tags.spare (take done es) (take n (drop done es)) so_far.spare left);
+      kept = one.kept ∙ ap (λ (s : State). record s { hosts = new.hosts; tags = new.tags }) so_far.kept;
     }
 
 pub returns-clause-listed : goal.returns-clause-listed
 returns-clause-listed c =
     let es = c.args.effects.now in
-    let i = c.loop-effect.effect-index in
-    subst (λ done. IsListedOver c.args.config.now done c.args.self.now c.loop-effect.self) (take_all i es (omega (arith, c.loop-effect-test.false))) c.loop-effect.invariant.listed
+    subst (λ (done : List Effect). IsListedOver c.args.config.now done c.args.self.now c.loop-done.self) (take_all c.loop-done.done es (omega (arith, c.loop-done-test.false))) c.loop-done.invariant.listed
 
 pub returns-clause-spare : goal.returns-clause-spare
 returns-clause-spare c =
     let es = c.args.effects.now in
-    let i = c.loop-effect.effect-index in
     let old = c.args.self.now in
-    let all : fold room_by old.tags.spare (take i es) ≡ fold room_by old.tags.spare es = ap (fold room_by old.tags.spare) (take_all i es (omega (arith, c.loop-effect-test.false))) in
-    omega (arith, c.loop-effect.invariant.spare, all, room_left c.args.config.now (lists_of old) 1 old.tags.spare es c.requires.fits)
+    let all : fold room_by old.tags.spare (take c.loop-done.done es) ≡ fold room_by old.tags.spare es = ap (fold room_by old.tags.spare) (take_all c.loop-done.done es (omega (arith, c.loop-done-test.false))) in
+    omega (arith, c.loop-done.invariant.spare, all, room_left c.args.config.now (lists_of old) 1 old.tags.spare es c.requires.fits)
