@@ -1,9 +1,8 @@
 -- A command of the Fabric Manager is entered as its outcome.
-use Rattle.std.proofs.Common.{◌≡◌, ℕ, ◌+◌, ◌<◌, true, false, not, ◌≤◌, Some, List, [], ◌∷◌, ◌++◌, length, map, flat_map, None, refl, sym, ap, ◌∙◌, subst, arith, zero, suc}
-use Rattle.std.specs.Prelude.{All, if◌then◌else◌}
+use Rattle.std.proofs.Common.{◌≡◌, ℕ, ◌+◌, ◌<◌, ◌≤◌, Some, List, [], ◌++◌, length, map, flat_map, None, refl, sym, ap, ◌∙◌, subst, arith, zero, suc}
+use Rattle.std.specs.Prelude.{All}
 use Rattle.std.specs.List.{AllByRecursion, range_with_len}
 use Rattle.std.specs.declared.result.Result.TheVariants.{Ok, Err}
-use Rattle.std.proofs.lemmas.Bool.{false≢true}
 use Rattle.cci_codec.specs.declared.messages.Request.{Request}
 use Rattle.cci_codec.specs.dcd_base.specs.declared.capacity.Tag.{Tag}
 use Rattle.cci_codec.specs.dcd_base.specs.declared.ids.HostId.{HostId}
@@ -32,13 +31,11 @@ use Rattle.device_commands.specs.device_rules.specs.Legal.{Legal}
 use Rattle.device_commands.specs.device_rules.specs.Logs.{log_of}
 use Rattle.device_commands.specs.device_rules.specs.Outcomes.{Outcome, ended, entered_all}
 use Rattle.device_commands.specs.device_rules.specs.Views.{View, view_of}
-use Rattle.device_commands.specs.device_rules.specs.QuietRequests.{is_quiet_manager}
 use Rattle.device_commands.specs.device_rules.proofs.ReferenceSteps.{ended-reference}
 use Rattle.device_commands.specs.device_rules.proofs.LegalSound.{legal_is_sound}
-use Rattle.tag_refs.specs.Tables.{is_used, passes, with_reference}
 use Rattle.control_core.specs.Deciding.{IsDecidedBy, IsShort}
 use Rattle.control_core.specs.Doing.{IsDone}
-use Rattle.control_core.specs.Managing.{Manages}
+use Rattle.control_core.specs.Managing.{Manages, ended_by, changed_host}
 use Rattle.control_core.specs.Recording.{events_of, records_told}
 use Rattle.manager_commands.specs.device_state.specs.Updates.{IsOfLog}
 use Rattle.control_core.specs.declared.decided.Decided.{Decided}
@@ -73,29 +70,20 @@ informs_nothing hosts view_for o draft is = record {
 -- ---- the requests
 
 module _ (c : Configuration) (before : List Entry) where
-  -- those that change no extents and no tags
-  quiet_tags : (q : FmRequest) → is_quiet_manager q ≡ true → (manager_outcome c (effects before) (λ h. view_of c h before) q).tags ≡ []
-  quiet_tags (FmRequest.GetEvents log) quiet = refl
-  quiet_tags (FmRequest.ClearEvents log all handles) quiet = refl
-  quiet_tags FmRequest.GetInfo quiet = refl
-  quiet_tags (FmRequest.GetRegions host count first) quiet = refl
-  quiet_tags (FmRequest.SetRegion r sanitize size) quiet = refl
-  quiet_tags (FmRequest.GetExtentLists host count first) quiet = refl
-  quiet_tags (FmRequest.ListTags first count) quiet = refl
-  quiet_tags (FmRequest.Add host policy r bytes tag list) quiet = absurd (false≢true quiet)
-  quiet_tags (FmRequest.Remove host flags r bytes tag list) quiet = absurd (false≢true quiet)
-  quiet_tags (FmRequest.AddReference tag) quiet = absurd (false≢true quiet)
-  quiet_tags (FmRequest.RemoveReference tag) quiet = absurd (false≢true quiet)
-
-  pub quiet_ended : (q : FmRequest) → is_quiet_manager q ≡ true →
-      ended c (effects before) (manager_outcome c (effects before) (λ h. view_of c h before) q).changes (manager_outcome c (effects before) (λ h. view_of c h before) q).tags ≡ []
-  quiet_ended q quiet = ap (ended c (effects before) (manager_outcome c (effects before) (λ h. view_of c h before) q).changes) (quiet_tags q quiet)
-
-  -- and one that takes a reference away
-  pub unrefer_ended : IsSound c → Legal c before → (s : State) → IsStateAfter c before s → (tag : Tag) → (over : List Tag) →
-      over ≡ (if passes tag (λ e. not (is_used (with_reference false e))) s.tags.entries then tag ∷ [] else []) →
-      ended c (effects before) (manager_outcome c (effects before) (λ h. view_of c h before) (FmRequest.RemoveReference tag)).changes (manager_outcome c (effects before) (λ h. view_of c h before) (FmRequest.RemoveReference tag)).tags ≡ over
-  unrefer_ended sound legal s kept tag over is = ended-reference c (effects before) (legal_is_sound c sound before legal) tag s.tags.entries kept.tags_are ∙ sym is
+  -- the tags that end by one that changes no lists
+  pub quiet_ended : IsSound c → Legal c before → (s : State) → IsStateAfter c before s → (q : FmRequest) → changed_host q ≡ None →
+      ended c (effects before) (manager_outcome c (effects before) (λ h. view_of c h before) q).changes (manager_outcome c (effects before) (λ h. view_of c h before) q).tags ≡ ended_by s.tags.entries q
+  quiet_ended sound legal s kept (FmRequest.RemoveReference tag) none = ended-reference c (effects before) (legal_is_sound c sound before legal) tag s.tags.entries kept.tags_are
+  quiet_ended sound legal s kept (FmRequest.GetEvents log) none = refl
+  quiet_ended sound legal s kept (FmRequest.ClearEvents log all handles) none = refl
+  quiet_ended sound legal s kept FmRequest.GetInfo none = refl
+  quiet_ended sound legal s kept (FmRequest.GetRegions host count first) none = refl
+  quiet_ended sound legal s kept (FmRequest.SetRegion r sanitize size) none = refl
+  quiet_ended sound legal s kept (FmRequest.GetExtentLists host count first) none = refl
+  quiet_ended sound legal s kept (FmRequest.ListTags first count) none = refl
+  quiet_ended sound legal s kept (FmRequest.AddReference tag) none = refl
+  quiet_ended sound legal s kept (FmRequest.Add host policy r bytes tag list) none = absurd (cc)
+  quiet_ended sound legal s kept (FmRequest.Remove host flags r bytes tag list) none = absurd (cc)
 
   -- ---- the logs that are told
 
@@ -103,18 +91,18 @@ module _ (c : Configuration) (before : List Entry) where
   range_known hosts a zero event within = tt
   range_known hosts a (suc n) event within = (omega (arith, within), range_known hosts (a + 1) n event (omega (arith, within)))
 
-  pub quiet_known : (q : FmRequest) → is_quiet_manager q ≡ true → AllByRecursion (λ (n : LogId × List Event). IsOfLog c.hosts n.0) (manager_outcome c (effects before) (λ h. view_of c h before) q).log_records
-  quiet_known (FmRequest.GetEvents log) quiet = tt
-  quiet_known (FmRequest.ClearEvents log all handles) quiet = tt
-  quiet_known FmRequest.GetInfo quiet = tt
-  quiet_known (FmRequest.GetRegions host count first) quiet = tt
-  quiet_known (FmRequest.SetRegion r sanitize size) quiet = range_known c.hosts 0 c.hosts _ (omega arith)
-  quiet_known (FmRequest.GetExtentLists host count first) quiet = tt
-  quiet_known (FmRequest.ListTags first count) quiet = tt
-  quiet_known (FmRequest.Add host policy r bytes tag list) quiet = absurd (false≢true quiet)
-  quiet_known (FmRequest.Remove host flags r bytes tag list) quiet = absurd (false≢true quiet)
-  quiet_known (FmRequest.AddReference tag) quiet = absurd (false≢true quiet)
-  quiet_known (FmRequest.RemoveReference tag) quiet = absurd (false≢true quiet)
+  pub quiet_known : (q : FmRequest) → changed_host q ≡ None → AllByRecursion (λ (n : LogId × List Event). IsOfLog c.hosts n.0) (manager_outcome c (effects before) (λ h. view_of c h before) q).log_records
+  quiet_known (FmRequest.GetEvents log) none = tt
+  quiet_known (FmRequest.ClearEvents log all handles) none = tt
+  quiet_known FmRequest.GetInfo none = tt
+  quiet_known (FmRequest.GetRegions host count first) none = tt
+  quiet_known (FmRequest.SetRegion r sanitize size) none = range_known c.hosts 0 c.hosts _ (omega arith)
+  quiet_known (FmRequest.GetExtentLists host count first) none = tt
+  quiet_known (FmRequest.ListTags first count) none = tt
+  quiet_known (FmRequest.AddReference tag) none = tt
+  quiet_known (FmRequest.RemoveReference tag) none = tt
+  quiet_known (FmRequest.Add host policy r bytes tag list) none = absurd (cc)
+  quiet_known (FmRequest.Remove host flags r bytes tag list) none = absurd (cc)
 
   -- ---- the answer
 
@@ -150,26 +138,19 @@ refused_manager c before q rule is reply new answers none = record {
 
 -- ---- the logs that a draft tells are kept
 
--- the draft of a request that changes no extents and no tags changes no lists
-pub quiet_drafts : (c : Configuration) (journal : List Entry) (q : FmRequest) → is_quiet_manager q ≡ true → (o : Outcome) (d : Draft) → DraftsFor c journal q o d → Informs c.hosts (λ h. view_of c h journal) o d
-quiet_drafts c journal (FmRequest.Add h policy r bytes tag list) quiet o d is = absurd (false≢true quiet)
-quiet_drafts c journal (FmRequest.Remove h flags r bytes tag list) quiet o d is = absurd (false≢true quiet)
-quiet_drafts c journal (FmRequest.SetRegion r sanitize size) quiet o d is = is
-quiet_drafts c journal q quiet o d is = informs_nothing c.hosts (λ h. view_of c h journal) o d is
+-- the draft of a request that changes no lists
+pub quiet_drafts : (c : Configuration) (journal : List Entry) (q : FmRequest) → changed_host q ≡ None → (o : Outcome) (d : Draft) → DraftsFor c journal q o d → Informs c.hosts (λ h. view_of c h journal) o d
+quiet_drafts c journal (FmRequest.Add h policy r bytes tag list) none o d is = absurd (cc)
+quiet_drafts c journal (FmRequest.Remove h flags r bytes tag list) none o d is = absurd (cc)
+quiet_drafts c journal (FmRequest.SetRegion r sanitize size) none o d is = is
+quiet_drafts c journal q none o d is = informs_nothing c.hosts (λ h. view_of c h journal) o d is
 
-pub quiet_log_records : (c : Configuration) (before : List Entry) (s : State) → IsStateAfter c before s → (q : FmRequest) → is_quiet_manager q ≡ true →
+pub quiet_log_records : (c : Configuration) (before : List Entry) (s : State) → IsStateAfter c before s → (q : FmRequest) → changed_host q ≡ None →
     (draft : Draft) → Informs c.hosts (λ h. view_of c h before) (manager_outcome c (effects before) (λ h. view_of c h before) q) draft → All (λ (n : LogRecords). IsOfLog (length s.hosts.items) n.log) draft.log_records
-quiet_log_records c before s kept q quiet draft is =
+quiet_log_records c before s kept q none draft is =
     records_known (length s.hosts.items) (events_of (λ h. view_of c h before)) draft.log_records (manager_outcome c (effects before) (λ h. view_of c h before) q).log_records is.log_records
-    (subst (λ hosts. AllByRecursion (λ (n : LogId × List Event). IsOfLog hosts n.0) (manager_outcome c (effects before) (λ h. view_of c h before) q).log_records) (sym kept.host_count) (quiet_known c before q quiet))
+    (subst (λ hosts. AllByRecursion (λ (n : LogId × List Event). IsOfLog hosts n.0) (manager_outcome c (effects before) (λ h. view_of c h before) q).log_records) (sym kept.host_count) (quiet_known c before q none))
 
 pub quiet_hosts : (c : Configuration) (before : List Entry) (s : State) → IsStateAfter c before s → (view_for : HostId → View) (o : Outcome) (draft : Draft) → Informs c.hosts view_for o draft →
     All (λ (n : LogRecords). n.host < length s.hosts.items) draft.log_records
 quiet_hosts c before s kept view_for o draft is = subst (λ hosts. All (λ (n : LogRecords). n.host < hosts) draft.log_records) (sym kept.host_count) is.known
-
--- what tells nothing
-pub no_log_records : (hosts : ℕ) (draft : Draft) → draft.log_records ≡ [] → All (λ (n : LogRecords). IsOfLog hosts n.log) draft.log_records
-no_log_records hosts draft none = subst (λ (ns : List LogRecords). All (λ (n : LogRecords). IsOfLog hosts n.log) ns) (sym none) (λ i d less. absurd (omega (arith, less)))
-
-pub no_hosts : (hosts : ℕ) (draft : Draft) → draft.log_records ≡ [] → All (λ (n : LogRecords). n.host < hosts) draft.log_records
-no_hosts hosts draft none = subst (λ (ns : List LogRecords). All (λ (n : LogRecords). n.host < hosts) ns) (sym none) (λ i d less. absurd (omega (arith, less)))

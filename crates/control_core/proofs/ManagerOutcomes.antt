@@ -1,6 +1,6 @@
 -- What a 5604h and a 5605h that break no rule come to.
-use Rattle.std.proofs.Common.{◌≡◌, ℕ, ◌<◌, List, None, length, refl, subst, sym}
-use Rattle.std.specs.Prelude.{All}
+use Rattle.std.proofs.Common.{◌≡◌, ℕ, ◌<◌, ◌≤◌, List, None, arith, length, refl, subst, sym}
+use Rattle.std.specs.Prelude.{All, IfSome}
 use Rattle.cci_codec.specs.dcd_base.specs.declared.capacity.Extent.{Extent}
 use Rattle.cci_codec.specs.dcd_base.specs.declared.capacity.Tag.{Tag}
 use Rattle.fm_payloads.specs.declared.requests.FmRequest.{FmRequest}
@@ -18,7 +18,9 @@ use Rattle.device_commands.specs.device_rules.proofs.GivingSteps.{table-removal}
 use Rattle.device_commands.specs.device_rules.proofs.LeavingSteps.{removal_row}
 use Rattle.device_commands.specs.device_rules.proofs.Adding.{row_of}
 use Rattle.control_core.specs.Doing.{IsOfHost}
+use Rattle.control_core.specs.Managing.{changed_host}
 use Rattle.control_core.specs.Recording.{events_by}
+use Rattle.manager_commands.specs.ManagerMessages.{DraftsFor}
 use Rattle.manager_commands.specs.device_state.specs.StateAfter.{IsStateAfter}
 use Rattle.manager_commands.specs.device_state.specs.Updates.{IsOfLog}
 use Rattle.manager_commands.specs.device_state.specs.declared.state.State.{State}
@@ -58,3 +60,28 @@ add_of c before h policy r bytes tag list row = record {
   host = (row_of c before h policy r bytes tag list row).host;
   ended_are = λ entries table. none_ended c (effects before) h (manager_outcome c (effects before) (λ k. view_of c k before) (FmRequest.Add h policy r bytes tag list)) refl entries;
 }
+
+-- ---- both
+
+-- The request breaks no rule and is drafted so: it changes the lists of this host alone.
+pub record OfHost (c : Configuration) (before : List Entry) (s : State) (q : FmRequest) (d : Draft) (h : ℕ) : Type 0 where
+  pub is : IsOfHost c before h (manager_outcome c (effects before) (λ k. view_of c k before) q)
+  pub drafts : Drafts c h (view_of c h before) (manager_outcome c (effects before) (λ k. view_of c k before) q) d
+  pub known : All (λ (n : LogRecords). IsOfLog (length s.hosts.items) n.log) d.log_records
+  pub short : length (manager_outcome c (effects before) (λ k. view_of c k before) q).payload ≤ 2048
+
+pub of_host : (c : Configuration) → IsSound c → (before : List Entry) → Legal c before → (s : State) → IsStateAfter c before s → (q : FmRequest) (d : Draft) → manager_rule c (effects before) (λ k. view_of c k before) q ≡ None →
+    DraftsFor c before q (manager_outcome c (effects before) (λ k. view_of c k before) q) d → IfSome (changed_host q) (OfHost c before s q d)
+of_host c sound before legal s kept (FmRequest.Add h policy r bytes tag list) d row is = record {
+  is = add_of c before h policy r bytes tag list row;
+  drafts = is;
+  known = add_known c before s kept h policy r bytes tag list row d is;
+  short = omega arith;
+}
+of_host c sound before legal s kept (FmRequest.Remove h flags r bytes tag list) d row is = record {
+  is = remove_of c sound before legal h flags r bytes tag list row;
+  drafts = is;
+  known = remove_known c before s kept h flags r bytes tag list row d is;
+  short = omega arith;
+}
+of_host c sound before legal s kept q d row is = tt

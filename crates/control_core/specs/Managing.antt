@@ -1,5 +1,5 @@
 -- What a message of the Fabric Manager comes to.
-use Rattle.std.specs.Prelude.{◌≡◌, List}
+use Rattle.std.specs.Prelude.{◌≡◌, ℕ, false, not, List, [], ◌∷◌, None, Option, Some, if◌then◌else◌}
 use Rattle.std.specs.declared.result.Result.{Result}
 use Rattle.std.specs.declared.result.Result.TheVariants.{Ok, Err}
 use Rattle.cci_codec.specs.declared.messages.Request.{Request}
@@ -7,6 +7,7 @@ use Rattle.cci_codec.specs.dcd_base.specs.declared.capacity.Tag.{Tag}
 use Rattle.cci_codec.specs.dcd_base.specs.declared.steps.Actor.{Actor}
 use Rattle.extent_list.specs.dcd_codes.specs.declared.refusals.Refusal.{Refusal}
 use Rattle.fm_payloads.specs.ManagerPayloads.{manager_request}
+use Rattle.fm_payloads.specs.declared.requests.FmRequest.{FmRequest}
 use Rattle.extent_list.specs.media_map.specs.region_config.specs.Configurations.{Configuration}
 use Rattle.journal_core.specs.Entries.{effects}
 use Rattle.journal_core.specs.declared.acts.Act.{Act}
@@ -17,6 +18,8 @@ use Rattle.device_commands.specs.device_rules.specs.Answers.{manager_result}
 use Rattle.device_commands.specs.device_rules.specs.Legal.{Legal}
 use Rattle.device_commands.specs.device_rules.specs.Outcomes.{Outcome, ended}
 use Rattle.device_commands.specs.device_rules.specs.Views.{view_of}
+use Rattle.tag_refs.specs.Tables.{is_used, passes, with_reference}
+use Rattle.tag_refs.specs.declared.entries.TagEntry.{TagEntry}
 use Rattle.control_core.specs.Deciding.{IsDecided}
 use Rattle.control_core.specs.Doing.{IsDone}
 use Rattle.manager_commands.specs.device_state.specs.StateAfter.{IsStateAfter}
@@ -30,6 +33,17 @@ Manages c s q (Err (Refusal.Broken rule)) = (before : List Entry) → Legal c be
 Manages c s q (Err Refusal.NoMemory) = Unit {0}
 
 -- ---- the manager's drafts
+
+-- the host whose lists an offer or a removal changes
+abbrev pub changed_host : FmRequest → Option ℕ
+changed_host (FmRequest.Add h policy r bytes tag list) = Some h
+changed_host (FmRequest.Remove h flags r bytes tag list) = Some h
+changed_host q = None
+
+-- the tag that ends by a request which changes no lists: one that nothing else keeps, where its reference goes
+abbrev pub ended_by : List TagEntry → FmRequest → List Tag
+ended_by entries (FmRequest.RemoveReference tag) = if passes tag (λ e. not (is_used (with_reference false e))) entries then tag ∷ [] else []
+ended_by entries q = []
 
 -- The draft is done: for each outcome that it is and by which just these tags end, by every journal that leads to what is kept.
 abbrev pub EntersDraft : State → Request → Draft → List Tag → Decided → Type 0

@@ -5,9 +5,7 @@ ghost use Rattle.control_core.specs.Pasts.{ByEveryPast};
 ghost use Rattle.control_core.specs.Steps.{MayStep};
 ghost use Rattle.cci_codec.specs.dcd_base.specs.declared.steps.Actor.{Actor};
 ghost use Rattle.extent_list.specs.dcd_codes.specs.declared.rules.Rule.{Rule as BrokenRule};
-ghost use Rattle.manager_commands.specs.ManagerMessages.{FewCleared, ManagerAnswers};
 ghost use Rattle.device_commands.specs.device_rules.specs.Answers.{broken as broken_by};
-ghost use Rattle.manager_commands.specs.device_state.specs.StateAfter.{IsReached};
 ghost use Rattle.journal_core.specs.declared.acts.Act.{Act};
 ghost use Rattle.std.specs.Prelude.{◌≡◌, ◌<◌, IfOk, Option};
 
@@ -17,15 +15,10 @@ use cci_codec::Request;
 use cci_codec::dcd_base::{Actor, HostId, NoMemory};
 use device_commands::Draft;
 use extent_list::dcd_codes::{Refusal, Rule};
-use extent_list::media_map::region_config::Config;
-use fm_payloads::{FmRequest, PayloadFault, decode};
+use fm_payloads::{PayloadFault, decode};
 use host_commands::host_draft;
 use journal_core::Act;
-use manager_commands::device_state::State;
-use manager_commands::{
-    AddRequest, RemoveRequest, add, add_reference, quiet_draft, remove, remove_reference,
-};
-use std::alloc::Global;
+use manager_commands::manager_draft;
 
 impl Control {
     /// The first rule that the act would break, were it the next step; None exactly where it breaks none, as a scrub.
@@ -90,58 +83,6 @@ impl LiveControl {
             }
             Err(PayloadFault::NoMemory) => Err(NoMemory),
         }
-    }
-}
-
-/// The draft of the manager's request, or the first rule that it breaks.
-fn manager_draft(
-    alloc: Global,
-    config: &Config,
-    state: &State,
-    asked: &FmRequest,
-) -> Result<Draft, Refusal>
-    requires reached { IsReached config.now state.now }
-    requires few { FewCleared asked.now }
-    ensures { ManagerAnswers config.now state.now asked.now result }
-{
-    match asked {
-        FmRequest::Add {
-            host,
-            policy,
-            region,
-            length,
-            tag,
-            extents,
-        } => {
-            let request = AddRequest {
-                host: *host,
-                policy: *policy,
-                region: *region,
-                length: *length,
-                tag: *tag,
-            };
-            add(alloc, config, state, &request, extents)
-        }
-        FmRequest::Remove {
-            host,
-            flags,
-            region,
-            length,
-            tag,
-            extents,
-        } => {
-            let request = RemoveRequest {
-                host: *host,
-                flags: *flags,
-                region: *region,
-                length: *length,
-                tag: *tag,
-            };
-            remove(alloc, config, state, &request, extents)
-        }
-        FmRequest::AddReference { tag } => add_reference(alloc, config, state, tag),
-        FmRequest::RemoveReference { tag } => remove_reference(alloc, config, state, tag),
-        _ => quiet_draft(alloc, config, state, asked),
     }
 }
 

@@ -2,17 +2,15 @@
 
 ghost use Rattle.control_core.specs.Deciding.{IsDecided};
 ghost use Rattle.manager_commands.specs.device_state.specs.StateAfter.{IsReached};
-ghost use Rattle.control_core.specs.Managing.{EntersDraft, Manages};
-ghost use Rattle.manager_commands.specs.ManagerMessages.{FewCleared};
+ghost use Rattle.control_core.specs.Managing.{EntersDraft, Manages, ended_by, changed_host};
+ghost use Rattle.manager_commands.specs.ManagerMessages.{FewCleared, ManagerAnswers};
 ghost use Rattle.manager_commands.specs.device_state.specs.Updates.{IsOfLog};
 ghost use Rattle.cci_codec.specs.dcd_base.specs.declared.steps.Actor.{Actor};
 ghost use Rattle.fm_payloads.specs.ManagerPayloads.{manager_request};
-ghost use Rattle.fm_payloads.specs.declared.requests.FmRequest.{FmRequest};
 ghost use Rattle.device_commands.specs.declared.log_records.LogRecords.{LogRecords};
 ghost use Rattle.journal_core.specs.declared.acts.Act.{Act};
-ghost use Rattle.std.specs.Prelude.{◌≡◌, ◌<◌, ◌∷◌, [], All, IfOk, false, if◌then◌else◌, length, not, true};
+ghost use Rattle.std.specs.Prelude.{◌≡◌, ◌<◌, ◌∷◌, [], All, IfOk, false, if◌then◌else◌, length, not};
 ghost use Rattle.std.specs.declared.result.Result.TheVariants.{Ok};
-ghost use Rattle.device_commands.specs.device_rules.specs.QuietRequests.{is_quiet_manager};
 ghost use Rattle.tag_refs.specs.Tables.{is_used, passes, with_reference};
 
 use crate::decided::Decided;
@@ -20,19 +18,17 @@ use crate::fitting::request_fits;
 use crate::host_steps::enacted;
 use crate::recording::{put_ends, put_records_of_hosts};
 use cci_codec::Request;
-use cci_codec::dcd_base::{Extents, HostId, NoMemory, Seq, Tag};
+use cci_codec::dcd_base::{HostId, NoMemory, Seq, Tag};
 use device_commands::host_lists::HostLists;
 use device_commands::{Draft, answer, refused};
 use extent_list::dcd_codes::{Code, Refusal, Rule};
 use extent_list::media_map::region_config::Config;
 use fm_payloads::{FmRequest, PayloadFault, decode};
 use manager_commands::device_state::State;
-use manager_commands::{
-    AddRequest, RemoveRequest, add, add_reference, quiet_draft, remove, remove_reference,
-};
+use manager_commands::manager_draft;
 use std::alloc::Global;
 
-/// What a message of the manager comes to. What changes extents or tags stands apart, so that one that only reads makes no room for what that needs.
+/// What a message of the manager comes to. `after` is lent for the lists of a host as the step leaves them.
 #[inline(never)]
 pub(crate) fn manager_step(
     alloc: Global,
@@ -46,12 +42,8 @@ pub(crate) fn manager_step(
 {
     match decode(alloc, request.opcode, request.payload.as_slice()) {
         Ok(asked) => {
-            if is_quiet(&asked) {
-                let managed = decide_quiet(alloc, config, state, request, &asked);
-                manager_decided(alloc, config, state, request, managed)
-            } else {
-                changing_step(alloc, config, state, request, &asked, after)
-            }
+            let managed = decide(alloc, config, state, request, &asked, after);
+            manager_decided(alloc, config, state, request, managed)
         }
         Err(PayloadFault::UnknownOpcode(opcode)) => {
             let broken = Err(Refusal::Broken(Rule::UnknownOpcode(opcode)));
@@ -62,19 +54,6 @@ pub(crate) fn manager_step(
             manager_decided(alloc, config, state, request, broken)
         }
         Err(PayloadFault::NoMemory) => Err(NoMemory),
-    }
-}
-
-/// Whether a request changes no extents and no tags.
-fn is_quiet(asked: &FmRequest) -> bool
-    ensures { result ≡ is_quiet_manager asked.now }
-{
-    match asked {
-        FmRequest::Add { .. } => false,
-        FmRequest::Remove { .. } => false,
-        FmRequest::AddReference { .. } => false,
-        FmRequest::RemoveReference { .. } => false,
-        _ => true,
     }
 }
 
@@ -98,195 +77,68 @@ fn manager_decided(
     }
 }
 
-/// What a request comes to that changes extents or tags.
-#[inline(always)]
-fn changing_step(
+/// What a request comes to, or the first rule that it breaks.
+fn decide(
     alloc: Global,
     config: &Config,
     state: &State,
     request: &Request,
     asked: &FmRequest,
     after: &mut HostLists,
-) -> Result<Decided, NoMemory>
-    requires reached { IsReached config.now state.now }
-    requires asked { manager_request request.now.opcode request.now.payload ≡ Ok asked.now }
-    requires changing { is_quiet_manager asked.now ≡ false }
-    ensures { IfOk result (IsDecided config.now state.now Actor.Manager (Act.Command request.now)) }
-{
-    let managed = changing_command(alloc, config, state, request, asked, after);
-    manager_decided(alloc, config, state, request, managed)
-}
-
-/// What a request comes to that changes extents or tags, or the first rule that it breaks.
-#[inline(always)]
-fn changing_command(
-    alloc: Global,
-    config: &Config,
-    state: &State,
-    request: &Request,
-    asked: &FmRequest,
-    after: &mut HostLists,
-) -> Result<Decided, Refusal>
-    requires reached { IsReached config.now state.now }
-    requires asked { manager_request request.now.opcode request.now.payload ≡ Ok asked.now }
-    requires changing { is_quiet_manager asked.now ≡ false }
-    ensures { Manages config.now state.now request.now result }
-{
-    match asked {
-        FmRequest::Add {
-            host,
-            policy,
-            region,
-            length,
-            tag,
-            extents,
-        } => {
-            let offer = AddRequest {
-                host: *host,
-                policy: *policy,
-                region: *region,
-                length: *length,
-                tag: *tag,
-            };
-            decide_add(alloc, config, state, request, &offer, extents, after)
-        }
-        FmRequest::Remove {
-            host,
-            flags,
-            region,
-            length,
-            tag,
-            extents,
-        } => {
-            let removal = RemoveRequest {
-                host: *host,
-                flags: *flags,
-                region: *region,
-                length: *length,
-                tag: *tag,
-            };
-            decide_remove(alloc, config, state, request, &removal, extents, after)
-        }
-        FmRequest::AddReference { tag } => {
-            decide_add_reference(alloc, config, state, request, tag)
-        }
-        FmRequest::RemoveReference { tag } => {
-            decide_remove_reference(alloc, config, state, request, tag)
-        }
-        _ => unreachable!(),
-    }
-}
-
-/// What a 5604h comes to.
-#[inline(never)]
-fn decide_add(
-    alloc: Global,
-    config: &Config,
-    state: &State,
-    request: &Request,
-    offer: &AddRequest,
-    extents: &Extents,
-    after: &mut HostLists,
-) -> Result<Decided, Refusal>
-    requires reached { IsReached config.now state.now }
-    requires asked { manager_request request.now.opcode request.now.payload ≡
-        Ok (FmRequest.Add offer.now.host offer.now.policy offer.now.region offer.now.length offer.now.tag extents.now) }
-    ensures { Manages config.now state.now request.now result }
-{
-    match add(alloc, config, state, offer, extents) {
-        Ok(draft) => {
-            let host = HostId(offer.host as u8);
-            Ok(enacted(alloc, config, state, host, request, draft, after)?)
-        }
-        Err(refusal) => Err(refusal),
-    }
-}
-
-/// What a 5605h comes to.
-#[inline(never)]
-fn decide_remove(
-    alloc: Global,
-    config: &Config,
-    state: &State,
-    request: &Request,
-    removal: &RemoveRequest,
-    extents: &Extents,
-    after: &mut HostLists,
-) -> Result<Decided, Refusal>
-    requires reached { IsReached config.now state.now }
-    requires asked { manager_request request.now.opcode request.now.payload ≡
-        Ok (FmRequest.Remove removal.now.host removal.now.flags removal.now.region removal.now.length removal.now.tag extents.now) }
-    ensures { Manages config.now state.now request.now result }
-{
-    match remove(alloc, config, state, removal, extents) {
-        Ok(draft) => {
-            let host = HostId(removal.host as u8);
-            Ok(enacted(alloc, config, state, host, request, draft, after)?)
-        }
-        Err(refusal) => Err(refusal),
-    }
-}
-
-/// What a request comes to that changes no extents and no tags.
-fn decide_quiet(
-    alloc: Global,
-    config: &Config,
-    state: &State,
-    request: &Request,
-    asked: &FmRequest,
 ) -> Result<Decided, Refusal>
     requires reached { IsReached config.now state.now }
     requires asked { manager_request request.now.opcode request.now.payload ≡ Ok asked.now }
     requires few { FewCleared asked.now }
-    requires quiet { is_quiet_manager asked.now ≡ true }
     ensures { Manages config.now state.now request.now result }
 {
+    match manager_draft(alloc, config, state, asked) {
+        Ok(draft) => Ok(enacted_by(alloc, config, state, request, asked, draft, after)?),
+        Err(refusal) => Err(refusal),
+    }
+}
+
+/// What a request comes to that breaks no rule.
+fn enacted_by(
+    alloc: Global,
+    config: &Config,
+    state: &State,
+    request: &Request,
+    asked: &FmRequest,
+    draft: Draft,
+    after: &mut HostLists,
+) -> Result<Decided, NoMemory>
+    requires reached { IsReached config.now state.now }
+    requires asked { manager_request request.now.opcode request.now.payload ≡ Ok asked.now }
+    requires drafted { ManagerAnswers config.now state.now asked.now (Ok draft) }
+    ensures { IfOk result (IsDecided config.now state.now Actor.Manager (Act.Command request.now)) }
+{
+    if let Some(host) = changed_host(asked) {
+        let host = HostId(host as u8);
+        return enacted(alloc, config, state, host, request, draft, after);
+    }
     request_fits(state, asked);
-    match quiet_draft(alloc, config, state, asked) {
-        Ok(draft) => Ok(enacted_quietly(alloc, state, request, draft, &[])?),
-        Err(refusal) => Err(refusal),
+    let ended = ended_by(alloc, state, asked)?;
+    enacted_quietly(alloc, state, request, draft, ended.as_slice())
+}
+
+/// The host whose lists an offer or a removal changes. No other request changes lists.
+fn changed_host(asked: &FmRequest) -> Option<u16>
+    ensures { result ≡ changed_host asked.now }
+{
+    match asked {
+        FmRequest::Add { host, .. } => Some(*host),
+        FmRequest::Remove { host, .. } => Some(*host),
+        _ => None,
     }
 }
 
-/// What a 5606h comes to.
-#[inline(never)]
-fn decide_add_reference(
-    alloc: Global,
-    config: &Config,
-    state: &State,
-    request: &Request,
-    tag: &Tag,
-) -> Result<Decided, Refusal>
-    requires reached { IsReached config.now state.now }
-    requires asked { manager_request request.now.opcode request.now.payload ≡ Ok (FmRequest.AddReference tag.now) }
-    ensures { Manages config.now state.now request.now result }
+/// The tag that ends by a request which changes no lists: one to which the manager gives up its reference.
+fn ended_by(alloc: Global, state: &State, asked: &FmRequest) -> Result<Seq<Tag>, NoMemory>
+    ensures { IfOk result (λ tags. tags ≡ ended_by state.now.tags.entries asked.now) }
 {
-    match add_reference(alloc, config, state, tag) {
-        Ok(draft) => Ok(enacted_quietly(alloc, state, request, draft, &[])?),
-        Err(refusal) => Err(refusal),
-    }
-}
-
-/// What a 5607h comes to: the reference is taken away, by which the tag may end.
-#[inline(never)]
-fn decide_remove_reference(
-    alloc: Global,
-    config: &Config,
-    state: &State,
-    request: &Request,
-    tag: &Tag,
-) -> Result<Decided, Refusal>
-    requires reached { IsReached config.now state.now }
-    requires asked { manager_request request.now.opcode request.now.payload ≡ Ok (FmRequest.RemoveReference tag.now) }
-    ensures { Manages config.now state.now request.now result }
-{
-    let ended = ended_unreferenced(alloc, state, tag)?;
-    match remove_reference(alloc, config, state, tag) {
-        Ok(draft) => {
-            let ended = ended.as_slice();
-            Ok(enacted_quietly(alloc, state, request, draft, ended)?)
-        }
-        Err(refusal) => Err(refusal),
+    match asked {
+        FmRequest::RemoveReference { tag } => ended_unreferenced(alloc, state, tag),
+        _ => Ok(Seq::new(alloc)),
     }
 }
 

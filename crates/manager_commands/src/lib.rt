@@ -1,7 +1,7 @@
 //! The commands of the Fabric Manager and the scrub: what each replies, changes and tells, from what the device keeps.
 //!
 //! Each command has a file of its own by the specification's name. `manager_messages` says which command a
-//! message is, of those that change no extents and no tags; `choosing` which extents an offer has; `full_logs` whether
+//! message is; `choosing` which extents an offer has; `full_logs` whether
 //! a log has room for the records. The commands of event logs stand in `device_commands`.
 #![tactic(auto)]
 
@@ -20,9 +20,5 @@ mod scrub;
 mod set_dc_region_configuration;
 
 pub use device_state;
-pub use dynamic_capacity_add_reference::add_reference;
-pub use dynamic_capacity_remove_reference::remove_reference;
-pub use initiate_dynamic_capacity_add::{AddRequest, add};
-pub use initiate_dynamic_capacity_release::{RemoveRequest, remove};
-pub use manager_messages::quiet_draft;
+pub use manager_messages::manager_draft;
 pub use scrub::{Zeroed, zero_dirty};
