@@ -74,7 +74,7 @@ module _ (old mid : State) (h : HostId) (xs : List Extent) (i : ℕ) (d : Extent
 
 -- ---- one effect
 
--- What an effect by which a run leaves the host makes of lists and tags, or one that changes neither.
+-- What an effect makes of lists and tags by which a run leaves the host, or granules are soiled.
 record IsLeave (c : Configuration) (h : HostId) (e : Effect) : Type 0 where
   own : (l : Lists) → lists_by c h l e ≡ lists_left (left_by c h e) l
   others : (k : HostId) (l : Lists) → h ≢ k → lists_by c k l e ≡ l
@@ -88,14 +88,14 @@ a_leave c h (Effect.Leave k run) same = subst (λ (m : HostId). IsLeave c h (Eff
   table = λ lists entries i. told h (own_leave c h (lists h) run i) (tag_left c h run (lists h).accepted) entries;
   room = λ n. refl;
 })
-a_leave c h (Effect.Take k run) still = record { own = λ l. refl; others = λ k l other. refl; table = λ lists entries. refl; room = λ n. refl }
-a_leave c h (Effect.Zero run) still = record { own = λ l. refl; others = λ k l other. refl; table = λ lists entries. refl; room = λ n. refl }
+a_leave c h (Effect.Take k run) none = absurd none
+a_leave c h (Effect.Zero run) none = absurd none
 a_leave c h (Effect.Soil run) still = record { own = λ l. refl; others = λ k l other. refl; table = λ lists entries. refl; room = λ n. refl }
-a_leave c h (Effect.Logged l event) still = record { own = λ l. refl; others = λ k l other. refl; table = λ lists entries. refl; room = λ n. refl }
-a_leave c h (Effect.Missed l) still = record { own = λ l. refl; others = λ k l other. refl; table = λ lists entries. refl; room = λ n. refl }
-a_leave c h (Effect.Cleared l n) still = record { own = λ l. refl; others = λ k l other. refl; table = λ lists entries. refl; room = λ n. refl }
-a_leave c h (Effect.Reset l) still = record { own = λ l. refl; others = λ k l other. refl; table = λ lists entries. refl; room = λ n. refl }
-a_leave c h (Effect.Block r size) still = record { own = λ l. refl; others = λ k l other. refl; table = λ lists entries. refl; room = λ n. refl }
+a_leave c h (Effect.Logged l event) none = absurd none
+a_leave c h (Effect.Missed l) none = absurd none
+a_leave c h (Effect.Cleared l n) none = absurd none
+a_leave c h (Effect.Reset l) none = absurd none
+a_leave c h (Effect.Block r size) none = absurd none
 a_leave c h (Effect.Offer k xs) none = absurd none
 a_leave c h (Effect.Answer k xs) none = absurd none
 a_leave c h (Effect.Hold k kind xs) none = absurd none

@@ -14,17 +14,10 @@ use Rattle.journal_core.specs.declared.outcome.Effect.{Effect}
 use Rattle.tag_refs.specs.declared.entries.TagEntry.{TagEntry}
 use Rattle.device_state.specs.EnteredLists.{each_tag, told}
 
--- A run leaves the host by the effect, or neither lists nor tags change.
+-- A run leaves the host by the effect, or granules are soiled, by which neither lists nor tags change.
 abbrev pub IsLeaving : HostId → Effect → Type 0
 IsLeaving h (Effect.Leave k run) = k ≡ h
-IsLeaving h (Effect.Take k run) = Unit {0}
-IsLeaving h (Effect.Zero run) = Unit {0}
 IsLeaving h (Effect.Soil run) = Unit {0}
-IsLeaving h (Effect.Logged l event) = Unit {0}
-IsLeaving h (Effect.Missed l) = Unit {0}
-IsLeaving h (Effect.Cleared l n) = Unit {0}
-IsLeaving h (Effect.Reset l) = Unit {0}
-IsLeaving h (Effect.Block r size) = Unit {0}
 IsLeaving h e = ⊥
 
 -- A run that leaves the host by the effect is some granules of one region.

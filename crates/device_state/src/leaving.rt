@@ -53,7 +53,7 @@ impl State {
         }
     }
 
-    /// Changes lists and tags by effects by which runs leave the host, or neither changes.
+    /// Changes lists and tags by effects by which runs leave the host, or granules are soiled.
     fn list_at_once(&mut self, config: &Config, host: HostId, effects: &[Effect])
         requires hosts { length self.old.hosts.items ≡ config.now.hosts }
         requires few { config.now.hosts ≤ 16 }
@@ -166,8 +166,8 @@ impl State {
     }
 }
 
-/// How many effects at the front have runs leave the host, with those between them that change neither lists nor tags: at most 64,
-/// and so many that the lists have places for what is left of each extent.
+/// How many effects at the front have runs leave the host, with those that soil granules: at most 64, and so many that the lists
+/// have places for what is left of each extent.
 pub(crate) fn leaving_front(host: HostId, lists: &HostLists, effects: &[Effect]) -> usize
     ensures known { result ≤ length effects.now }
     ensures at_once { result ≤ 64 }
@@ -184,28 +184,28 @@ pub(crate) fn leaving_front(host: HostId, lists: &HostLists, effects: &[Effect])
     most
 }
 
-/// Whether by the effect a run leaves the host, or neither lists nor tags change.
+/// Whether by the effect a run leaves the host, or granules are soiled.
 fn is_leaving(effect: &Effect, host: HostId) -> bool
     ensures { result ≡ true → IsLeaving host effect.now }
 {
     match effect {
         Effect::Leave(of, _) => of.0 == host.0,
-        // These change neither lists nor tags.
-        Effect::Take(..)
+        // It changes neither lists nor tags, and stands behind each run where a removal cleans.
+        Effect::Soil(..) => true,
+        // These end what is entered at once.
+        Effect::Offer(..)
+        | Effect::Answer(..)
+        | Effect::Take(..)
         | Effect::Zero(..)
-        | Effect::Soil(..)
+        | Effect::Hold(..)
+        | Effect::Unhold(..)
         | Effect::Logged(..)
         | Effect::Missed(..)
         | Effect::Cleared(..)
         | Effect::Reset(..)
-        | Effect::Block(..) => true,
-        // These do.
-        Effect::Offer(..)
-        | Effect::Answer(..)
-        | Effect::Hold(..)
-        | Effect::Unhold(..)
         | Effect::Ref(..)
-        | Effect::TagEnd(..) => false,
+        | Effect::TagEnd(..)
+        | Effect::Block(..) => false,
     }
 }
 
