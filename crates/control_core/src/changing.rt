@@ -34,13 +34,13 @@ pub(crate) fn changes_of(
     if effects.is_empty() {
         return Ok(Changes::new(alloc));
     }
-    let changes = put_all(alloc, config, &state.holders, effects)?;
+    let changes = append_all(alloc, config, &state.holders, effects)?;
     Ok(changes)
 }
 
 /// The changes of all the effects, from these holders on.
 #[inline(never)]
-fn put_all(
+fn append_all(
     alloc: Global,
     config: &Config,
     holders: &Holders,
@@ -62,7 +62,7 @@ fn put_all(
         count: 0,
     };
     for i in quiet..effects.len() {
-        put_change(
+        append_change(
             config,
             granules,
             holders,
@@ -89,7 +89,7 @@ fn quiet_front(effects: &[Effect]) -> usize
 }
 
 /// Puts what one effect changes, of a device of so many granules. The region is that of the last change, or has no granule.
-fn put_change(
+fn append_change(
     config: &Config,
     granules: u32,
     holders: &Holders,
@@ -106,7 +106,7 @@ fn put_change(
     ensures sound { OnOk result (StaySound config.now holders.now changes.old changes.new) }
 {
     match touched_run(effect) {
-        Some(run) => put_runs(config, granules, holders, effect, &run, region, changes),
+        Some(run) => append_runs(config, granules, holders, effect, &run, region, changes),
         None => Ok(()),
     }
 }
@@ -125,7 +125,7 @@ fn touched_run(effect: &Effect) -> Option<Run>
 
 /// Puts the longest runs of granules of one region and one set of holders that the run has, changed so. Granules past the
 /// last of the device are left out.
-fn put_runs(
+fn append_runs(
     config: &Config,
     granules: u32,
     holders: &Holders,

@@ -21,13 +21,13 @@ pub(crate) fn ending(
 {
     let mut ended = Seq::new(alloc);
     for i in 0..tags.len() {
-        put_ending(state, host, lists, &tags[i], &mut ended)?;
+        append_ending(state, host, lists, &tags[i], &mut ended)?;
     }
     Ok(ended)
 }
 
 /// Puts the tag behind the others, where it ends once the host has these lists.
-fn put_ending(
+fn append_ending(
     state: &State,
     host: HostId,
     lists: &HostLists,

@@ -15,7 +15,7 @@ ghost use Rattle.std.specs.Prelude.{◌≡◌, ◌++◌, ◌<◌, All, IfOk, OnO
 use crate::decided::Decided;
 use crate::ending::ending;
 use crate::fitting::part_fits;
-use crate::recording::{put_ends, put_records_of_logs};
+use crate::recording::{append_ends, append_records_of_logs};
 use cci_codec::Request;
 use cci_codec::dcd_base::{HostId, NoMemory, Tag};
 use device_commands::host_lists::HostLists;
@@ -97,7 +97,7 @@ pub(crate) fn enacted(
     ensures { IfOk result (Does config.now state.now host request.now draft) }
 {
     let mut draft = draft;
-    put_ends_and_records(alloc, config, state, host, &mut draft, after)?;
+    append_ends_and_records(alloc, config, state, host, &mut draft, after)?;
     let Draft {
         payload,
         changes,
@@ -112,7 +112,7 @@ pub(crate) fn enacted(
 
 /// Puts behind the changes the ends of those of the tags that end, and the records, both by the lists of the host once the
 /// changes are made.
-fn put_ends_and_records(
+fn append_ends_and_records(
     alloc: Global,
     config: &Config,
     state: &State,
@@ -132,7 +132,7 @@ fn put_ends_and_records(
         return Ok(());
     }
     state.lists_after(config, host, draft.changes.as_slice(), after)?;
-    put_ended(
+    append_ended(
         alloc,
         state,
         host,
@@ -140,7 +140,7 @@ fn put_ends_and_records(
         draft.tags.as_slice(),
         &mut draft.changes,
     )?;
-    put_records_of_logs(alloc, state, after, &draft.log_records, &mut draft.changes)
+    append_records_of_logs(alloc, state, after, &draft.log_records, &mut draft.changes)
 }
 
 /// Whether no tag may end by a draft, and nothing is told.
@@ -151,7 +151,7 @@ fn tells_nothing(draft: &Draft) -> bool
 }
 
 /// Puts the ends of those of these tags that end once the host has these lists.
-fn put_ended(
+fn append_ended(
     alloc: Global,
     state: &State,
     host: HostId,
@@ -166,7 +166,7 @@ fn put_ended(
         return Ok(());
     }
     let ended = ending(alloc, state, host, lists, tags)?;
-    put_ends(ended.as_slice(), effects)
+    append_ends(ended.as_slice(), effects)
 }
 
 /// A command that breaks a rule: where it is a response or a release, its held list ends.

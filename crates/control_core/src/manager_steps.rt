@@ -16,7 +16,7 @@ ghost use Rattle.tag_refs.specs.Tables.{is_used, passes, with_reference};
 use crate::decided::Decided;
 use crate::fitting::request_fits;
 use crate::host_steps::enacted;
-use crate::recording::{put_ends, put_records_of_hosts};
+use crate::recording::{append_ends, append_records_of_hosts};
 use cci_codec::Request;
 use cci_codec::dcd_base::{HostId, NoMemory, Seq, Tag};
 use device_commands::host_lists::HostLists;
@@ -172,8 +172,8 @@ fn enacted_quietly(
         log_records,
     } = draft;
     let mut effects = changes;
-    put_ends(ended, &mut effects)?;
-    put_records_of_hosts(alloc, state, &log_records, &mut effects)?;
+    append_ends(ended, &mut effects)?;
+    append_records_of_hosts(alloc, state, &log_records, &mut effects)?;
     Ok(Decided {
         reply: answer(request, Code::Success, payload),
         effects,

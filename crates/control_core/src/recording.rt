@@ -17,7 +17,7 @@ use std::alloc::Global;
 use std::mem::{ManuallyDrop, replace};
 
 /// Puts the ends of tags behind the changes.
-pub(crate) fn put_ends(tags: &[Tag], effects: &mut Effects) -> Result<(), NoMemory>
+pub(crate) fn append_ends(tags: &[Tag], effects: &mut Effects) -> Result<(), NoMemory>
     ensures { OnOk result (effects.new ≡ effects.old ++ map Effect.TagEnd tags.now) }
 {
     for i in 0..tags.len() {
@@ -27,7 +27,7 @@ pub(crate) fn put_ends(tags: &[Tag], effects: &mut Effects) -> Result<(), NoMemo
 }
 
 /// Puts behind the effects what is told to all logs of a host that has these lists.
-pub(crate) fn put_records_of_logs(
+pub(crate) fn append_records_of_logs(
     alloc: Global,
     state: &State,
     lists: &HostLists,
@@ -39,13 +39,13 @@ pub(crate) fn put_records_of_logs(
 {
     let told = log_records.as_slice();
     for i in 0..told.len() {
-        put_records_of_log(alloc, state, lists, &told[i], effects)?;
+        append_records_of_log(alloc, state, lists, &told[i], effects)?;
     }
     Ok(())
 }
 
 /// Puts behind the effects what is told to all logs, of each host by the lists that are kept of it.
-pub(crate) fn put_records_of_hosts(
+pub(crate) fn append_records_of_hosts(
     alloc: Global,
     state: &State,
     log_records: &ShortList<LogRecords>,
@@ -57,13 +57,13 @@ pub(crate) fn put_records_of_hosts(
 {
     let told = log_records.as_slice();
     for i in 0..told.len() {
-        put_records_of_host(alloc, state, &told[i], effects)?;
+        append_records_of_host(alloc, state, &told[i], effects)?;
     }
     Ok(())
 }
 
 /// Puts behind the effects what is told to one log of a host by the lists that are kept of it.
-fn put_records_of_host(
+fn append_records_of_host(
     alloc: Global,
     state: &State,
     records: &LogRecords,
@@ -74,11 +74,11 @@ fn put_records_of_host(
     ensures { OnOk result (IsTold state.now records.now effects.old effects.new) }
 {
     let lists = &state.part(records.host).lists;
-    put_records_of_log(alloc, state, lists, records, effects)
+    append_records_of_log(alloc, state, lists, records, effects)
 }
 
 /// Puts behind the effects what is told to one log of a host that has these lists.
-fn put_records_of_log(
+fn append_records_of_log(
     alloc: Global,
     state: &State,
     lists: &HostLists,
@@ -89,7 +89,7 @@ fn put_records_of_log(
     ensures { OnOk result (IsToldBehind state.now lists.now records.now effects.old effects.new) }
 {
     let events = records.events(alloc, lists)?;
-    put_records(
+    append_records(
         state.log(records.log),
         &records.log,
         events.as_slice(),
@@ -98,7 +98,7 @@ fn put_records_of_log(
 }
 
 /// Puts the records for one log: each under the next handle, or counted as missed where the log is full.
-fn put_records(
+fn append_records(
     log: &EventLog,
     id: &LogId,
     events: &[Event],
@@ -111,8 +111,8 @@ fn put_records(
     make_room(&mut items, events.len())?;
     let fit = events.len().min(log.room() as usize);
     let (logged, missed) = events.split_at(fit);
-    put_logged(&mut items, id, log.next_handle(), logged);
-    put_missed(&mut items, id, missed);
+    append_logged(&mut items, id, log.next_handle(), logged);
+    append_missed(&mut items, id, missed);
     // What stood there meanwhile has no memory that could be let go.
     let _ = ManuallyDrop::new(replace(effects, Effects::from_vec(alloc, items)));
     Ok(())
@@ -141,7 +141,7 @@ fn grow(items: &mut Vec<Effect>, more: usize) -> Result<(), NoMemory>
 }
 
 /// Puts records for a log that has room for them, the first one under this handle. There is memory for them.
-fn put_logged(items: &mut Vec<Effect>, id: &LogId, first: u16, events: &[Event])
+fn append_logged(items: &mut Vec<Effect>, id: &LogId, first: u16, events: &[Event])
     requires { vec_len items.old + length events.now ≤ vec_capacity items.old }
     ensures items { items.new.items ≡ items.old.items ++ records_by id.now first (length events.now) events.now }
     ensures len { vec_len items.new ≡ vec_len items.old + length events.now }
@@ -181,7 +181,7 @@ fn logged_as(id: &LogId, handle: u16, event: &Event) -> Effect
 }
 
 /// Puts records for a full log, which are only counted. There is memory for them.
-fn put_missed(items: &mut Vec<Effect>, id: &LogId, events: &[Event])
+fn append_missed(items: &mut Vec<Effect>, id: &LogId, events: &[Event])
     requires { vec_len items.old + length events.now ≤ vec_capacity items.old }
     ensures { (next : ℕ) → items.new.items ≡ items.old.items ++ records_by id.now next 0 events.now }
 {

@@ -16,10 +16,10 @@ response_parts s head payload e f =
     ∙ sym (flat_map-append spell front (Raw (length s.payload) s.payload ∷ []))
 
 -- two parts, put one behind the other, are followed by what was behind them
-pub put_two : (out mid filled head payload : List ℕ) → length head ≡ 12 → take (0 + length head) mid ≡ head → drop (0 + length head) mid ≡ drop (0 + length head) out
+pub write_two : (out mid filled head payload : List ℕ) → length head ≡ 12 → take (0 + length head) mid ≡ head → drop (0 + length head) mid ≡ drop (0 + length head) out
     → take (12 + length payload) filled ≡ take 12 mid ++ payload → drop (12 + length payload) filled ≡ drop (12 + length payload) mid
     → filled ≡ (head ++ payload) ++ drop (12 + length payload) out
-put_two out mid filled head payload h first behind_first second behind_second =
+write_two out mid filled head payload h first behind_first second behind_second =
     let n = length payload in
     let all : 0 + length head ≡ 12 = omega (arith, h) in
     let front : take 12 mid ≡ head = ap (λ k. take k mid) (sym all) ∙ first in

@@ -24,7 +24,7 @@ use device_plain::LiveDevice;
 use journal_core::Act;
 use region_config::Config;
 use std::alloc::Global;
-use text_lines::put_cause;
+use text_lines::write_cause;
 
 /// A rule with its code and its values, as C sees it. Where no rule is broken, all is 0 but the size.
 #[repr(C)]
@@ -150,7 +150,7 @@ fn add_words(out: &mut Bytes, config: &Config, rule: &Option<Rule>) -> Result<()
     ensures { OnOk result (out.new ≡ out.old ++ refusal_words config.now rule.now) }
 {
     match rule {
-        Some(rule) => put_cause(config, rule, out),
+        Some(rule) => write_cause(config, rule, out),
         None => Ok(()),
     }
 }

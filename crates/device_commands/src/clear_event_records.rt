@@ -13,7 +13,7 @@ ghost use Rattle.std.specs.Prelude.{◌≡◌, ◌++◌, ◌≤◌, [], None, On
 
 use crate::draft::Draft;
 use crate::get_event_records::{DYNAMIC_CAPACITY, LOGS};
-use crate::putting::put_effect;
+use crate::putting::append_effect;
 use cci_codec::dcd_base::{LogId, NoMemory, ShortList};
 use event_log::{ClearFault, EventLog};
 use extent_list::dcd_codes::{Refusal, Rule};
@@ -85,7 +85,7 @@ fn clear_whole(alloc: Global, id: &LogId, log: &EventLog) -> Result<Draft, Refus
         return Err(Refusal::Broken(Rule::NotOverflowed));
     }
     let mut changes = Effects::with_capacity(alloc, 2)?;
-    put_cleared(id, log.len() as usize, &mut changes)?;
+    append_cleared(id, log.len() as usize, &mut changes)?;
     changes.push(reset_of(id))?;
     Ok(Draft::changing(alloc, changes))
 }
@@ -104,7 +104,7 @@ fn clear_listed(
         return Err(Refusal::Broken(rule_of(fault)));
     }
     let mut changes = Effects::new(alloc);
-    put_cleared(id, handles.len(), &mut changes)?;
+    append_cleared(id, handles.len(), &mut changes)?;
     Ok(Draft::changing(alloc, changes))
 }
 
@@ -127,12 +127,12 @@ fn reset_of(id: &LogId) -> Effect
 }
 
 /// Notes that so many of the oldest records go, where there are any.
-fn put_cleared(id: &LogId, count: usize, changes: &mut Effects) -> Result<(), NoMemory>
+fn append_cleared(id: &LogId, count: usize, changes: &mut Effects) -> Result<(), NoMemory>
     requires { count ≤ 255 }
     ensures { OnOk result (changes.new ≡ changes.old ++ cleared id.now count) }
 {
     if count == 0 {
         return Ok(());
     }
-    put_effect(changes, Effect::Cleared(*id, count as u16))
+    append_effect(changes, Effect::Cleared(*id, count as u16))
 }

@@ -12,7 +12,7 @@ use journal_core::{Effect, Effects};
 use std::mem::replace;
 
 /// Each of the extents leaves the host; where the removal cleans, its granules are soiled at once.
-pub fn put_leaves(
+pub fn append_leaves(
     config: &Config,
     host: HostId,
     clean: bool,

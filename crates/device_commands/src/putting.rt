@@ -8,7 +8,7 @@ use std::mem::{ManuallyDrop, replace};
 
 /// Puts an effect behind the others.
 #[inline(always)]
-pub fn put_effect(effects: &mut Effects, effect: Effect) -> Result<(), NoMemory>
+pub fn append_effect(effects: &mut Effects, effect: Effect) -> Result<(), NoMemory>
     ensures { OnOk result (effects.new ≡ effects.old ++ effect ∷ []) }
 {
     let alloc = effects.allocator();

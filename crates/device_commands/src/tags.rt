@@ -13,23 +13,23 @@ pub fn tags_of(alloc: Global, extents: &[Extent]) -> Result<Seq<Tag>, NoMemory>
     ensures { IfOk result (λ tags. tags ≡ tags_of extents.now) }
 {
     let mut tags = Seq::with_capacity(alloc, extents.len().min(1))?;
-    put_tags_of(extents, &mut tags)?;
+    append_tags_of(extents, &mut tags)?;
     Ok(tags)
 }
 
 /// Puts each tag of the extents once into a list that has none yet, in the order of first appearance.
-pub fn put_tags_of(extents: &[Extent], tags: &mut Seq<Tag>) -> Result<(), NoMemory>
+pub fn append_tags_of(extents: &[Extent], tags: &mut Seq<Tag>) -> Result<(), NoMemory>
     requires { tags.old ≡ [] }
     ensures { OnOk result (tags.new ≡ tags_of extents.now) }
 {
     for i in 0..extents.len() {
-        put_tag(&extents[i].tag, tags)?;
+        append_tag(&extents[i].tag, tags)?;
     }
     Ok(())
 }
 
 /// Puts a tag behind the others that is not among them.
-fn put_tag(tag: &Tag, tags: &mut Seq<Tag>) -> Result<(), NoMemory>
+fn append_tag(tag: &Tag, tags: &mut Seq<Tag>) -> Result<(), NoMemory>
     ensures { OnOk result (tags.new ≡ (if has_tag tags.old tag.now then tags.old else tags.old ++ tag.now ∷ [])) }
 {
     if has_tag(tags.as_slice(), tag) {

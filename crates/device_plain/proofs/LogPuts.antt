@@ -20,9 +20,9 @@ put_places log [] = refl
 put_places log (e ∷ es) = put_places (with_record log e) es
 
 -- so the log is the one of its history still
-pub put_logged : (l : LogId) (history : Log) (log : LogState) (events : List Event) → IsLogOf l history log → IsLogOf l (logged history events) (fold with_record log events)
-put_logged l history log [] is = is
-put_logged l history log (e ∷ es) is = put_logged l (recorded history e) (with_record log e) es (record {
+pub append_logged : (l : LogId) (history : Log) (log : LogState) (events : List Event) → IsLogOf l history log → IsLogOf l (logged history events) (fold with_record log events)
+append_logged l history log [] is = is
+append_logged l history log (e ∷ es) is = append_logged l (recorded history e) (with_record log e) es (record {
   is = ap (λ (s : LogState). with_record s e) is.is ∙ sym ((follows (places_in l) history is.told).put e);
   told = (stays history is.told).put e;
 })

@@ -21,7 +21,7 @@ use Rattle.device_plain.specs.Telling.{Logs}
 use Rattle.device_plain.specs.declared.alone.Alone.{Alone}
 use Rattle.device_plain.specs.declared.alone.Stop.{Stop}
 use Rattle.isolation_laws.specs.declared.items.Item.{Item}
-use Rattle.device_plain.proofs.LogPuts.{put_count, put_logged}
+use Rattle.device_plain.proofs.LogPuts.{put_count, append_logged}
 
 -- lists that are those of a view have its extents
 pub shown : (v : View) (l : Lists) → l ≡ lists_in v → HasExtentsOf v l
@@ -36,7 +36,7 @@ module _ (c : Configuration) (h : HostId) (events : View → List Event) (old : 
   after : (v : View) (word : ℕ → ℕ) → IsAlone c h v word old → IsLogOf (LogId.Host h) (logged v.log (events v)) (fold with_record old.log list)
   after v word alone =
       subst (λ (told : List Event). IsLogOf (LogId.Host h) (logged v.log told) (fold with_record old.log list)) (are v alone.lists_are)
-      (put_logged (LogId.Host h) v.log old.log list alone.log_is)
+      (append_logged (LogId.Host h) v.log old.log list alone.log_is)
 
   -- what putting them into the log makes
   pub logs_put : (r : Result Unit Stop) → OnOk r (log ≡ fold with_record old.log list) → OnErr r (old.log.capacity < length old.log.records + length list) →

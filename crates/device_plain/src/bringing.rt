@@ -94,7 +94,7 @@ impl Alone {
             &no_extent(),
         );
         event.region = region.0;
-        put_all(&mut self.log, &[event])
+        append_all(&mut self.log, &[event])
     }
 
     /// A record of this kind for each of the extents, with what the host has available by its lists.
@@ -109,12 +109,12 @@ impl Alone {
         ensures { (c : Configuration) → Logs c host (λ v. records_of_extents host v kind extents.now) self.old self.new result }
     {
         let events = records_of_extents(alloc, host, &self.lists, kind, extents.as_slice())?;
-        put_all(&mut self.log, events.as_slice())
+        append_all(&mut self.log, events.as_slice())
     }
 }
 
 /// Puts the records into the log, where it has room for all of them.
-fn put_all(log: &mut EventLog, events: &[Event]) -> Result<(), Stop>
+fn append_all(log: &mut EventLog, events: &[Event]) -> Result<(), Stop>
     ensures put { OnOk result (log.new ≡ fold with_record log.old events.now) }
     ensures full { OnErr result (log.old.capacity < length log.old.records + length events.now) }
 {

@@ -64,7 +64,7 @@ impl State {
             }
             Effect::Zero(run) => self.granules.zero(*run),
             Effect::Soil(run) => soil(&mut self.granules, config, last, run),
-            Effect::Logged(log, event) => self.put_record(*log, event),
+            Effect::Logged(log, event) => self.enter_record(*log, event),
             Effect::Missed(log) => self.count_missed(*log),
             Effect::Cleared(log, _) => self.change_log_of(*log, effect),
             Effect::Reset(log) => self.change_log_of(*log, effect),

@@ -96,7 +96,7 @@ impl State {
         ensures kept { self.new ≡ record self.old { hosts = self.new.hosts; tags = self.new.tags } }
     {
         if self.tags.is_empty() {
-            self.put_leaves(host, leaving);
+            self.enter_leaves(host, leaving);
         } else {
             self.tell_leaves(host, leaving);
         }
@@ -115,7 +115,7 @@ impl State {
     {
         match only_tag(lists_in(self.hosts.as_slice(), host), leaving) {
             Some(tag) => {
-                self.put_leaves(host, leaving);
+                self.enter_leaves(host, leaving);
                 self.tell_left(host, &Some(tag));
             }
             None => self.leave_each(host, leaving),
@@ -150,12 +150,12 @@ impl State {
         ensures kept { self.new ≡ record self.old { hosts = self.new.hosts; tags = self.new.tags } }
     {
         let tag = tag_at(lists_in(self.hosts.as_slice(), host), range);
-        self.put_leaves(host, &[*range]);
+        self.enter_leaves(host, &[*range]);
         self.tell_left(host, &tag);
     }
 
     /// The ranges leave the host's accepted extents one after another.
-    fn put_leaves(&mut self, host: HostId, leaving: &[Extent])
+    fn enter_leaves(&mut self, host: HostId, leaving: &[Extent])
         requires host { host < length self.old.hosts.items }
         requires places { length (part_of self.old host).lists.accepted + length leaving.now ≤ 128 }
         requires ends { All (λ x. x.start + x.length < 2 ^ 64) leaving.now }

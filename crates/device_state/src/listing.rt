@@ -112,7 +112,7 @@ impl State {
         ensures spare { self.old.tags.spare - 1 ≤ self.new.tags.spare }
         ensures kept { self.new ≡ record self.old { hosts = self.new.hosts; tags = self.new.tags } }
     {
-        self.put_offer(host, extents);
+        self.enter_offer(host, extents);
         self.tell_offer(config, host, extents);
     }
 
@@ -126,7 +126,7 @@ impl State {
         ensures spare { self.old.tags.spare ≤ self.new.tags.spare }
         ensures kept { self.new ≡ record self.old { hosts = self.new.hosts; tags = self.new.tags } }
     {
-        self.put_accepted(host, extents);
+        self.enter_accepted(host, extents);
         self.tell_answer(host, extents);
         self.drop_oldest(host);
     }
@@ -139,7 +139,7 @@ impl State {
         ensures listed { IsListedAfter config.now (Effect.Hold host kind extents.now) self.old self.new }
         ensures kept { self.new ≡ record self.old { hosts = self.new.hosts } }
     {
-        self.put_held(host, kind, extents);
+        self.enter_held(host, kind, extents);
     }
 
     /// What the host holds of this kind is let go.
@@ -153,7 +153,7 @@ impl State {
     }
 
     /// The offer is behind the host's others.
-    fn put_offer(&mut self, host: HostId, extents: &[Extent])
+    fn enter_offer(&mut self, host: HostId, extents: &[Extent])
         requires host { host < length self.old.hosts.items }
         requires offers { length (part_of self.old host).lists.offers < 64 }
         requires extents { count_in (part_of self.old host).lists.offers + length extents.now ≤ 64 }
@@ -164,7 +164,7 @@ impl State {
     }
 
     /// The extents are accepted behind the host's others.
-    fn put_accepted(&mut self, host: HostId, extents: &[Extent])
+    fn enter_accepted(&mut self, host: HostId, extents: &[Extent])
         requires host { host < length self.old.hosts.items }
         requires few { length (part_of self.old host).lists.accepted + length extents.now ≤ 128 }
         ensures hosts { self.new.hosts.items ≡ with_lists self.old host (record (part_of self.old host).lists { accepted = (part_of self.old host).lists.accepted ++ extents.now }) }
@@ -185,7 +185,7 @@ impl State {
     }
 
     /// The host holds these extents behind the others of this kind.
-    fn put_held(&mut self, host: HostId, kind: HeldKind, extents: &[Extent])
+    fn enter_held(&mut self, host: HostId, kind: HeldKind, extents: &[Extent])
         requires host { host < length self.old.hosts.items }
         requires few { length (held_of kind (part_of self.old host).lists) + length extents.now ≤ 64 }
         ensures hosts { self.new.hosts.items ≡ with_lists self.old host (with_held kind (held_of kind (part_of self.old host).lists ++ extents.now) (part_of self.old host).lists) }

@@ -18,19 +18,19 @@ use journal_core::Effect;
 
 impl State {
     /// The log gets the record, unless it is full.
-    pub(crate) fn put_record(&mut self, log: LogId, event: &Event)
+    pub(crate) fn enter_record(&mut self, log: LogId, event: &Event)
         requires { IsOfLog (length self.old.hosts.items) log }
         ensures logs { AreLogged (Effect.Logged log event.now) self.old self.new }
         ensures kept { self.new ≡ record self.old { hosts = self.new.hosts; manager = self.new.manager } }
     {
         match log {
-            LogId::Host(host) => self.put_record_of_host(host, event),
+            LogId::Host(host) => self.enter_record_of_host(host, event),
             LogId::Manager => put(&mut self.manager, *event),
         }
     }
 
     /// The log of the host gets the record, unless it is full.
-    fn put_record_of_host(&mut self, host: HostId, event: &Event)
+    fn enter_record_of_host(&mut self, host: HostId, event: &Event)
         requires { host < length self.old.hosts.items }
         ensures hosts { self.new.hosts.items ≡ with_log self.old host (put_in (part_of self.old host).log event.now) }
         ensures kept { self.new ≡ record self.old { hosts = self.new.hosts } }

@@ -60,7 +60,7 @@ fn told(host: HostId) -> Effect {
 }
 
 /// The manager offers each host a block and sets a block size.
-fn put_offers(effects: &mut Effects) -> Result<(), NoMemory> {
+fn append_offers(effects: &mut Effects) -> Result<(), NoMemory> {
     effects.push(told(HostId(1)))?;
     effects.push(told(HostId(0)))?;
     effects.push(Effect::Block(RegionId(0), MIB))
@@ -69,7 +69,7 @@ fn put_offers(effects: &mut Effects) -> Result<(), NoMemory> {
 /// The effects of those offers.
 fn offers(alloc: Global) -> Result<Effects, NoMemory> {
     let mut effects = Effects::new(alloc);
-    put_offers(&mut effects)?;
+    append_offers(&mut effects)?;
     Ok(effects)
 }
 

@@ -6,7 +6,7 @@ ghost use Rattle.std.specs.Prelude.{◌≡◌, ◌++◌, None, OnOk};
 
 use dcd_base::{Bytes, NoMemory};
 use dcd_codes::Code;
-use script_text::text_lines::put_hexadecimal;
+use script_text::text_lines::write_hexadecimal;
 
 /// The code of a number.
 #[tactic(auto, unfolding(crate::specs::CodeWords::code_numbered))]
@@ -45,19 +45,19 @@ fn name_of(code: Code) -> &'static [u8]
 }
 
 /// Appends the number of a return code that has no name here.
-fn put_unknown_code(number: u16, out: &mut Bytes) -> Result<(), NoMemory>
+fn write_unknown_code(number: u16, out: &mut Bytes) -> Result<(), NoMemory>
     ensures { OnOk result (out.new ≡ out.old ++ known_code_words None number) }
 {
     out.extend_from_slice(b"return code ")?;
-    put_hexadecimal(u64::from(number), out)
+    write_hexadecimal(u64::from(number), out)
 }
 
 /// Appends a return code: its name, or its number where the device has none of it.
-pub(crate) fn put_code(number: u16, out: &mut Bytes) -> Result<(), NoMemory>
+pub(crate) fn write_code(number: u16, out: &mut Bytes) -> Result<(), NoMemory>
     ensures { OnOk result (out.new ≡ out.old ++ return_code_words number) }
 {
     match code_numbered(number) {
         Some(code) => out.extend_from_slice(name_of(code)),
-        None => put_unknown_code(number, out),
+        None => write_unknown_code(number, out),
     }
 }

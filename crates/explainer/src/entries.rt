@@ -12,11 +12,11 @@ ghost use Rattle.std.specs.Prelude.{◌≡◌, ◌-◌, ◌++◌, ◌∷◌, [],
 ghost use Rattle.script_text.specs.LinePrinting.{printed_words};
 ghost use Rattle.script_text.specs.text_lines.specs.Words.{line_text};
 
-use crate::{put_answer, put_labelled, put_labelled_size};
+use crate::{write_answer, write_labelled, write_labelled_size};
 use dcd_base::{AccessFault, Bytes, NoMemory};
 use journal_check::kept_journal::{Lender, Lent};
 use journal_core::ReplySeen;
-use script_text::put_line;
+use script_text::write_line;
 use script_text::script_codec::{Line, Script};
 use script_text::text_lines::Frame;
 use std::alloc::Global;
@@ -35,7 +35,7 @@ fn refusal_of(fault: AccessFault) -> &'static [u8]
 }
 
 /// Appends words as a line of their own.
-fn put_words(words: &[u8], out: &mut Bytes) -> Result<(), NoMemory>
+fn write_words(words: &[u8], out: &mut Bytes) -> Result<(), NoMemory>
     ensures { OnOk result (out.new ≡ out.old ++ detail words.now) }
 {
     out.extend_from_slice(b"    ")?;
@@ -44,35 +44,35 @@ fn put_words(words: &[u8], out: &mut Bytes) -> Result<(), NoMemory>
 }
 
 /// Appends the word that a load read.
-fn put_word(word: u64, out: &mut Bytes) -> Result<(), NoMemory>
+fn write_word(word: u64, out: &mut Bytes) -> Result<(), NoMemory>
     ensures { OnOk result (out.new ≡ out.old ++ reply_explained (Reply.Word word)) }
 {
     out.extend_from_slice(b"    ")?;
-    put_labelled_size(b"word ", word, out)?;
+    write_labelled_size(b"word ", word, out)?;
     out.push(b'\n')
 }
 
 /// Appends how many granules were zeroed.
-fn put_zeroed(count: u32, out: &mut Bytes) -> Result<(), NoMemory>
+fn write_zeroed(count: u32, out: &mut Bytes) -> Result<(), NoMemory>
     ensures { OnOk result (out.new ≡ out.old ++ reply_explained (Reply.Scrubbed count)) }
 {
     out.extend_from_slice(b"    ")?;
-    put_labelled(b"granules zeroed ", u64::from(count), out)?;
+    write_labelled(b"granules zeroed ", u64::from(count), out)?;
     out.push(b'\n')
 }
 
 /// Appends a reply.
-fn put_reply(reply: &ReplySeen<'_>, out: &mut Bytes) -> Result<(), NoMemory>
+fn write_reply(reply: &ReplySeen<'_>, out: &mut Bytes) -> Result<(), NoMemory>
     ensures { OnOk result (out.new ≡ out.old ++ reply_explained (seen_reply reply.now)) }
 {
     match reply {
         ReplySeen::Answer(response) => {
-            put_answer(response.opcode, response.code, response.payload, out)
+            write_answer(response.opcode, response.code, response.payload, out)
         }
-        ReplySeen::Word(word) => put_word(*word, out),
-        ReplySeen::Stored => put_words(b"stored", out),
-        ReplySeen::Refused(fault) => put_words(refusal_of(*fault), out),
-        ReplySeen::Scrubbed(count) => put_zeroed(*count, out),
+        ReplySeen::Word(word) => write_word(*word, out),
+        ReplySeen::Stored => write_words(b"stored", out),
+        ReplySeen::Refused(fault) => write_words(refusal_of(*fault), out),
+        ReplySeen::Scrubbed(count) => write_zeroed(*count, out),
     }
 }
 
@@ -88,38 +88,38 @@ fn frame_of(script: &Script) -> Frame
 }
 
 /// Appends a line of a script in the readable form.
-fn put_known_line(alloc: Global, frame: Frame, line: &Line, out: &mut Bytes) -> Result<(), NoMemory>
+fn write_known_line(alloc: Global, frame: Frame, line: &Line, out: &mut Bytes) -> Result<(), NoMemory>
     requires lanes { IsTrue (are_lanes frame.version frame.lanes) }
     requires sound { IsTrue (is_sound_line frame.hosts frame.lanes line.now) }
     requires short { IsTrue (has_short_message line.now) }
     ensures { OnOk result (out.new ≡ out.old ++ line_text (printed_words frame line.now)) }
 {
-    put_line(alloc, frame, line, out)?;
+    write_line(alloc, frame, line, out)?;
     Ok(())
 }
 
 /// Appends the line of the script of this number in the readable form.
-fn put_line_of(alloc: Global, script: &Script, number: u32, out: &mut Bytes) -> Result<(), NoMemory>
+fn write_line_of(alloc: Global, script: &Script, number: u32, out: &mut Bytes) -> Result<(), NoMemory>
     requires { IsWritable script.now }
     ensures { OnOk result (out.new ≡ out.old ++ line_explained (script_frame script.now) (slice_get script.now.lines (number - 1))) }
 {
     let frame = frame_of(script);
     match script.lines.get((number as usize).saturating_sub(1)) {
-        Some(line) => put_known_line(alloc, frame, line, out),
+        Some(line) => write_known_line(alloc, frame, line, out),
         None => out.push(b'\n'),
     }
 }
 
 /// Appends the number of a line.
-fn put_number(number: u32, out: &mut Bytes) -> Result<(), NoMemory>
+fn write_number(number: u32, out: &mut Bytes) -> Result<(), NoMemory>
     ensures { OnOk result (out.new ≡ out.old ++ labelled [] number) }
 {
-    put_labelled(b"", u64::from(number), out)
+    write_labelled(b"", u64::from(number), out)
 }
 
 /// Appends the line of the script of this number, and a reply to it.
 #[tactic(auto, unfolding(crate::specs::Explanations::step_explained))]
-fn put_step(
+fn write_step(
     alloc: Global,
     script: &Script,
     number: u32,
@@ -129,14 +129,14 @@ fn put_step(
     requires { IsWritable script.now }
     ensures { OnOk result (out.new ≡ out.old ++ step_explained script.now number (seen_reply reply.now)) }
 {
-    put_number(number, out)?;
+    write_number(number, out)?;
     out.extend_from_slice(b"  ")?;
-    put_line_of(alloc, script, number, out)?;
-    put_reply(reply, out)
+    write_line_of(alloc, script, number, out)?;
+    write_reply(reply, out)
 }
 
 /// Appends an entry, which is lent.
-fn put_entry(
+fn write_entry(
     alloc: Global,
     script: &Script,
     entry: &Lent<'_>,
@@ -146,12 +146,12 @@ fn put_entry(
     ensures { OnOk result (out.new ≡ out.old ++ entry_explained script.now (lent_entry entry.now)) }
 {
     let step = entry.seen();
-    put_step(alloc, script, step.line, &step.reply, out)
+    write_step(alloc, script, step.line, &step.reply, out)
 }
 
 /// Appends the entries that are lent. None is left then.
 #[tactic(auto, unfolding(crate::specs::Explanations::entries_explained))]
-pub(crate) fn put_entries<J: Lender>(
+pub(crate) fn write_entries<J: Lender>(
     alloc: Global,
     script: &Script,
     journal: &mut J,
@@ -161,7 +161,7 @@ pub(crate) fn put_entries<J: Lender>(
     ensures { OnOk result (out.new ≡ out.old ++ entries_explained script.now (J.rest journal.old)) }
 {
     while let Some(entry) = journal.peek() {
-        put_entry(alloc, script, &entry, out)?;
+        write_entry(alloc, script, &entry, out)?;
         journal.skip();
     }
     Ok(())

@@ -6,9 +6,9 @@ ghost use Rattle.journal_core.specs.Entries.{effects};
 ghost use Rattle.script_text.specs.script_codec.specs.Writing.{IsWritable};
 ghost use Rattle.std.specs.Prelude.{◌≡◌, ◌++◌, IfOk, OnOk};
 
-use crate::entries::put_entries;
-use crate::logs::put_logs;
-use crate::states::put_state;
+use crate::entries::write_entries;
+use crate::logs::write_logs;
+use crate::states::write_state;
 use dcd_base::{Bytes, NoMemory};
 use journal_check::control_core::Control;
 use journal_check::device_plain::Device;
@@ -23,16 +23,16 @@ fn entries_of(alloc: Global, script: &Script, device: &Device) -> Result<Bytes, 
 {
     let mut out = Bytes::new(alloc);
     let mut journal = device.journal();
-    put_entries(alloc, script, &mut journal, &mut out)?;
+    write_entries(alloc, script, &mut journal, &mut out)?;
     Ok(out)
 }
 
 /// Appends what is left in the logs, and the state.
-fn put_end(control: &Control, out: &mut Bytes) -> Result<(), NoMemory>
+fn write_end(control: &Control, out: &mut Bytes) -> Result<(), NoMemory>
     ensures { OnOk result (out.new ≡ out.old ++ end_explained control.now.config (effects control.now.entries)) }
 {
-    put_logs(control, out)?;
-    put_state(control, out)
+    write_logs(control, out)?;
+    write_state(control, out)
 }
 
 /// The explanation of the journal of a device that has the script's configuration.
@@ -43,7 +43,7 @@ fn explained(alloc: Global, script: &Script, device: &Device) -> Result<Bytes, N
     ensures { IfOk result (λ bytes. bytes ≡ explanation script.now device.now.journal) }
 {
     let mut out = entries_of(alloc, script, device)?;
-    put_end(device.control(), &mut out)?;
+    write_end(device.control(), &mut out)?;
     Ok(out)
 }
 

@@ -3,9 +3,9 @@
 ghost use Rattle.explainer.specs.PartWords.{extent_in, extent_words, sequence_words, tag_words};
 ghost use Rattle.std.specs.Prelude.{◌≡◌, ◌+◌, ◌≤◌, ◌++◌, OnOk, length};
 
-use crate::parts::put_labelled;
+use crate::parts::write_labelled;
 use dcd_base::{Bytes, Extent, NoMemory, Tag, is_no_tag, tag_at, u16_at, u64_at};
-use script_text::text_lines::{put_extent, put_tag};
+use script_text::text_lines::{write_extent, write_tag};
 
 /// The extent that forty bytes at a place are. The last six are reserved.
 #[tactic(auto, unfolding(crate::specs::PartWords::extent_in))]
@@ -23,34 +23,34 @@ pub(crate) fn extent_at(bytes: &[u8], at: usize) -> Extent
 
 /// Appends a tag, where it is one.
 #[tactic(auto, unfolding(crate::specs::PartWords::tag_words))]
-fn put_tag_words(tag: &Tag, out: &mut Bytes) -> Result<(), NoMemory>
+fn write_tag_words(tag: &Tag, out: &mut Bytes) -> Result<(), NoMemory>
     ensures { OnOk result (out.new ≡ out.old ++ tag_words tag.now) }
 {
     if is_no_tag(tag) {
         return Ok(());
     }
     out.extend_from_slice(b" tag ")?;
-    put_tag(tag, out)
+    write_tag(tag, out)
 }
 
 /// Appends a sequence, where it is not 0.
 #[tactic(auto, unfolding(crate::specs::PartWords::sequence_words, crate::specs::PartWords::labelled))]
-fn put_sequence(sequence: u16, out: &mut Bytes) -> Result<(), NoMemory>
+fn write_sequence(sequence: u16, out: &mut Bytes) -> Result<(), NoMemory>
     ensures { OnOk result (out.new ≡ out.old ++ sequence_words sequence) }
 {
     if sequence == 0 {
         return Ok(());
     }
-    put_labelled(b" sequence ", u64::from(sequence), out)
+    write_labelled(b" sequence ", u64::from(sequence), out)
 }
 
 /// Appends an extent: its start and its length, and its tag and its sequence where it has them.
 #[tactic(auto, unfolding(crate::specs::PartWords::extent_words))]
-pub fn put_extent_words(extent: &Extent, out: &mut Bytes) -> Result<(), NoMemory>
+pub fn write_extent_words(extent: &Extent, out: &mut Bytes) -> Result<(), NoMemory>
     ensures { OnOk result (out.new ≡ out.old ++ extent_words extent.now) }
 {
     out.extend_from_slice(b"extent ")?;
-    put_extent(extent, out)?;
-    put_tag_words(&extent.tag, out)?;
-    put_sequence(extent.sequence, out)
+    write_extent(extent, out)?;
+    write_tag_words(&extent.tag, out)?;
+    write_sequence(extent.sequence, out)
 }

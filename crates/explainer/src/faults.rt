@@ -10,11 +10,11 @@ use crate::columns::Place;
 use cci_codec::MessageFault;
 use dcd_base::{Bytes, NoMemory};
 use region_config::ConfigFault;
-use script_text::text_lines::put_decimal;
+use script_text::text_lines::write_decimal;
 use script_text::{Cause, Keyword, Wanted};
 
 /// Appends a word of the grammar between its marks.
-fn put_keyword(keyword: Keyword, out: &mut Bytes) -> Result<(), NoMemory>
+fn write_keyword(keyword: Keyword, out: &mut Bytes) -> Result<(), NoMemory>
     ensures { OnOk result (out.new ≡ out.old ++ wanted_text (Wanted.Keyword keyword)) }
 {
     out.push(b'`')?;
@@ -23,11 +23,11 @@ fn put_keyword(keyword: Keyword, out: &mut Bytes) -> Result<(), NoMemory>
 }
 
 /// Appends what the grammar has at a place.
-fn put_wanted(wanted: Wanted, out: &mut Bytes) -> Result<(), NoMemory>
+fn write_wanted(wanted: Wanted, out: &mut Bytes) -> Result<(), NoMemory>
     ensures { OnOk result (out.new ≡ out.old ++ wanted_text wanted) }
 {
     match wanted {
-        Wanted::Keyword(keyword) => put_keyword(keyword, out),
+        Wanted::Keyword(keyword) => write_keyword(keyword, out),
         Wanted::Version => out.extend_from_slice(b"version 1 or 2".as_slice()),
         Wanted::Lanes => out.extend_from_slice(b"1 to 4 lanes".as_slice()),
         Wanted::Number => out.extend_from_slice(b"a number".as_slice()),
@@ -54,121 +54,121 @@ fn put_wanted(wanted: Wanted, out: &mut Bytes) -> Result<(), NoMemory>
 }
 
 /// Appends words and a number.
-fn put_counted(text: &[u8], number: u64, out: &mut Bytes) -> Result<(), NoMemory>
+fn write_counted(text: &[u8], number: u64, out: &mut Bytes) -> Result<(), NoMemory>
     ensures { OnOk result (out.new ≡ out.old ++ (text.now ++ decimal number)) }
 {
     out.extend_from_slice(text)?;
-    put_decimal(number, out)
+    write_decimal(number, out)
 }
 
 /// Appends words and a region.
-fn put_of_region(text: &[u8], region: u8, out: &mut Bytes) -> Result<(), NoMemory>
+fn write_of_region(text: &[u8], region: u8, out: &mut Bytes) -> Result<(), NoMemory>
     ensures { OnOk result (out.new ≡ out.old ++ (text.now ++ of_region region)) }
 {
     out.extend_from_slice(text)?;
-    put_counted(b" of region ".as_slice(), u64::from(region), out)?;
+    write_counted(b" of region ".as_slice(), u64::from(region), out)?;
     Ok(())
 }
 
 /// Appends words and a region of a host.
-fn put_of_seat(text: &[u8], host: u8, region: u8, out: &mut Bytes) -> Result<(), NoMemory>
+fn write_of_seat(text: &[u8], host: u8, region: u8, out: &mut Bytes) -> Result<(), NoMemory>
     ensures { OnOk result (out.new ≡ out.old ++ (text.now ++ of_seat host region)) }
 {
     out.extend_from_slice(text)?;
-    put_counted(b" of host ".as_slice(), u64::from(host), out)?;
-    put_counted(b", region ".as_slice(), u64::from(region), out)
+    write_counted(b" of host ".as_slice(), u64::from(host), out)?;
+    write_counted(b", region ".as_slice(), u64::from(region), out)
 }
 
 /// Appends why a configuration is refused.
-fn put_config(fault: &ConfigFault, out: &mut Bytes) -> Result<(), NoMemory>
+fn write_config(fault: &ConfigFault, out: &mut Bytes) -> Result<(), NoMemory>
     ensures { OnOk result (out.new ≡ out.old ++ config_text fault.now) }
 {
     match fault {
         ConfigFault::Count => out.extend_from_slice(b"too many hosts or regions".as_slice()),
         ConfigFault::Base { host, region } => {
-            put_of_seat(b"the base".as_slice(), *host, *region, out)
+            write_of_seat(b"the base".as_slice(), *host, *region, out)
         }
         ConfigFault::BlockSize(region) => {
-            put_of_region(b"the block sizes".as_slice(), *region, out)
+            write_of_region(b"the block sizes".as_slice(), *region, out)
         }
-        ConfigFault::Length(region) => put_of_region(b"the length".as_slice(), *region, out),
-        ConfigFault::Overlap { host, region } => put_of_seat(
+        ConfigFault::Length(region) => write_of_region(b"the length".as_slice(), *region, out),
+        ConfigFault::Overlap { host, region } => write_of_seat(
             b"the base below the end of the region before it".as_slice(),
             *host,
             *region,
             out,
         ),
         ConfigFault::TooManyGranules(count) => {
-            put_counted(b"granules above 4096, ".as_slice(), *count, out)
+            write_counted(b"granules above 4096, ".as_slice(), *count, out)
         }
         ConfigFault::NoMemory => out.extend_from_slice(b"memory".as_slice()),
     }
 }
 
 /// Appends how the length of a header differs.
-fn put_lengths(field: u32, rest: u64, out: &mut Bytes) -> Result<(), NoMemory>
+fn write_lengths(field: u32, rest: u64, out: &mut Bytes) -> Result<(), NoMemory>
     ensures { OnOk result (out.new ≡ out.old ++ message_text (MessageFault.LengthDiffers field rest)) }
 {
-    put_counted(b"a header for ".as_slice(), u64::from(field), out)?;
-    put_counted(b" bytes of payload before ".as_slice(), rest, out)?;
+    write_counted(b"a header for ".as_slice(), u64::from(field), out)?;
+    write_counted(b" bytes of payload before ".as_slice(), rest, out)?;
     Ok(())
 }
 
 /// Appends why bytes are no request.
-fn put_message(fault: &MessageFault, out: &mut Bytes) -> Result<(), NoMemory>
+fn write_message(fault: &MessageFault, out: &mut Bytes) -> Result<(), NoMemory>
     ensures { OnOk result (out.new ≡ out.old ++ message_text fault.now) }
 {
     match fault {
         MessageFault::Short(count) => {
-            put_counted(
+            write_counted(
                 b"a message of fewer than 12 bytes, ".as_slice(),
                 *count,
                 out,
             )
         }
         MessageFault::NotRequest(category) => {
-            put_counted(
+            write_counted(
                 b"no request but category ".as_slice(),
                 u64::from(*category),
                 out,
             )
         }
-        MessageFault::LengthDiffers { field, rest } => put_lengths(*field, *rest, out),
+        MessageFault::LengthDiffers { field, rest } => write_lengths(*field, *rest, out),
         MessageFault::NoMemory => out.extend_from_slice(b"memory".as_slice()),
     }
 }
 
 /// Appends words and what the grammar has at a place.
-fn put_about(text: &[u8], wanted: Wanted, out: &mut Bytes) -> Result<(), NoMemory>
+fn write_about(text: &[u8], wanted: Wanted, out: &mut Bytes) -> Result<(), NoMemory>
     ensures { OnOk result (out.new ≡ out.old ++ (text.now ++ wanted_text wanted)) }
 {
     out.extend_from_slice(text)?;
-    put_wanted(wanted, out)
+    write_wanted(wanted, out)
 }
 
 /// Appends that a configuration is refused, and why.
-fn put_bad_config(fault: &ConfigFault, out: &mut Bytes) -> Result<(), NoMemory>
+fn write_bad_config(fault: &ConfigFault, out: &mut Bytes) -> Result<(), NoMemory>
     ensures { OnOk result (out.new ≡ out.old ++ cause_text (Cause.BadConfig fault.now)) }
 {
     out.extend_from_slice(b"the configuration is refused for ".as_slice())?;
-    put_config(fault, out)?;
+    write_config(fault, out)?;
     Ok(())
 }
 
 /// Appends what is wrong with a word.
-fn put_cause(cause: &Cause, out: &mut Bytes) -> Result<(), NoMemory>
+fn write_cause(cause: &Cause, out: &mut Bytes) -> Result<(), NoMemory>
     ensures { OnOk result (out.new ≡ out.old ++ cause_text cause.now) }
 {
     match cause {
-        Cause::Wanted(wanted) => put_about(b"expected ".as_slice(), *wanted, out),
-        Cause::OutOfForm(wanted) => put_about(b"out of form for ".as_slice(), *wanted, out),
-        Cause::TooLarge(most) => put_counted(b"a number above ".as_slice(), *most, out),
+        Cause::Wanted(wanted) => write_about(b"expected ".as_slice(), *wanted, out),
+        Cause::OutOfForm(wanted) => write_about(b"out of form for ".as_slice(), *wanted, out),
+        Cause::TooLarge(most) => write_counted(b"a number above ".as_slice(), *most, out),
         Cause::NoSuchActor => out.extend_from_slice(b"no such host or lane".as_slice()),
         Cause::OutOfTurn(turn) => {
-            put_counted(b"out of turn, the next number is ".as_slice(), *turn, out)
+            write_counted(b"out of turn, the next number is ".as_slice(), *turn, out)
         }
-        Cause::BadConfig(fault) => put_bad_config(fault, out),
-        Cause::BadMessage(fault) => put_message(fault, out),
+        Cause::BadConfig(fault) => write_bad_config(fault, out),
+        Cause::BadMessage(fault) => write_message(fault, out),
         Cause::MessageTooLong => {
             out.extend_from_slice(b"more than a message has room for".as_slice())
         }
@@ -182,7 +182,7 @@ fn put_cause(cause: &Cause, out: &mut Bytes) -> Result<(), NoMemory>
 /// Appends the line that says why a text is refused: its name, the line and the column of the fault, and what is wrong there,
 /// with colons between them.
 #[tactic(auto, unfolding(crate::specs::Faults::fault_line))]
-pub(crate) fn put_fault(
+pub(crate) fn write_fault(
     name: &[u8],
     place: Place,
     cause: &Cause,
@@ -191,30 +191,30 @@ pub(crate) fn put_fault(
     ensures { OnOk result (out.new ≡ out.old ++ fault_line name.now place.line place.column cause.now) }
 {
     out.extend_from_slice(name)?;
-    put_counted(b":".as_slice(), place.line, out)?;
-    put_counted(b":".as_slice(), place.column, out)?;
+    write_counted(b":".as_slice(), place.line, out)?;
+    write_counted(b":".as_slice(), place.column, out)?;
     out.extend_from_slice(b": ".as_slice())?;
-    put_cause(cause, out)?;
+    write_cause(cause, out)?;
     out.push(b'\n')
 }
 
 /// Appends the line that says that a frame ends within its script.
 #[tactic(auto, unfolding(crate::specs::Faults::cut_line))]
-pub(crate) fn put_cut(need: u64, have: u64, out: &mut Bytes) -> Result<(), NoMemory>
+pub(crate) fn write_cut(need: u64, have: u64, out: &mut Bytes) -> Result<(), NoMemory>
     ensures { OnOk result (out.new ≡ out.old ++ cut_line need have) }
 {
-    put_counted(b"frame refused: it needs ".as_slice(), need, out)?;
-    put_counted(b" bytes and has ".as_slice(), have, out)?;
+    write_counted(b"frame refused: it needs ".as_slice(), need, out)?;
+    write_counted(b" bytes and has ".as_slice(), have, out)?;
     out.push(b'\n')?;
     Ok(())
 }
 
 /// Appends the line that says which line of a text is the first wrong one.
 #[tactic(auto, unfolding(crate::specs::Faults::stopped_line))]
-pub(crate) fn put_stopped(line: u32, out: &mut Bytes) -> Result<(), NoMemory>
+pub(crate) fn write_stopped(line: u32, out: &mut Bytes) -> Result<(), NoMemory>
     ensures { OnOk result (out.new ≡ out.old ++ stopped_line line) }
 {
-    put_counted(b"stopped at line ".as_slice(), u64::from(line), out)?;
+    write_counted(b"stopped at line ".as_slice(), u64::from(line), out)?;
     out.extend_from_slice(b": no run of this script prints it".as_slice())?;
     out.push(b'\n')?;
     Ok(())

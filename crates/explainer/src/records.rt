@@ -5,9 +5,9 @@ ghost use Rattle.explainer.specs.RecordWords.{is_update, kind_words, matter_wher
 ghost use Rattle.std.specs.Option.{is_none};
 ghost use Rattle.std.specs.Prelude.{◌≡◌, ◌≤◌, ◌++◌, OnOk, length};
 
-use crate::extents::{extent_at, put_extent_words};
-use crate::fields::{put_u8, put_u16, put_u32};
-use crate::parts::{put_bytes, put_label_where};
+use crate::extents::{extent_at, write_extent_words};
+use crate::fields::{write_u8, write_u16, write_u32};
+use crate::parts::{write_bytes, write_label_where};
 use dcd_base::{Bytes, NoMemory, flag_at};
 use event_records::decode;
 
@@ -31,14 +31,14 @@ fn kind_words(number: u8) -> &'static [u8]
 
 /// Appends the handle, the kind and the host of a record.
 #[tactic(auto, unfolding(crate::specs::RecordWords::record_start))]
-fn put_start(bytes: &[u8], out: &mut Bytes) -> Result<(), NoMemory>
+fn write_start(bytes: &[u8], out: &mut Bytes) -> Result<(), NoMemory>
     requires { 128 ≤ length bytes.now }
     ensures { OnOk result (out.new ≡ out.old ++ record_start bytes.now) }
 {
-    put_u16(b"record ", bytes, 20, out)?;
+    write_u16(b"record ", bytes, 20, out)?;
     out.extend_from_slice(b": ")?;
     out.extend_from_slice(kind_words(bytes[48]))?;
-    put_u16(b", host ", bytes, 50, out)
+    write_u16(b", host ", bytes, 50, out)
 }
 
 /// Whether a record tells an update of a region.
@@ -51,44 +51,44 @@ fn is_update(bytes: &[u8]) -> bool
 
 /// Appends the extent of a record.
 #[tactic(auto, unfolding(crate::specs::RecordWords::record_extent))]
-fn put_extent_of(bytes: &[u8], out: &mut Bytes) -> Result<(), NoMemory>
+fn write_extent_of(bytes: &[u8], out: &mut Bytes) -> Result<(), NoMemory>
     requires { 128 ≤ length bytes.now }
     ensures { OnOk result (out.new ≡ out.old ++ record_extent bytes.now) }
 {
     let extent = extent_at(bytes, 56);
     out.extend_from_slice(b", ")?;
-    put_extent_words(&extent, out)
+    write_extent_words(&extent, out)
 }
 
 /// Appends the region that a record is about, or the extent.
-fn put_matter_where(update: bool, bytes: &[u8], out: &mut Bytes) -> Result<(), NoMemory>
+fn write_matter_where(update: bool, bytes: &[u8], out: &mut Bytes) -> Result<(), NoMemory>
     requires { 128 ≤ length bytes.now }
     ensures { OnOk result (out.new ≡ out.old ++ matter_where update bytes.now) }
 {
     if update {
-        put_u8(b", region ", bytes, 52, out)
+        write_u8(b", region ", bytes, 52, out)
     } else {
-        put_extent_of(bytes, out)
+        write_extent_of(bytes, out)
     }
 }
 
 /// Appends what a record is about.
-fn put_matter(bytes: &[u8], out: &mut Bytes) -> Result<(), NoMemory>
+fn write_matter(bytes: &[u8], out: &mut Bytes) -> Result<(), NoMemory>
     requires { 128 ≤ length bytes.now }
     ensures { OnOk result (out.new ≡ out.old ++ record_matter bytes.now) }
 {
-    put_matter_where(is_update(bytes), bytes, out)
+    write_matter_where(is_update(bytes), bytes, out)
 }
 
 /// Appends whether more records of the same command follow, and what the host may still have.
 #[tactic(auto, unfolding(crate::specs::RecordWords::record_end))]
-fn put_end(bytes: &[u8], out: &mut Bytes) -> Result<(), NoMemory>
+fn write_end(bytes: &[u8], out: &mut Bytes) -> Result<(), NoMemory>
     requires { 128 ≤ length bytes.now }
     ensures { OnOk result (out.new ≡ out.old ++ record_end bytes.now) }
 {
-    put_label_where(flag_at(bytes, 53), b", more", out)?;
-    put_u32(b"; room for ", bytes, 120, out)?;
-    put_u32(b" extents, ", bytes, 124, out)?;
+    write_label_where(flag_at(bytes, 53), b", more", out)?;
+    write_u32(b"; room for ", bytes, 120, out)?;
+    write_u32(b" extents, ", bytes, 124, out)?;
     out.extend_from_slice(b" tags")
 }
 
@@ -106,25 +106,25 @@ fn is_record(bytes: &[u8]) -> bool
 }
 
 /// Appends a record.
-fn put_event(bytes: &[u8], out: &mut Bytes) -> Result<(), NoMemory>
+fn write_event(bytes: &[u8], out: &mut Bytes) -> Result<(), NoMemory>
     requires { 128 ≤ length bytes.now }
     ensures { OnOk result (out.new ≡ out.old ++ (record_start bytes.now ++ record_matter bytes.now ++ record_end bytes.now)) }
 {
-    put_start(bytes, out)?;
-    put_matter(bytes, out)?;
-    put_end(bytes, out)
+    write_start(bytes, out)?;
+    write_matter(bytes, out)?;
+    write_end(bytes, out)
 }
 
 /// Appends the 128 bytes of an event record in words: its handle, its kind, its host, the extent or the region that it is
 /// about, and how many extents and tags the host may still have. Bytes that are no record are shown as they are.
 #[tactic(auto, unfolding(crate::specs::RecordWords::record_words))]
-pub fn put_record(bytes: &[u8], out: &mut Bytes) -> Result<(), NoMemory>
+pub fn write_record(bytes: &[u8], out: &mut Bytes) -> Result<(), NoMemory>
     requires { length bytes.now ≡ 128 }
     ensures { OnOk result (out.new ≡ out.old ++ record_words bytes.now) }
 {
     if is_record(bytes) {
-        put_event(bytes, out)
+        write_event(bytes, out)
     } else {
-        put_bytes(bytes, out)
+        write_bytes(bytes, out)
     }
 }

@@ -8,7 +8,7 @@ ghost use Rattle.explainer.specs.Runs.{EndsLine, long_frame_line, long_line, lon
 
 use crate::columns::Place;
 use crate::converting::Task;
-use crate::faults::{put_cut, put_fault, put_stopped};
+use crate::faults::{write_cut, write_fault, write_stopped};
 use crate::status::Status;
 use dcd_base::{Bytes, Failed, NoMemory, Sink, write_all};
 use journal_check::report::refusal;
@@ -37,7 +37,7 @@ pub(crate) fn refuse_text<K: Sink>(
     ensures { EndsLine (fault_line name.now at.line at.column cause.now) (K.taken sink.old) (K.faults sink.old) (K.taken sink.new) (K.faults sink.new) result }
 {
     let mut out = Bytes::new(alloc);
-    match put_fault(name, at, cause, &mut out) {
+    match write_fault(name, at, cause, &mut out) {
         Ok(()) => refuse(out.as_slice(), sink),
         Err(NoMemory) => Status::NoMemory,
     }
@@ -48,7 +48,7 @@ pub(crate) fn refuse_cut<K: Sink>(alloc: Global, need: u64, have: u64, sink: &mu
     ensures { EndsLine (cut_line need have) (K.taken sink.old) (K.faults sink.old) (K.taken sink.new) (K.faults sink.new) result }
 {
     let mut out = Bytes::new(alloc);
-    match put_cut(need, have, &mut out) {
+    match write_cut(need, have, &mut out) {
         Ok(()) => refuse(out.as_slice(), sink),
         Err(NoMemory) => Status::NoMemory,
     }
@@ -59,7 +59,7 @@ pub(crate) fn refuse_from<K: Sink>(alloc: Global, line: u32, sink: &mut K) -> St
     ensures { EndsLine (stopped_line line) (K.taken sink.old) (K.faults sink.old) (K.taken sink.new) (K.faults sink.new) result }
 {
     let mut out = Bytes::new(alloc);
-    match put_stopped(line, &mut out) {
+    match write_stopped(line, &mut out) {
         Ok(()) => refuse(out.as_slice(), sink),
         Err(NoMemory) => Status::NoMemory,
     }

@@ -6,10 +6,10 @@ ghost use Rattle.std.specs.Int.{w64};
 ghost use Rattle.std.specs.Prelude.{◌≡◌, ◌+◌, ◌≤◌, ◌++◌, OnOk, codes, length};
 ghost use Rattle.script_text.specs.text_lines.specs.Sizes.{sizes_text};
 
-use crate::fields::{put_size_at, put_u32};
-use crate::parts::{put_label_where, put_labelled_size};
+use crate::fields::{write_size_at, write_u32};
+use crate::parts::{write_label_where, write_labelled_size};
 use dcd_base::{Bytes, NoMemory, flag_at, u64_at};
-use script_text::text_lines::put_sizes;
+use script_text::text_lines::write_sizes;
 
 /// The most times 256 MiB that 64 bits have room for.
 const MOST_UNITS: u64 = 0xF_FFFF_FFFF;
@@ -22,71 +22,71 @@ fn decode_bytes(units: u64) -> u64
 }
 
 /// Appends how far the addresses of a region reach.
-fn put_decode(bytes: &[u8], out: &mut Bytes) -> Result<(), NoMemory>
+fn write_decode(bytes: &[u8], out: &mut Bytes) -> Result<(), NoMemory>
     requires { 40 ≤ length bytes.now }
     ensures { OnOk result (out.new ≡ out.old ++ labelled_size (codes " decode ") (decode_bytes (number_at w64 bytes.now 8))) }
 {
-    put_labelled_size(b" decode ", decode_bytes(u64_at(bytes, 8)), out)
+    write_labelled_size(b" decode ", decode_bytes(u64_at(bytes, 8)), out)
 }
 
 /// Appends the base of a region, its length, its block size and how far its addresses reach.
 #[tactic(auto, unfolding(crate::specs::PartWords::region_ranges))]
-fn put_region_ranges(bytes: &[u8], out: &mut Bytes) -> Result<(), NoMemory>
+fn write_region_ranges(bytes: &[u8], out: &mut Bytes) -> Result<(), NoMemory>
     requires { 40 ≤ length bytes.now }
     ensures { OnOk result (out.new ≡ out.old ++ region_ranges bytes.now) }
 {
-    put_size_at(b"region base ", bytes, 0, out)?;
-    put_size_at(b" length ", bytes, 16, out)?;
-    put_size_at(b" block ", bytes, 24, out)?;
-    put_decode(bytes, out)
+    write_size_at(b"region base ", bytes, 0, out)?;
+    write_size_at(b" length ", bytes, 16, out)?;
+    write_size_at(b" block ", bytes, 24, out)?;
+    write_decode(bytes, out)
 }
 
 /// Appends the handle of a region and its flags.
 #[tactic(auto, unfolding(crate::specs::PartWords::region_flags))]
-fn put_region_flags(bytes: &[u8], out: &mut Bytes) -> Result<(), NoMemory>
+fn write_region_flags(bytes: &[u8], out: &mut Bytes) -> Result<(), NoMemory>
     requires { 40 ≤ length bytes.now }
     ensures { OnOk result (out.new ≡ out.old ++ region_flags bytes.now) }
 {
-    put_u32(b" handle ", bytes, 32, out)?;
-    put_label_where(flag_at(bytes, 36), b" sanitize", out)?;
-    put_label_where(bytes[36] & 2 == 2, b" shareable", out)
+    write_u32(b" handle ", bytes, 32, out)?;
+    write_label_where(flag_at(bytes, 36), b" sanitize", out)?;
+    write_label_where(bytes[36] & 2 == 2, b" shareable", out)
 }
 
 /// Appends the forty bytes of a region.
-pub(crate) fn put_region(bytes: &[u8], out: &mut Bytes) -> Result<(), NoMemory>
+pub(crate) fn write_region(bytes: &[u8], out: &mut Bytes) -> Result<(), NoMemory>
     requires { 40 ≤ length bytes.now }
     ensures { OnOk result (out.new ≡ out.old ++ region_words bytes.now) }
 {
-    put_region_ranges(bytes, out)?;
-    put_region_flags(bytes, out)
+    write_region_ranges(bytes, out)?;
+    write_region_flags(bytes, out)
 }
 
 /// Appends the sixteen bytes of what a host may have.
 #[tactic(auto, unfolding(crate::specs::PartWords::counts_words))]
-pub(crate) fn put_counts(bytes: &[u8], out: &mut Bytes) -> Result<(), NoMemory>
+pub(crate) fn write_counts(bytes: &[u8], out: &mut Bytes) -> Result<(), NoMemory>
     requires { 16 ≤ length bytes.now }
     ensures { OnOk result (out.new ≡ out.old ++ counts_words bytes.now) }
 {
-    put_u32(b"extents at most ", bytes, 0, out)?;
-    put_u32(b", room for ", bytes, 4, out)?;
-    put_u32(b"; tags at most ", bytes, 8, out)?;
-    put_u32(b", room for ", bytes, 12, out)
+    write_u32(b"extents at most ", bytes, 0, out)?;
+    write_u32(b", room for ", bytes, 4, out)?;
+    write_u32(b"; tags at most ", bytes, 8, out)?;
+    write_u32(b", room for ", bytes, 12, out)
 }
 
 /// Appends the block sizes that eight bytes at a place are.
-fn put_sizes_at(bytes: &[u8], at: usize, out: &mut Bytes) -> Result<(), NoMemory>
+fn write_sizes_at(bytes: &[u8], at: usize, out: &mut Bytes) -> Result<(), NoMemory>
     requires { at + 8 ≤ length bytes.now }
     ensures { OnOk result (out.new ≡ out.old ++ sizes_text (number_at w64 bytes.now at)) }
 {
-    put_sizes(u64_at(bytes, at), out)
+    write_sizes(u64_at(bytes, at), out)
 }
 
 /// Appends the eight bytes of block sizes.
 #[tactic(auto, unfolding(crate::specs::PartWords::sizes_words))]
-pub(crate) fn put_block_sizes(bytes: &[u8], out: &mut Bytes) -> Result<(), NoMemory>
+pub(crate) fn write_block_sizes(bytes: &[u8], out: &mut Bytes) -> Result<(), NoMemory>
     requires { 8 ≤ length bytes.now }
     ensures { OnOk result (out.new ≡ out.old ++ sizes_words bytes.now) }
 {
     out.extend_from_slice(b"region with block sizes ")?;
-    put_sizes_at(bytes, 0, out)
+    write_sizes_at(bytes, 0, out)
 }

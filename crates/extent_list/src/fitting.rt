@@ -91,7 +91,7 @@ fn part_rule(
 
 /// Puts the extents of the list behind the others, each with the tag and the sequence of the first owner in which it
 /// lies.
-pub fn put_marked(owners: &Owners, list: &[Extent], out: &mut Extents) -> Result<(), NoMemory>
+pub fn append_marked(owners: &Owners, list: &[Extent], out: &mut Extents) -> Result<(), NoMemory>
     ensures { OnOk result (out.new ≡ out.old ++ map (marked owners.now) list.now) }
 {
     let mut near = owners.start(list);
@@ -114,8 +114,8 @@ pub fn marked_lists(
 {
     let mut both = Extents::with_capacity(alloc, held.len() + list.len())?;
     let sought = Owners::of(owners);
-    put_marked(&sought, held, &mut both)?;
-    put_marked(&sought, list, &mut both)?;
+    append_marked(&sought, held, &mut both)?;
+    append_marked(&sought, list, &mut both)?;
     Ok(both)
 }
 

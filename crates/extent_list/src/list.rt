@@ -393,7 +393,7 @@ fn drop_back(kept: &mut Vec<Extent>, count: usize)
 
 /// Puts the pieces in place of the extent at the index, the lower one first. Only where there are none or two, those
 /// behind are moved.
-fn put_pieces(kept: &mut Vec<Extent>, index: usize, lower: Option<Extent>, upper: Option<Extent>)
+fn append_pieces(kept: &mut Vec<Extent>, index: usize, lower: Option<Extent>, upper: Option<Extent>)
     requires index { index < vec_len kept.old }
     requires spare { vec_len kept.old < vec_capacity kept.old }
     ensures put { kept.new.items ≡ take index kept.old.items ++ (option_to_list lower ++ option_to_list upper ++ drop (suc index) kept.old.items) }
@@ -452,6 +452,6 @@ fn replace_at(
     if len > most {
         return Err(TooMany(len));
     }
-    put_pieces(kept, index, lower, upper);
+    append_pieces(kept, index, lower, upper);
     Ok(())
 }

@@ -16,10 +16,10 @@ ghost use Rattle.journal_core.specs.declared.outcome.HeldKind.{HeldKind};
 ghost use Rattle.offer_core.specs.Responses.{respond_rule};
 ghost use Rattle.std.specs.Prelude.{◌≡◌, ◌++◌, ◌∷◌, ◌<◌, ◌≤◌, [], All, IfOk, IsTrue, None, OnOk, length};
 
-use crate::held_lists::{held, put_unhold, unheld};
+use crate::held_lists::{held, append_unhold, unheld};
 use cci_codec::dcd_base::{Bytes, Extent, Extents, HostId, LogId, NoMemory, ShortList};
 use device_commands::host_lists::HostLists;
-use device_commands::{Draft, LogRecords, no_extent, put_effect, records_to, run_of, tags_of};
+use device_commands::{Draft, LogRecords, no_extent, append_effect, records_to, run_of, tags_of};
 use event_records::EventKind;
 use extent_list::dcd_codes::Refusal;
 use extent_list::media_map::region_config::Config;
@@ -96,7 +96,7 @@ fn answered(
     let tags = tags_of(alloc, lists.oldest())?;
     let log_records = records_to_manager(alloc, host, accepted.as_slice())?;
     let mut changes = Effects::new(alloc);
-    put_answer(alloc, present, host, lists, accepted, &mut changes)?;
+    append_answer(alloc, present, host, lists, accepted, &mut changes)?;
     Ok(Draft {
         payload: Bytes::new(alloc),
         changes,
@@ -122,7 +122,7 @@ fn records_to_manager(
 
 /// What is held goes, the offer is answered, and the host takes the extents. Their list is not copied: it is put into
 /// its place once the runs are made of it.
-fn put_answer(
+fn append_answer(
     alloc: Global,
     present: &Config,
     host: HostId,
@@ -135,14 +135,14 @@ fn put_answer(
     requires none { effects.old ≡ [] }
     ensures { OnOk result (effects.new ≡ answer_changes present.now host lists.now accepted) }
 {
-    put_unhold(host, HeldKind::Responses, lists.responses(), effects)?;
+    append_unhold(host, HeldKind::Responses, lists.responses(), effects)?;
     if accepted.is_empty() {
-        return put_effect(effects, Effect::Answer(host, accepted));
+        return append_effect(effects, Effect::Answer(host, accepted));
     }
     let at = effects.len();
     let mut changes = replace(effects, Effects::new(alloc)).into_vec();
     changes.push(Effect::Answer(host, Extents::new(alloc)))?;
-    put_takes(present, host, accepted.as_slice(), &mut changes)?;
+    append_takes(present, host, accepted.as_slice(), &mut changes)?;
     changes[at] = Effect::Answer(host, accepted);
     *effects = Effects::from_vec(alloc, changes);
     Ok(())
@@ -150,7 +150,7 @@ fn put_answer(
 
 /// The host takes each of the extents.
 #[inline(never)]
-fn put_takes(
+fn append_takes(
     present: &Config,
     host: HostId,
     extents: &[Extent],

@@ -25,12 +25,12 @@ pub(crate) fn held(
     ensures { IfOk result (λ draft. draft ≡ record { payload = []; changes = hold host kind list.now; tags = []; log_records = [] }) }
 {
     let mut changes = Effects::new(alloc);
-    put_hold(host, kind, list, &mut changes)?;
+    append_hold(host, kind, list, &mut changes)?;
     Ok(Draft::changing(alloc, changes))
 }
 
 /// Puts behind the effects that these extents are held, where there are any.
-fn put_hold(
+fn append_hold(
     host: HostId,
     kind: HeldKind,
     list: &Extents,
@@ -54,12 +54,12 @@ pub(crate) fn unheld(
     ensures { IfOk result (λ draft. draft ≡ record { payload = []; changes = unhold host kind held.now; tags = []; log_records = [] }) }
 {
     let mut changes = Effects::new(alloc);
-    put_unhold(host, kind, held, &mut changes)?;
+    append_unhold(host, kind, held, &mut changes)?;
     Ok(Draft::changing(alloc, changes))
 }
 
 /// Puts behind the effects that what was held is held no longer, where anything was.
-pub(crate) fn put_unhold(
+pub(crate) fn append_unhold(
     host: HostId,
     kind: HeldKind,
     held: &[Extent],
@@ -84,9 +84,9 @@ pub fn dropped(
 {
     let mut effects = Effects::new(alloc);
     if opcode == ADD_RESPONSE {
-        put_unhold(host, HeldKind::Responses, lists.responses(), &mut effects)?;
+        append_unhold(host, HeldKind::Responses, lists.responses(), &mut effects)?;
     } else if opcode == GIVE_BACK {
-        put_unhold(host, HeldKind::Releases, lists.releases(), &mut effects)?;
+        append_unhold(host, HeldKind::Releases, lists.releases(), &mut effects)?;
     }
     Ok(effects)
 }

@@ -13,10 +13,10 @@ ghost use Rattle.journal_core.specs.declared.outcome.HeldKind.{HeldKind};
 ghost use Rattle.release_core.specs.Releases.{give_back_rule};
 ghost use Rattle.std.specs.Prelude.{◌≡◌, ◌++◌, ◌<◌, ◌≤◌, All, IfOk, IsTrue, None};
 
-use crate::held_lists::{held, put_unhold};
+use crate::held_lists::{held, append_unhold};
 use cci_codec::dcd_base::{Bytes, Extent, Extents, HostId, LogId, NoMemory};
 use device_commands::host_lists::HostLists;
-use device_commands::{Draft, put_leaves, records_to, tags_of};
+use device_commands::{Draft, append_leaves, records_to, tags_of};
 use event_records::EventKind;
 use extent_list::dcd_codes::Refusal;
 use extent_list::media_map::region_config::Config;
@@ -89,8 +89,8 @@ fn released(
     let (to, kind) = (LogId::Manager, EventKind::Released);
     let log_records = records_to(alloc, to, host, kind, leaving)?;
     let mut changes = Effects::new(alloc);
-    put_unhold(host, HeldKind::Releases, lists.releases(), &mut changes)?;
-    put_leaves(present, host, false, leaving, &mut changes)?;
+    append_unhold(host, HeldKind::Releases, lists.releases(), &mut changes)?;
+    append_leaves(present, host, false, leaving, &mut changes)?;
     Ok(Draft {
         payload: Bytes::new(alloc),
         changes,

@@ -12,7 +12,7 @@ use report::render;
 use std::alloc::Global;
 
 /// Puts a number in decimal digits.
-fn put_number(text: &mut Bytes, number: u64) -> Result<(), NoMemory>
+fn write_number(text: &mut Bytes, number: u64) -> Result<(), NoMemory>
     ensures { OnOk result (text.new ≡ text.old ++ decimal number) }
 {
     let mut buffer = Buffer::new();
@@ -22,13 +22,13 @@ fn put_number(text: &mut Bytes, number: u64) -> Result<(), NoMemory>
 
 /// Puts the line of an extent: its start and its length in bytes.
 #[tactic(auto, unfolding(crate::specs::Planning::extent_line))]
-fn put_extent(text: &mut Bytes, extent: &Extent) -> Result<(), NoMemory>
+fn write_extent(text: &mut Bytes, extent: &Extent) -> Result<(), NoMemory>
     ensures { OnOk result (text.new ≡ text.old ++ extent_line extent.now) }
 {
     text.extend_from_slice(b"ext ")?;
-    put_number(text, extent.start)?;
+    write_number(text, extent.start)?;
     text.push(b' ')?;
-    put_number(text, extent.length)?;
+    write_number(text, extent.length)?;
     text.push(b'\n')
 }
 
@@ -38,7 +38,7 @@ pub(crate) fn extent_lines(alloc: Global, table: &[Extent]) -> Result<Bytes, NoM
 {
     let mut text = Bytes::new(alloc);
     for extent in table {
-        put_extent(&mut text, extent)?;
+        write_extent(&mut text, extent)?;
     }
     Ok(text)
 }

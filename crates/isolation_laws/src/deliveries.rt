@@ -18,19 +18,19 @@ pub fn own_items(alloc: Global, journal: &[Entry], host: HostId) -> Result<Items
 {
     let mut items = Items::new(alloc);
     for i in 0..journal.len() {
-        put_items(alloc, &journal[i], &host, &mut items)?;
+        append_items(alloc, &journal[i], &host, &mut items)?;
     }
     Ok(items)
 }
 
 /// Puts the items of an entry behind the others.
-fn put_items(alloc: Global, entry: &Entry, host: &HostId, items: &mut Items) -> Result<(), NoMemory>
+fn append_items(alloc: Global, entry: &Entry, host: &HostId, items: &mut Items) -> Result<(), NoMemory>
     ensures { OnOk result (items.new ≡ items.old ++ items_of host.now entry.now) }
 {
     if acts_for(host, &entry.actor) {
         return items.push(Item::Own(entry.act.copy()?));
     }
-    put_delivered(alloc, entry.effects.as_slice(), host, items)
+    append_delivered(alloc, entry.effects.as_slice(), host, items)
 }
 
 fn acts_for(host: &HostId, actor: &Actor) -> bool
@@ -43,7 +43,7 @@ fn acts_for(host: &HostId, actor: &Actor) -> bool
 }
 
 /// Puts what the effects bring the host behind the others.
-fn put_delivered(
+fn append_delivered(
     alloc: Global,
     effects: &[Effect],
     host: &HostId,
@@ -51,14 +51,14 @@ fn put_delivered(
 ) -> Result<(), NoMemory>
     ensures { OnOk result (items.new ≡ items.old ++ delivered host.now effects.now) }
 {
-    put_given(told_of(alloc, effects, host, &EventKind::Add)?, items)?;
-    put_asked(told_of(alloc, effects, host, &EventKind::Release)?, items)?;
-    put_taken(told_of(alloc, effects, host, &EventKind::Forced)?, items)?;
-    put_blocks(effects, items)
+    append_given(told_of(alloc, effects, host, &EventKind::Add)?, items)?;
+    append_asked(told_of(alloc, effects, host, &EventKind::Release)?, items)?;
+    append_taken(told_of(alloc, effects, host, &EventKind::Forced)?, items)?;
+    append_blocks(effects, items)
 }
 
 /// Puts an offer of the extents, where there are any.
-fn put_given(extents: Extents, items: &mut Items) -> Result<(), NoMemory>
+fn append_given(extents: Extents, items: &mut Items) -> Result<(), NoMemory>
     ensures { OnOk result (items.new ≡ items.old ++ item_of (λ xs. Item.Given xs) extents) }
 {
     if extents.is_empty() {
@@ -68,7 +68,7 @@ fn put_given(extents: Extents, items: &mut Items) -> Result<(), NoMemory>
 }
 
 /// Puts a request to give the extents back, where there are any.
-fn put_asked(extents: Extents, items: &mut Items) -> Result<(), NoMemory>
+fn append_asked(extents: Extents, items: &mut Items) -> Result<(), NoMemory>
     ensures { OnOk result (items.new ≡ items.old ++ item_of (λ xs. Item.Asked xs) extents) }
 {
     if extents.is_empty() {
@@ -78,7 +78,7 @@ fn put_asked(extents: Extents, items: &mut Items) -> Result<(), NoMemory>
 }
 
 /// Puts that the extents are taken by force, where there are any.
-fn put_taken(extents: Extents, items: &mut Items) -> Result<(), NoMemory>
+fn append_taken(extents: Extents, items: &mut Items) -> Result<(), NoMemory>
     ensures { OnOk result (items.new ≡ items.old ++ item_of (λ xs. Item.Taken xs) extents) }
 {
     if extents.is_empty() {
@@ -98,13 +98,13 @@ fn told_of(
 {
     let mut extents = Extents::new(alloc);
     for i in 0..effects.len() {
-        put_told(host, kind, &effects[i], &mut extents)?;
+        append_told(host, kind, &effects[i], &mut extents)?;
     }
     Ok(extents)
 }
 
 /// Puts the extent of the effect, where it is a record of this kind in the host's log.
-fn put_told(
+fn append_told(
     host: &HostId,
     kind: &EventKind,
     effect: &Effect,
@@ -148,17 +148,17 @@ fn number_of(kind: &EventKind) -> u8
 }
 
 /// Puts the new block sizes among the effects behind the others.
-fn put_blocks(effects: &[Effect], items: &mut Items) -> Result<(), NoMemory>
+fn append_blocks(effects: &[Effect], items: &mut Items) -> Result<(), NoMemory>
     ensures { OnOk result (items.new ≡ items.old ++ filter_map block_item effects.now) }
 {
     for i in 0..effects.len() {
-        put_block(&effects[i], items)?;
+        append_block(&effects[i], items)?;
     }
     Ok(())
 }
 
 /// Puts the new block size that the effect is, if it is one.
-fn put_block(effect: &Effect, items: &mut Items) -> Result<(), NoMemory>
+fn append_block(effect: &Effect, items: &mut Items) -> Result<(), NoMemory>
     ensures { OnOk result (items.new ≡ items.old ++ filter_map block_item (effect.now ∷ [])) }
 {
     match effect {

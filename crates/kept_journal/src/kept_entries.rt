@@ -63,7 +63,7 @@ fn reserve(bytes: &mut Vec<u8>, more: usize) -> Result<(), NoMemory>
 }
 
 /// Puts bytes behind the others. It takes no memory.
-fn put_part(bytes: &mut Vec<u8>, part: &[u8])
+fn append_part(bytes: &mut Vec<u8>, part: &[u8])
     requires { vec_len bytes.old + length part.now ≤ vec_capacity bytes.old }
     ensures put { bytes.new.items ≡ bytes.old.items ++ part.now }
     ensures room { vec_capacity bytes.old ≤ vec_capacity bytes.new }
@@ -73,7 +73,7 @@ fn put_part(bytes: &mut Vec<u8>, part: &[u8])
 
 /// Puts the payloads of a step behind the bytes and what tells its effects behind them, and answers where that begins. Without
 /// memory the bytes are as before.
-fn put_bytes(
+fn append_bytes(
     coder: &mut Coder,
     act: &Act,
     reply: &Reply,
@@ -86,8 +86,8 @@ fn put_bytes(
     let asked = payload_asked(act);
     let replied = payload_replied(reply);
     reserve(&mut coder.bytes, asked.len() + replied.len())?;
-    put_part(&mut coder.bytes, asked);
-    put_part(&mut coder.bytes, replied);
+    append_part(&mut coder.bytes, asked);
+    append_part(&mut coder.bytes, replied);
     let at = coder.bytes.len();
     match coder.tell(effects) {
         Ok(()) => Ok(at),
@@ -271,7 +271,7 @@ impl KeptEntries {
         ensures room_left { self.old.spare ≤ self.new.spare + 1 }
     {
         let before = self.coder.bytes.len();
-        match put_bytes(&mut self.coder, act, reply, effects) {
+        match append_bytes(&mut self.coder, act, reply, effects) {
             Ok(at) => {
                 let (_, told) = self.coder.bytes.as_slice().split_at(at);
                 match KeptStep::of(pass, line, actor, act, reply, told) {

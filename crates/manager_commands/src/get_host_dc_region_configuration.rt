@@ -65,13 +65,13 @@ fn payload_of(
     let mut payload = Bytes::with_capacity(alloc, 24 + 40 * views.len())?;
     let head = regions_head(host, state.present.regions(), views.len() as u8);
     payload.extend_from_slice(&head)?;
-    put_regions(views, &mut payload)?;
+    append_regions(views, &mut payload)?;
     payload.extend_from_slice(&counts_bytes(&counts))?;
     Ok(payload)
 }
 
 /// Appends the bytes of each region.
-fn put_regions(views: &[RegionView], payload: &mut Bytes) -> Result<(), NoMemory>
+fn append_regions(views: &[RegionView], payload: &mut Bytes) -> Result<(), NoMemory>
     ensures { OnOk result (payload.new ≡ payload.old ++ flat_map region_bytes views.now) }
 {
     for i in 0..views.len() {

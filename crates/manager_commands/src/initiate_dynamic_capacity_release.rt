@@ -14,7 +14,7 @@ ghost use Rattle.extent_list.specs.HostLists.{extent_total};
 ghost use Rattle.std.specs.Prelude.{◌≡◌, ◌<◌, ◌≤◌, IfOk, length, true};
 
 use crate::full_logs::log_full;
-use device_commands::{Draft, put_leaves, records_to, tags_of};
+use device_commands::{Draft, append_leaves, records_to, tags_of};
 use device_state::State;
 use event_records::EventKind;
 use event_records::dcd_base::{Bytes, Extents, HostId, LogId, NoMemory, RegionId, Tag};
@@ -159,7 +159,7 @@ fn by_force(
     ensures { IfOk result (IsTakenByForce config.now host cleaning leaving.now) }
 {
     let mut changes = Effects::new(alloc);
-    put_leaves(config, host, cleaning, leaving.as_slice(), &mut changes)?;
+    append_leaves(config, host, cleaning, leaving.as_slice(), &mut changes)?;
     removal_draft(alloc, host, EventKind::Forced, changes, leaving)
 }
 

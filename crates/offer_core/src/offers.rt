@@ -67,6 +67,24 @@ impl Offers {
         })
     }
 
+    /// Makes the offers and the held list equal to others. Memory is asked for only where those are more than a host can have by the
+    /// rules of the device; without it no offer and no held extent is there, or the held list alone.
+    pub fn stand_as(&mut self, others: &Offers) -> Result<(), NoMemory>
+        ensures equal { OnOk result (self.new ≡ others.now) }
+        ensures none { OnErr result (self.new.offers ≡ []) }
+    {
+        self.counts.clear();
+        self.extents.clear();
+        self.held.clear();
+        self.held.extend_from_slice(others.held.as_slice())?;
+        self.counts.reserve(others.counts.len())?;
+        self.extents.extend_from_slice(others.extents.as_slice())?;
+        match self.counts.extend_from_slice(others.counts.as_slice()) {
+            Ok(()) => Ok(()),
+            Err(_) => unreachable!(),
+        }
+    }
+
     /// The allocator that it grows by.
     pub fn allocator(&self) -> Global {
         self.alloc

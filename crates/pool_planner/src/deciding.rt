@@ -9,7 +9,7 @@ ghost use Rattle.std.specs.Prelude.{◌≡◌, ◌≤◌, IfOk, length};
 use crate::plan;
 use crate::printing::act_lines;
 use crate::refusals::{demands_refusal, plan_refusal, script_refusal};
-use crate::running::{are_sound, put_state, run_lines, take_steps};
+use crate::running::{are_sound, write_state, run_lines, take_steps};
 use crate::status::PlanStatus;
 use dcd_base::{Actor, Bytes, NoMemory};
 use device_plain::Device;
@@ -108,6 +108,6 @@ fn take_list(alloc: Global, device: &mut Device, acts: &[(Actor, Act)]) -> Resul
     }
     let mut text = act_lines(alloc, hosts, acts)?;
     take_steps(device, acts)?;
-    put_state(&mut text, device)?;
+    write_state(&mut text, device)?;
     Ok((PlanStatus::Done, text))
 }

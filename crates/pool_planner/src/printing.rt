@@ -15,7 +15,7 @@ use journal_core::Act;
 use std::alloc::Global;
 
 /// Puts a number in decimal digits.
-pub(crate) fn put_number(text: &mut Bytes, number: u64) -> Result<(), NoMemory>
+pub(crate) fn write_number(text: &mut Bytes, number: u64) -> Result<(), NoMemory>
     ensures { OnOk result (text.new ≡ text.old ++ decimal number) }
 {
     let mut buffer = Buffer::new();
@@ -24,7 +24,7 @@ pub(crate) fn put_number(text: &mut Bytes, number: u64) -> Result<(), NoMemory>
 }
 
 /// Puts the bytes of a request in hexadecimal digits.
-fn put_hex(text: &mut Bytes, request: &Request) -> Result<(), NoMemory>
+fn write_hex(text: &mut Bytes, request: &Request) -> Result<(), NoMemory>
     requires { length request.now.payload < 2 ^ 21 }
     ensures { OnOk result (text.new ≡ text.old ++ encode_lower (request_bytes request.now)) }
 {
@@ -36,13 +36,13 @@ fn put_hex(text: &mut Bytes, request: &Request) -> Result<(), NoMemory>
 }
 
 /// Puts the name of an actor: `h0` to `h15`, `fm` or `sz`.
-fn put_actor(text: &mut Bytes, actor: &Actor) -> Result<(), NoMemory>
+fn write_actor(text: &mut Bytes, actor: &Actor) -> Result<(), NoMemory>
     ensures { OnOk result (text.new ≡ text.old ++ actor_name actor.now) }
 {
     match actor {
         Actor::Host(host) => {
             text.push(b'h')?;
-            put_number(text, u64::from(host.0))
+            write_number(text, u64::from(host.0))
         }
         Actor::Manager => text.extend_from_slice(b"fm"),
         Actor::Sanitizer => text.extend_from_slice(b"sz"),
@@ -50,32 +50,32 @@ fn put_actor(text: &mut Bytes, actor: &Actor) -> Result<(), NoMemory>
 }
 
 /// Puts a space, the whole message of a command, and the end of the line.
-fn put_message(text: &mut Bytes, request: &Request) -> Result<(), NoMemory>
+fn write_message(text: &mut Bytes, request: &Request) -> Result<(), NoMemory>
     requires { length request.now.payload < 2 ^ 21 }
     ensures { OnOk result (text.new ≡ text.old ++ rest_of_line (act_words (Act.Command request.now))) }
 {
     text.push(b' ')?;
-    put_hex(text, request)?;
+    write_hex(text, request)?;
     text.push(b'\n')
 }
 
 /// Puts a space, the number of a turn of the sanitizer, and the end of the line.
-fn put_turn(text: &mut Bytes, most: u16) -> Result<(), NoMemory>
+fn write_turn(text: &mut Bytes, most: u16) -> Result<(), NoMemory>
     ensures { OnOk result (text.new ≡ text.old ++ rest_of_line (act_words (Act.Scrub most))) }
 {
     text.push(b' ')?;
-    put_number(text, u64::from(most))?;
+    write_number(text, u64::from(most))?;
     text.push(b'\n')
 }
 
 /// Puts what stands behind the name of the actor. A list has no loads and stores.
-fn put_act(text: &mut Bytes, act: &Act) -> Result<(), NoMemory>
+fn write_act(text: &mut Bytes, act: &Act) -> Result<(), NoMemory>
     requires { IsShortAct act.now }
     ensures { OnOk result (text.new ≡ text.old ++ rest_of_line (act_words act.now)) }
 {
     match act {
-        Act::Command(request) => put_message(text, request),
-        Act::Scrub(most) => put_turn(text, *most),
+        Act::Command(request) => write_message(text, request),
+        Act::Scrub(most) => write_turn(text, *most),
         Act::Load(_) => text.push(b'\n'),
         Act::Store(_, _) => text.push(b'\n'),
     }
@@ -83,12 +83,12 @@ fn put_act(text: &mut Bytes, act: &Act) -> Result<(), NoMemory>
 
 /// Puts the line of an act.
 #[tactic(auto, unfolding(crate::specs::PlanPrinting::plan_line))]
-fn put_step(text: &mut Bytes, step: &(Actor, Act)) -> Result<(), NoMemory>
+fn write_step(text: &mut Bytes, step: &(Actor, Act)) -> Result<(), NoMemory>
     requires { IsShortAct step.now.1 }
     ensures { OnOk result (text.new ≡ text.old ++ plan_line step.now) }
 {
-    put_actor(text, &step.0)?;
-    put_act(text, &step.1)
+    write_actor(text, &step.0)?;
+    write_act(text, &step.1)
 }
 
 /// The lines of a list.
@@ -99,7 +99,7 @@ pub(crate) fn act_lines(alloc: Global, hosts: u8, acts: &[(Actor, Act)]) -> Resu
 {
     let mut text = Bytes::new(alloc);
     for step in acts {
-        put_step(&mut text, step)?;
+        write_step(&mut text, step)?;
     }
     Ok(text)
 }

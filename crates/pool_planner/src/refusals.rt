@@ -5,7 +5,7 @@ ghost use Rattle.report.specs.Refusals.{refusal_line};
 ghost use Rattle.report.specs.script_codec.specs.declared.faults.ScriptFault.{ScriptFault};
 ghost use Rattle.std.specs.Prelude.{◌≡◌, ◌≢◌, IfOk};
 
-use crate::printing::put_number;
+use crate::printing::write_number;
 use dcd_base::{Bytes, Failed, MemSink, NoMemory};
 use plan_rules::{DemandFault, PlanFault};
 use report::refusal;
@@ -41,7 +41,7 @@ pub(crate) fn demands_refusal(alloc: Global, fault: &DemandFault) -> Result<Byte
     ensures { IfOk result (λ line. line ≡ demands_refused fault.now) }
 {
     let mut line = Bytes::from_slice(alloc, b"demands refused: ")?;
-    put_number(&mut line, number_of(fault))?;
+    write_number(&mut line, number_of(fault))?;
     line.push(b'\n')?;
     Ok(line)
 }
@@ -52,7 +52,7 @@ fn refused_line(alloc: Global, number: u64) -> Result<Bytes, NoMemory>
     ensures { IfOk result (λ line. line ≡ plan_refused number) }
 {
     let mut line = Bytes::from_slice(alloc, b"plan refused: ")?;
-    put_number(&mut line, number)?;
+    write_number(&mut line, number)?;
     line.push(b'\n')?;
     Ok(line)
 }
@@ -63,11 +63,11 @@ fn short_line(alloc: Global, region: u8, need: u64, have: u64) -> Result<Bytes, 
     ensures { IfOk result (λ line. line ≡ plan_short region need have) }
 {
     let mut line = Bytes::from_slice(alloc, b"short ")?;
-    put_number(&mut line, u64::from(region))?;
+    write_number(&mut line, u64::from(region))?;
     line.extend_from_slice(b" need ")?;
-    put_number(&mut line, need)?;
+    write_number(&mut line, need)?;
     line.extend_from_slice(b" have ")?;
-    put_number(&mut line, have)?;
+    write_number(&mut line, have)?;
     line.push(b'\n')?;
     Ok(line)
 }

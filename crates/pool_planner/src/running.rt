@@ -105,7 +105,7 @@ pub(crate) fn take_steps(device: &mut Device, acts: &[(Actor, Act)]) -> Result<(
 }
 
 /// Puts the lines of the state of a device, which are its summary without the first line.
-pub(crate) fn put_state(text: &mut Bytes, device: &Device) -> Result<(), NoMemory>
+pub(crate) fn write_state(text: &mut Bytes, device: &Device) -> Result<(), NoMemory>
     ensures { OnOk result (text.new ≡ text.old ++ plan_state device.now.config device.now.journal) }
 {
     let alloc = text.allocator();

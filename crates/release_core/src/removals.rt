@@ -116,12 +116,12 @@ fn tagged_list(alloc: Global, tag: &Tag, extents: &[Extent]) -> Result<Extents, 
     ensures { IfOk result (λ leaving. leaving ≡ extents_of_tag tag.now extents.now) }
 {
     let mut leaving = Extents::new(alloc);
-    put_tagged(tag, extents, &mut leaving)?;
+    append_tagged(tag, extents, &mut leaving)?;
     Ok(leaving)
 }
 
 /// Puts them into an empty list.
-fn put_tagged(tag: &Tag, extents: &[Extent], leaving: &mut Extents) -> Result<(), NoMemory>
+fn append_tagged(tag: &Tag, extents: &[Extent], leaving: &mut Extents) -> Result<(), NoMemory>
     requires { leaving.old ≡ [] }
     ensures { OnOk result (leaving.new ≡ extents_of_tag tag.now extents.now) }
 {

@@ -26,20 +26,20 @@ fn fault_number(fault: AccessFault) -> u64
 }
 
 /// Puts a space and the name of a kind of act.
-fn put_kind<K: Sink>(printer: &mut Printer, sink: &mut K, kind: ActKind)
+fn write_kind<K: Sink>(printer: &mut Printer, sink: &mut K, kind: ActKind)
     ensures { Puts K.taken K.faults sink.old printer.old sink.new printer.new (next_word (kind_name kind)) }
 {
     match kind {
-        ActKind::Command => printer.put_word(sink, b"cmd"),
-        ActKind::Load => printer.put_word(sink, b"ld"),
-        ActKind::Store => printer.put_word(sink, b"st"),
-        ActKind::Scrub => printer.put_word(sink, b"sc"),
+        ActKind::Command => printer.write_word(sink, b"cmd"),
+        ActKind::Load => printer.write_word(sink, b"ld"),
+        ActKind::Store => printer.write_word(sink, b"st"),
+        ActKind::Scrub => printer.write_word(sink, b"sc"),
     }
 }
 
 /// Puts the digits of a response: its header, then its payload.
 #[tactic(auto, using(crate::proofs::Parts::prints_then))]
-fn put_response<K: Sink>(printer: &mut Printer, sink: &mut K, response: &ResponseSeen<'_>)
+fn write_response<K: Sink>(printer: &mut Printer, sink: &mut K, response: &ResponseSeen<'_>)
     requires { length response.now.payload.now < 2 ^ 21 }
     ensures { Puts K.taken K.faults sink.old printer.old sink.new printer.new (rest_of_line (reply_words (Reply.Answer (seen_response response.now)))) }
 {
@@ -50,79 +50,79 @@ fn put_response<K: Sink>(printer: &mut Printer, sink: &mut K, response: &Respons
         response.payload.len() as u32,
     );
     printer.put(sink, b" ");
-    printer.put_hex(sink, head.as_slice());
-    printer.put_hex(sink, response.payload);
+    printer.write_hex(sink, head.as_slice());
+    printer.write_hex(sink, response.payload);
     printer.end_line(sink);
 }
 
 /// Puts the sixteen digits of a word, the most significant first.
 #[tactic(auto, using(crate::proofs::Parts::prints_then))]
-fn put_loaded<K: Sink>(printer: &mut Printer, sink: &mut K, word: u64)
+fn write_loaded<K: Sink>(printer: &mut Printer, sink: &mut K, word: u64)
     ensures { Puts K.taken K.faults sink.old printer.old sink.new printer.new (rest_of_line (reply_words (Reply.Word word))) }
 {
     printer.put(sink, b" ");
-    printer.put_hex(sink, word.to_be_bytes().as_slice());
+    printer.write_hex(sink, word.to_be_bytes().as_slice());
     printer.end_line(sink);
 }
 
 /// Says that a store was done.
 #[tactic(auto, using(crate::proofs::Parts::prints_then))]
-fn put_stored<K: Sink>(printer: &mut Printer, sink: &mut K)
+fn write_stored<K: Sink>(printer: &mut Printer, sink: &mut K)
     ensures { Puts K.taken K.faults sink.old printer.old sink.new printer.new (rest_of_line (reply_words Reply.Stored)) }
 {
-    printer.put_word(sink, b"ok");
+    printer.write_word(sink, b"ok");
     printer.end_line(sink);
 }
 
 /// Says that a load or a store was refused, and why.
 #[tactic(auto, using(crate::proofs::Parts::prints_then))]
-fn put_refused<K: Sink>(printer: &mut Printer, sink: &mut K, fault: AccessFault)
+fn write_refused<K: Sink>(printer: &mut Printer, sink: &mut K, fault: AccessFault)
     ensures { Puts K.taken K.faults sink.old printer.old sink.new printer.new (rest_of_line (reply_words (Reply.Refused fault))) }
 {
-    printer.put_counted(sink, b"refused", fault_number(fault));
+    printer.write_counted(sink, b"refused", fault_number(fault));
     printer.end_line(sink);
 }
 
 /// Says how many granules were zeroed.
 #[tactic(auto, using(crate::proofs::Parts::prints_then))]
-fn put_scrubbed<K: Sink>(printer: &mut Printer, sink: &mut K, count: u32)
+fn write_scrubbed<K: Sink>(printer: &mut Printer, sink: &mut K, count: u32)
     ensures { Puts K.taken K.faults sink.old printer.old sink.new printer.new (rest_of_line (reply_words (Reply.Scrubbed count))) }
 {
-    printer.put_count(sink, u64::from(count));
+    printer.write_count(sink, u64::from(count));
     printer.end_line(sink);
 }
 
 /// Puts a reply and ends the line.
-fn put_reply<K: Sink>(printer: &mut Printer, sink: &mut K, reply: &ReplySeen<'_>)
+fn write_reply<K: Sink>(printer: &mut Printer, sink: &mut K, reply: &ReplySeen<'_>)
     requires { IsShort (seen_reply reply.now) }
     ensures { Puts K.taken K.faults sink.old printer.old sink.new printer.new (rest_of_line (reply_words (seen_reply reply.now))) }
 {
     match reply {
-        ReplySeen::Answer(response) => put_response(printer, sink, response),
-        ReplySeen::Word(word) => put_loaded(printer, sink, *word),
-        ReplySeen::Stored => put_stored(printer, sink),
-        ReplySeen::Refused(fault) => put_refused(printer, sink, *fault),
-        ReplySeen::Scrubbed(count) => put_scrubbed(printer, sink, *count),
+        ReplySeen::Answer(response) => write_response(printer, sink, response),
+        ReplySeen::Word(word) => write_loaded(printer, sink, *word),
+        ReplySeen::Stored => write_stored(printer, sink),
+        ReplySeen::Refused(fault) => write_refused(printer, sink, *fault),
+        ReplySeen::Scrubbed(count) => write_scrubbed(printer, sink, *count),
     }
 }
 
 /// Puts the line of an entry, which is lent: its number, its line in the script, its actor, and its answer.
 #[tactic(auto, using(crate::proofs::Parts::prints_then), unfolding(crate::specs::Texts::entry_line))]
-fn put_entry<K: Sink>(printer: &mut Printer, sink: &mut K, number: u64, entry: &Lent<'_>)
+fn write_entry<K: Sink>(printer: &mut Printer, sink: &mut K, number: u64, entry: &Lent<'_>)
     requires { IsShort (lent_entry entry.now).reply }
     ensures { Puts K.taken K.faults sink.old printer.old sink.new printer.new (entry_line (number, lent_entry entry.now)) }
 {
     let step = entry.seen();
-    printer.put_number(sink, number);
-    printer.put_count(sink, u64::from(step.line));
-    printer.put_actor(sink, step.actor);
-    put_kind(printer, sink, step.kind);
-    put_reply(printer, sink, &step.reply);
+    printer.write_number(sink, number);
+    printer.write_count(sink, u64::from(step.line));
+    printer.write_actor(sink, step.actor);
+    write_kind(printer, sink, step.kind);
+    write_reply(printer, sink, &step.reply);
 }
 
 /// Puts a line for each entry that is lent, numbered from 1, and answers how many there are. None is left then.
 #[tactic(auto, unfolding(crate::specs::Texts::entry_lines))]
-pub fn put_entries<K: Sink, J: Lender>(printer: &mut Printer, sink: &mut K, journal: &mut J) -> u64
+pub fn write_entries<K: Sink, J: Lender>(printer: &mut Printer, sink: &mut K, journal: &mut J) -> u64
     requires short { AreShort (J.rest journal.old) }
     requires few { length (J.rest journal.old) < 2 ^ 64 }
     ensures count { result ≡ length (J.rest journal.old) }
@@ -131,7 +131,7 @@ pub fn put_entries<K: Sink, J: Lender>(printer: &mut Printer, sink: &mut K, jour
     let mut count = 0;
     while let Some(entry) = journal.peek() {
         count += 1;
-        put_entry(printer, sink, count, &entry);
+        write_entry(printer, sink, count, &entry);
         journal.skip();
     }
     count

@@ -93,16 +93,16 @@ impl Printer {
     }
 
     /// Puts the digits of bytes.
-    pub fn put_hex<K: Sink>(&mut self, sink: &mut K, bytes: &[u8])
+    pub fn write_hex<K: Sink>(&mut self, sink: &mut K, bytes: &[u8])
         ensures { Puts K.taken K.faults sink.old self.old sink.new self.new (encode_lower bytes.now) }
     {
         for part in bytes.chunks(PART) {
-            self.put_digits(sink, part);
+            self.write_digits(sink, part);
         }
     }
 
     /// Puts the digits of at most 64 bytes.
-    fn put_digits<K: Sink>(&mut self, sink: &mut K, bytes: &[u8])
+    fn write_digits<K: Sink>(&mut self, sink: &mut K, bytes: &[u8])
         requires { length bytes.now ≤ 64 }
         ensures { Puts K.taken K.faults sink.old self.old sink.new self.new (encode_lower bytes.now) }
     {
@@ -113,7 +113,7 @@ impl Printer {
     }
 
     /// Puts a number in decimal digits, without leading zeros.
-    pub fn put_number<K: Sink>(&mut self, sink: &mut K, number: u64)
+    pub fn write_number<K: Sink>(&mut self, sink: &mut K, number: u64)
         ensures { Puts K.taken K.faults sink.old self.old sink.new self.new (decimal number) }
     {
         let mut digits = Buffer::new();

@@ -12,12 +12,12 @@ use script_codec::ScriptFault;
 
 /// Puts the line of a refused script.
 #[tactic(auto, using(crate::proofs::Parts::prints_then), unfolding(crate::specs::Refusals::refused_at))]
-fn put_refused_at<K: Sink>(printer: &mut Printer, sink: &mut K, number: u64, place: u64)
+fn write_refused_line<K: Sink>(printer: &mut Printer, sink: &mut K, number: u64, place: u64)
     ensures { Puts K.taken K.faults sink.old printer.old sink.new printer.new (refused_at number place) }
 {
     printer.put(sink, b"script");
-    printer.put_counted(sink, b"refused:", number);
-    printer.put_counted(sink, b"at", place);
+    printer.write_counted(sink, b"refused:", number);
+    printer.write_counted(sink, b"at", place);
     printer.end_line(sink);
 }
 
@@ -29,7 +29,7 @@ fn write_refused_at<K: Sink>(number: u64, place: u64, sink: &mut K) -> Result<()
     ensures never_falls { K.faults sink.old ≤ K.faults sink.new }
 {
     let mut printer = Printer::new();
-    put_refused_at(&mut printer, sink, number, place);
+    write_refused_line(&mut printer, sink, number, place);
     printer.finish(sink)
 }
 

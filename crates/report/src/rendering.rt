@@ -7,16 +7,16 @@ ghost use Rattle.report.specs.Printing.{Puts};
 ghost use Rattle.report.specs.Texts.{first_line, summary, text};
 ghost use Rattle.std.specs.Prelude.{◌≡◌, ◌<◌, ◌≤◌, ◌^◌, [], List, OnErr, OnOk, length, ℕ};
 
-use crate::entry_lines::put_entries;
+use crate::entry_lines::write_entries;
 use crate::printing::Printer;
-use crate::state_lines::{put_records, put_state};
+use crate::state_lines::{write_records, write_state};
 use control_core::Control;
 use control_core::kept_journal::Lender;
 use dcd_base::{Failed, Sink};
 
 /// Puts the first line, with the version of the form.
 #[tactic(auto, unfolding(crate::specs::Texts::first_line))]
-fn put_first_line<K: Sink>(printer: &mut Printer, sink: &mut K)
+fn write_first_line<K: Sink>(printer: &mut Printer, sink: &mut K)
     ensures { Puts K.taken K.faults sink.old printer.old sink.new printer.new first_line }
 {
     printer.put(sink, b"dcd 1\n");
@@ -24,7 +24,7 @@ fn put_first_line<K: Sink>(printer: &mut Printer, sink: &mut K)
 
 /// Puts the whole text.
 #[tactic(auto, using(crate::proofs::Parts::prints_then), unfolding(crate::specs::Texts::text))]
-fn put_text<K: Sink, J: Lender>(
+fn write_text<K: Sink, J: Lender>(
     printer: &mut Printer,
     sink: &mut K,
     control: &Control,
@@ -35,15 +35,15 @@ fn put_text<K: Sink, J: Lender>(
     requires few { length (J.rest journal.old) < 2 ^ 64 }
     ensures { Puts K.taken K.faults sink.old printer.old sink.new printer.new (text control.now.config (J.rest journal.old)) }
 {
-    put_first_line(printer, sink);
-    let count = put_entries(printer, sink, journal);
-    put_records(printer, sink, control);
-    put_state(printer, sink, control, count);
+    write_first_line(printer, sink);
+    let count = write_entries(printer, sink, journal);
+    write_records(printer, sink, control);
+    write_state(printer, sink, control, count);
 }
 
 /// Puts the summary.
 #[tactic(auto, using(crate::proofs::Parts::prints_then), unfolding(crate::specs::Texts::summary))]
-fn put_summary<K: Sink, J: Lender>(
+fn write_summary<K: Sink, J: Lender>(
     printer: &mut Printer,
     sink: &mut K,
     control: &Control,
@@ -53,8 +53,8 @@ fn put_summary<K: Sink, J: Lender>(
     requires few { length (J.rest journal.now) < 2 ^ 64 }
     ensures { Puts K.taken K.faults sink.old printer.old sink.new printer.new (summary control.now.config (J.rest journal.now)) }
 {
-    put_first_line(printer, sink);
-    put_state(printer, sink, control, journal.len());
+    write_first_line(printer, sink);
+    write_state(printer, sink, control, journal.len());
 }
 
 /// Writes the text of a journal that is lent: a first line, a line for each entry, one for each record that is left in a
@@ -78,7 +78,7 @@ pub fn render<K: Sink, J: Lender>(
     ensures never_falls { K.faults sink.old ≤ K.faults sink.new }
 {
     let mut printer = Printer::new();
-    put_text(&mut printer, sink, control, journal);
+    write_text(&mut printer, sink, control, journal);
     printer.finish(sink)
 }
 
@@ -99,6 +99,6 @@ pub fn summary<K: Sink, J: Lender>(
     ensures never_falls { K.faults sink.old ≤ K.faults sink.new }
 {
     let mut printer = Printer::new();
-    put_summary(&mut printer, sink, control, journal);
+    write_summary(&mut printer, sink, control, journal);
     printer.finish(sink)
 }

@@ -170,7 +170,7 @@ fn begin_commanded(
 
 /// Gives the act of the line to this actor.
 #[inline(always)]
-fn put_commander(line: &mut Line, commander: (Actor, u8))
+fn append_commander(line: &mut Line, commander: (Actor, u8))
     ensures { line.new ≡ commanded_by commander line.old }
 {
     match line {
@@ -204,7 +204,7 @@ fn fill_commanded(
             ..
         } => {
             let next = fill_message(alloc, size, bytes, at, request)?;
-            put_commander(line, commander);
+            append_commander(line, commander);
             Ok(next)
         }
         _ => begin_commanded(alloc, commander, size, bytes, at, line),

@@ -20,56 +20,56 @@ use cci_codec::{Request, encode_request, law_request_is_spelled};
 use journal_core::Act;
 use region_config::{Config, RegionSpec};
 
-fn put_u8(number: u8, out: &mut Bytes) -> Result<(), NoMemory>
+fn write_u8(number: u8, out: &mut Bytes) -> Result<(), NoMemory>
     ensures { OnOk result (AppendsLines out.old out.new (Number w8 number ∷ [])) }
 {
     add_u8(out, number)
 }
 
-fn put_u16(number: u16, out: &mut Bytes) -> Result<(), NoMemory>
+fn write_u16(number: u16, out: &mut Bytes) -> Result<(), NoMemory>
     ensures { OnOk result (AppendsLines out.old out.new (Number w16 number ∷ [])) }
 {
     add_u16(out, number)
 }
 
-fn put_u32(number: u32, out: &mut Bytes) -> Result<(), NoMemory>
+fn write_u32(number: u32, out: &mut Bytes) -> Result<(), NoMemory>
     ensures { OnOk result (AppendsLines out.old out.new (Number w32 number ∷ [])) }
 {
     add_u32(out, number)
 }
 
-fn put_u64(number: u64, out: &mut Bytes) -> Result<(), NoMemory>
+fn write_u64(number: u64, out: &mut Bytes) -> Result<(), NoMemory>
     ensures { OnOk result (AppendsLines out.old out.new (Number w64 number ∷ [])) }
 {
     add_u64(out, number)
 }
 
 /// What every script begins with.
-fn put_magic(out: &mut Bytes) -> Result<(), NoMemory>
+fn write_magic(out: &mut Bytes) -> Result<(), NoMemory>
     ensures { OnOk result (AppendsLines out.old out.new (Raw 4 magic ∷ [])) }
 {
     out.extend_from_slice(b"DCDS".as_slice())
 }
 
-fn put_2_reserved(out: &mut Bytes) -> Result<(), NoMemory>
+fn write_2_reserved(out: &mut Bytes) -> Result<(), NoMemory>
     ensures { OnOk result (AppendsLines out.old out.new (Reserved 2 ∷ [])) }
 {
     out.extend_from_slice([0; 2].as_slice())
 }
 
-fn put_3_reserved(out: &mut Bytes) -> Result<(), NoMemory>
+fn write_3_reserved(out: &mut Bytes) -> Result<(), NoMemory>
     ensures { OnOk result (AppendsLines out.old out.new (Reserved 3 ∷ [])) }
 {
     out.extend_from_slice([0; 3].as_slice())
 }
 
-fn put_5_reserved(out: &mut Bytes) -> Result<(), NoMemory>
+fn write_5_reserved(out: &mut Bytes) -> Result<(), NoMemory>
     ensures { OnOk result (AppendsLines out.old out.new (Reserved 5 ∷ [])) }
 {
     out.extend_from_slice([0; 5].as_slice())
 }
 
-fn put_6_reserved(out: &mut Bytes) -> Result<(), NoMemory>
+fn write_6_reserved(out: &mut Bytes) -> Result<(), NoMemory>
     ensures { OnOk result (AppendsLines out.old out.new (Reserved 6 ∷ [])) }
 {
     out.extend_from_slice([0; 6].as_slice())
@@ -87,83 +87,83 @@ fn flags_of(sanitize: bool, shareable: bool) -> u8
     }
 }
 
-fn put_flags(sanitize: bool, shareable: bool, out: &mut Bytes) -> Result<(), NoMemory>
+fn write_flags(sanitize: bool, shareable: bool, out: &mut Bytes) -> Result<(), NoMemory>
     ensures { OnOk result (AppendsLines out.old out.new (Masked 3 (flag_of sanitize + 2 * flag_of shareable) ∷ [])) }
 {
     out.push(flags_of(sanitize, shareable))
 }
 
-fn put_region(region: &RegionSpec, out: &mut Bytes) -> Result<(), NoMemory>
+fn write_region(region: &RegionSpec, out: &mut Bytes) -> Result<(), NoMemory>
     ensures { OnOk result (AppendsLines out.old out.new (region_fields region.now)) }
 {
-    put_u64(region.decode_units, out)?;
-    put_u64(region.length, out)?;
-    put_u64(region.block, out)?;
-    put_u64(region.sizes, out)?;
-    put_u32(region.handle, out)?;
-    put_flags(region.sanitize, region.shareable, out)?;
-    put_3_reserved(out)
+    write_u64(region.decode_units, out)?;
+    write_u64(region.length, out)?;
+    write_u64(region.block, out)?;
+    write_u64(region.sizes, out)?;
+    write_u32(region.handle, out)?;
+    write_flags(region.sanitize, region.shareable, out)?;
+    write_3_reserved(out)
 }
 
 /// The lanes, which only version 2 tells, and the reserved bytes behind them.
-fn put_lanes(version: u16, lanes: u8, out: &mut Bytes) -> Result<(), NoMemory>
+fn write_lanes(version: u16, lanes: u8, out: &mut Bytes) -> Result<(), NoMemory>
     ensures { OnOk result (AppendsLines out.old out.new (lanes_fields version lanes)) }
 {
     if version == 2 {
-        put_told_lanes(lanes, out)
+        write_told_lanes(lanes, out)
     } else {
-        put_6_reserved(out)
+        write_6_reserved(out)
     }
 }
 
-fn put_told_lanes(lanes: u8, out: &mut Bytes) -> Result<(), NoMemory>
+fn write_told_lanes(lanes: u8, out: &mut Bytes) -> Result<(), NoMemory>
     ensures { OnOk result (AppendsLines out.old out.new (Number w8 lanes ∷ Reserved 5 ∷ [])) }
 {
-    put_u8(lanes, out)?;
-    put_5_reserved(out)
+    write_u8(lanes, out)?;
+    write_5_reserved(out)
 }
 
 /// The first 16 bytes.
-fn put_start(script: &Script, out: &mut Bytes) -> Result<(), NoMemory>
+fn write_start(script: &Script, out: &mut Bytes) -> Result<(), NoMemory>
     ensures { OnOk result (AppendsLines out.old out.new (start_fields script.now)) }
 {
-    put_magic(out)?;
-    put_u16(script.version, out)?;
-    put_2_reserved(out)?;
-    put_u8(script.config.hosts(), out)?;
-    put_u8(script.config.regions(), out)?;
-    put_lanes(script.version, script.lanes, out)
+    write_magic(out)?;
+    write_u16(script.version, out)?;
+    write_2_reserved(out)?;
+    write_u8(script.config.hosts(), out)?;
+    write_u8(script.config.regions(), out)?;
+    write_lanes(script.version, script.lanes, out)
 }
 
-fn put_regions(config: &Config, out: &mut Bytes) -> Result<(), NoMemory>
+fn write_regions(config: &Config, out: &mut Bytes) -> Result<(), NoMemory>
     ensures { OnOk result (AppendsLines out.old out.new (flat_map region_fields config.now.regions)) }
 {
     for region in 0..config.regions() {
-        put_region(&config.region(RegionId(region)), out)?;
+        write_region(&config.region(RegionId(region)), out)?;
     }
     Ok(())
 }
 
 /// The bases, host by host, within a host region by region.
-fn put_bases(config: &Config, out: &mut Bytes) -> Result<(), NoMemory>
+fn write_bases(config: &Config, out: &mut Bytes) -> Result<(), NoMemory>
     requires { length config.now.bases ≡ config.now.hosts * length config.now.regions }
     ensures { OnOk result (AppendsLines out.old out.new (map (λ base. Number w64 base) config.now.bases)) }
 {
     for host in 0..config.hosts() {
         for region in 0..config.regions() {
-            put_u64(config.base(HostId(host), RegionId(region)), out)?;
+            write_u64(config.base(HostId(host), RegionId(region)), out)?;
         }
     }
     Ok(())
 }
 
-fn put_head(script: &Script, out: &mut Bytes) -> Result<(), NoMemory>
+fn write_head(script: &Script, out: &mut Bytes) -> Result<(), NoMemory>
     requires { length script.now.config.bases ≡ script.now.config.hosts * length script.now.config.regions }
     ensures { OnOk result (AppendsLines out.old out.new (script_head script.now)) }
 {
-    put_start(script, out)?;
-    put_regions(&script.config, out)?;
-    put_bases(&script.config, out)
+    write_start(script, out)?;
+    write_regions(&script.config, out)?;
+    write_bases(&script.config, out)
 }
 
 /// A host's number and sixteen times its lane, or FEh for the Fabric Manager.
@@ -178,7 +178,7 @@ fn byte_of(actor: &Actor, lane: u8) -> u8
     }
 }
 
-fn put_request(request: &Request, out: &mut Bytes) -> Result<(), NoMemory>
+fn write_request(request: &Request, out: &mut Bytes) -> Result<(), NoMemory>
     requires { length request.now.payload ≤ 65523 }
     ensures { OnOk result (AppendsLines out.old out.new (request_fields request.now)) }
 {
@@ -186,75 +186,75 @@ fn put_request(request: &Request, out: &mut Bytes) -> Result<(), NoMemory>
     encode_request(request, out)
 }
 
-fn put_command(actor: &Actor, lane: u8, request: &Request, out: &mut Bytes) -> Result<(), NoMemory>
+fn write_command(actor: &Actor, lane: u8, request: &Request, out: &mut Bytes) -> Result<(), NoMemory>
     requires byte { actor_byte actor.now lane < 256 }
     requires short { length request.now.payload ≤ 65523 }
     ensures { OnOk result (AppendsLines out.old out.new (act_fields actor.now lane (Act.Command request.now))) }
 {
-    put_u8(1, out)?;
-    put_u8(byte_of(actor, lane), out)?;
-    put_u16(12 + request.payload.as_slice().len() as u16, out)?;
-    put_request(request, out)
+    write_u8(1, out)?;
+    write_u8(byte_of(actor, lane), out)?;
+    write_u16(12 + request.payload.as_slice().len() as u16, out)?;
+    write_request(request, out)
 }
 
-fn put_load(actor: &Actor, lane: u8, dpa: u64, out: &mut Bytes) -> Result<(), NoMemory>
+fn write_load(actor: &Actor, lane: u8, dpa: u64, out: &mut Bytes) -> Result<(), NoMemory>
     requires { actor_byte actor.now lane < 256 }
     ensures { OnOk result (AppendsLines out.old out.new (act_fields actor.now lane (Act.Load dpa))) }
 {
-    put_u8(2, out)?;
-    put_u8(byte_of(actor, lane), out)?;
-    put_u64(dpa, out)
+    write_u8(2, out)?;
+    write_u8(byte_of(actor, lane), out)?;
+    write_u64(dpa, out)
 }
 
-fn put_store(actor: &Actor, lane: u8, dpa: u64, value: u64, out: &mut Bytes) -> Result<(), NoMemory>
+fn write_store(actor: &Actor, lane: u8, dpa: u64, value: u64, out: &mut Bytes) -> Result<(), NoMemory>
     requires { actor_byte actor.now lane < 256 }
     ensures { OnOk result (AppendsLines out.old out.new (act_fields actor.now lane (Act.Store dpa value))) }
 {
-    put_u8(3, out)?;
-    put_u8(byte_of(actor, lane), out)?;
-    put_u64(dpa, out)?;
-    put_u64(value, out)
+    write_u8(3, out)?;
+    write_u8(byte_of(actor, lane), out)?;
+    write_u64(dpa, out)?;
+    write_u64(value, out)
 }
 
-fn put_scrub(actor: &Actor, lane: u8, most: u16, out: &mut Bytes) -> Result<(), NoMemory>
+fn write_scrub(actor: &Actor, lane: u8, most: u16, out: &mut Bytes) -> Result<(), NoMemory>
     ensures { OnOk result (AppendsLines out.old out.new (act_fields actor.now lane (Act.Scrub most))) }
 {
-    put_u8(4, out)?;
-    put_u16(most, out)
+    write_u8(4, out)?;
+    write_u16(most, out)
 }
 
-fn put_line(line: &Line, out: &mut Bytes) -> Result<(), NoMemory>
+fn write_line(line: &Line, out: &mut Bytes) -> Result<(), NoMemory>
     requires { IsTrue (has_spelling line.now) }
     ensures { OnOk result (AppendsLines out.old out.new (line_fields line.now)) }
 {
     match line {
         Line::Do { actor, lane, act } => match act {
-            Act::Command(request) => put_command(actor, *lane, request, out),
-            Act::Load(dpa) => put_load(actor, *lane, *dpa, out),
-            Act::Store(dpa, value) => put_store(actor, *lane, *dpa, *value, out),
-            Act::Scrub(most) => put_scrub(actor, *lane, *most, out),
+            Act::Command(request) => write_command(actor, *lane, request, out),
+            Act::Load(dpa) => write_load(actor, *lane, *dpa, out),
+            Act::Store(dpa, value) => write_store(actor, *lane, *dpa, *value, out),
+            Act::Scrub(most) => write_scrub(actor, *lane, *most, out),
         },
-        Line::Mark => put_u8(5, out),
+        Line::Mark => write_u8(5, out),
     }
 }
 
-fn put_lines(lines: &[Line], out: &mut Bytes) -> Result<(), NoMemory>
+fn write_lines(lines: &[Line], out: &mut Bytes) -> Result<(), NoMemory>
     requires { All (λ line. IsTrue (has_spelling line)) lines.now }
     ensures { OnOk result (AppendsLines out.old out.new (flat_map line_fields lines.now)) }
 {
     for line in lines {
-        put_line(line, out)?;
+        write_line(line, out)?;
     }
     Ok(())
 }
 
-fn put_script(script: &Script, out: &mut Bytes) -> Result<(), NoMemory>
+fn write_script(script: &Script, out: &mut Bytes) -> Result<(), NoMemory>
     requires { IsWritable script.now }
     ensures { OnOk result (AppendsLines out.old out.new (script_fields script.now)) }
 {
-    put_head(script, out)?;
-    put_lines(script.lines.as_slice(), out)?;
-    put_u8(0, out)
+    write_head(script, out)?;
+    write_lines(script.lines.as_slice(), out)?;
+    write_u8(0, out)
 }
 
 /// Appends the bytes of a script, with reserved bytes and bits 0. Without memory `out` is as it was.
@@ -266,6 +266,6 @@ pub fn write(script: &Script, out: &mut Bytes) -> Result<(), NoMemory>
     ensures reads_back { OnOk result (script_in (script_bytes script.now) ≡ Ok script.now) }
 {
     let mut bytes = Bytes::new(out.allocator());
-    put_script(script, &mut bytes)?;
+    write_script(script, &mut bytes)?;
     out.extend_from_slice(bytes.as_slice())
 }

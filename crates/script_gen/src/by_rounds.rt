@@ -5,7 +5,7 @@ ghost use Rattle.script_gen.specs.Generated.{generated_config, generated_lines};
 ghost use Rattle.std.specs.Prelude.{◌≡◌, IfOk, OnErr, length};
 
 use crate::draws::Draws;
-use crate::rounds::{ROUNDS, put_round};
+use crate::rounds::{ROUNDS, append_round};
 use crate::settings::config;
 use dcd_base::NoMemory;
 use region_config::Config;
@@ -69,7 +69,7 @@ impl Rounds {
         }
         let mut lines = Vec::with_capacity(self.alloc, LINES)?;
         let mut draws = self.draws.copy();
-        put_round(self.round, &mut draws, &mut lines)?;
+        append_round(self.round, &mut draws, &mut lines)?;
         self.draws = draws;
         self.round += 1;
         Ok(Some(Lines::from_vec(self.alloc, lines)))

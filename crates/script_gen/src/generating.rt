@@ -8,7 +8,7 @@ ghost use Rattle.std.specs.List.{list_all};
 ghost use Rattle.std.specs.Prelude.{◌≡◌, ◌≤◌, IfOk, IsTrue, count_by, length};
 
 use crate::draws::Draws;
-use crate::rounds::put_rounds;
+use crate::rounds::append_rounds;
 use crate::settings::config;
 use dcd_base::NoMemory;
 use script_codec::{Lines, Script};
@@ -22,7 +22,7 @@ fn lines_of(alloc: Global, seed: u64) -> Result<Lines, NoMemory>
 {
     let mut lines = Vec::with_capacity(alloc, LINES)?;
     let mut draws = Draws::new(seed);
-    put_rounds(&mut draws, &mut lines)?;
+    append_rounds(&mut draws, &mut lines)?;
     Ok(Lines::from_vec(alloc, lines))
 }
 

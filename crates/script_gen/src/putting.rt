@@ -7,7 +7,7 @@ use script_codec::Line;
 
 /// Puts a line at the end. It is made in its place where there is room, as there mostly is.
 #[inline(always)]
-pub fn put_line(lines: &mut Vec<Line>, line: Line) -> Result<(), NoMemory>
+pub fn append_line(lines: &mut Vec<Line>, line: Line) -> Result<(), NoMemory>
     ensures { OnOk result (lines.new.items ≡ lines.old.items ++ line ∷ []) }
 {
     lines.reserve(1)?;

@@ -7,9 +7,9 @@ ghost use Rattle.std.specs.Prelude.{◌≡◌, ◌++◌, [], ◌∷◌, ◌<◌,
 
 use crate::commands::{give_back, offer};
 use crate::draws::Draws;
-use crate::putting::put_line;
+use crate::putting::append_line;
 use crate::settings::HOSTS;
-use crate::uses::put_uses;
+use crate::uses::append_uses;
 use dcd_base::{Actor, HostId, NoMemory};
 use journal_core::Act;
 use script_codec::Line;
@@ -27,40 +27,40 @@ const ROUND_GRANULES: u16 = 32;
 fn end_phase(lines: &mut Vec<Line>) -> Result<(), NoMemory>
     ensures { OnOk result (lines.new.items ≡ lines.old.items ++ Line.Mark ∷ []) }
 {
-    put_line(lines, Line::Mark)
+    append_line(lines, Line::Mark)
 }
 
 /// The Fabric Manager offers each host its extent.
-fn put_offers(round: u16, lines: &mut Vec<Line>) -> Result<(), NoMemory>
+fn append_offers(round: u16, lines: &mut Vec<Line>) -> Result<(), NoMemory>
     ensures { OnOk result (lines.new.items ≡ lines.old.items ++ offers_lines round) }
 {
     let alloc = *lines.allocator();
     for host in 0..HOSTS {
-        put_line(lines, offer(alloc, round, HostId(host))?)?;
+        append_line(lines, offer(alloc, round, HostId(host))?)?;
     }
     Ok(())
 }
 
 /// Each host gives its extent back.
-fn put_give_backs(round: u16, lines: &mut Vec<Line>) -> Result<(), NoMemory>
+fn append_give_backs(round: u16, lines: &mut Vec<Line>) -> Result<(), NoMemory>
     ensures { OnOk result (lines.new.items ≡ lines.old.items ++ give_back_lines round) }
 {
     let alloc = *lines.allocator();
     for host in 0..HOSTS {
-        put_line(lines, give_back(alloc, round, HostId(host))?)?;
+        append_line(lines, give_back(alloc, round, HostId(host))?)?;
     }
     Ok(())
 }
 
 /// What the hosts give back is zeroed.
 #[tactic(auto, unfolding(crate::specs::Generated::end_lines))]
-fn put_end(round: u16, lines: &mut Vec<Line>) -> Result<(), NoMemory>
+fn append_end(round: u16, lines: &mut Vec<Line>) -> Result<(), NoMemory>
     requires { round < 255 }
     ensures { OnOk result (lines.new.items ≡ lines.old.items ++ end_lines round) }
 {
-    put_give_backs(round, lines)?;
+    append_give_backs(round, lines)?;
     end_phase(lines)?;
-    put_line(
+    append_line(
         lines,
         Line::Do {
             actor: Actor::Sanitizer,
@@ -73,11 +73,11 @@ fn put_end(round: u16, lines: &mut Vec<Line>) -> Result<(), NoMemory>
 
 /// The end of a round; the last round has none.
 #[tactic(auto, unfolding(crate::specs::Generated::end_lines))]
-fn put_end_or_none(round: u16, lines: &mut Vec<Line>) -> Result<(), NoMemory>
+fn append_end_or_none(round: u16, lines: &mut Vec<Line>) -> Result<(), NoMemory>
     ensures { OnOk result (lines.new.items ≡ lines.old.items ++ end_lines round) }
 {
     if round < LAST {
-        put_end(round, lines)
+        append_end(round, lines)
     } else {
         Ok(())
     }
@@ -85,24 +85,24 @@ fn put_end_or_none(round: u16, lines: &mut Vec<Line>) -> Result<(), NoMemory>
 
 /// A round.
 #[tactic(auto, unfolding(crate::specs::Drawing::round_by))]
-pub fn put_round(round: u16, draws: &mut Draws, lines: &mut Vec<Line>) -> Result<(), NoMemory>
+pub fn append_round(round: u16, draws: &mut Draws, lines: &mut Vec<Line>) -> Result<(), NoMemory>
     requires { round < 256 }
     ensures lines { OnOk result (lines.new.items ≡ lines.old.items ++ round_by round draws.old) }
     ensures draws { OnOk result (draws.new ≡ draws_after draws.old 128) }
 {
-    put_offers(round, lines)?;
+    append_offers(round, lines)?;
     end_phase(lines)?;
-    put_uses(round, draws, lines)?;
+    append_uses(round, draws, lines)?;
     end_phase(lines)?;
-    put_end_or_none(round, lines)
+    append_end_or_none(round, lines)
 }
 
 /// All rounds.
-pub fn put_rounds(draws: &mut Draws, lines: &mut Vec<Line>) -> Result<(), NoMemory>
+pub fn append_rounds(draws: &mut Draws, lines: &mut Vec<Line>) -> Result<(), NoMemory>
     ensures { OnOk result (lines.new.items ≡ lines.old.items ++ rounds_by draws.old 256) }
 {
     for round in 0..ROUNDS {
-        put_round(round, draws, lines)?;
+        append_round(round, draws, lines)?;
     }
     Ok(())
 }

@@ -8,7 +8,7 @@ ghost use Rattle.std.specs.Prelude.{◌≡◌, ◌++◌, ◌<◌, OnOk};
 
 use crate::commands::{clear, take};
 use crate::draws::Draws;
-use crate::putting::put_line;
+use crate::putting::append_line;
 use crate::settings::{HOSTS, share};
 use dcd_base::{Actor, HostId, NoMemory};
 use journal_core::Act;
@@ -41,7 +41,7 @@ fn host_does(host: HostId, act: Act) -> Line
 
 /// A store and a load of one word: one draw says which word, the next which value.
 #[tactic(auto, unfolding(crate::specs::Generated::access_lines, crate::specs::Drawing::draws_after))]
-fn put_access(
+fn append_access(
     round: u16,
     host: HostId,
     draws: &mut Draws,
@@ -53,11 +53,11 @@ fn put_access(
 {
     let dpa = place(round, host, draws.draw());
     let value = draws.draw();
-    put_line(lines, host_does(host, Act::Store(dpa, value)))?;
-    put_line(lines, host_does(host, Act::Load(dpa)))
+    append_line(lines, host_does(host, Act::Store(dpa, value)))?;
+    append_line(lines, host_does(host, Act::Load(dpa)))
 }
 
-fn put_accesses(
+fn append_accesses(
     round: u16,
     host: HostId,
     draws: &mut Draws,
@@ -68,14 +68,14 @@ fn put_accesses(
     ensures draws { OnOk result (draws.new ≡ draws_after draws.old 32) }
 {
     for word in 0..WORDS {
-        put_access(round, host, draws, lines)?;
+        append_access(round, host, draws, lines)?;
     }
     Ok(())
 }
 
 /// The host takes its extent, clears the record, and stores and loads words.
 #[tactic(auto, unfolding(crate::specs::Drawing::use_by))]
-fn put_use(
+fn append_use(
     round: u16,
     host: HostId,
     draws: &mut Draws,
@@ -87,19 +87,19 @@ fn put_use(
     ensures draws { OnOk result (draws.new ≡ draws_after draws.old 32) }
 {
     let alloc = *lines.allocator();
-    put_line(lines, take(alloc, round, host)?)?;
-    put_line(lines, clear(alloc, round, host)?)?;
-    put_accesses(round, host, draws, lines)
+    append_line(lines, take(alloc, round, host)?)?;
+    append_line(lines, clear(alloc, round, host)?)?;
+    append_accesses(round, host, draws, lines)
 }
 
 /// Each host does so.
-pub fn put_uses(round: u16, draws: &mut Draws, lines: &mut Vec<Line>) -> Result<(), NoMemory>
+pub fn append_uses(round: u16, draws: &mut Draws, lines: &mut Vec<Line>) -> Result<(), NoMemory>
     requires { round < 256 }
     ensures lines { OnOk result (lines.new.items ≡ lines.old.items ++ uses_by round draws.old 4) }
     ensures draws { OnOk result (draws.new ≡ draws_after draws.old 128) }
 {
     for host in 0..HOSTS {
-        put_use(round, HostId(host), draws, lines)?;
+        append_use(round, HostId(host), draws, lines)?;
     }
     Ok(())
 }

@@ -6,28 +6,28 @@ ghost use Rattle.text_lines.specs.Actors.{actor_text, seat_text};
 ghost use Rattle.text_lines.specs.Parts.{Part};
 ghost use Rattle.script_text.specs.LinePrinting.{AddsParts, IsSmall, StartsLine, has_word};
 
-use crate::words::put_h;
+use crate::words::write_h;
 use dcd_base::{Actor, Bytes, NoMemory, fits_8};
-use text_lines::{Frame, put_decimal};
+use text_lines::{Frame, write_decimal};
 
 /// Appends a host of the script, and its lane behind a dot in version 2.
-fn put_seat(frame: Frame, host: u8, lane: u8, out: &mut Bytes) -> Result<(), NoMemory>
+fn write_seat(frame: Frame, host: u8, lane: u8, out: &mut Bytes) -> Result<(), NoMemory>
     ensures { OnOk result (out.new ≡ out.old ++ seat_text frame.version host lane) }
 {
-    put_h(host as u16, out)?;
+    write_h(host as u16, out)?;
     if frame.version != 2 {
         return Ok(());
     }
     out.push(b'.')?;
-    put_decimal(lane as u64, out)
+    write_decimal(lane as u64, out)
 }
 
 /// Appends an actor.
-fn put_name(frame: Frame, actor: &Actor, lane: u8, out: &mut Bytes) -> Result<(), NoMemory>
+fn write_name(frame: Frame, actor: &Actor, lane: u8, out: &mut Bytes) -> Result<(), NoMemory>
     ensures { OnOk result (out.new ≡ out.old ++ actor_text frame.version actor.now lane) }
 {
     match actor {
-        Actor::Host(host) => put_seat(frame, host.0, lane, out),
+        Actor::Host(host) => write_seat(frame, host.0, lane, out),
         Actor::Manager => out.extend_from_slice(b"fm".as_slice()),
         Actor::Sanitizer => out.extend_from_slice(b"scrub".as_slice()),
     }
@@ -51,18 +51,18 @@ pub fn begin_actor(frame: Frame, actor: &Actor, lane: u8, out: &mut Bytes) -> Re
     ensures { OnOk result (StartsLine out.old out.new (Part.ActorOf frame actor.now lane)) }
 {
     law_seat(actor, lane);
-    put_name(frame, actor, lane, out)?;
+    write_name(frame, actor, lane, out)?;
     Ok(())
 }
 
 /// Appends an actor.
-pub fn put_actor(frame: Frame, actor: &Actor, lane: u8, out: &mut Bytes) -> Result<(), NoMemory>
+pub fn write_actor(frame: Frame, actor: &Actor, lane: u8, out: &mut Bytes) -> Result<(), NoMemory>
     requires lanes { IsTrue (are_lanes frame.version frame.lanes) }
     requires word { IsTrue (has_word frame actor.now lane) }
     ensures { OnOk result (AddsParts out.old out.new (Part.ActorOf frame actor.now lane ∷ [])) }
 {
     law_seat(actor, lane);
     out.push(b' ')?;
-    put_name(frame, actor, lane, out)?;
+    write_name(frame, actor, lane, out)?;
     Ok(())
 }

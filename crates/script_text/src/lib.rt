@@ -20,7 +20,7 @@ mod sizes;
 pub mod words;
 
 pub use laws::law_says;
-pub use lines::put_line;
+pub use lines::write_line;
 pub use parsing::parse;
 pub use printing::print;
 pub use text_lines;

@@ -10,12 +10,12 @@ ghost use Rattle.text_lines.specs.Layouts.{command_line, host_fits_line, host_re
 ghost use Rattle.text_lines.specs.Parts.{Form, Part};
 ghost use Rattle.script_text.specs.LinePrinting.{AddsLine, AddsParts, PrintsAct, PrintsHostCommand, PrintsLine, PrintsManagerCommand, has_word};
 
-use crate::actors::{begin_actor, put_actor};
-use crate::host_requests::put_host_request;
-use crate::lists::put_bytes;
-use crate::manager_requests::put_manager_request;
+use crate::actors::{begin_actor, write_actor};
+use crate::host_requests::write_host_request;
+use crate::lists::write_bytes;
+use crate::manager_requests::write_manager_request;
 use crate::naming::{named_by_host, named_by_manager};
-use crate::words::{begin_fixed, end_line, put_count, put_fixed, put_may_count, put_number};
+use crate::words::{begin_fixed, end_line, write_count, write_fixed, write_may_count, write_number};
 use cci_codec::{Request, encode_request, law_request_is_spelled};
 use dcd_base::{Actor, Bytes, NoMemory};
 use fm_payloads::FmRequest;
@@ -26,7 +26,7 @@ use text_lines::script_codec::Line;
 use text_lines::{Frame, Keyword};
 
 /// Appends a mark.
-fn put_mark(out: &mut Bytes) -> Result<(), NoMemory>
+fn write_mark(out: &mut Bytes) -> Result<(), NoMemory>
     ensures { OnOk result (AddsLine out.old out.new (Part.Fixed (codes "mark") ∷ [])) }
 {
     begin_fixed(b"mark".as_slice(), out)?;
@@ -35,17 +35,17 @@ fn put_mark(out: &mut Bytes) -> Result<(), NoMemory>
 }
 
 /// Appends a turn of the sanitizer.
-fn put_scrub(most: u16, out: &mut Bytes) -> Result<(), NoMemory>
+fn write_scrub(most: u16, out: &mut Bytes) -> Result<(), NoMemory>
     ensures { OnOk result (AddsLine out.old out.new (Part.Fixed (codes "scrub") ∷ Part.Number Form.Count 65535 most ∷ [])) }
 {
     begin_fixed(b"scrub".as_slice(), out)?;
-    put_count(65535, most as u64, out)?;
+    write_count(65535, most as u64, out)?;
     end_line(out)?;
     Ok(())
 }
 
 /// Appends a load.
-fn put_load(
+fn write_load(
     frame: Frame,
     actor: &Actor,
     lane: u8,
@@ -57,14 +57,14 @@ fn put_load(
     ensures { OnOk result (AddsLine out.old out.new (load_parts frame actor.now lane dpa)) }
 {
     begin_actor(frame, actor, lane, out)?;
-    put_fixed(b"load".as_slice(), out)?;
-    put_number(dpa, out)?;
+    write_fixed(b"load".as_slice(), out)?;
+    write_number(dpa, out)?;
     end_line(out)?;
     Ok(())
 }
 
 /// Appends a store.
-fn put_store(
+fn write_store(
     frame: Frame,
     actor: &Actor,
     lane: u8,
@@ -77,21 +77,21 @@ fn put_store(
     ensures { OnOk result (AddsLine out.old out.new (store_parts frame actor.now lane dpa value)) }
 {
     begin_actor(frame, actor, lane, out)?;
-    put_fixed(b"store".as_slice(), out)?;
-    put_number(dpa, out)?;
-    put_number(value, out)?;
+    write_fixed(b"store".as_slice(), out)?;
+    write_number(dpa, out)?;
+    write_number(value, out)?;
     end_line(out)?;
     Ok(())
 }
 
 /// Appends the bytes of a message.
-fn put_message(alloc: Global, message: &Request, out: &mut Bytes) -> Result<(), NoMemory>
+fn write_message(alloc: Global, message: &Request, out: &mut Bytes) -> Result<(), NoMemory>
     requires { length message.now.payload ≤ 65523 }
     ensures { OnOk result (AddsParts out.old out.new (Part.Pairs (request_bytes message.now) ∷ [])) }
 {
     let mut bytes = Bytes::new(alloc);
     encode_request(message, &mut bytes)?;
-    put_bytes(bytes.as_slice(), out)?;
+    write_bytes(bytes.as_slice(), out)?;
     Ok(())
 }
 
@@ -104,7 +104,7 @@ fn law_message_reads(message: &Request)
 }
 
 /// Appends a message byte by byte.
-fn put_command_line(
+fn write_command_line(
     alloc: Global,
     frame: Frame,
     actor: &Actor,
@@ -118,14 +118,14 @@ fn put_command_line(
     ensures { OnOk result (AddsLine out.old out.new (command_line frame actor.now lane (request_bytes message.now))) }
 {
     begin_fixed(b"command".as_slice(), out)?;
-    put_actor(frame, actor, lane, out)?;
-    put_message(alloc, message, out)?;
+    write_actor(frame, actor, lane, out)?;
+    write_message(alloc, message, out)?;
     end_line(out)?;
     Ok(())
 }
 
 /// Appends what a host asks and the message tag.
-fn put_host_named(
+fn write_host_named(
     frame: Frame,
     actor: &Actor,
     lane: u8,
@@ -139,14 +139,14 @@ fn put_host_named(
     ensures { OnOk result (AddsLine out.old out.new (Part.ActorOf frame actor.now lane ∷ host_request_parts request.now ++ tag_part tag ∷ [])) }
 {
     begin_actor(frame, actor, lane, out)?;
-    put_host_request(request, out)?;
-    put_may_count(Keyword::MessageTag, 255, tag as u64, out)?;
+    write_host_request(request, out)?;
+    write_may_count(Keyword::MessageTag, 255, tag as u64, out)?;
     end_line(out)?;
     Ok(())
 }
 
 /// Appends what the manager asks and the message tag.
-fn put_manager_named(
+fn write_manager_named(
     frame: Frame,
     actor: &Actor,
     lane: u8,
@@ -160,14 +160,14 @@ fn put_manager_named(
     ensures { OnOk result (AddsLine out.old out.new (Part.ActorOf frame actor.now lane ∷ manager_request_parts request.now ++ tag_part tag ∷ [])) }
 {
     begin_actor(frame, actor, lane, out)?;
-    put_manager_request(request, out)?;
-    put_may_count(Keyword::MessageTag, 255, tag as u64, out)?;
+    write_manager_request(request, out)?;
+    write_may_count(Keyword::MessageTag, 255, tag as u64, out)?;
     end_line(out)?;
     Ok(())
 }
 
 /// Appends a message of a host.
-fn put_host_command(
+fn write_host_command(
     alloc: Global,
     frame: Frame,
     actor: &Actor,
@@ -182,13 +182,13 @@ fn put_host_command(
 {
     law_message_reads(message);
     match named_by_host(alloc, message)? {
-        Some(request) => put_host_named(frame, actor, lane, message.tag, &request, out),
-        None => put_command_line(alloc, frame, actor, lane, message, out),
+        Some(request) => write_host_named(frame, actor, lane, message.tag, &request, out),
+        None => write_command_line(alloc, frame, actor, lane, message, out),
     }
 }
 
 /// Appends a message of the manager.
-fn put_manager_command(
+fn write_manager_command(
     alloc: Global,
     frame: Frame,
     actor: &Actor,
@@ -203,13 +203,13 @@ fn put_manager_command(
 {
     law_message_reads(message);
     match named_by_manager(alloc, message)? {
-        Some(request) => put_manager_named(frame, actor, lane, message.tag, &request, out),
-        None => put_command_line(alloc, frame, actor, lane, message, out),
+        Some(request) => write_manager_named(frame, actor, lane, message.tag, &request, out),
+        None => write_command_line(alloc, frame, actor, lane, message, out),
     }
 }
 
 /// Appends a message.
-fn put_command(
+fn write_command(
     alloc: Global,
     frame: Frame,
     actor: &Actor,
@@ -223,13 +223,13 @@ fn put_command(
     ensures { OnOk result (PrintsAct frame actor.now lane (Act.Command message.now) out.old out.new) }
 {
     match actor {
-        Actor::Manager => put_manager_command(alloc, frame, actor, lane, message, out),
-        _ => put_host_command(alloc, frame, actor, lane, message, out),
+        Actor::Manager => write_manager_command(alloc, frame, actor, lane, message, out),
+        _ => write_host_command(alloc, frame, actor, lane, message, out),
     }
 }
 
 /// Appends what an actor does.
-fn put_act(
+fn write_act(
     alloc: Global,
     frame: Frame,
     actor: &Actor,
@@ -243,23 +243,23 @@ fn put_act(
     ensures { OnOk result (PrintsAct frame actor.now lane act.now out.old out.new) }
 {
     match act {
-        Act::Command(message) => put_command(alloc, frame, actor, lane, message, out),
-        Act::Load(dpa) => put_load(frame, actor, lane, *dpa, out),
-        Act::Store(dpa, value) => put_store(frame, actor, lane, *dpa, *value, out),
-        Act::Scrub(most) => put_scrub(*most, out),
+        Act::Command(message) => write_command(alloc, frame, actor, lane, message, out),
+        Act::Load(dpa) => write_load(frame, actor, lane, *dpa, out),
+        Act::Store(dpa, value) => write_store(frame, actor, lane, *dpa, *value, out),
+        Act::Scrub(most) => write_scrub(*most, out),
     }
 }
 
 /// Appends a line of a script: the words that say it, with one space between them, and a line feed.
 #[tactic(auto, unfolding(text_lines::specs::Layouts::line_parts))]
-pub fn put_line(alloc: Global, frame: Frame, line: &Line, out: &mut Bytes) -> Result<(), NoMemory>
+pub fn write_line(alloc: Global, frame: Frame, line: &Line, out: &mut Bytes) -> Result<(), NoMemory>
     requires lanes { IsTrue (are_lanes frame.version frame.lanes) }
     requires sound { IsTrue (is_sound_line frame.hosts frame.lanes line.now) }
     requires short { IsTrue (has_short_message line.now) }
     ensures { OnOk result (PrintsLine frame line.now out.old out.new) }
 {
     match line {
-        Line::Mark => put_mark(out),
-        Line::Do { actor, lane, act } => put_act(alloc, frame, actor, *lane, act, out),
+        Line::Mark => write_mark(out),
+        Line::Do { actor, lane, act } => write_act(alloc, frame, actor, *lane, act, out),
     }
 }

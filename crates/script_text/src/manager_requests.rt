@@ -8,19 +8,19 @@ ghost use Rattle.text_lines.specs.Layouts.{capacity_parts, manager_command_of as
 ghost use Rattle.text_lines.specs.Parts.{Part};
 ghost use Rattle.script_text.specs.LinePrinting.{AddsParts};
 
-use crate::host_requests::{put_clearing, put_log, put_page};
-use crate::lists::put_extents;
-use crate::policies::{put_add_policy, put_release_flags};
+use crate::host_requests::{write_clearing, write_log, write_page};
+use crate::lists::write_extents;
+use crate::policies::{write_add_policy, write_release_flags};
 use crate::words::{
-    put_fixed, put_flag, put_host, put_may_number, put_may_tag, put_named_count, put_named_number,
-    put_tag_word,
+    write_fixed, write_flag, write_host, write_may_number, write_may_tag, write_named_count, write_named_number,
+    write_tag_word,
 };
 use dcd_base::{Bytes, Extent, NoMemory, Tag};
 use fm_payloads::FmRequest;
 use text_lines::{Keyword, ManagerCommand};
 
 /// Appends a host, the first item that is asked for of it, and how many.
-fn put_host_page(
+fn write_host_page(
     host: u16,
     most: u64,
     first: u64,
@@ -31,44 +31,44 @@ fn put_host_page(
     requires count { count ≤ most }
     ensures { OnOk result (AddsParts out.old out.new (Part.HostOf host ∷ page_parts most first count)) }
 {
-    put_host(host, out)?;
-    put_page(most, first, count, out)?;
+    write_host(host, out)?;
+    write_page(most, first, count, out)?;
     Ok(())
 }
 
 /// Appends what a region is to have.
-fn put_setting(region: u8, block: u64, sanitize: bool, out: &mut Bytes) -> Result<(), NoMemory>
+fn write_setting(region: u8, block: u64, sanitize: bool, out: &mut Bytes) -> Result<(), NoMemory>
     ensures { OnOk result (AddsParts out.old out.new (setting_parts region block sanitize)) }
 {
-    put_named_count(Keyword::Region, 255, region as u64, out)?;
-    put_named_number(Keyword::Block, block, out)?;
-    put_flag(Keyword::Sanitize, sanitize, out)?;
+    write_named_count(Keyword::Region, 255, region as u64, out)?;
+    write_named_number(Keyword::Block, block, out)?;
+    write_flag(Keyword::Sanitize, sanitize, out)?;
     Ok(())
 }
 
 /// Appends a host and a region of it.
-fn put_spot(host: u16, region: u8, out: &mut Bytes) -> Result<(), NoMemory>
+fn write_spot(host: u16, region: u8, out: &mut Bytes) -> Result<(), NoMemory>
     ensures { OnOk result (AddsParts out.old out.new (spot_parts host region)) }
 {
-    put_host(host, out)?;
-    put_named_count(Keyword::Region, 255, region as u64, out)?;
+    write_host(host, out)?;
+    write_named_count(Keyword::Region, 255, region as u64, out)?;
     Ok(())
 }
 
 /// Appends a length in bytes, a tag and extents.
-fn put_capacity(size: u64, tag: &Tag, extents: &[Extent], out: &mut Bytes) -> Result<(), NoMemory>
+fn write_capacity(size: u64, tag: &Tag, extents: &[Extent], out: &mut Bytes) -> Result<(), NoMemory>
     requires few { length extents.now ≤ 1637 }
     requires untagged { IsTrue (list_all is_untagged extents.now) }
     ensures { OnOk result (AddsParts out.old out.new (capacity_parts size tag.now extents.now)) }
 {
-    put_may_number(Keyword::Length, size, out)?;
-    put_may_tag(tag, out)?;
-    put_extents(1637, extents, out)?;
+    write_may_number(Keyword::Length, size, out)?;
+    write_may_tag(tag, out)?;
+    write_extents(1637, extents, out)?;
     Ok(())
 }
 
 /// Appends what to add.
-fn put_add(
+fn write_add(
     host: u16,
     region: u8,
     policy: u8,
@@ -81,14 +81,14 @@ fn put_add(
     requires untagged { IsTrue (list_all is_untagged extents.now) }
     ensures { OnOk result (AddsParts out.old out.new (spot_parts host region ++ Part.AddPolicy policy ∷ capacity_parts size tag.now extents.now)) }
 {
-    put_spot(host, region, out)?;
-    put_add_policy(policy, out)?;
-    put_capacity(size, tag, extents, out)?;
+    write_spot(host, region, out)?;
+    write_add_policy(policy, out)?;
+    write_capacity(size, tag, extents, out)?;
     Ok(())
 }
 
 /// Appends what to release.
-fn put_remove(
+fn write_remove(
     host: u16,
     region: u8,
     flags: u8,
@@ -101,9 +101,9 @@ fn put_remove(
     requires untagged { IsTrue (list_all is_untagged extents.now) }
     ensures { OnOk result (AddsParts out.old out.new (spot_parts host region ++ Part.ReleaseFlags flags ∷ capacity_parts size tag.now extents.now)) }
 {
-    put_spot(host, region, out)?;
-    put_release_flags(flags, out)?;
-    put_capacity(size, tag, extents, out)?;
+    write_spot(host, region, out)?;
+    write_release_flags(flags, out)?;
+    write_capacity(size, tag, extents, out)?;
     Ok(())
 }
 
@@ -126,34 +126,34 @@ fn manager_command_of(request: &FmRequest) -> ManagerCommand
 }
 
 /// Appends the name of a command.
-fn put_command(command: ManagerCommand, out: &mut Bytes) -> Result<(), NoMemory>
+fn write_command(command: ManagerCommand, out: &mut Bytes) -> Result<(), NoMemory>
     ensures { OnOk result (AddsParts out.old out.new (Part.Fixed (manager_command_text command) ∷ [])) }
 {
-    put_fixed(command.text(), out)?;
+    write_fixed(command.text(), out)?;
     Ok(())
 }
 
 /// Appends what stands behind the name of a command.
-fn put_tail(request: &FmRequest, out: &mut Bytes) -> Result<(), NoMemory>
+fn write_tail(request: &FmRequest, out: &mut Bytes) -> Result<(), NoMemory>
     requires { IsTrue (manager_fits_line request.now) }
     ensures { OnOk result (AddsParts out.old out.new (manager_tail request.now)) }
 {
     match request {
-        FmRequest::GetEvents { log } => put_log(*log, out),
+        FmRequest::GetEvents { log } => write_log(*log, out),
         FmRequest::ClearEvents { log, all, handles } => {
-            put_clearing(*log, *all, handles.as_slice(), out)
+            write_clearing(*log, *all, handles.as_slice(), out)
         }
         FmRequest::GetInfo => Ok(()),
         FmRequest::GetRegions { host, count, first } => {
-            put_host_page(*host, 255, *first as u64, *count as u64, out)
+            write_host_page(*host, 255, *first as u64, *count as u64, out)
         }
         FmRequest::SetRegion {
             region,
             sanitize,
             block,
-        } => { put_setting(*region, *block, *sanitize, out) }
+        } => { write_setting(*region, *block, *sanitize, out) }
         FmRequest::GetExtentLists { host, count, first } => {
-            put_host_page(*host, 0xFFFF_FFFF, *first as u64, *count as u64, out)
+            write_host_page(*host, 0xFFFF_FFFF, *first as u64, *count as u64, out)
         }
         FmRequest::Add {
             host,
@@ -163,7 +163,7 @@ fn put_tail(request: &FmRequest, out: &mut Bytes) -> Result<(), NoMemory>
             tag,
             extents,
         } => {
-            put_add(
+            write_add(
                 *host,
                 *region,
                 *policy,
@@ -181,7 +181,7 @@ fn put_tail(request: &FmRequest, out: &mut Bytes) -> Result<(), NoMemory>
             tag,
             extents,
         } => {
-            put_remove(
+            write_remove(
                 *host,
                 *region,
                 *flags,
@@ -191,20 +191,20 @@ fn put_tail(request: &FmRequest, out: &mut Bytes) -> Result<(), NoMemory>
                 out,
             )
         }
-        FmRequest::AddReference { tag } => put_tag_word(tag, out),
-        FmRequest::RemoveReference { tag } => put_tag_word(tag, out),
+        FmRequest::AddReference { tag } => write_tag_word(tag, out),
+        FmRequest::RemoveReference { tag } => write_tag_word(tag, out),
         FmRequest::ListTags { first, count } => {
-            put_page(0xFFFF_FFFF, *first as u64, *count as u64, out)
+            write_page(0xFFFF_FFFF, *first as u64, *count as u64, out)
         }
     }
 }
 
 /// Appends what the Fabric Manager asks.
-pub fn put_manager_request(request: &FmRequest, out: &mut Bytes) -> Result<(), NoMemory>
+pub fn write_manager_request(request: &FmRequest, out: &mut Bytes) -> Result<(), NoMemory>
     requires { IsTrue (manager_fits_line request.now) }
     ensures { OnOk result (AddsParts out.old out.new (manager_request_parts request.now)) }
 {
-    put_command(manager_command_of(request), out)?;
-    put_tail(request, out)?;
+    write_command(manager_command_of(request), out)?;
+    write_tail(request, out)?;
     Ok(())
 }

@@ -5,9 +5,9 @@ ghost use Rattle.text_lines.specs.Parts.{Part};
 ghost use Rattle.text_lines.specs.Policies.{add_policy_text, are_named, release_policy_text};
 ghost use Rattle.script_text.specs.LinePrinting.{AddsParts};
 
-use crate::words::{put_flag, put_key, put_named_count, put_word};
+use crate::words::{write_flag, write_key, write_named_count, write_word};
 use dcd_base::{Bytes, NoMemory};
-use text_lines::{Keyword, law_hexadecimal, put_hexadecimal};
+use text_lines::{Keyword, law_hexadecimal, write_hexadecimal};
 
 /// The name of a policy of an add, below 4.
 fn add_policy_name(policy: u8) -> &'static [u8]
@@ -23,31 +23,31 @@ fn add_policy_name(policy: u8) -> &'static [u8]
 }
 
 /// Appends the name of a policy of an add, below 4.
-fn put_named_policy(policy: u8, out: &mut Bytes) -> Result<(), NoMemory>
+fn write_named_policy(policy: u8, out: &mut Bytes) -> Result<(), NoMemory>
     requires { policy < 4 }
     ensures { OnOk result (AddsParts out.old out.new (Part.AddPolicy policy ∷ [])) }
 {
-    put_word(add_policy_name(policy), out)?;
+    write_word(add_policy_name(policy), out)?;
     Ok(())
 }
 
 /// Appends a keyword and the number of a policy of an add that has no name.
-fn put_other_policy(policy: u8, out: &mut Bytes) -> Result<(), NoMemory>
+fn write_other_policy(policy: u8, out: &mut Bytes) -> Result<(), NoMemory>
     requires { 4 ≤ policy }
     ensures { OnOk result (AddsParts out.old out.new (Part.AddPolicy policy ∷ [])) }
 {
-    put_named_count(Keyword::Policy, 255, policy as u64, out)?;
+    write_named_count(Keyword::Policy, 255, policy as u64, out)?;
     Ok(())
 }
 
 /// Appends the policy of an add: its name, or a keyword and its number.
-pub fn put_add_policy(policy: u8, out: &mut Bytes) -> Result<(), NoMemory>
+pub fn write_add_policy(policy: u8, out: &mut Bytes) -> Result<(), NoMemory>
     ensures { OnOk result (AddsParts out.old out.new (Part.AddPolicy policy ∷ [])) }
 {
     if policy < 4 {
-        put_named_policy(policy, out)
+        write_named_policy(policy, out)
     } else {
-        put_other_policy(policy, out)
+        write_other_policy(policy, out)
     }
 }
 
@@ -71,36 +71,36 @@ fn is_named(flags: u8) -> bool
 }
 
 /// Appends the flags of a release that have a name: that of the policy, and what is set.
-fn put_named_flags(flags: u8, out: &mut Bytes) -> Result<(), NoMemory>
+fn write_named_flags(flags: u8, out: &mut Bytes) -> Result<(), NoMemory>
     requires { are_named flags ≡ true }
     ensures { OnOk result (AddsParts out.old out.new (Part.ReleaseFlags flags ∷ [])) }
 {
-    put_word(release_policy_name(flags % 16), out)?;
-    put_flag(Keyword::Forced, flags / 16 % 2 == 1, out)?;
-    put_flag(Keyword::Sanitize, flags / 32 % 2 == 1, out)?;
+    write_word(release_policy_name(flags % 16), out)?;
+    write_flag(Keyword::Forced, flags / 16 % 2 == 1, out)?;
+    write_flag(Keyword::Sanitize, flags / 32 % 2 == 1, out)?;
     Ok(())
 }
 
 /// Appends a keyword and the flags of a release as a number.
-fn put_other_flags(flags: u8, out: &mut Bytes) -> Result<(), NoMemory>
+fn write_other_flags(flags: u8, out: &mut Bytes) -> Result<(), NoMemory>
     requires { are_named flags ≡ false }
     ensures { OnOk result (AddsParts out.old out.new (Part.ReleaseFlags flags ∷ [])) }
 {
     let number = flags as u64;
     law_hexadecimal(number);
-    put_key(Keyword::Flags, out)?;
+    write_key(Keyword::Flags, out)?;
     out.push(b' ')?;
-    put_hexadecimal(number, out)?;
+    write_hexadecimal(number, out)?;
     Ok(())
 }
 
 /// Appends the flags of a release: the name of the policy and what is set, or a keyword and all of them as a number.
-pub fn put_release_flags(flags: u8, out: &mut Bytes) -> Result<(), NoMemory>
+pub fn write_release_flags(flags: u8, out: &mut Bytes) -> Result<(), NoMemory>
     ensures { OnOk result (AddsParts out.old out.new (Part.ReleaseFlags flags ∷ [])) }
 {
     if is_named(flags) {
-        put_named_flags(flags, out)
+        write_named_flags(flags, out)
     } else {
-        put_other_flags(flags, out)
+        write_other_flags(flags, out)
     }
 }

@@ -9,11 +9,11 @@ ghost use Rattle.text_lines.specs.Words.{spaced};
 
 use dcd_base::{Bytes, NoMemory, Tag, is_no_tag};
 use text_lines::{
-    Keyword, law_decimal, law_size, law_sizes, law_tag, put_decimal, put_size, put_sizes, put_tag,
+    Keyword, law_decimal, law_size, law_sizes, law_tag, write_decimal, write_size, write_sizes, write_tag,
 };
 
 /// Appends a space and a word.
-pub fn put_word(word: &[u8], out: &mut Bytes) -> Result<(), NoMemory>
+pub fn write_word(word: &[u8], out: &mut Bytes) -> Result<(), NoMemory>
     ensures { OnOk result (out.new ≡ out.old ++ spaced word.now) }
 {
     out.push(b' ')?;
@@ -30,11 +30,11 @@ pub fn begin_fixed(word: &[u8], out: &mut Bytes) -> Result<(), NoMemory>
 }
 
 /// Appends a fixed word.
-pub fn put_fixed(word: &[u8], out: &mut Bytes) -> Result<(), NoMemory>
+pub fn write_fixed(word: &[u8], out: &mut Bytes) -> Result<(), NoMemory>
     requires { IsTextWord word.now }
     ensures { OnOk result (AddsParts out.old out.new (Part.Fixed word.now ∷ [])) }
 {
-    put_word(word, out)?;
+    write_word(word, out)?;
     Ok(())
 }
 
@@ -46,35 +46,35 @@ pub fn begin_with(keyword: Keyword, out: &mut Bytes) -> Result<(), NoMemory>
 }
 
 /// Appends a word of the grammar.
-pub fn put_key(keyword: Keyword, out: &mut Bytes) -> Result<(), NoMemory>
+pub fn write_key(keyword: Keyword, out: &mut Bytes) -> Result<(), NoMemory>
     ensures { OnOk result (AddsParts out.old out.new (key keyword ∷ [])) }
 {
-    put_fixed(keyword.text(), out)
+    write_fixed(keyword.text(), out)
 }
 
 /// Appends a count, an index, a handle, or the number of a region or a log.
-pub fn put_count(most: u64, number: u64, out: &mut Bytes) -> Result<(), NoMemory>
+pub fn write_count(most: u64, number: u64, out: &mut Bytes) -> Result<(), NoMemory>
     requires { number ≤ most }
     ensures { OnOk result (AddsParts out.old out.new (Part.Number Form.Count most number ∷ [])) }
 {
     law_decimal(number);
     out.push(b' ')?;
-    put_decimal(number, out)?;
+    write_decimal(number, out)?;
     Ok(())
 }
 
 /// Appends an address, a length, a size or a word of memory.
-pub fn put_number(number: u64, out: &mut Bytes) -> Result<(), NoMemory>
+pub fn write_number(number: u64, out: &mut Bytes) -> Result<(), NoMemory>
     ensures { OnOk result (AddsParts out.old out.new (Part.Number Form.Size (2 ^ 64 - 1) number ∷ [])) }
 {
     law_size(number);
     out.push(b' ')?;
-    put_size(number, out)?;
+    write_size(number, out)?;
     Ok(())
 }
 
 /// Appends a keyword and a count behind it.
-pub fn put_named_count(
+pub fn write_named_count(
     keyword: Keyword,
     most: u64,
     number: u64,
@@ -83,22 +83,22 @@ pub fn put_named_count(
     requires { number ≤ most }
     ensures { OnOk result (AddsParts out.old out.new (key keyword ∷ Part.Number Form.Count most number ∷ [])) }
 {
-    put_key(keyword, out)?;
-    put_count(most, number, out)?;
+    write_key(keyword, out)?;
+    write_count(most, number, out)?;
     Ok(())
 }
 
 /// Appends a keyword and a size behind it.
-pub fn put_named_number(keyword: Keyword, number: u64, out: &mut Bytes) -> Result<(), NoMemory>
+pub fn write_named_number(keyword: Keyword, number: u64, out: &mut Bytes) -> Result<(), NoMemory>
     ensures { OnOk result (AddsParts out.old out.new (key keyword ∷ Part.Number Form.Size (2 ^ 64 - 1) number ∷ [])) }
 {
-    put_key(keyword, out)?;
-    put_number(number, out)?;
+    write_key(keyword, out)?;
+    write_number(number, out)?;
     Ok(())
 }
 
 /// Appends a keyword and a count behind it, or nothing for 0.
-pub fn put_may_count(
+pub fn write_may_count(
     keyword: Keyword,
     most: u64,
     number: u64,
@@ -110,80 +110,80 @@ pub fn put_may_count(
     if number == 0 {
         return Ok(());
     }
-    put_named_count(keyword, most, number, out)?;
+    write_named_count(keyword, most, number, out)?;
     Ok(())
 }
 
 /// Appends a keyword and a size behind it, or nothing for 0.
-pub fn put_may_number(keyword: Keyword, number: u64, out: &mut Bytes) -> Result<(), NoMemory>
+pub fn write_may_number(keyword: Keyword, number: u64, out: &mut Bytes) -> Result<(), NoMemory>
     ensures { OnOk result (AddsParts out.old out.new (Part.May keyword Form.Size (2 ^ 64 - 1) number ∷ [])) }
 {
     if number == 0 {
         return Ok(());
     }
-    put_named_number(keyword, number, out)?;
+    write_named_number(keyword, number, out)?;
     Ok(())
 }
 
 /// Appends a keyword, or nothing.
-pub fn put_flag(keyword: Keyword, set: bool, out: &mut Bytes) -> Result<(), NoMemory>
+pub fn write_flag(keyword: Keyword, set: bool, out: &mut Bytes) -> Result<(), NoMemory>
     ensures { OnOk result (AddsParts out.old out.new (Part.Flag keyword set ∷ [])) }
 {
     if !set {
         return Ok(());
     }
-    put_key(keyword, out)?;
+    write_key(keyword, out)?;
     Ok(())
 }
 
 /// Appends a tag.
-pub fn put_tag_word(tag: &Tag, out: &mut Bytes) -> Result<(), NoMemory>
+pub fn write_tag_word(tag: &Tag, out: &mut Bytes) -> Result<(), NoMemory>
     ensures { OnOk result (AddsParts out.old out.new (Part.TagOf tag.now ∷ [])) }
 {
     law_tag(tag);
     out.push(b' ')?;
-    put_tag(tag, out)?;
+    write_tag(tag, out)?;
     Ok(())
 }
 
 /// Appends a keyword and a tag behind it, or nothing for none.
-pub fn put_may_tag(tag: &Tag, out: &mut Bytes) -> Result<(), NoMemory>
+pub fn write_may_tag(tag: &Tag, out: &mut Bytes) -> Result<(), NoMemory>
     ensures { OnOk result (AddsParts out.old out.new (Part.MayTag tag.now ∷ [])) }
 {
     if is_no_tag(tag) {
         return Ok(());
     }
-    put_key(Keyword::Tag, out)?;
-    put_tag_word(tag, out)?;
+    write_key(Keyword::Tag, out)?;
+    write_tag_word(tag, out)?;
     Ok(())
 }
 
 /// Appends h and the number of a host.
-pub fn put_h(host: u16, out: &mut Bytes) -> Result<(), NoMemory>
+pub fn write_h(host: u16, out: &mut Bytes) -> Result<(), NoMemory>
     ensures { OnOk result (out.new ≡ out.old ++ host_text host) }
 {
     out.push(b'h')?;
-    put_decimal(host as u64, out)
+    write_decimal(host as u64, out)
 }
 
 /// Appends a host that the manager speaks of.
-pub fn put_host(host: u16, out: &mut Bytes) -> Result<(), NoMemory>
+pub fn write_host(host: u16, out: &mut Bytes) -> Result<(), NoMemory>
     ensures { OnOk result (AddsParts out.old out.new (Part.HostOf host ∷ [])) }
 {
     law_decimal(host as u64);
     out.push(b' ')?;
-    put_h(host, out)?;
+    write_h(host, out)?;
     Ok(())
 }
 
 /// Appends block sizes, as a mask.
-pub fn put_block_sizes(mask: u64, out: &mut Bytes) -> Result<(), NoMemory>
+pub fn write_block_sizes(mask: u64, out: &mut Bytes) -> Result<(), NoMemory>
     requires { 0 < mask }
     ensures { OnOk result (AddsParts out.old out.new (Part.Sizes mask ∷ [])) }
 {
     law_sizes(mask);
     out.push(b' ')?;
-    put_sizes(mask, out)?;
+    write_sizes(mask, out)?;
     Ok(())
 }
 

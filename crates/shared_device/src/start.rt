@@ -53,7 +53,7 @@ impl Shared {
     {
         let mut passes = Vec::with_capacity(self.alloc, seats.len())?;
         while let Some(seat) = seats.pop() {
-            put_first(&mut passes, self.pass(seat, actors, seats.len()));
+            append_first(&mut passes, self.pass(seat, actors, seats.len()));
         }
         Ok(passes)
     }
@@ -78,7 +78,7 @@ impl Shared {
 }
 
 /// Puts an item before the others, where there is room.
-fn put_first<T: Drop>(items: &mut Vec<T>, item: T)
+fn append_first<T: Drop>(items: &mut Vec<T>, item: T)
     requires { vec_len items.old < vec_capacity items.old }
     ensures items { items.new.items ≡ item ∷ items.old.items }
     ensures room { vec_capacity items.new ≡ vec_capacity items.old }

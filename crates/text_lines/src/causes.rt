@@ -3,34 +3,34 @@
 ghost use Rattle.text_lines.specs.CauseWords.{beyond, cause_words, code_number, in_opcode, known_words, places_words, with_one, with_size, with_two};
 ghost use Rattle.std.specs.Prelude.{◌≡◌, ◌++◌, OnOk};
 
-use crate::printing::{put_decimal, put_size};
+use crate::printing::{write_decimal, write_size};
 use dcd_base::{Bytes, NoMemory};
 use dcd_codes::Rule;
 use region_config::Config;
 
 /// Appends words with a number between them.
 #[tactic(auto, unfolding(crate::specs::CauseWords::with_one))]
-fn put_one(before: &[u8], number: u64, behind: &[u8], out: &mut Bytes) -> Result<(), NoMemory>
+fn write_one(before: &[u8], number: u64, behind: &[u8], out: &mut Bytes) -> Result<(), NoMemory>
     ensures { OnOk result (out.new ≡ out.old ++ with_one before.now number behind.now) }
 {
     out.extend_from_slice(before)?;
-    put_decimal(number, out)?;
+    write_decimal(number, out)?;
     out.extend_from_slice(behind)
 }
 
 /// Appends words with a length or a size between them.
 #[tactic(auto, unfolding(crate::specs::CauseWords::with_size))]
-fn put_sized(before: &[u8], number: u64, behind: &[u8], out: &mut Bytes) -> Result<(), NoMemory>
+fn write_sized(before: &[u8], number: u64, behind: &[u8], out: &mut Bytes) -> Result<(), NoMemory>
     ensures { OnOk result (out.new ≡ out.old ++ with_size before.now number behind.now) }
 {
     out.extend_from_slice(before)?;
-    put_size(number, out)?;
+    write_size(number, out)?;
     out.extend_from_slice(behind)
 }
 
 /// Appends words with two numbers between them.
 #[tactic(auto, unfolding(crate::specs::CauseWords::with_two))]
-fn put_two(
+fn write_two(
     before: &[u8],
     first: u64,
     between: &[u8],
@@ -40,13 +40,13 @@ fn put_two(
 ) -> Result<(), NoMemory>
     ensures { OnOk result (out.new ≡ out.old ++ with_two before.now first between.now second behind.now) }
 {
-    put_one(before, first, between, out)?;
-    put_one(b"", second, behind, out)
+    write_one(before, first, between, out)?;
+    write_one(b"", second, behind, out)
 }
 
 /// Appends a return code or an opcode as the specification writes it: four hexadecimal digits and an h.
 #[tactic(auto, unfolding(crate::specs::CauseWords::code_number))]
-pub fn put_code_number(number: u16, out: &mut Bytes) -> Result<(), NoMemory>
+pub fn write_code_number(number: u16, out: &mut Bytes) -> Result<(), NoMemory>
     ensures { OnOk result (out.new ≡ out.old ++ code_number number) }
 {
     let mut digits = [b'0'; 4];
@@ -57,58 +57,58 @@ pub fn put_code_number(number: u16, out: &mut Bytes) -> Result<(), NoMemory>
 
 /// Appends words and an opcode behind them, in four hexadecimal digits.
 #[tactic(auto, unfolding(crate::specs::CauseWords::in_opcode))]
-fn put_opcode(before: &[u8], opcode: u16, out: &mut Bytes) -> Result<(), NoMemory>
+fn write_opcode(before: &[u8], opcode: u16, out: &mut Bytes) -> Result<(), NoMemory>
     ensures { OnOk result (out.new ≡ out.old ++ in_opcode before.now opcode) }
 {
     out.extend_from_slice(before)?;
-    put_code_number(opcode, out)
+    write_code_number(opcode, out)
 }
 
 /// Appends which of so many there are, numbered from 0.
 #[tactic(auto, unfolding(crate::specs::CauseWords::known_words))]
-fn put_known(count: u64, out: &mut Bytes) -> Result<(), NoMemory>
+fn write_known(count: u64, out: &mut Bytes) -> Result<(), NoMemory>
     ensures { OnOk result (out.new ≡ out.old ++ known_words count) }
 {
     match count {
         0 => out.extend_from_slice(b"there is none"),
         1 => out.extend_from_slice(b"there is 0 alone"),
         2 => out.extend_from_slice(b"there are 0 and 1"),
-        _ => put_one(b"there are 0 to ", count - 1, b"", out),
+        _ => write_one(b"there are 0 to ", count - 1, b"", out),
     }
 }
 
 /// Appends a number that is none of so many.
 #[tactic(auto, unfolding(crate::specs::CauseWords::beyond))]
-fn put_beyond(before: &[u8], number: u64, count: u64, out: &mut Bytes) -> Result<(), NoMemory>
+fn write_beyond(before: &[u8], number: u64, count: u64, out: &mut Bytes) -> Result<(), NoMemory>
     ensures { OnOk result (out.new ≡ out.old ++ beyond before.now number count) }
 {
-    put_one(before, number, b"; ", out)?;
-    put_known(count, out)
+    write_one(before, number, b"; ", out)?;
+    write_known(count, out)
 }
 
 /// Appends that the log of a host has not room enough.
 #[tactic(auto, unfolding(crate::specs::CauseWords::places_words))]
-fn put_places(host: u64, have: u64, need: u64, out: &mut Bytes) -> Result<(), NoMemory>
+fn write_places(host: u64, have: u64, need: u64, out: &mut Bytes) -> Result<(), NoMemory>
     ensures { OnOk result (out.new ≡ out.old ++ places_words host have need) }
 {
-    put_one(b"the log of h", host, b" has room for ", out)?;
-    put_two(b"", have, b" records, and ", need, b" are due", out)
+    write_one(b"the log of h", host, b" has room for ", out)?;
+    write_two(b"", have, b" records, and ", need, b" are due", out)
 }
 
 /// Appends what is wrong with a command that breaks this rule first, on a device of this configuration.
 ///
 /// An index counts the extents that the command tries, from 0.
 #[tactic(auto, unfolding(crate::specs::CauseWords::cause_words))]
-pub fn put_cause(config: &Config, rule: &Rule, out: &mut Bytes) -> Result<(), NoMemory>
+pub fn write_cause(config: &Config, rule: &Rule, out: &mut Bytes) -> Result<(), NoMemory>
     ensures { OnOk result (out.new ≡ out.old ++ cause_words config.now rule.now) }
 {
     match rule {
-        Rule::UnknownOpcode(opcode) => put_opcode(
+        Rule::UnknownOpcode(opcode) => write_opcode(
             b"the actor has no command of the opcode ",
             *opcode,
             out,
         ),
-        Rule::WrongLength { need, have } => put_two(
+        Rule::WrongLength { need, have } => write_two(
             b"the payload has ",
             *have,
             b" bytes and not ",
@@ -116,19 +116,19 @@ pub fn put_cause(config: &Config, rule: &Rule, out: &mut Bytes) -> Result<(), No
             b"",
             out,
         ),
-        Rule::NoSuchRegion(region) => put_beyond(
+        Rule::NoSuchRegion(region) => write_beyond(
             b"no region ",
             u64::from(*region),
             u64::from(config.regions()),
             out,
         ),
-        Rule::NoSuchHost(host) => put_beyond(
+        Rule::NoSuchHost(host) => write_beyond(
             b"no host ",
             u64::from(*host),
             u64::from(config.hosts()),
             out,
         ),
-        Rule::PastEnd { first, total } => put_two(
+        Rule::PastEnd { first, total } => write_two(
             b"index ",
             u64::from(*first),
             b" is past the end, there are ",
@@ -136,19 +136,19 @@ pub fn put_cause(config: &Config, rule: &Rule, out: &mut Bytes) -> Result<(), No
             b"",
             out,
         ),
-        Rule::NoSuchLog(log) => put_one(
+        Rule::NoSuchLog(log) => write_one(
             b"no event log ",
             u64::from(*log),
             b"; there are 0 to 4",
             out,
         ),
-        Rule::UnknownHandle(handle) => put_one(
+        Rule::UnknownHandle(handle) => write_one(
             b"no record behind those named before has the handle ",
             u64::from(*handle),
             b"",
             out,
         ),
-        Rule::OlderLeft(handle) => put_one(
+        Rule::OlderLeft(handle) => write_one(
             b"the older record ",
             u64::from(*handle),
             b" is left out",
@@ -157,44 +157,44 @@ pub fn put_cause(config: &Config, rule: &Rule, out: &mut Bytes) -> Result<(), No
         Rule::NotOverflowed => out.extend_from_slice(
             b"the log has lost no record, so that `all` is not taken",
         ),
-        Rule::TooManyListed(count) => put_one(
+        Rule::TooManyListed(count) => write_one(
             b"",
             *count,
             b" extents are listed, held ones among them; 64 is the most",
             out,
         ),
-        Rule::ZeroLength(index) => put_one(
+        Rule::ZeroLength(index) => write_one(
             b"extent ",
             u64::from(*index),
             b" has the length 0",
             out,
         ),
-        Rule::OutsideRegion(index) => put_one(
+        Rule::OutsideRegion(index) => write_one(
             b"extent ",
             u64::from(*index),
             b" does not lie within one region of the host, or not in the named one",
             out,
         ),
-        Rule::Unaligned(index) => put_one(
+        Rule::Unaligned(index) => write_one(
             b"extent ",
             u64::from(*index),
             b" does not begin and end with blocks of its region",
             out,
         ),
-        Rule::NotOffered(index) => put_one(
+        Rule::NotOffered(index) => write_one(
             b"extent ",
             u64::from(*index),
             b" lies in no one extent of the host's oldest offer",
             out,
         ),
-        Rule::NotAccepted(index) => put_one(
+        Rule::NotAccepted(index) => write_one(
             b"extent ",
             u64::from(*index),
             b" lies in no one extent that the host has",
             out,
         ),
-        Rule::NotFree(index) => put_one(b"extent ", u64::from(*index), b" is not free", out),
-        Rule::Overlap { index, with } => put_two(
+        Rule::NotFree(index) => write_one(b"extent ", u64::from(*index), b" is not free", out),
+        Rule::Overlap { index, with } => write_two(
             b"extent ",
             u64::from(*index),
             b" overlaps extent ",
@@ -202,13 +202,13 @@ pub fn put_cause(config: &Config, rule: &Rule, out: &mut Bytes) -> Result<(), No
             b"",
             out,
         ),
-        Rule::NotWhole(index) => put_one(
+        Rule::NotWhole(index) => write_one(
             b"extent ",
             u64::from(*index),
             b" is a part of a shared extent, which is taken and given back whole",
             out,
         ),
-        Rule::TagIncomplete { listed, need } => put_two(
+        Rule::TagIncomplete { listed, need } => write_two(
             b"",
             u64::from(*listed),
             b" of the ",
@@ -216,15 +216,15 @@ pub fn put_cause(config: &Config, rule: &Rule, out: &mut Bytes) -> Result<(), No
             b" extents of a shared tag are listed, which go together",
             out,
         ),
-        Rule::TooManyExtents(count) => put_one(
+        Rule::TooManyExtents(count) => write_one(
             b"the host would have ",
             *count,
             b" extents, offered ones among them; 64 is the most",
             out,
         ),
-        Rule::NoSuchPolicy(policy) => put_one(b"no policy ", u64::from(*policy), b"", out),
+        Rule::NoSuchPolicy(policy) => write_one(b"no policy ", u64::from(*policy), b"", out),
         Rule::EmptyList => out.extend_from_slice(b"no extent is listed"),
-        Rule::NotShareable(region) => put_one(
+        Rule::NotShareable(region) => write_one(
             b"region ",
             u64::from(*region),
             b" is not shareable",
@@ -234,13 +234,13 @@ pub fn put_cause(config: &Config, rule: &Rule, out: &mut Bytes) -> Result<(), No
         Rule::TagInUse => out.extend_from_slice(b"the tag is in use"),
         Rule::NoSuchTag => out.extend_from_slice(b"no live tag is this one"),
         Rule::AlreadyShared => out.extend_from_slice(b"the host has the tag, or is offered it"),
-        Rule::BadLength(length) => put_sized(
+        Rule::BadLength(length) => write_sized(
             b"the length ",
             *length,
             b" is 0 or no whole number of blocks",
             out,
         ),
-        Rule::TooFewFree { need, have } => put_two(
+        Rule::TooFewFree { need, have } => write_two(
             b"needs ",
             *need,
             b" free blocks, ",
@@ -248,13 +248,13 @@ pub fn put_cause(config: &Config, rule: &Rule, out: &mut Bytes) -> Result<(), No
             b" are free (side by side, where the add is contiguous)",
             out,
         ),
-        Rule::TooManyTags(count) => put_one(
+        Rule::TooManyTags(count) => write_one(
             b"the host would have ",
             u64::from(*count),
             b" tags; 32 is the most",
             out,
         ),
-        Rule::LogFull { host, need, have } => put_places(
+        Rule::LogFull { host, need, have } => write_places(
             u64::from(*host),
             u64::from(*have),
             u64::from(*need),
@@ -263,7 +263,7 @@ pub fn put_cause(config: &Config, rule: &Rule, out: &mut Bytes) -> Result<(), No
         Rule::UnsupportedFlag => out.extend_from_slice(
             b"a flag is set that the device does not have",
         ),
-        Rule::NotSupportedSize(size) => put_sized(
+        Rule::NotSupportedSize(size) => write_sized(
             b"the block size ",
             *size,
             b" is none of the region's",
@@ -272,7 +272,7 @@ pub fn put_cause(config: &Config, rule: &Rule, out: &mut Bytes) -> Result<(), No
         Rule::SanitizeDiffers => out.extend_from_slice(
             b"the sanitize flag is not as the region is configured",
         ),
-        Rule::RegionInUse(count) => put_one(
+        Rule::RegionInUse(count) => write_one(
             b"",
             u64::from(*count),
             b" granules of the region are not free",

@@ -6,7 +6,7 @@ ghost use Rattle.text_lines.specs.Extents.{extent_of_parts, extent_said, extent_
 
 use crate::fronts::place_of;
 use crate::numbers::number_of;
-use crate::printing::put_size;
+use crate::printing::write_size;
 use crate::word_faults::NumberFault;
 use dcd_base::{Bytes, Extent, NoMemory, no_tag};
 
@@ -52,10 +52,10 @@ fn untagged(
 
 /// Appends an extent without its tag: its start, a plus sign, and its length.
 #[tactic(auto, unfolding(crate::specs::Extents::extent_text))]
-pub fn put_extent(extent: &Extent, out: &mut Bytes) -> Result<(), NoMemory>
+pub fn write_extent(extent: &Extent, out: &mut Bytes) -> Result<(), NoMemory>
     ensures { OnOk result (out.new ≡ out.old ++ extent_text extent.now) }
 {
-    put_size(extent.start, out)?;
+    write_size(extent.start, out)?;
     out.push(b'+')?;
-    put_size(extent.length, out)
+    write_size(extent.length, out)
 }

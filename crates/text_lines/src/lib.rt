@@ -1,7 +1,7 @@
 //! Lines of a script in words: what a person writes and reads.
 //!
 //! `opening` reads the first word of a line and `rest` what stands behind it. Where the words are no line, they answer the
-//! first fault, with its line and its word. `put_cause` says why a command is refused.
+//! first fault, with its line and its word. `write_cause` says why a command is refused.
 #![tactic(auto)]
 
 mod actors;
@@ -31,9 +31,9 @@ mod word_faults;
 mod words;
 
 pub use actors::Frame;
-pub use causes::{put_cause, put_code_number};
+pub use causes::{write_cause, write_code_number};
 pub use commands::{HostCommand, ManagerCommand};
-pub use extents::{extent_of, put_extent};
+pub use extents::{extent_of, write_extent};
 pub use faults::{Cause, TextFault, Wanted};
 pub use fronts::{gaps, place_of, plain};
 pub use keywords::Keyword;
@@ -42,9 +42,9 @@ pub use line_words::{TextLines, without_return};
 pub use lines::{opening, rest};
 pub use numbers::{decimal_of, number_of};
 pub use openings::Opening;
-pub use pairs::{put_pairs, put_pairs_of, put_tag, tag_of};
-pub use printing::{put_decimal, put_hexadecimal, put_size};
+pub use pairs::{write_pairs, write_pairs_of, write_tag, tag_of};
+pub use printing::{write_decimal, write_hexadecimal, write_size};
 pub use script_codec;
-pub use sizes::{put_sizes, sizes_of};
+pub use sizes::{write_sizes, sizes_of};
 pub use word_faults::NumberFault;
 pub use words::Words;

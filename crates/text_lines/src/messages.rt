@@ -13,7 +13,7 @@ use crate::fields::{may, refused};
 use crate::host_reading::host_request;
 use crate::keywords::Keyword;
 use crate::manager_reading::manager_request;
-use crate::{Words, put_pairs_of};
+use crate::{Words, write_pairs_of};
 use cci_codec::{MessageFault, Payload, Request, decode};
 use dcd_base::{Actor, Bytes, HostId, NoMemory};
 use fm_payloads::FmRequest;
@@ -28,7 +28,7 @@ fn fill_bytes(words: &mut Words<'_>, bytes: &mut Bytes) -> Result<(), TextFault>
     ensures short { length bytes.old ≤ 65535 → OnOk result (length bytes.new ≤ 65535) }
 {
     while !words.is_done() {
-        if !put_pairs_of(words.next(), bytes)? {
+        if !write_pairs_of(words.next(), bytes)? {
             return Err(refused(words, Cause::OutOfForm(Wanted::Bytes)));
         }
         if bytes.len() > 65535 {

@@ -25,7 +25,7 @@ fn pair_of(high: u8, low: u8) -> Option<u8>
 
 /// Appends the bytes that pairs of digits in lower case say, and answers whether all of the word are such pairs. Where they
 /// are not, what was appended is not said.
-pub fn put_pairs_of(word: &[u8], out: &mut Bytes) -> Result<bool, NoMemory>
+pub fn write_pairs_of(word: &[u8], out: &mut Bytes) -> Result<bool, NoMemory>
     ensures { IfOk result (AppendsPairs out.old out.new (pairs_said word.now)) }
 {
     let mut rest = word;
@@ -46,7 +46,7 @@ pub fn tag_of(alloc: Global, word: &[u8]) -> Result<Option<Tag>, NoMemory>
     ensures { IfOk result (λ tag. tag ≡ tag_said word.now) }
 {
     let mut bytes = Bytes::new(alloc);
-    if !put_pairs_of(word, &mut bytes)? || bytes.len() != 16 {
+    if !write_pairs_of(word, &mut bytes)? || bytes.len() != 16 {
         return Ok(None);
     }
     let mut tag = [0u8; 16];
@@ -55,7 +55,7 @@ pub fn tag_of(alloc: Global, word: &[u8]) -> Result<Option<Tag>, NoMemory>
 }
 
 /// Appends a space and the two digits of a byte.
-fn put_pair(byte: u8, out: &mut Bytes) -> Result<(), NoMemory>
+fn write_pair(byte: u8, out: &mut Bytes) -> Result<(), NoMemory>
     ensures { OnOk result (out.new ≡ out.old ++ spaced (pair_text byte)) }
 {
     let mut text = [b' '; 3];
@@ -65,17 +65,17 @@ fn put_pair(byte: u8, out: &mut Bytes) -> Result<(), NoMemory>
 }
 
 /// Appends a word of two digits for each byte, each with a space before it.
-pub fn put_pairs(bytes: &[u8], out: &mut Bytes) -> Result<(), NoMemory>
+pub fn write_pairs(bytes: &[u8], out: &mut Bytes) -> Result<(), NoMemory>
     ensures { OnOk result (out.new ≡ out.old ++ flat_map spaced (map pair_text bytes.now)) }
 {
     for byte in bytes {
-        put_pair(*byte, out)?;
+        write_pair(*byte, out)?;
     }
     Ok(())
 }
 
 /// Appends a tag as 32 digits.
-pub fn put_tag(tag: &Tag, out: &mut Bytes) -> Result<(), NoMemory>
+pub fn write_tag(tag: &Tag, out: &mut Bytes) -> Result<(), NoMemory>
     ensures { OnOk result (out.new ≡ out.old ++ tag_text tag.now) }
 {
     let mut text = [0u8; 32];

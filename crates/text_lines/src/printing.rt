@@ -7,7 +7,7 @@ use dcd_base::{Bytes, NoMemory};
 use itoa::Buffer;
 
 /// Appends a number in decimal digits.
-pub fn put_decimal(number: u64, out: &mut Bytes) -> Result<(), NoMemory>
+pub fn write_decimal(number: u64, out: &mut Bytes) -> Result<(), NoMemory>
     ensures { OnOk result (out.new ≡ out.old ++ decimal number) }
 {
     let mut buffer = Buffer::new();
@@ -15,7 +15,7 @@ pub fn put_decimal(number: u64, out: &mut Bytes) -> Result<(), NoMemory>
 }
 
 /// Appends a number as 0x and hexadecimal digits without leading zeros.
-pub fn put_hexadecimal(number: u64, out: &mut Bytes) -> Result<(), NoMemory>
+pub fn write_hexadecimal(number: u64, out: &mut Bytes) -> Result<(), NoMemory>
     ensures { OnOk result (out.new ≡ out.old ++ hexadecimal number) }
 {
     let text = format!(in out.allocator(); "{number:x}")?;
@@ -33,32 +33,32 @@ fn is_scaled(unit: u64, number: u64) -> bool
 }
 
 /// Appends a number and the suffix behind it.
-fn put_scaled(number: u64, suffix: u8, out: &mut Bytes) -> Result<(), NoMemory>
+fn write_scaled(number: u64, suffix: u8, out: &mut Bytes) -> Result<(), NoMemory>
     ensures { OnOk result (out.new ≡ out.old ++ (decimal number ++ suffix ∷ [])) }
 {
-    put_decimal(number, out)?;
+    write_decimal(number, out)?;
     out.push(suffix)
 }
 
 /// Appends an address, a length, a size or a word of memory: one digit below 10; else a number from 1 to 1023 with the
 /// greatest suffix that serves, where one does; else 0x and hexadecimal digits.
 #[tactic(auto, unfolding(crate::specs::Numbers::size_text))]
-pub fn put_size(number: u64, out: &mut Bytes) -> Result<(), NoMemory>
+pub fn write_size(number: u64, out: &mut Bytes) -> Result<(), NoMemory>
     ensures { OnOk result (out.new ≡ out.old ++ size_text number) }
 {
     if number < 10 {
-        put_decimal(number, out)
+        write_decimal(number, out)
     } else if is_scaled(1 << 50, number) {
-        put_scaled(number / (1 << 50), b'P', out)
+        write_scaled(number / (1 << 50), b'P', out)
     } else if is_scaled(1 << 40, number) {
-        put_scaled(number / (1 << 40), b'T', out)
+        write_scaled(number / (1 << 40), b'T', out)
     } else if is_scaled(1 << 30, number) {
-        put_scaled(number / (1 << 30), b'G', out)
+        write_scaled(number / (1 << 30), b'G', out)
     } else if is_scaled(1 << 20, number) {
-        put_scaled(number / (1 << 20), b'M', out)
+        write_scaled(number / (1 << 20), b'M', out)
     } else if is_scaled(1 << 10, number) {
-        put_scaled(number / (1 << 10), b'K', out)
+        write_scaled(number / (1 << 10), b'K', out)
     } else {
-        put_hexadecimal(number, out)
+        write_hexadecimal(number, out)
     }
 }

@@ -6,7 +6,7 @@ ghost use Rattle.text_lines.specs.Sizes.{comma_pieces, pieces_behind, size_behin
 
 use crate::fronts::place_of;
 use crate::numbers::number_of;
-use crate::printing::put_size;
+use crate::printing::write_size;
 use dcd_base::{Bytes, NoMemory};
 
 /// The block size that a piece says, a power of two.
@@ -73,24 +73,24 @@ fn size_of_bit(n: u32) -> u64
 }
 
 /// Appends a size, with a comma before it unless it is the first.
-fn put_one(first: bool, size: u64, out: &mut Bytes) -> Result<(), NoMemory>
+fn write_one(first: bool, size: u64, out: &mut Bytes) -> Result<(), NoMemory>
     ensures { OnOk result (out.new ≡ out.old ++ size_behind first size) }
 {
     if !first {
         out.push(b',')?;
     }
-    put_size(size, out)
+    write_size(size, out)
 }
 
 /// Appends the block sizes of a mask, the smallest first, with commas between them.
-pub fn put_sizes(mask: u64, out: &mut Bytes) -> Result<(), NoMemory>
+pub fn write_sizes(mask: u64, out: &mut Bytes) -> Result<(), NoMemory>
     ensures { OnOk result (out.new ≡ out.old ++ sizes_text mask) }
 {
     let mut first = true;
     for n in 0..64u32 {
         let size = size_of_bit(n);
         if mask / size % 2 == 1 {
-            put_one(first, size, out)?;
+            write_one(first, size, out)?;
             first = false;
         }
     }

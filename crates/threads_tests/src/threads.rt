@@ -9,8 +9,20 @@ fn threads_in(stat: &str) -> Option<u64> {
     words.split_whitespace().nth(17)?.parse().ok()
 }
 
-/// How many threads the process has, or 0 where that cannot be read.
+/// So often it is read how many threads there are.
+const READINGS: u32 = 20;
+
+/// How many threads the process has, or 0 where that cannot be read. It is the least of several readings, because the system counts
+/// a thread that has ended and was joined for a moment longer.
 pub fn threads_now(rt: &HostRuntime) -> u64 {
+    let mut least = threads_counted(rt);
+    for _ in 1..READINGS {
+        least = least.min(threads_counted(rt));
+    }
+    least
+}
+
+fn threads_counted(rt: &HostRuntime) -> u64 {
     match fs::read_to_string(rt, "/proc/self/stat") {
         Ok(stat) => threads_in(stat.as_str()).unwrap_or(0),
         Err(_) => 0,

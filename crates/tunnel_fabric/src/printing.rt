@@ -10,7 +10,7 @@ ghost use Rattle.tunnel_fabric.specs.Printing.{device_head, device_lines, device
 ghost use Rattle.tunnel_fabric.specs.Sending.{IsShortReply};
 
 use crate::replies::Replied;
-use crate::replying::put_response;
+use crate::replying::write_response;
 use cci_codec::Response;
 use dcd_base::{Bytes, Failed, NoMemory, Sink, write_all};
 use device_plain::Device;
@@ -20,7 +20,7 @@ use report::render;
 use std::alloc::Global;
 
 /// Puts a number in decimal digits.
-pub(crate) fn put_number(text: &mut Bytes, number: u64) -> Result<(), NoMemory>
+pub(crate) fn write_number(text: &mut Bytes, number: u64) -> Result<(), NoMemory>
     ensures { OnOk result (text.new ≡ text.old ++ decimal number) }
 {
     let mut buffer = Buffer::new();
@@ -29,27 +29,27 @@ pub(crate) fn put_number(text: &mut Bytes, number: u64) -> Result<(), NoMemory>
 }
 
 /// Puts the bytes of a response in hexadecimal digits.
-fn put_hex(text: &mut Bytes, response: &Response) -> Result<(), NoMemory>
+fn write_hex(text: &mut Bytes, response: &Response) -> Result<(), NoMemory>
     requires { length response.now.payload ≤ 2064 }
     ensures { OnOk result (text.new ≡ text.old ++ encode_lower (response_bytes response.now)) }
 {
     let alloc = text.allocator();
     let mut bytes = Bytes::new(alloc);
-    put_response(response, &mut bytes)?;
+    write_response(response, &mut bytes)?;
     let digits = encode(alloc, bytes.as_slice())?;
     text.extend_from_slice(digits.as_bytes())
 }
 
 /// Puts the line of a reply: the number of its line and the response.
 #[tactic(auto, unfolding(crate::specs::Printing::tunnel_line))]
-fn put_reply(text: &mut Bytes, reply: &Replied) -> Result<(), NoMemory>
+fn write_reply(text: &mut Bytes, reply: &Replied) -> Result<(), NoMemory>
     requires { IsShortReply reply.now }
     ensures { OnOk result (text.new ≡ text.old ++ tunnel_line reply.now) }
 {
     text.extend_from_slice(b"t ")?;
-    put_number(text, u64::from(reply.line))?;
+    write_number(text, u64::from(reply.line))?;
     text.push(b' ')?;
-    put_hex(text, &reply.response)?;
+    write_hex(text, &reply.response)?;
     text.push(b'\n')
 }
 
@@ -60,7 +60,7 @@ pub(crate) fn reply_lines(alloc: Global, replies: &[Replied]) -> Result<Bytes, N
 {
     let mut text = Bytes::new(alloc);
     for reply in replies {
-        put_reply(&mut text, reply)?;
+        write_reply(&mut text, reply)?;
     }
     Ok(text)
 }

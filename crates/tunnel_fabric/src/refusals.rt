@@ -4,7 +4,7 @@ ghost use Rattle.std.specs.Prelude.{◌≡◌, IfOk};
 ghost use Rattle.tunnel_fabric.specs.Printing.{fabric_fault_number, fabric_fault_place, fabric_refusal};
 
 use crate::FabricFault;
-use crate::printing::put_number;
+use crate::printing::write_number;
 use dcd_base::{Bytes, NoMemory};
 use std::alloc::Global;
 
@@ -56,9 +56,9 @@ pub(crate) fn refusal(alloc: Global, fault: &FabricFault) -> Result<Bytes, NoMem
 {
     let mut line = Bytes::new(alloc);
     line.extend_from_slice(b"fabric refused: ")?;
-    put_number(&mut line, number_of(fault))?;
+    write_number(&mut line, number_of(fault))?;
     line.extend_from_slice(b" at ")?;
-    put_number(&mut line, place_of(fault))?;
+    write_number(&mut line, place_of(fault))?;
     line.push(b'\n')?;
     Ok(line)
 }

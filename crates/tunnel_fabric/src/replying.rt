@@ -10,7 +10,7 @@ use dcd_base::{Bytes, NoMemory};
 use std::alloc::Global;
 
 /// Appends a response.
-pub(crate) fn put_response(response: &Response, out: &mut Bytes) -> Result<(), NoMemory>
+pub(crate) fn write_response(response: &Response, out: &mut Bytes) -> Result<(), NoMemory>
     requires { length response.now.payload < 2 ^ 21 }
     ensures { OnOk result (out.new ≡ out.old ++ response_bytes response.now) }
 {
@@ -32,7 +32,7 @@ fn wrapped_payload(alloc: Global, device: u8, inner: &Response) -> Result<Bytes,
 {
     let mut payload = Bytes::with_capacity(alloc, 16 + inner.payload.len())?;
     payload.extend_from_slice([device, 0, 0, 0].as_slice())?;
-    put_response(inner, &mut payload)?;
+    write_response(inner, &mut payload)?;
     Ok(payload)
 }
 

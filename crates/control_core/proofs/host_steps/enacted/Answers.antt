@@ -8,4 +8,4 @@ pub returns : goal.returns
 returns c = λ before o kept of drafts.
     let q = c.args.request.now in
     recorded_done c.args.config.now before c.args.state.now kept q c.args.host o of c.args.draft drafts c.answer.result _
-    (c.answer.ensures ∙ ap (response q Code.Success) c.in_ok-put_ends_and_records.ensures.payload) c.in_ok-put_ends_and_records.ensures.effects
+    (c.answer.ensures ∙ ap (response q Code.Success) c.in_ok-append_ends_and_records.ensures.payload) c.in_ok-append_ends_and_records.ensures.effects

@@ -12,7 +12,7 @@ returns-then-len-most-clause-too_many c =
 
 pub returns-clause-cut : goal.returns-clause-cut
 returns-clause-cut c =
-    c.put_pieces.ensures.put
+    c.append_pieces.ensures.put
     ∙ rw (c.lower_piece-lower.ensures, c.upper_piece-upper.ensures) (sym (cut-at _ _ _ _ c.index.result.now c.requires.index c.index.ensures))
 
 pub upper_piece-upper-requires-clause-ends : goal.upper_piece-upper-requires-clause-ends

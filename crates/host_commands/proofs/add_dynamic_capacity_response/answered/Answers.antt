@@ -13,7 +13,7 @@ returns c =
     let h = c.args.host in
     record {
       payload = c.new.ensures;
-      changes_are = c.in_ok-put_answer.ensures;
+      changes_are = c.in_ok-append_answer.ensures;
       tags_are = c.in_ok-tags.ensures ∙ ap tags_of c.oldest.ensures;
       log_records = λ w. ap (map (as_records w)) c.in_ok-log_records.ensures
           ∙ ap (λ xs. (LogId.Manager, records_of_extents h w EventKind.AddResponse (told_extents xs)) ∷ []) c.as_slice.ensures

@@ -24,6 +24,6 @@ returns c d v is lists =
     let head : c.extend_from_slice.new.self ≡ regions_head c.args.host (length d.regions) (length rs) =
     c.in_ok-extend_from_slice.ensures.extended ∙ ap (λ bytes. bytes ++ c.regions_head-head.result) c.in_ok-payload.ensures ∙ c.regions_head-head.ensures ∙ (λ i. regions_head c.args.host (regions i) (many i)) in
     c.in_ok-extend_from_slice-2.ensures.extended
-    ∙ (λ i. c.in_ok-put_regions.ensures i ++ counts i)
+    ∙ (λ i. c.in_ok-append_regions.ensures i ++ counts i)
     ∙ (λ i. (head i ++ flat_map region_bytes (views i)) ++ counts_bytes (host_counts v))
     ∙ ap (λ bytes. (regions_head c.args.host (length d.regions) (length rs) ++ bytes) ++ counts_bytes (host_counts v)) (flat_map-map region_bytes seen rs)

@@ -9,4 +9,4 @@ use Rattle.manager_commands.proofs.initiate_dynamic_capacity_release.by_force.Go
 pub returns : goal.returns
 returns c =
     IfOk-weaker c.removal_draft.result _ _ (λ d is. subst (λ (es : List Effect). IsDrafted c.args.host EventKind.Forced es c.args.leaving.now d)
-    (c.in_ok-put_leaves.ensures ∙ (λ i. c.new-changes.ensures i ++ removals c.args.config.now c.args.host c.args.cleaning (c.as_slice.ensures i))) is) c.removal_draft.ensures
+    (c.in_ok-append_leaves.ensures ∙ (λ i. c.new-changes.ensures i ++ removals c.args.config.now c.args.host c.args.cleaning (c.as_slice.ensures i))) is) c.removal_draft.ensures

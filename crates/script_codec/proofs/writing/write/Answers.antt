@@ -9,7 +9,7 @@ unfolding script_bytes
 returns-clause-appended c =
     on_ok_weaker c.extend_from_slice.result
     (λ (added : c.extend_from_slice.new.self ≡ c.args.out.now ++ c.as_slice.result.now).
-    added ∙ ap (λ bytes. c.args.out.now ++ bytes) (c.as_slice.ensures ∙ c.in_ok-put_script.ensures.is ∙ ap (λ front. front ++ script_bytes c.args.script.now) c.new-bytes.ensures))
+    added ∙ ap (λ bytes. c.args.out.now ++ bytes) (c.as_slice.ensures ∙ c.in_ok-write_script.ensures.is ∙ ap (λ front. front ++ script_bytes c.args.script.now) c.new-bytes.ensures))
     c.extend_from_slice.ensures.extended
 
 pub returns-clause-spelled : goal.returns-clause-spelled
@@ -17,7 +17,7 @@ unfolding WritesScript script_bytes
 returns-clause-spelled c =
     on_ok_weaker c.extend_from_slice.result
     (λ (added : c.extend_from_slice.new.self ≡ c.args.out.now ++ c.as_slice.result.now).
-    record { fits = c.in_ok-put_script.ensures.fits; spelled = refl })
+    record { fits = c.in_ok-write_script.ensures.fits; spelled = refl })
     c.extend_from_slice.ensures.extended
 
 pub returns-clause-reads_back : goal.returns-clause-reads_back

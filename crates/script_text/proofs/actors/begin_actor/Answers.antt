@@ -2,4 +2,4 @@ use Rattle.script_text.proofs.PrintedActors.{actor_starts}
 use Rattle.script_text.proofs.actors.begin_actor.Goals as goal
 
 pub returns : goal.returns
-returns c = actor_starts c.args.frame c.args.actor.now c.args.lane c.requires.lanes c.requires.word c.law_seat.ensures c.in_ok-put_name.ensures
+returns c = actor_starts c.args.frame c.args.actor.now c.args.lane c.requires.lanes c.requires.word c.law_seat.ensures c.in_ok-write_name.ensures

@@ -16,7 +16,7 @@ returns-clause-listed c =
     let was = (part_of old h).lists in
     let known : h < length old.hosts.items = omega (arith, c.requires.host, c.requires.hosts) in
     record {
-      listed = listed conf old c.put_held.new.self h (with_held kind (held_of kind was ++ xs) was) (Effect.Hold h kind xs) known
-          (of_hold conf h kind xs) (own_hold conf h was kind xs) c.put_held.ensures.hosts;
-      tags = ap (λ (s : State). s.tags.entries) c.put_held.ensures.kept;
+      listed = listed conf old c.enter_held.new.self h (with_held kind (held_of kind was ++ xs) was) (Effect.Hold h kind xs) known
+          (of_hold conf h kind xs) (own_hold conf h was kind xs) c.enter_held.ensures.hosts;
+      tags = ap (λ (s : State). s.tags.entries) c.enter_held.ensures.kept;
     }

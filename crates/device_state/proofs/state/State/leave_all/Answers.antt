@@ -8,5 +8,5 @@ pub returns-then-is_empty-clause-tags : goal.returns-then-is_empty-clause-tags
 returns-then-is_empty-clause-tags c =
     let old = c.args.self.now in
     let h = c.args.host in
-    ap (λ (s : State). s.tags.entries) c.put_leaves.ensures.kept
+    ap (λ (s : State). s.tags.entries) c.enter_leaves.ensures.kept
     ∙ none_told_left h c.args.leaving.now (part_of old h).lists old.tags.entries (sym c.is_empty.ensures ∙ c.if-is_empty.true)

@@ -21,10 +21,10 @@ returns-clause-listed c =
     let l : Lists = record was { accepted = was.accepted ++ xs; offers = drop 1 was.offers } in
     let known : h < length old.hosts.items = omega (arith, c.requires.host, c.requires.hosts) in
     let is : l ≡ lists_by conf h was (Effect.Answer h xs) = sym (own_answer conf h was xs) in
-    let mid = c.put_accepted.new.self in
+    let mid = c.enter_accepted.new.self in
     let two = c.tell_answer.new.self in
-    let at_mid : (part_of mid h).lists ≡ first = own_part old mid h first known c.put_accepted.ensures.hosts in
-    let two_hosts = ap (λ (s : State). s.hosts.items) c.tell_answer.ensures.kept ∙ c.put_accepted.ensures.hosts in
+    let at_mid : (part_of mid h).lists ≡ first = own_part old mid h first known c.enter_accepted.ensures.hosts in
+    let two_hosts = ap (λ (s : State). s.hosts.items) c.tell_answer.ensures.kept ∙ c.enter_accepted.ensures.hosts in
     let at_two : (part_of two h).lists ≡ first = own_part old two h first known two_hosts in
     record {
       listed = listed conf old c.drop_oldest.new.self h l (Effect.Answer h xs) known (of_answer conf h xs) is
@@ -34,5 +34,5 @@ returns-clause-listed c =
           ∙ c.tell_answer.ensures.tags
           ∙ (λ i. told h (record (at_mid i) { offers = drop 1 (at_mid i).offers }) (each_tag (oldest_of (at_mid i).offers) ++ each_tag xs) mid.tags.entries)
           ∙ (λ i. told h (is i) (each_tag (oldest_of was.offers) ++ each_tag xs) mid.tags.entries)
-          ∙ ap (λ (s : State). told h (lists_by conf h was (Effect.Answer h xs)) (each_tag (oldest_of was.offers) ++ each_tag xs) s.tags.entries) c.put_accepted.ensures.kept;
+          ∙ ap (λ (s : State). told h (lists_by conf h was (Effect.Answer h xs)) (each_tag (oldest_of was.offers) ++ each_tag xs) s.tags.entries) c.enter_accepted.ensures.kept;
     }

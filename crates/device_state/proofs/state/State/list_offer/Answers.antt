@@ -17,10 +17,10 @@ returns-clause-listed c =
     let l : Lists = record (part_of old h).lists { offers = (part_of old h).lists.offers ++ xs ∷ [] } in
     let known : h < length old.hosts.items = omega (arith, c.requires.host, c.requires.hosts) in
     let is : l ≡ lists_by conf h (part_of old h).lists (Effect.Offer h xs) = sym (own_offer conf h (part_of old h).lists xs) in
-    let mid = c.put_offer.new.self in
+    let mid = c.enter_offer.new.self in
     record {
-      listed = listed conf old c.tell_offer.new.self h l (Effect.Offer h xs) known (of_offer conf h xs) is (ap (λ (s : State). s.hosts.items) c.tell_offer.ensures.kept ∙ c.put_offer.ensures.hosts);
+      listed = listed conf old c.tell_offer.new.self h l (Effect.Offer h xs) known (of_offer conf h xs) is (ap (λ (s : State). s.hosts.items) c.tell_offer.ensures.kept ∙ c.enter_offer.ensures.hosts);
       tags = c.tell_offer.ensures.tags
-          ∙ ap (λ (m : Lists). offered_tag conf h m xs mid.tags.entries) (own_part old mid h l known c.put_offer.ensures.hosts ∙ is)
-          ∙ ap (λ (s : State). offered_tag conf h (lists_by conf h (part_of old h).lists (Effect.Offer h xs)) xs s.tags.entries) c.put_offer.ensures.kept;
+          ∙ ap (λ (m : Lists). offered_tag conf h m xs mid.tags.entries) (own_part old mid h l known c.enter_offer.ensures.hosts ∙ is)
+          ∙ ap (λ (s : State). offered_tag conf h (lists_by conf h (part_of old h).lists (Effect.Offer h xs)) xs s.tags.entries) c.enter_offer.ensures.kept;
     }

@@ -14,9 +14,9 @@ returns-in-Some-clause-tags c =
     let xs = c.args.leaving.now in
     let was : Lists = (part_of old h).lists in
     let tag = c.in-Some.tag in
-    let mid = c.put_leaves.new.self in
-    let after : (part_of mid h).lists ≡ lists_left xs was = own_part old mid h (lists_left xs was) c.requires.host c.put_leaves.ensures.hosts in
-    let entries = ap (λ (s : State). s.tags.entries) c.put_leaves.ensures.kept in
+    let mid = c.enter_leaves.new.self in
+    let after : (part_of mid h).lists ≡ lists_left xs was = own_part old mid h (lists_left xs was) c.requires.host c.enter_leaves.ensures.hosts in
+    let entries = ap (λ (s : State). s.tags.entries) c.enter_leaves.ensures.kept in
     let before = c.lists_in.ensures no_part ∙ (λ j. (get_or (c.as_slice.ensures.value j) h no_part).lists) in
     c.tell_left.ensures.tags
     ∙ (λ i. told h (after i) (tag ∷ []) (entries i))
@@ -25,4 +25,4 @@ returns-in-Some-clause-tags c =
     ∙ (λ i. told_left h (before i) xs old.tags.entries)
 
 pub returns-in-Some-clause-hosts : goal.returns-in-Some-clause-hosts
-returns-in-Some-clause-hosts c = ap (λ (s : State). s.hosts.items) c.tell_left.ensures.kept ∙ c.put_leaves.ensures.hosts
+returns-in-Some-clause-hosts c = ap (λ (s : State). s.hosts.items) c.tell_left.ensures.kept ∙ c.enter_leaves.ensures.hosts

@@ -11,7 +11,7 @@ use Rattle.kept_journal.proofs.kept_entries.KeptEntries.append_small.Goals as go
 pub invariant_of-self : goal.invariant_of-self
 invariant_of-self c =
     let old = c.self.inside.coder.bytes.items in
-    let new = c.put_bytes.new.coder.bytes.items in
+    let new = c.append_bytes.new.coder.bytes.items in
     let asked = asked_of c.args.act.now in
     let replied = replied_of c.args.reply.now in
     let told = c.split_at.result.1.now in
@@ -23,7 +23,7 @@ pub returns-in-Some-clause-put : goal.returns-in-Some-clause-put
 returns-in-Some-clause-put c =
     let entries = c.args.self.now.entries in
     let old = c.self.inside.coder.bytes.items in
-    let new = c.put_bytes.new.coder.bytes.items in
+    let new = c.append_bytes.new.coder.bytes.items in
     let asked = asked_of c.args.act.now in
     let replied = replied_of c.args.reply.now in
     let told = c.split_at.result.1.now in

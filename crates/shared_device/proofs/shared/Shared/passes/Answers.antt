@@ -25,13 +25,13 @@ loop-seat-preserved c =
     let len : c.len-in-Some.result ≡ length rest = omega (arith, ok, is) in
     let items = c.in-Some.ensures.items in
     let long : length all ≡ length rest + 1 = ap length items ∙ length_push rest c.in-Some.seat in
-    let led = ap length c.put_first.ensures.items in
+    let led = ap length c.append_first.ensures.items in
     let count = i.count in record {
       left = λ k s at. i.left k s (in_front all rest c.in-Some.seat items k s at);
       count = omega (arith, long, led, count);
-      each = each_led (IsNewPass c.args.self.now c.args.actors.now) c.loop-seat.passes.items _ c.pass.result (length rest) (length all) c.put_first.ensures.items long
+      each = each_led (IsNewPass c.args.self.now c.args.actors.now) c.loop-seat.passes.items _ c.pass.result (length rest) (length all) c.append_first.ensures.items long
           (subst (λ n. IsNewPass c.args.self.now c.args.actors.now n c.pass.result) len c.pass.ensures) i.each;
-      room = let room = i.room in let same = c.put_first.ensures.room in omega (arith, room, same);
+      room = let room = i.room in let same = c.append_first.ensures.room in omega (arith, room, same);
     }
 
 pub returns-clause-each : goal.returns-clause-each

@@ -1,7 +1,0 @@
-use Rattle.explainer.proofs.faults.put_config.Goals as goal
-
-pub returns-in-Overlap : goal.returns-in-Overlap
-returns-in-Overlap c = rw c.in-Overlap.is (rw c.as_slice-in-Overlap.ensures at c.put_of_seat-in-Overlap.ensures)
-
-pub returns-in-TooManyGranules : goal.returns-in-TooManyGranules
-returns-in-TooManyGranules c = rw c.in-TooManyGranules.is (rw c.as_slice-in-TooManyGranules.ensures at c.put_counted.ensures)

@@ -1,6 +1,0 @@
-use Rattle.std.proofs.Common.{◌≡◌, ◌++◌}
-use Rattle.explainer.specs.PartWords.{hosts_below}
-use Rattle.explainer.proofs.tags.put_all_hosts.Given as goal
-
-abbrev pub invariant-loop-host : goal.invariant-loop-host
-invariant-loop-host l = l.out ≡ l.fn.out ++ hosts_below l.hosts l.host

@@ -1,7 +1,0 @@
-use Rattle.std.proofs.Common.{◌≡◌, ◌++◌, take}
-use Rattle.std.specs.Prelude.{filter_map}
-use Rattle.isolation_laws.specs.Solo.{block_item}
-use Rattle.isolation_laws.proofs.deliveries.put_blocks.Given as goal
-
-abbrev pub invariant-loop-i : goal.invariant-loop-i
-invariant-loop-i l = l.items ≡ l.initial.items ++ filter_map block_item (take l.i l.effects)

@@ -1,8 +1,0 @@
-use Rattle.std.proofs.Common.{take}
-use Rattle.std.specs.Prelude.{flat_map}
-use Rattle.script_codec.specs.Scripts.{region_fields}
-use Rattle.script_codec.specs.Writing.{AppendsLines}
-use Rattle.script_codec.proofs.writing.put_regions.Given as goal
-
-abbrev pub invariant-loop-region : goal.invariant-loop-region
-invariant-loop-region l = AppendsLines l.fn.out l.out (flat_map region_fields (take l.region l.config.regions))

@@ -1,5 +1,0 @@
-use Rattle.script_text.proofs.PrintLaws.{adds_then}
-use Rattle.script_text.proofs.host_requests.put_host_request.Goals as goal
-
-pub returns : goal.returns
-returns c = adds_then (rw c.host_command_of.ensures at c.in_ok-put_command.ensures) c.in_ok-put_tail.ensures

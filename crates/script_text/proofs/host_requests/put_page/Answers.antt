@@ -1,5 +1,0 @@
-use Rattle.script_text.proofs.PrintLaws.{adds_then}
-use Rattle.script_text.proofs.host_requests.put_page.Goals as goal
-
-pub returns : goal.returns
-returns c = adds_then c.in_ok-put_may_count.ensures c.in_ok-put_named_count.ensures

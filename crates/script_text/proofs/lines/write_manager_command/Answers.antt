@@ -1,0 +1,23 @@
+use Rattle.std.proofs.Common.{◌∷◌, ◌++◌, [], sym, ◌∙◌}
+use Rattle.std.proofs.lemmas.Result.{on_ok_weaker}
+use Rattle.cci_codec.specs.Messages.{request_bytes}
+use Rattle.text_lines.specs.Layouts.{command_line, manager_request_parts, tag_part}
+use Rattle.text_lines.specs.Parts.{Part}
+use Rattle.script_text.specs.LinePrinting.{AddsLine}
+use Rattle.script_text.proofs.PrintedActs.{manager_named_printed, manager_told_printed}
+use Rattle.script_text.proofs.lines.write_manager_command.Goals as goal
+
+pub returns-in-Some : goal.returns-in-Some
+returns-in-Some c =
+    on_ok_weaker c.write_manager_named.result
+    (λ (a : AddsLine c.args.out.now c.write_manager_named.new.out (Part.ActorOf c.args.frame c.args.actor.now c.args.lane ∷ manager_request_parts c.in-Some.request ++ tag_part c.args.message.now.tag ∷ [])).
+    manager_named_printed c.args.frame c.args.actor.now c.args.lane c.args.message.now c.in-Some.request
+    (sym c.in_ok-request.ensures.value ∙ c.in-Some.is) (rw c.in-Some.is at c.in_ok-request.ensures.message) a)
+    c.write_manager_named.ensures
+
+pub returns-in-None : goal.returns-in-None
+returns-in-None c =
+    on_ok_weaker c.write_command_line.result
+    (λ (a : AddsLine c.args.out.now c.write_command_line.new.out (command_line c.args.frame c.args.actor.now c.args.lane (request_bytes c.args.message.now))).
+    manager_told_printed c.args.frame c.args.actor.now c.args.lane c.args.message.now (sym c.in_ok-request.ensures.value ∙ c.in-None.is) c.law_message_reads.ensures a)
+    c.write_command_line.ensures

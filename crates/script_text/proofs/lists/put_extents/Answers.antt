@@ -1,5 +1,0 @@
-use Rattle.script_text.proofs.PrintedParts.{extents_adds}
-use Rattle.script_text.proofs.lists.put_extents.Goals as goal
-
-pub returns : goal.returns
-returns c = extents_adds c.args.most c.args.extents.now c.requires.few c.in_ok-put_all_extents.ensures

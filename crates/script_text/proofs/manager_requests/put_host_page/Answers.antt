@@ -1,5 +1,0 @@
-use Rattle.script_text.proofs.PrintLaws.{adds_then}
-use Rattle.script_text.proofs.manager_requests.put_host_page.Goals as goal
-
-pub returns : goal.returns
-returns c = adds_then c.in_ok-put_host.ensures c.in_ok-put_page.ensures

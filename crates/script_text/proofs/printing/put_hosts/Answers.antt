@@ -1,6 +1,0 @@
-use Rattle.std.proofs.Common.{length}
-use Rattle.script_text.proofs.PrintedScripts.{hosts_more}
-use Rattle.script_text.proofs.printing.put_hosts.Goals as goal
-
-pub loop-host-preserved : goal.loop-host-preserved
-loop-host-preserved c = hosts_more c.args.out.now c.loop-host.out c.put_host.new.out c.loop-host.host (length c.args.config.now.regions) c.args.config.now.bases c.loop-host.invariant c.in_ok-put_host.ensures

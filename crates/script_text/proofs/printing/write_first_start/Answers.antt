@@ -1,0 +1,5 @@
+use Rattle.script_text.proofs.PrintLaws.{starts_then}
+use Rattle.script_text.proofs.printing.write_first_start.Goals as goal
+
+pub returns : goal.returns
+returns c = starts_then c.in_ok-begin_with.ensures (rw c.as_slice.ensures at c.in_ok-write_fixed.ensures) c.in_ok-end_line.ensures

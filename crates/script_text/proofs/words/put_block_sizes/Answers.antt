@@ -1,5 +1,0 @@
-use Rattle.script_text.proofs.PrintedParts.{sizes_adds}
-use Rattle.script_text.proofs.words.put_block_sizes.Goals as goal
-
-pub returns : goal.returns
-returns c = sizes_adds c.args.mask c.law_sizes.ensures.reads c.law_sizes.ensures.word c.in_ok-push.ensures.pushed c.in_ok-put_sizes.ensures

@@ -1,7 +1,0 @@
-use Rattle.std.proofs.Common.{refl}
-use Rattle.text_lines.specs.Parts.{Part}
-use Rattle.script_text.proofs.PrintLaws.{adds_word}
-use Rattle.script_text.proofs.words.put_fixed.Goals as goal
-
-pub returns : goal.returns
-returns c = adds_word (Part.Fixed c.args.word.now) c.args.word.now refl refl c.requires c.in_ok-put_word.ensures
